@@ -1,0 +1,106 @@
+ghost use Rattle.std.specs.Prelude.{◌≡◌, ◌↔◌, ℕ, ◌≤ℤ◌, ◌<◌, ◌^◌, pos, true, IsSome, IfSome};
+ghost use Rattle.phase_number.specs.Phase.{next_phase, phase_view, is_ended_view};
+
+use std::marker::Model;
+
+/// The number of a phase, 0 to 2147483647.
+#[derive(Clone, Copy, Debug, PartialEq, Eq)]
+pub struct Phase {
+    number: u32,
+}
+
+impl Model for Phase {
+    ghost Value = { ℕ };
+
+    ghost view = { λ phase. phase.number };
+
+    ghost invariant = { λ phase. phase.number < 2 ^ 31 };
+
+    ghost inverse = { λ n. record { number = n } };
+}
+
+/// The number after which 0 comes, `Integer.MAX_VALUE`.
+const LAST: u32 = 0x7fff_ffff;
+
+impl Phase {
+    /// The phase of this number, `None` where the number is negative.
+    pub fn new(number: i32) -> Option<Phase>
+        ensures valid { IsSome result ↔ (pos 0 ≤ℤ number) }
+        ensures value { IfSome result (λ phase. pos phase ≡ number) }
+    {
+        let number = u32::try_from(number).ok()?;
+        Some(Phase { number })
+    }
+
+    /// The phase that follows this one.
+    pub fn next(self) -> Phase
+        ensures { result ≡ next_phase self }
+    {
+        if self.number == LAST {
+            Phase { number: 0 }
+        } else {
+            Phase {
+                number: self.number + 1,
+            }
+        }
+    }
+
+    /// What `getPhase` answers in this phase as long as the phaser isn't terminated.
+    pub fn number(self) -> i32
+        ensures { result ≡ pos self }
+    {
+        self.number as i32
+    }
+
+    /// What `getPhase` answers once the phaser was terminated in this phase: the number less 2147483648.
+    pub fn negative(self) -> i32
+        ensures { result ≡ phase_view self true }
+    {
+        self.number() + i32::MIN
+    }
+
+    /// The phase that a view tells, whether it is negative or not: Java's `getPhase() + Integer.MIN_VALUE`
+    /// for a terminated phaser.
+    pub fn prevailing(view: i32) -> Phase
+        ensures { phase_view result (is_ended_view view) ≡ view }
+    {
+        let number = if view < 0 {
+            view.wrapping_add(i32::MIN)
+        } else {
+            view
+        };
+        Phase {
+            number: number as u32,
+        }
+    }
+}
+
+#[cfg(test)]
+mod tests {
+    use super::*;
+    use std::test::Fail;
+
+    #[test]
+    fn phases_at_the_edges(rt: HostRuntime) -> Result<(), Fail> {
+        // number, the number that follows, the view after termination
+        let phases = [
+            (0, 1, -2147483648),
+            (1, 2, -2147483647),
+            (5, 6, -2147483643),
+            (2147483646, 2147483647, -2),
+            (2147483647, 0, -1),
+        ];
+        for (number, next, negative) in phases {
+            let phase = Phase::new(number).ok_or("a phase is 0 or more")?;
+            assert_eq!(rt; phase.number(), number);
+            assert_eq!(rt; phase.next().number(), next, "after {number}");
+            assert_eq!(rt; phase.negative(), negative, "of {number}");
+            assert_eq!(rt; Phase::prevailing(number), phase);
+            assert_eq!(rt; Phase::prevailing(negative), phase);
+        }
+        for number in [-1, -2147483647, -2147483648] {
+            assert_eq!(rt; Phase::new(number), None, "{number} is no phase");
+        }
+        Ok(())
+    }
+}
