@@ -1,0 +1,21 @@
+-- What the answers of a word's calls say of the phasers that the words stand for.
+use Rattle.packed_phaser.specs.declared.word.Registered.{Registered}
+use Rattle.packed_phaser.specs.declared.word.Registered.TheVariants as registered
+use Rattle.packed_phaser.specs.declared.word.Arrived.{Arrived}
+use Rattle.packed_phaser.specs.declared.word.Arrived.TheVariants as arrived
+use Rattle.packed_phaser.specs.Flat.{Registration, Joins, JoinsLate, MustWait, Overfull, Arrival, Counts, Turns, ComesLate, IsUnregistered}
+use Rattle.packed_phaser.specs.Word.{record_of}
+
+-- what a registration's answer says
+abbrev pub registration_of : Registered → Registration
+registration_of (registered.At word phase) = Joins (record_of word) phase
+registration_of (registered.Dead view) = JoinsLate view
+registration_of registered.Held = MustWait
+registration_of registered.TooMany = Overfull
+
+-- what an arrival's answer says
+abbrev pub arrival_of : Arrived → Arrival
+arrival_of (arrived.Counted word) = Counts (record_of word)
+arrival_of (arrived.Turned word) = Turns (record_of word)
+arrival_of (arrived.Dead view) = ComesLate view
+arrival_of arrived.NotThere = IsUnregistered

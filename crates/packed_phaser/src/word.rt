@@ -1,0 +1,312 @@
+ghost use Rattle.std.specs.Prelude.{◌≡◌, ℕ, ℤ, pos, ◌<◌, ◌≤◌, ◌^◌, max, true, false, IsTrue, ◌↔◌};
+ghost use Rattle.std.specs.Option.{SomeIff};
+ghost use Rattle.packed_phaser.specs.Flat.{Flat, fresh, view_of, unarrived_of, is_empty, register, arrive, advance, vacate, renew, force};
+ghost use Rattle.packed_phaser.specs.Word.{IsWord, fields_of, record_of};
+ghost use Rattle.packed_phaser.specs.Answer.{registration_of, arrival_of};
+
+use phase_number::Phase;
+use std::marker::Model;
+
+/// A phaser without tiers in 64 bits.
+///
+/// From the lowest bit: 16 bits of parties that haven't arrived yet, 16 of registered parties, 31 of the phase, and one
+/// that is set once the phaser is terminated. So an arrival takes one from the word, and 0 in the lowest field says that
+/// nobody is waited for: the phaser is turned, its phase is about to end. Parties 0 with unarrived 1 is a phaser that
+/// nobody has joined, which no arrival may turn; parties 0 with unarrived 0 one whose last party has left. After
+/// termination the lowest field means nothing.
+///
+/// Contracts see a word as its number. `record_of` in `specs/Word.antt` says which phaser that is.
+#[derive(Clone, Copy, Debug, PartialEq, Eq)]
+pub struct Word {
+    bits: u64,
+}
+
+impl Model for Word {
+    ghost use Rattle.std.specs.Prelude.{ℕ};
+    ghost use Rattle.packed_phaser.specs.Word.{IsWord};
+
+    ghost Value = { ℕ };
+
+    ghost view = { λ word. word.bits };
+
+    ghost invariant = { λ word. IsWord word.bits };
+
+    ghost inverse = { λ n. record { bits = n } };
+}
+
+/// The fields of a word, each as a number of its own.
+#[derive(Clone, Copy)]
+struct Fields {
+    unarrived: u16,
+    parties: u16,
+    phase: u32,
+    ended: bool,
+}
+
+/// What a registration answers.
+#[derive(Clone, Copy, Debug, PartialEq, Eq)]
+pub enum Registered {
+    /// The parties are registered; the number of the phase that they joined.
+    At(Word, i32),
+    /// The phaser is terminated; its view.
+    Dead(i32),
+    /// The phase is ending, and a registration waits until it has ended.
+    Held,
+    /// There would be more than 65535 parties.
+    TooMany,
+}
+
+/// What an arrival answers.
+#[derive(Clone, Copy, Debug, PartialEq, Eq)]
+pub enum Arrived {
+    /// Other parties have yet to arrive.
+    Counted(Word),
+    /// All needed parties have arrived, or the last one has left: the phase is to be ended.
+    Turned(Word),
+    /// The phaser is terminated; its view.
+    Dead(i32),
+    /// No party is left that could arrive.
+    NotThere,
+}
+
+#[tactic(auto, using(std::proofs::lemmas::Nat::and_mask), unfolding(crate::specs::Word::fields_of))]
+fn unpacked(bits: u64) -> Fields
+    ensures fields { result ≡ fields_of bits }
+    ensures phase { result.phase < 2 ^ 31 }
+{
+    Fields {
+        unarrived: (bits & 0xffff) as u16,
+        parties: (bits >> 16 & 0xffff) as u16,
+        phase: (bits >> 32 & 0x7fff_ffff) as u32,
+        ended: bits >> 63 == 1,
+    }
+}
+
+#[tactic(auto, unfolding(crate::specs::Word::fields_of))]
+fn packed(fields: Fields) -> Word
+    requires phase { fields.phase < 2 ^ 31 }
+    requires unarrived { fields.unarrived ≤ max fields.parties 1 }
+    ensures { fields_of result ≡ fields }
+{
+    let ended = if fields.ended { 1u64 } else { 0 };
+    let bits = fields.unarrived as u64
+        + ((fields.parties as u64) << 16)
+        + ((fields.phase as u64) << 32)
+        + (ended << 63);
+    Word { bits }
+}
+
+/// The lowest field of a phaser nobody of which has arrived.
+fn all_of(parties: u16) -> u16
+    ensures { result ≡ max parties 1 }
+{
+    parties.max(1)
+}
+
+impl Word {
+    /// A phaser at the start of a phase, like `new Phaser(parties)` where the phase is 0.
+    pub fn fresh(phase: Phase, parties: u16) -> Word
+        ensures { record_of result ≡ fresh phase parties }
+    {
+        packed(Fields {
+            unarrived: all_of(parties),
+            parties,
+            phase: phase.number() as u32,
+            ended: false,
+        })
+    }
+
+    /// The word of these bits, `None` where they stand for no phaser: more parties to arrive than there are.
+    pub fn from_raw(bits: u64) -> Option<Word>
+        ensures { SomeIff result (IsWord bits) bits }
+    {
+        let fields = unpacked(bits);
+        if fields.unarrived <= all_of(fields.parties) {
+            Some(Word { bits })
+        } else {
+            None
+        }
+    }
+
+    /// The bits of the word.
+    pub fn raw(self) -> u64
+        ensures { result ≡ self }
+    {
+        self.bits
+    }
+
+    /// The phase that the phaser is in, or was terminated in.
+    fn phase(self) -> Phase
+        ensures { result ≡ (record_of self).phase }
+    {
+        Phase::prevailing(unpacked(self.bits).phase as i32)
+    }
+
+    /// `getPhase`: the number of the phase, less 2147483648 once the phaser is terminated.
+    pub fn phase_view(self) -> i32
+        ensures { result ≡ view_of (record_of self) }
+    {
+        let phase = self.phase();
+        if self.is_terminated() {
+            phase.negative()
+        } else {
+            phase.number()
+        }
+    }
+
+    /// `getRegisteredParties`.
+    pub fn parties(self) -> u16
+        ensures { result ≡ (record_of self).parties }
+    {
+        unpacked(self.bits).parties
+    }
+
+    /// `getArrivedParties`; all of them once the phaser is terminated.
+    pub fn arrived(self) -> u16
+        ensures { result ≡ (record_of self).arrived }
+    {
+        let fields = unpacked(self.bits);
+        if fields.ended {
+            fields.parties
+        } else {
+            fields.parties.saturating_sub(fields.unarrived)
+        }
+    }
+
+    /// `getUnarrivedParties`; 0 once the phaser is terminated.
+    pub fn unarrived(self) -> u16
+        ensures { result ≡ unarrived_of (record_of self) }
+    {
+        self.parties() - self.arrived()
+    }
+
+    /// `isTerminated`.
+    pub fn is_terminated(self) -> bool
+        ensures { result ≡ (record_of self).ended }
+    {
+        unpacked(self.bits).ended
+    }
+
+    /// Nobody is registered, and no phase end is pending; false once the phaser is terminated.
+    pub fn is_empty(self) -> bool
+        ensures { result ≡ is_empty (record_of self) }
+    {
+        let fields = unpacked(self.bits);
+        !fields.ended && fields.parties == 0 && fields.unarrived == 1
+    }
+
+    /// Nobody is waited for any more, and the phase hasn't ended yet.
+    pub fn is_turned(self) -> bool
+        ensures { result ≡ (record_of self).turned }
+    {
+        let fields = unpacked(self.bits);
+        !fields.ended && fields.unarrived == 0
+    }
+
+    /// `register` where `count` is 1, else `bulkRegister(count)`.
+    pub fn register(self, count: u32) -> Registered
+        ensures { registration_of result ≡ register count (record_of self) }
+    {
+        let fields = unpacked(self.bits);
+        if fields.ended {
+            return Registered::Dead(self.phase_view());
+        }
+        if count == 0 {
+            return Registered::At(self, self.phase_view());
+        }
+        if count > 65535 - fields.parties as u32 {
+            return Registered::TooMany;
+        }
+        if fields.unarrived == 0 {
+            return Registered::Held;
+        }
+        let count = count as u16;
+        let awaited = if fields.parties == 0 {
+            0
+        } else {
+            fields.unarrived
+        };
+        let after = Fields {
+            unarrived: awaited + count,
+            parties: fields.parties + count,
+            ..fields
+        };
+        Registered::At(packed(after), self.phase_view())
+    }
+
+    /// `arrive`, or `arriveAndDeregister` where the party leaves. The word of `Turned` waits for `advance`.
+    pub fn arrive(self, leave: bool) -> Arrived
+        ensures { arrival_of result ≡ arrive leave (record_of self) }
+    {
+        let fields = unpacked(self.bits);
+        if fields.ended {
+            return Arrived::Dead(self.phase_view());
+        }
+        if fields.unarrived == 0 || fields.parties == 0 {
+            return Arrived::NotThere;
+        }
+        let after = Fields {
+            unarrived: fields.unarrived - 1,
+            parties: if leave {
+                fields.parties - 1
+            } else {
+                fields.parties
+            },
+            ..fields
+        };
+        if after.unarrived == 0 {
+            Arrived::Turned(packed(after))
+        } else {
+            Arrived::Counted(packed(after))
+        }
+    }
+
+    /// Ends the phase of a turned phaser, and terminates the phaser where `ends` says so. Nobody is counted as still
+    /// to arrive in a word that this terminates.
+    pub fn advance(self, ends: bool) -> Word
+        requires { (record_of self).turned ≡ true }
+        ensures record { record_of result ≡ advance ends (record_of self) }
+        ensures lowest { ends ≡ true → (fields_of result).unarrived ≡ 0 }
+    {
+        let fields = unpacked(self.bits);
+        packed(Fields {
+            unarrived: if ends { 0 } else { all_of(fields.parties) },
+            phase: self.phase().next().number() as u32,
+            ended: ends,
+            ..fields
+        })
+    }
+
+    /// Empties a turned phaser whose last party has left: nobody is registered, and no phase end is pending.
+    pub fn vacate(self) -> Word
+        requires turned { (record_of self).turned ≡ true }
+        requires no_parties { (record_of self).parties ≡ 0 }
+        ensures { record_of result ≡ vacate (record_of self) }
+    {
+        packed(Fields {
+            unarrived: 1,
+            ..unpacked(self.bits)
+        })
+    }
+
+    /// The same parties at the start of this phase, whatever the word was.
+    pub fn renew(self, phase: Phase) -> Word
+        ensures { record_of result ≡ renew phase (record_of self) }
+    {
+        Word::fresh(phase, self.parties())
+    }
+
+    /// `forceTermination`. The lowest field stays as it was.
+    pub fn force(self) -> Word
+        ensures record { record_of result ≡ force (record_of self) }
+        ensures fields { fields_of result ≡ record (fields_of self) { ended = true } }
+    {
+        packed(Fields {
+            ended: true,
+            ..unpacked(self.bits)
+        })
+    }
+}
+
+#[cfg(test)]
+mod tests;
