@@ -1,0 +1,4 @@
+pub mod Port
+pub mod FailAt
+pub mod MemorySource
+pub mod MemorySink

@@ -1,0 +1,12 @@
+-- How every port fails, and what a port round a reader or a writer is.
+use Rattle.std.specs.Prelude.{Bool, Result, IsErr, IsTrue, ◌↔◌}
+
+-- an error is answered exactly where the port has failed by then, and once failed it stays so
+pub record FailsForGood {T E : Type 0} (before after : Bool) (r : Result T E) : Type 0 where
+  pub answer : IsErr r ↔ IsTrue after
+  pub for_good : IsTrue before → IsTrue after
+
+-- a reader or a writer, and whether a call on the port round it has failed
+pub record Port (T : Type 0) : Type 0 where
+  pub inner : T
+  pub failed : Bool

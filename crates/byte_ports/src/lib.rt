@@ -1,0 +1,39 @@
+//! Where the bytes come from and where they go. The rest of the workbench reads a program, a
+//! schedule or a trace from a `Source`, writes a trace or an image to a `Sink`, and never sees a
+//! file or a terminal. A contract above this crate can name the bytes that were read or written,
+//! and every port keeps one rule about failing: a call answers `Failed` exactly where its port has
+//! failed by then, and a port that has failed answers `Failed` for good.
+//!
+//! For a Java porter: a `Source` is an `InputStream` and a `Sink` an `OutputStream`, with the one
+//! exception `Failed` in place of `IOException`, which the stream then throws from every later
+//! call.
+#![tactic(auto)]
+
+// How a port fails.
+pub mod failed;
+
+// What a crate above asks for.
+pub mod sink;
+pub mod source;
+
+// Ports over bytes in memory.
+mod fail_at;
+pub mod memory_sink;
+pub mod memory_source;
+
+// Ports over the readers and writers of std.
+mod interruption;
+pub mod read_port;
+pub mod write_port;
+
+pub use failed::Failed;
+pub use interruption::MOST_TRIES;
+pub use memory_sink::MemorySink;
+pub use memory_source::MemorySource;
+pub use read_port::ReadPort;
+pub use sink::Sink;
+pub use source::Source;
+pub use write_port::WritePort;
+
+#[cfg(test)]
+mod callers;

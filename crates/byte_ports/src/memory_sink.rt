@@ -1,0 +1,87 @@
+ghost use Rattle.std.specs.Prelude.{◌≡◌, ◌≤◌, [], Some, true, false, IfOk, OnOk, OnErr, vec_len, vec_capacity};
+ghost use Rattle.std.specs.Io.KnownBytes.{Appends};
+ghost use Rattle.byte_ports.specs.Port.{FailsForGood};
+ghost use Rattle.byte_ports.specs.FailAt.{one_nearer};
+ghost use Rattle.byte_ports.specs.MemorySink.{Store, push_fails};
+
+use crate::fail_at::{after_a_call, is_next_call};
+use crate::failed::Failed;
+use crate::sink::Sink;
+use std::alloc::{AllocError, Global};
+use std::marker::Model;
+
+/// A sink into memory, as `ByteArrayOutputStream`, of a fixed room. It can be told at which call to
+/// fail.
+#[derive(Drop)]
+pub struct MemorySink {
+    taken: Vec<u8>,
+    limit: usize,
+    countdown: Option<u32>,
+    broken: bool,
+}
+
+impl Model for MemorySink {
+    ghost Value = { Store };
+
+    ghost view = { λ s. record {
+      written = s.taken.items;
+      room = s.limit;
+      fail_at = s.countdown;
+      failed = s.broken;
+    } };
+
+    ghost invariant = { λ s. (vec_len s.taken ≤ s.limit) × (s.limit ≤ vec_capacity s.taken) };
+}
+
+impl MemorySink {
+    /// Takes the memory for `room` bytes, so that no later call needs any. `fail_at` is the number
+    /// of the call that fails, from 0. `None`: a call fails only where the room is too small.
+    pub fn new(alloc: Global, room: usize, fail_at: Option<u32>) -> Result<MemorySink, AllocError>
+        ensures { IfOk result (λ sink. sink ≡
+            record { written = []; room = room; fail_at = fail_at; failed = false }) }
+    {
+        Ok(MemorySink {
+            taken: Vec::with_capacity(alloc, room)?,
+            limit: room,
+            countdown: fail_at,
+            broken: false,
+        })
+    }
+
+    /// What was written so far.
+    pub fn bytes(&self) -> &[u8]
+        ensures { result.now ≡ self.now.written }
+    {
+        self.taken.as_slice()
+    }
+}
+
+impl Sink for MemorySink {
+    ghost written = { λ s. Some s.written };
+
+    ghost has_failed = { λ s. s.failed };
+
+    fn push(&mut self, bytes: &[u8]) -> Result<(), Failed>
+        ensures failed { FailsForGood self.old.failed self.new.failed result }
+        ensures bytes { OnOk result
+            (Appends (Some self.old.written) (Some self.new.written) bytes.now) }
+
+        // When it fails, and what a call changes besides.
+        ensures due { self.new.failed ≡ push_fails self.old bytes.now }
+        ensures nearer { OnOk result (self.new.fail_at ≡ one_nearer self.old.fail_at) }
+        ensures room { OnOk result (self.new.room ≡ self.old.room) }
+        ensures err { OnErr result (self.new ≡ record self.old { failed = true }) }
+    {
+        let is_full = self.limit - self.taken.len() < bytes.len();
+        if self.broken || is_next_call(self.countdown) || is_full {
+            self.broken = true;
+            return Err(Failed);
+        }
+        self.taken.extend_from_slice(bytes).unwrap();
+        self.countdown = after_a_call(self.countdown);
+        Ok(())
+    }
+}
+
+#[cfg(test)]
+mod tests;

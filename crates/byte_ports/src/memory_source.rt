@@ -1,0 +1,74 @@
+ghost use Rattle.std.specs.Prelude.{◌≡◌, ◌≤◌, Some, true, false, IfOk, OnOk, OnErr, length, min, drop};
+ghost use Rattle.std.specs.Io.KnownBytes.{ReadConsumes};
+ghost use Rattle.byte_ports.specs.Port.{FailsForGood};
+ghost use Rattle.byte_ports.specs.FailAt.{one_nearer};
+ghost use Rattle.byte_ports.specs.MemorySource.{Feed, pull_fails};
+
+use crate::fail_at::{after_a_call, is_next_call};
+use crate::failed::Failed;
+use crate::source::Source;
+use std::marker::Model;
+
+/// A source over bytes in memory, as `ByteArrayInputStream`. It can be told at which call to fail.
+#[derive(Drop)]
+pub struct MemorySource<'a> {
+    rest: &'a [u8],
+    countdown: Option<u32>,
+    broken: bool,
+}
+
+impl<'a> Model for MemorySource<'a> {
+    ghost Value = { Feed };
+
+    ghost view = { λ s. record {
+      left = s.rest.now;
+      fail_at = s.countdown;
+      failed = s.broken;
+    } };
+}
+
+impl<'a> MemorySource<'a> {
+    /// `fail_at` is the number of the call that fails, from 0. `None`: no call fails.
+    pub fn new(bytes: &'a [u8], fail_at: Option<u32>) -> MemorySource<'a>
+        ensures { result ≡ record { left = bytes.now; fail_at = fail_at; failed = false } }
+    {
+        MemorySource {
+            rest: bytes,
+            countdown: fail_at,
+            broken: false,
+        }
+    }
+}
+
+impl<'a> Source for MemorySource<'a> {
+    ghost left = { λ s. Some s.left };
+
+    ghost has_failed = { λ s. s.failed };
+
+    fn pull(&mut self, buffer: &mut [u8]) -> Result<usize, Failed>
+        ensures failed { FailsForGood self.old.failed self.new.failed result }
+        ensures bound { IfOk result (λ n. n ≤ length buffer.new) }
+        ensures bytes { ReadConsumes (Some self.old.left) (Some self.new.left) result buffer.new }
+
+        // When it fails, how much it gives, and what a call changes besides.
+        ensures due { self.new.failed ≡ pull_fails self.old }
+        ensures count { IfOk result (λ n. n ≡ min (length buffer.old) (length self.old.left)) }
+        ensures buffer { IfOk result (λ n. drop n buffer.new ≡ drop n buffer.old) }
+        ensures nearer { OnOk result (self.new.fail_at ≡ one_nearer self.old.fail_at) }
+        ensures err { OnErr result (self.new ≡ record self.old { failed = true }) }
+        ensures err_buffer { OnErr result (buffer.new ≡ buffer.old) }
+    {
+        if self.broken || is_next_call(self.countdown) {
+            self.broken = true;
+            return Err(Failed);
+        }
+        let count = buffer.len().min(self.rest.len());
+        buffer[..count].copy_from_slice(&self.rest[..count]);
+        self.rest = &self.rest[count..];
+        self.countdown = after_a_call(self.countdown);
+        Ok(count)
+    }
+}
+
+#[cfg(test)]
+mod tests;

@@ -1,0 +1,81 @@
+ghost use Rattle.std.specs.Prelude.{◌≡◌, ◌≤◌, true, false, IsTrue, IfOk, length};
+ghost use Rattle.std.specs.Io.KnownBytes.{ReadConsumes};
+ghost use Rattle.byte_ports.specs.Port.{Port, FailsForGood};
+
+use crate::failed::Failed;
+use crate::interruption::{MOST_TRIES, is_interruption};
+use crate::source::Source;
+use std::io::Read;
+use std::marker::Model;
+
+/// A source over any reader of std, as a file or standard input. It tells the bytes left where the
+/// reader does: a file and standard input tell none.
+#[derive(Drop)]
+pub struct ReadPort<R> {
+    reader: R,
+    broken: bool,
+}
+
+impl<R> Model for ReadPort<R> {
+    ghost Value = { Port R };
+
+    ghost view = { λ p. record { inner = p.reader; failed = p.broken } };
+}
+
+impl<R: Read> ReadPort<R> {
+    pub fn new(reader: R) -> ReadPort<R>
+        ensures { result ≡ record { inner = reader; failed = false } }
+    {
+        ReadPort {
+            reader,
+            broken: false,
+        }
+    }
+}
+
+impl<R: Read> Source for ReadPort<R> {
+    ghost left = { λ p. R.remaining p.inner };
+
+    ghost has_failed = { λ p. p.failed };
+
+    /// One read of the reader. Where a signal interrupts it, it is tried again, up to `MOST_TRIES`
+    /// times in all. Any other error is a failure.
+    fn pull(&mut self, buffer: &mut [u8]) -> Result<usize, Failed>
+        ensures failed { FailsForGood self.old.failed self.new.failed result }
+        ensures bound { IfOk result (λ n. n ≤ length buffer.new) }
+        ensures bytes { ReadConsumes (R.remaining self.old.inner) (R.remaining self.new.inner)
+            result buffer.new }
+
+        // Once it has failed, the reader is left alone.
+        ensures idle { IsTrue self.old.failed → self.new ≡ self.old }
+    {
+        if self.broken {
+            return Err(Failed);
+        }
+        let outcome = read_through_interruptions(&mut self.reader, buffer);
+        self.broken = outcome.is_err();
+        outcome
+    }
+}
+
+// One read, tried again where a signal interrupts it.
+fn read_through_interruptions<R: Read>(reader: &mut R, buffer: &mut [u8]) -> Result<usize, Failed>
+    ensures bound { IfOk result (λ n. n ≤ length buffer.new) }
+    ensures bytes { ReadConsumes (R.remaining reader.old) (R.remaining reader.new)
+        result buffer.new }
+{
+    for _ in 0..MOST_TRIES {
+        match reader.read(buffer) {
+            Ok(count) => return Ok(count),
+            Err(error) => {
+                if !is_interruption(&error) {
+                    return Err(Failed);
+                }
+            }
+        }
+    }
+    Err(Failed)
+}
+
+#[cfg(test)]
+mod tests;
