@@ -1,0 +1,74 @@
+use Rattle.std.proofs.Common.{◌≡◌, ℕ, zero, suc, ◌+◌, ◌<◌, Bool, true, false, cond, not, ◌&&◌, ◌==◌, List, [], ◌∷◌, length, Some, unwrap_or, IfSome, All, slice_index_or, bytes_eq, refl, ap, sym, ◌∙◌, arith, rules, add-one, zero-add, drop-cons}
+use Rattle.std.proofs.lemmas.Grind.{common_steps}
+use Rattle.std.proofs.lemmas.List.{get_or_default}
+use Rattle.instruction_table.specs.Table.{Entry, no_entry, entry_named, table}
+
+-- a list from one place on is the element there, and the list from the next place on
+pub ruleset steps = (drop-cons, add-one)
+
+-- a test: no entry has this word
+abbrev pub lacks : List Entry → List ℕ → Bool
+lacks [] word = true
+lacks (e ∷ es) word = not (bytes_eq word e.word) && lacks es word
+
+-- a test over a whole table: no two entries have one word
+abbrev pub are_distinct : List Entry → Bool
+are_distinct [] = true
+are_distinct (e ∷ es) = lacks es e.word && are_distinct es
+
+-- a test over a whole table: each opcode is the entry's place, counted from n
+abbrev pub are_placed : ℕ → List Entry → Bool
+are_placed n [] = true
+are_placed n (e ∷ es) = (e.opcode == n) && are_placed (n + 1) es
+
+same_word : (word : List ℕ) → bytes_eq word word ≡ true
+same_word word = search rules
+
+-- an entry of a list that lacks a word has another word
+lacks-at : (es : List Entry) (k : ℕ) (d : Entry) (word : List ℕ) →
+    lacks es word ≡ true → k < length es → bytes_eq word (slice_index_or es k d).word ≡ false
+lacks-at [] k d word absent within = absurd (omega (arith, within))
+lacks-at (x ∷ xs) zero d word absent within = grind (arith, common_steps, absent)
+lacks-at (x ∷ xs) (suc j) d word absent within = grind (arith, common_steps, lacks-at xs j d word)
+
+-- each entry of a table with distinct words is found by its word
+pub found_by_word : (es : List Entry) (k : ℕ) (d : Entry) → are_distinct es ≡ true → k < length es →
+    entry_named es (slice_index_or es k d).word ≡ Some (slice_index_or es k d)
+found_by_word [] k d distinct within = absurd (omega (arith, within))
+found_by_word (x ∷ xs) zero d distinct within = grind (arith, common_steps, same_word x.word)
+found_by_word (x ∷ xs) (suc j) d distinct within = grind (arith, common_steps, lacks-at xs j d x.word, found_by_word xs j d)
+
+-- each opcode of a table in order is the entry's place
+pub opcode-at : (es : List Entry) (n k : ℕ) (d : Entry) → are_placed n es ≡ true → k < length es →
+    (slice_index_or es k d).opcode ≡ n + k
+opcode-at [] n k d placed within = absurd (omega (arith, within))
+opcode-at (x ∷ xs) n zero d placed within = grind (arith, common_steps)
+opcode-at (x ∷ xs) n (suc j) d placed within = grind (arith, common_steps, opcode-at xs (n + 1) j d)
+
+-- what a look-up finds is an entry
+found_is_entry : (P : Entry → Type 0) (es : List Entry) (word : List ℕ) → All P es → IfSome (entry_named es word) P
+found_is_entry P [] word each = tt
+found_is_entry P (x ∷ xs) word each =
+    let rest : All P xs = λ k d within. each (suc k) d (omega (arith, within)) in
+    elim (bytes_eq x.word word) as (λ same. IfSome (cond same (Some x) (entry_named xs word)) P)
+    [ true ↦ each 0 x (omega arith) | false ↦ found_is_entry P xs word rest ]
+
+-- the instruction table passes both tests
+table_distinct : are_distinct table ≡ true
+table_distinct = refl
+
+pub table_placed : are_placed 0 table ≡ true
+table_placed = refl
+
+-- an entry that a look-up finds stands at the place of its opcode
+pub named_is_placed : (word : List ℕ) → IfSome (entry_named table word) (λ e. slice_index_or table e.opcode no_entry ≡ e)
+named_is_placed word =
+    let P : Entry → Type 0 = λ e. slice_index_or table e.opcode no_entry ≡ e in
+    found_is_entry P table word
+    (λ k d within. ap (λ at. slice_index_or table at no_entry) (opcode-at table 0 k d table_placed within ∙ zero-add k)
+    ∙ get_or_default table k no_entry d within)
+
+-- an entry that a look-up finds is the only one with its word
+pub named_is_only : (word : List ℕ) (a : Entry) → entry_named table word ≡ Some a → All (λ e. e.word ≡ word → e ≡ a) table
+named_is_only word a found = λ k d within same.
+    ap (λ o. unwrap_or o a) (sym (found_by_word table k d table_distinct within) ∙ ap (entry_named table) same ∙ found)

@@ -1,0 +1,5 @@
+pub mod Register
+pub mod Registers
+pub mod Row
+pub mod Table
+pub mod LocalRows

@@ -1,0 +1,56 @@
+use Rattle.std.specs.Prelude.{ℕ, ◌+◌, ℤ, pos, ◌+ℤ◌, ◌-ℤ◌, Bool, true, false, not, int_lt, List, Some, None, if◌then◌else◌}
+use Rattle.std.specs.Int.{int_rem_euclid}
+use Rattle.std.specs.Ordering.{int_eq}
+use Rattle.instruction_table.specs.declared.local_effect.Local.{Local}
+use Rattle.instruction_table.specs.declared.register.Reg.{Reg}
+use Rattle.instruction_table.specs.declared.row.Row.{Row}
+use Rattle.instruction_table.specs.declared.row.Row.TheVariants.{Ldi, Mov, Add, Sub, Jmp, Beq, Bne, Blt}
+use Rattle.instruction_table.specs.Registers.{value_in, with_value}
+
+-- the number from -2 ^ 31 to 2 ^ 31 - 1 that differs from z by a multiple of 2 ^ 32: what Java's
+-- `int` keeps of z
+abbrev pub wrapped : ℤ → ℤ
+wrapped z = int_rem_euclid (z +ℤ pos 2147483648) (pos 4294967296) -ℤ pos 2147483648
+
+-- whether a row touches nothing but its own thread's registers and place
+abbrev pub is_local_row : Row → Bool
+is_local_row (Ldi _ _) = true
+is_local_row (Mov _ _) = true
+is_local_row (Add _ _ _) = true
+is_local_row (Sub _ _ _) = true
+is_local_row (Jmp _) = true
+is_local_row (Beq _ _ _) = true
+is_local_row (Bne _ _ _) = true
+is_local_row (Blt _ _ _) = true
+is_local_row _ = false
+
+-- a number was put into a register, and the next row comes
+abbrev pub loads : List ℤ → ℕ → Reg → ℤ → Local
+loads regs pc into value =
+    record { registers = with_value regs into value; pc = pc + 1; written = Some value }
+
+-- the registers stay, and the row at this place comes
+abbrev pub goes_to : List ℤ → ℕ → Local
+goes_to regs place = record { registers = regs; pc = place; written = None }
+
+-- a jump that is taken or not: where it isn't, the next row comes
+abbrev pub branches : List ℤ → ℕ → Bool → ℕ → Local
+branches regs pc taken target = goes_to regs (if taken then target else pc + 1)
+
+-- what each local row leaves of the registers and the place; other rows have no such effect, and
+-- stand here as leaving both alone
+abbrev pub local_of : Row → List ℤ → ℕ → Local
+local_of (Ldi into value) regs pc = loads regs pc into value
+local_of (Mov into from) regs pc = loads regs pc into (value_in regs from)
+local_of (Add into left right) regs pc =
+    loads regs pc into (wrapped (value_in regs left +ℤ value_in regs right))
+local_of (Sub into left right) regs pc =
+    loads regs pc into (wrapped (value_in regs left -ℤ value_in regs right))
+local_of (Jmp target) regs pc = goes_to regs target
+local_of (Beq left right target) regs pc =
+    branches regs pc (int_eq (value_in regs left) (value_in regs right)) target
+local_of (Bne left right target) regs pc =
+    branches regs pc (not (int_eq (value_in regs left) (value_in regs right))) target
+local_of (Blt left right target) regs pc =
+    branches regs pc (int_lt (value_in regs left) (value_in regs right)) target
+local_of _ regs pc = goes_to regs pc

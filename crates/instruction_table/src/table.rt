@@ -1,0 +1,117 @@
+ghost use Rattle.std.specs.Prelude.{◌≡◌, ◌<◌, All, IfSome, Some, map, option_map, length, slice_index_or, slice_get};
+ghost use Rattle.instruction_table.specs.Row.{opcode_of};
+ghost use Rattle.instruction_table.specs.Table.{no_entry, entry_listed, entry_of, entry_named, table, entry_for};
+
+use crate::row::{Row, opcode};
+use crate::shape::OperandKind::{Barrier, Cell, Number, Phaser, Register, Target, Thread};
+use crate::shape::{OperandKind, Shape};
+
+/// An entry of the table: opcode, word and kinds of operands.
+type Listed = (u8, &'static str, &'static [OperandKind]);
+
+/// The instruction table: an entry for each kind of row, at the place of its opcode.
+const TABLE: [Listed; 40] = [
+    (0, "halt", &[]),
+    (1, "ldi", &[Register, Number]),
+    (2, "mov", &[Register, Register]),
+    (3, "add", &[Register, Register, Register]),
+    (4, "sub", &[Register, Register, Register]),
+    (5, "jmp", &[Target]),
+    (6, "beq", &[Register, Register, Target]),
+    (7, "bne", &[Register, Register, Target]),
+    (8, "blt", &[Register, Register, Target]),
+    (9, "call", &[Target]),
+    (10, "ret", &[]),
+    (11, "try", &[Target]),
+    (12, "endtry", &[]),
+    (13, "throw", &[Register]),
+    (14, "out", &[Register]),
+    (15, "lds", &[Register, Cell]),
+    (16, "sts", &[Register, Cell]),
+    (17, "self", &[Register]),
+    (18, "intr", &[Thread]),
+    (19, "intrd", &[Register]),
+    (20, "preg", &[Register, Phaser]),
+    (21, "pbulk", &[Register, Phaser, Register]),
+    (22, "parr", &[Register, Phaser]),
+    (23, "pdereg", &[Register, Phaser]),
+    (24, "paaa", &[Register, Phaser]),
+    (25, "pawait", &[Register, Phaser, Register]),
+    (26, "pawaiti", &[Register, Phaser, Register]),
+    (27, "pforce", &[Phaser]),
+    (28, "pphase", &[Register, Phaser]),
+    (29, "pparties", &[Register, Phaser]),
+    (30, "parrived", &[Register, Phaser]),
+    (31, "punarr", &[Register, Phaser]),
+    (32, "pterm", &[Register, Phaser]),
+    (33, "pparent", &[Register, Phaser]),
+    (34, "proot", &[Register, Phaser]),
+    (35, "cawait", &[Register, Barrier]),
+    (36, "creset", &[Barrier]),
+    (37, "cbroken", &[Register, Barrier]),
+    (38, "cwaiting", &[Register, Barrier]),
+    (39, "cparties", &[Register, Barrier]),
+];
+
+fn shape_listed(listed: Listed) -> Shape
+    ensures { entry_of result ≡ entry_listed listed.entry }
+{
+    let (opcode, word, operands) = listed;
+    Shape {
+        opcode,
+        word,
+        operands,
+    }
+}
+
+#[tactic(auto, using(crate::proofs::TableLemmas::steps))]
+fn shape_in(entries: &[Listed], word: &[u8]) -> Option<Shape>
+    ensures { option_map entry_of result ≡ entry_named (map entry_listed entries.now) word.now }
+{
+    for entry in entries {
+        if entry.1.as_bytes() == word {
+            return Some(shape_listed(*entry));
+        }
+    }
+    None
+}
+
+fn shape_at(entries: &[Listed], place: u8) -> Shape
+    requires { place < length entries.now }
+    ensures { entry_of result ≡ slice_index_or (map entry_listed entries.now) place no_entry }
+{
+    shape_listed(entries[usize::from(place)])
+}
+
+/// The shape of the rows that begin with this word in a program's text. The word counts as it is:
+/// in small letters and whole. Any other bytes have no shape.
+pub fn shape_of(word: &[u8]) -> Option<Shape>
+    ensures entry { option_map entry_of result ≡ entry_named table word.now }
+
+    // No other kind of row has the word, and the opcode leads back to the entry.
+    ensures only { IfSome result (λ s. All (λ e. e.word ≡ word.now → e ≡ entry_of s) table) }
+    ensures place { IfSome result (λ s. slice_index_or table s.opcode no_entry ≡ entry_of s) }
+{
+    shape_in(&TABLE, word)
+}
+
+/// The row's shape: what `shape_of` answers to its word.
+pub fn row_shape(row: Row) -> Shape
+    ensures entry { entry_of result ≡ entry_for row }
+    ensures code { result.opcode ≡ opcode_of row }
+{
+    shape_at(&TABLE, opcode(row))
+}
+
+/// The word that begins the row in a program's text.
+pub fn mnemonic(row: Row) -> &'static str
+    ensures word { result.now ≡ (entry_for row).word }
+
+    // No other kind of row has the word.
+    ensures found { entry_named table result.now ≡ Some (entry_for row) }
+{
+    row_shape(row).word
+}
+
+#[cfg(test)]
+mod tests;
