@@ -1,0 +1,3 @@
+pub mod ThreadSetLemmas
+pub mod PlainBarrierLemmas
+pub mod BarrierLemmas

@@ -1,0 +1,148 @@
+use Rattle.std.proofs.Common.{◌≡◌, ℕ, ◌+◌, ◌<◌, ◌≤◌, zero, suc, Bool, true, false, not, cond, ◌==◌, refl, sym, ◌∙◌, ap, arith, inl, inr, List, [], ◌∷◌, ◌++◌, length, Option, Some, None, slice_get, option_map, filter, count_by, All, nat_le, length-append, zero-add}
+use Rattle.std.proofs.lemmas.Bool.{le-leb, lt-leb, cases_eq, eq-eqb, ne_eqb}
+use Rattle.std.proofs.lemmas.Bool.Decides.{nat_tests}
+use Rattle.std.proofs.lemmas.List.Elements.{All-head, All-tail, All-weaker}
+use Rattle.std.proofs.lemmas.List.Sums.{sum_by-cons}
+use Rattle.cyclic_barrier.specs.declared.answer.WaitState.{WaitState}
+use Rattle.cyclic_barrier.specs.declared.answer.WaitState.TheVariants as state
+use Rattle.cyclic_barrier.specs.PlainBarrier as plain
+use Rattle.cyclic_barrier.specs.PlainBarrier.{PlainBarrier, Wait, End, state_after, state_of_wait, wait_of, state_of, is_unreleased, number_waiting, end_generation, reset}
+use Rattle.cyclic_barrier.specs.Barrier.{is_at, OneWaitEach, HasBegun}
+
+-- what a wait's state becomes when the generation under way ends
+abbrev pub ended_by : End → WaitState → WaitState
+ended_by end state.Waiting = state_after (Some end)
+ended_by end state.Tripped = state.Tripped
+ended_by end state.Broken = state.Broken
+
+ended : (earlier end : End) → state_after (Some earlier) ≡ ended_by end (state_after (Some earlier))
+ended earlier end = elim earlier as (λ e. state_after (Some e) ≡ ended_by end (state_after (Some e))) [ plain.tripped ↦ refl | plain.broken ↦ refl ]
+
+-- an end that is appended is that of the generation under way alone
+state_after-append :
+    (ends : List End) (end : End) (generation : ℕ) → generation ≤ length ends →
+    state_after (slice_get (ends ++ end ∷ []) generation) ≡ ended_by end (state_after (slice_get ends generation))
+state_after-append [] end zero within = refl
+state_after-append [] end (suc g) within = absurd (omega arith)
+state_after-append (x ∷ ends) end zero within = ended x end
+state_after-append (x ∷ ends) end (suc g) within = state_after-append ends end g (omega arith)
+
+-- the same of a thread's wait
+pub state_of-end :
+    (waits : List Wait) (ends : List End) (end : End) (thread : ℕ) → All (HasBegun ends) waits →
+    option_map (state_of_wait (ends ++ end ∷ [])) (wait_of thread waits) ≡ option_map (ended_by end) (option_map (state_of_wait ends) (wait_of thread waits))
+state_of-end [] ends end thread begun = refl
+state_of-end (wait ∷ waits) ends end thread begun =
+    elim (wait.thread == thread) as (λ here. option_map (state_of_wait (ends ++ end ∷ [])) (cond here (Some wait) (wait_of thread waits)) ≡ option_map (ended_by end) (option_map (state_of_wait ends) (cond here (Some wait) (wait_of thread waits)))) [
+      | true ↦ ap (λ s. Some s) (state_after-append ends end wait.generation (All-head (HasBegun ends) wait waits begun))
+      | false ↦ state_of-end waits ends end thread (All-tail (HasBegun ends) wait waits begun)
+    ]
+
+-- nobody waits any more once the generation has ended
+pub none_waiting :
+    (waits : List Wait) (ends : List End) (end : End) → All (HasBegun ends) waits →
+    count_by (is_unreleased (ends ++ end ∷ [])) waits ≡ 0
+none_waiting [] ends end begun = refl
+none_waiting (wait ∷ waits) ends end begun =
+    let here : wait.generation ≤ length ends = All-head (HasBegun ends) wait waits begun in
+    let past : is_unreleased (ends ++ end ∷ []) wait ≡ false = lt-leb _ _ (rw length-append (omega arith)) in
+    sum_by-cons _ wait waits ∙ rw past (zero-add _ ∙ none_waiting waits ends end (All-tail (HasBegun ends) wait waits begun))
+
+-- what has begun has begun for good
+pub begun_still :
+    (waits : List Wait) (ends : List End) (end : End) → All (HasBegun ends) waits →
+    All (HasBegun (ends ++ end ∷ [])) waits
+begun_still waits ends end begun = All-weaker (HasBegun ends) (HasBegun (ends ++ end ∷ [])) (λ w h. rw length-append (omega arith)) waits begun
+
+le_suc : (a b : ℕ) → nat_le a b ≡ nat_le (suc a) (suc b)
+le_suc a b = grind (arith, nat_tests)
+
+-- the same barrier, whole
+abbrev pub reset_flag : PlainBarrier → PlainBarrier
+reset_flag p = record p { broken = false }
+
+-- a wait is unreleased where the test says so
+waiting_test :
+    (ends : List End) (generation : ℕ) →
+    is_at state.Waiting (Some (state_after (slice_get ends generation))) ≡ nat_le (length ends) generation
+waiting_test [] g = sym (le-leb _ _ (omega arith))
+waiting_test (x ∷ ends) zero = elim x as (λ e. is_at state.Waiting (Some (state_after (Some e))) ≡ nat_le (suc (length ends)) zero) [ plain.tripped ↦ sym (lt-leb _ _ (omega arith)) | plain.broken ↦ sym (lt-leb _ _ (omega arith)) ]
+waiting_test (x ∷ ends) (suc g) = waiting_test ends g ∙ le_suc (length ends) g
+
+-- a wait that enters now is unreleased
+pub waiting_now : (ends : List End) → state_after (slice_get ends (length ends)) ≡ state.Waiting
+waiting_now [] = refl
+waiting_now (x ∷ ends) = waiting_now ends
+
+-- the waits of the other threads
+abbrev pub others : ℕ → List Wait → List Wait
+others thread waits = filter (λ wait. not (wait.thread == thread)) waits
+
+twice : {A : Type 0} (b : Bool) (x y z : A) → cond b x z ≡ cond b x (cond b y z)
+twice true x y z = refl
+twice false x y z = refl
+
+none_either : (b : Bool) → None ≡ cond {A = Option Wait} b None None
+none_either true = refl
+none_either false = refl
+
+-- the other threads' waits are as they were
+pub wait_of-others :
+    (waits : List Wait) (gone thread : ℕ) →
+    wait_of thread (others gone waits) ≡ cond (gone == thread) None (wait_of thread waits)
+wait_of-others [] gone thread = none_either (gone == thread)
+wait_of-others (wait ∷ waits) gone thread =
+    let rest = wait_of-others waits gone thread in
+    elim (cases_eq wait.thread gone) as (λ _. wait_of thread (others gone (wait ∷ waits)) ≡ cond (gone == thread) None (wait_of thread (wait ∷ waits))) [
+      | inl e ↦ rw (eq-eqb _ _ e, e) (rest ∙ twice (gone == thread) None _ (wait_of thread waits))
+      | inr n ↦ rw (ne_eqb _ _ n, rest) (elim (cases_eq gone thread) as (λ _. cond (wait.thread == thread) (Some wait) (cond (gone == thread) None (wait_of thread waits)) ≡ cond (gone == thread) None (cond (wait.thread == thread) (Some wait) (wait_of thread waits))) [
+        | inl g ↦ rw (eq-eqb _ _ g, ne_eqb wait.thread thread (λ h. n (h ∙ sym g))) refl
+        | inr m ↦ rw (ne_eqb _ _ m) refl
+      ])
+    ]
+
+-- a thread without a wait leaves nothing
+others_all : (waits : List Wait) (gone : ℕ) → wait_of gone waits ≡ None → others gone waits ≡ waits
+others_all [] gone none = refl
+others_all (wait ∷ waits) gone none =
+    elim (wait.thread == gone) as (λ here. cond here (Some wait) (wait_of gone waits) ≡ None → cond (not here) (wait ∷ others gone waits) (others gone waits) ≡ wait ∷ waits) [
+      | true ↦ λ absent. cc
+      | false ↦ λ absent. ap (λ ws. wait ∷ ws) (others_all waits gone absent)
+    ] none
+
+-- a released wait was not counted
+pub waiting-others :
+    (waits : List Wait) (ends : List End) (gone : ℕ) → OneWaitEach waits →
+    is_at state.Waiting (option_map (state_of_wait ends) (wait_of gone waits)) ≡ false →
+    count_by (is_unreleased ends) (others gone waits) ≡ count_by (is_unreleased ends) waits
+waiting-others [] ends gone one released = refl
+waiting-others (wait ∷ waits) ends gone one released =
+    elim (cases_eq wait.thread gone) as (λ _. count_by (is_unreleased ends) (others gone (wait ∷ waits)) ≡ count_by (is_unreleased ends) (wait ∷ waits)) [
+      | inl e ↦
+          let found : wait_of gone (wait ∷ waits) ≡ Some wait = rw (eq-eqb _ _ e) refl in
+          let uncounted : is_unreleased ends wait ≡ false = sym (waiting_test ends wait.generation) ∙ (rw found at released) in
+          let none : wait_of gone waits ≡ None = rw e at one.0 in
+          rw (eq-eqb _ _ e, others_all waits gone none) (sym (sum_by-cons _ wait waits ∙ rw uncounted (zero-add _)))
+      | inr n ↦
+          let passed : wait_of gone (wait ∷ waits) ≡ wait_of gone waits = rw (ne_eqb _ _ n) refl in
+          rw (ne_eqb _ _ n) (sum_by-cons _ wait (others gone waits) ∙ ap (λ k. cond (is_unreleased ends wait) 1 0 + k) (waiting-others waits ends gone one.1 (rw passed at released)) ∙ sym (sum_by-cons _ wait waits))
+    ]
+
+-- no thread has two waits where one has left
+pub one_each-others :
+    (waits : List Wait) (gone : ℕ) → OneWaitEach waits → OneWaitEach (others gone waits)
+one_each-others [] gone one = one
+one_each-others (wait ∷ waits) gone one =
+    let rest = one_each-others waits gone one.1 in
+    elim (wait.thread == gone) as (λ here. OneWaitEach (cond (not here) (wait ∷ others gone waits) (others gone waits))) [
+      | true ↦ rest
+      | false ↦ (wait_of-others waits gone wait.thread ∙ rw one.0 (sym (none_either (gone == wait.thread))), rest)
+    ]
+
+-- a reset where some thread waits is one of a barrier whose generation has just broken
+pub reset-waited : (p : PlainBarrier) → 0 < number_waiting p → reset p ≡ reset_flag (plain.break p)
+reset-waited p some = ap (λ b. reset_flag (cond b p (end_generation plain.broken p))) (ne_eqb 0 (number_waiting p) (λ e. omega arith))
+
+-- a reset where no thread waits
+pub reset-idle : (p : PlainBarrier) → number_waiting p ≤ 0 → reset p ≡ reset_flag p
+reset-idle p none = ap (λ b. reset_flag (cond b p (end_generation plain.broken p))) (eq-eqb 0 (number_waiting p) (omega arith))

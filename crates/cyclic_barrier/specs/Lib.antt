@@ -1,0 +1,3 @@
+pub mod ThreadSet
+pub mod PlainBarrier
+pub mod Barrier

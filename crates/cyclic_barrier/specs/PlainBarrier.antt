@@ -1,0 +1,126 @@
+use Rattle.std.specs.Prelude.{ℕ, ◌+◌, ◌-◌, Bool, true, false, not, ◌==◌, nat_le, List, [], ◌∷◌, ◌++◌, length, find, filter, count_by, Option, Some, None, slice_get, option_map, if◌then◌else◌}
+use Rattle.cyclic_barrier.specs.declared.answer.Entered.{Entered}
+use Rattle.cyclic_barrier.specs.declared.answer.Entered.TheVariants as entered
+use Rattle.cyclic_barrier.specs.declared.answer.WaitState.{WaitState}
+use Rattle.cyclic_barrier.specs.declared.answer.WaitState.TheVariants as state
+
+-- how a generation ended
+pub data End : Type 0 where
+  tripped : End
+  broken : End
+
+-- a thread waits for the end of a generation, numbered from 0; the index is what its entry answered
+pub record Wait : Type 0 where
+  pub thread : ℕ
+  pub generation : ℕ
+  pub index : ℕ
+
+-- a barrier with its whole past: how each finished generation ended, in order, and each wait that
+-- its thread has not left yet. The runner is the thread that now runs the action
+pub record PlainBarrier : Type 0 where
+  pub parties : ℕ
+  pub action : Bool
+  pub ends : List End
+  pub waits : List Wait
+  pub broken : Bool
+  pub runner : Option ℕ
+
+-- a new barrier
+abbrev pub fresh : ℕ → Bool → PlainBarrier
+fresh parties action = record {
+  parties = parties;
+  action = action;
+  ends = [];
+  waits = [];
+  broken = false;
+  runner = None;
+}
+
+-- what a waiter finds: how its generation ended, if it has ended
+abbrev pub state_after : Option End → WaitState
+state_after None = state.Waiting
+state_after (Some tripped) = state.Tripped
+state_after (Some broken) = state.Broken
+
+-- what the wait has come to, given the ends so far: that of its own generation alone counts
+abbrev pub state_of_wait : List End → Wait → WaitState
+state_of_wait ends wait = state_after (slice_get ends wait.generation)
+
+-- the thread's wait, if it has one
+abbrev pub wait_of : ℕ → List Wait → Option Wait
+wait_of thread waits = find (λ wait. wait.thread == thread) waits
+
+-- what the thread's wait has come to, if it has one
+abbrev pub state_of : ℕ → PlainBarrier → Option WaitState
+state_of thread b = option_map (state_of_wait b.ends) (wait_of thread b.waits)
+
+-- the wait's generation has not ended
+abbrev pub is_unreleased : List End → Wait → Bool
+is_unreleased ends wait = nat_le (length ends) wait.generation
+
+-- how many waits are unreleased
+abbrev pub number_waiting : PlainBarrier → ℕ
+number_waiting b = count_by (is_unreleased b.ends) b.waits
+
+-- the generation ends
+abbrev pub end_generation : End → PlainBarrier → PlainBarrier
+end_generation end b = record b { ends = b.ends ++ end ∷ [] }
+
+-- the generation ends as broken, and the barrier stays broken
+abbrev pub break : PlainBarrier → PlainBarrier
+break b = record (end_generation broken b) { broken = true }
+
+-- what an entry leaves and answers
+pub record Entry : Type 0 where
+  pub barrier : PlainBarrier
+  pub answer : Entered
+
+-- the thread waits for the end of this generation
+abbrev pub add_wait : ℕ → PlainBarrier → Entry
+add_wait thread b =
+    let index = b.parties - 1 - number_waiting b in
+    let wait : Wait = record { thread = thread; generation = length b.ends; index = index } in
+    record { barrier = record b { waits = wait ∷ b.waits }; answer = entered.Wait index }
+
+-- the last arrival runs the action, or ends the generation where there is none
+abbrev pub arrive_last : ℕ → PlainBarrier → Entry
+arrive_last thread b =
+    if b.action
+    then record { barrier = record b { runner = Some thread }; answer = entered.Run }
+    else record { barrier = end_generation tripped b; answer = entered.Tripped }
+
+-- a thread arrives while no thread runs the action
+abbrev pub arrive : ℕ → Bool → PlainBarrier → Entry
+arrive thread interrupted b =
+    if b.broken then record { barrier = b; answer = entered.Broken }
+    else (if interrupted then record { barrier = break b; answer = entered.Interrupted }
+    else (if number_waiting b + 1 == b.parties then arrive_last thread b
+    else add_wait thread b))
+
+-- the runner of an action is asked about first
+abbrev pub enter_beside : Option ℕ → ℕ → Bool → PlainBarrier → Entry
+enter_beside None thread interrupted b = arrive thread interrupted b
+enter_beside (Some runner) thread interrupted b =
+    record { barrier = b; answer = if runner == thread then entered.Own else entered.Busy }
+
+-- a thread calls await; interrupted is its interrupted status
+abbrev pub enter : ℕ → Bool → PlainBarrier → Entry
+enter thread interrupted b = enter_beside b.runner thread interrupted b
+
+-- the action returned, or threw
+abbrev pub end_action : Bool → PlainBarrier → PlainBarrier
+end_action returned b =
+    let rested = record b { runner = None } in
+    if returned then end_generation tripped rested else break rested
+
+-- the thread's wait is over
+abbrev pub leave : ℕ → PlainBarrier → PlainBarrier
+leave thread b = record b { waits = filter (λ wait. not (wait.thread == thread)) b.waits }
+
+-- the thread is interrupted while it waits
+abbrev pub interrupt : ℕ → PlainBarrier → PlainBarrier
+interrupt thread b = leave thread (break b)
+
+-- the initial state again: a generation that some thread waits for ends as broken
+abbrev pub reset : PlainBarrier → PlainBarrier
+reset b = record (if 0 == number_waiting b then b else end_generation broken b) { broken = false }

@@ -1,0 +1,29 @@
+/// What a thread that calls `await` meets.
+#[derive(Clone, Copy, Debug, PartialEq, Eq)]
+pub enum Entered {
+    /// It waits; this is its arrival index, parties - 1 for the first and never 0.
+    Wait(u16),
+    /// It is the last and runs the action; the others go on waiting.
+    Run,
+    /// It is the last and there is no action: index 0, and the others are released.
+    Tripped,
+    /// The barrier is broken: `BrokenBarrierException`.
+    Broken,
+    /// It was interrupted and broke the barrier: `InterruptedException`.
+    Interrupted,
+    /// Another thread runs the action: come again once it is done.
+    Busy,
+    /// It runs the action itself: `IllegalStateException`.
+    Own,
+}
+
+/// What a wait has come to.
+#[derive(Clone, Copy, Debug, PartialEq, Eq)]
+pub enum WaitState {
+    /// Its generation has not ended.
+    Waiting,
+    /// The barrier tripped: `await` answers the arrival index.
+    Tripped,
+    /// The barrier broke or was reset: `BrokenBarrierException`.
+    Broken,
+}
