@@ -1,0 +1,17 @@
+pub mod Frame
+pub mod World
+pub mod Thread
+pub mod Phaser
+pub mod Scene
+pub mod OwnRows
+pub mod DataRows
+pub mod PhaserRows
+pub mod Unwinding
+pub mod Waits
+pub mod Ready
+pub mod Step
+pub mod Execution
+pub mod Program
+pub mod Sound
+pub use Rattle.packed_phaser.specs.Flat
+pub use Rattle.packed_phaser.specs.Word

@@ -1,0 +1,46 @@
+-- What a turn acts on, and what it leaves.
+use Rattle.std.specs.Prelude.{ℕ, pos, false, List, [], replicate, slice_index_or, slice_set}
+use Rattle.packed_phaser.specs.declared.policy.Policy.TheVariants as policy
+use Rattle.packed_phaser.specs.Flat.{fresh}
+use Rattle.thread_machine.specs.declared.event.Event.{Event}
+use Rattle.thread_machine.specs.declared.event.What.TheVariants as what
+use Rattle.thread_machine.specs.declared.event.Mark.TheVariants as mark
+use Rattle.thread_machine.specs.declared.status.Status.TheVariants as status
+use Rattle.thread_machine.specs.World.{ThreadState, PhaserState, Scene}
+use Rattle.thread_machine.specs.Thread.{Turn}
+
+-- the scene after a turn, and the turn's event
+pub record Outcome : Type 0 where
+  pub scene : Scene
+  pub event : Event
+
+-- a thread that no program has
+abbrev pub no_thread : ThreadState
+no_thread = record { pc = 0; registers = []; stack = []; status = status.Ended; interrupted = false; output = [] }
+
+-- a phaser that no program has
+abbrev pub no_phaser : PhaserState
+no_phaser = record { flat = fresh 0 0; policy = policy.Default }
+
+-- the thread of this number
+abbrev pub thread_at : Scene → ℕ → ThreadState
+thread_at scene t = slice_index_or scene.threads t no_thread
+
+-- the phaser of this number
+abbrev pub phaser_at : Scene → ℕ → PhaserState
+phaser_at scene p = slice_index_or scene.phasers p no_phaser
+
+-- these threads and phasers, and 32 cells of 0
+abbrev pub first_scene : List ThreadState → List PhaserState → Scene
+first_scene threads phasers = record { cells = replicate 32 (pos 0); threads = threads; phasers = phasers }
+
+-- nothing happens
+abbrev pub no_outcome : Scene → Outcome
+no_outcome scene = record { scene = scene; event = record { what = what.Idle; mark = mark.Nothing } }
+
+-- a turn that is its own thread's alone
+abbrev pub outcome_of_turn : Turn → ℕ → Scene → Outcome
+outcome_of_turn turn t scene = record {
+  scene = record scene { threads = slice_set scene.threads t turn.thread };
+  event = record { what = turn.what; mark = mark.Nothing };
+}

@@ -1,0 +1,23 @@
+use std::fmt;
+
+/// Why a choice was refused. The machine is as before.
+#[derive(Clone, Copy, Debug, PartialEq, Eq)]
+pub enum StepFault {
+    /// There is no thread of this number.
+    NoSuchThread,
+    /// All 1,000,000,000,000 choices are used, or the machine's limit of effective steps is reached and the thread is
+    /// ready.
+    StepLimit,
+    /// No memory for a value put out.
+    Memory,
+}
+
+impl fmt::Display for StepFault {
+    fn fmt<W: fmt::Write>(&self, f: &mut fmt::Formatter<W>) -> fmt::Result {
+        f.write_str(match self {
+            StepFault::NoSuchThread => "there is no such thread",
+            StepFault::StepLimit => "no step is left",
+            StepFault::Memory => "out of memory",
+        })
+    }
+}

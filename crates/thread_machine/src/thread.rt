@@ -1,0 +1,226 @@
+ghost use Rattle.std.specs.Prelude.{◌≡◌, ◌<◌, ◌≤◌, length, IsTrue, IsErr, OnErr, IfOk};
+ghost use Rattle.instruction_table.specs.LocalRows.{is_local_row};
+ghost use Rattle.instruction_table.specs.Registers.{value_in};
+ghost use Rattle.thread_machine.specs.Thread.{turn_of_throw, turn_of_answer, turn_of_wait, turn_of_halt, turn_of_local, turn_of_out, turn_of_pop};
+ghost use Rattle.thread_machine.specs.Frame.{is_routine};
+ghost use Rattle.thread_machine.specs.Program.{new_thread};
+ghost use Rattle.thread_machine.specs.Ready.{is_finished};
+ghost use Rattle.std.specs.List.{list_any};
+
+use crate::event::What;
+use crate::frame::Frame;
+use crate::status::Status;
+use instruction_table::{Reg, Regs, Row, local};
+use std::alloc::{AllocError, Global};
+use std::marker::Model;
+
+/// How many entries a stack has room for.
+const STACK_ROOM: usize = 64;
+
+/// How many values a thread may put out.
+const OUTPUT_ROOM: usize = 4096;
+
+/// One thread of the program.
+#[derive(Drop)]
+pub struct Thread {
+    place: u16,
+    values: Regs,
+    entries: Vec<Frame>,
+    state: Status,
+    was_interrupted: bool,
+    put_out: Vec<i32>,
+}
+
+impl Model for Thread {
+    ghost use Rattle.std.specs.Prelude.{◌≤◌, vec_len, vec_capacity};
+    ghost use Rattle.thread_machine.specs.World.{ThreadState};
+
+    ghost Value = { ThreadState };
+
+    ghost view = { λ thread. record {
+      pc = thread.place;
+      registers = thread.values;
+      stack = thread.entries.items;
+      status = thread.state;
+      interrupted = thread.was_interrupted;
+      output = thread.put_out.items;
+    } };
+
+    ghost invariant = { λ thread. (vec_len thread.entries ≤ 64)
+        × (64 ≤ vec_capacity thread.entries) × (vec_len thread.put_out ≤ 4096) };
+}
+
+impl Thread {
+    /// A thread at its first row. Its stack has all the room that it will ever need.
+    pub fn new(alloc: Global, first: u16) -> Result<Thread, AllocError>
+        ensures { IfOk result (λ thread. thread ≡ new_thread first) }
+    {
+        Ok(Thread {
+            place: first,
+            values: Regs::new(),
+            entries: Vec::with_capacity(alloc, STACK_ROOM)?,
+            state: Status::Runs,
+            was_interrupted: false,
+            put_out: Vec::new(alloc),
+        })
+    }
+
+    /// The row that it stands at.
+    pub fn pc(&self) -> u16
+        ensures { result ≡ self.now.pc }
+    {
+        self.place
+    }
+
+    /// What it is doing.
+    pub fn status(&self) -> Status
+        ensures { result ≡ self.now.status }
+    {
+        self.state
+    }
+
+    /// The number in a register.
+    pub fn register(&self, reg: Reg) -> i32
+        ensures { result ≡ value_in self.now.registers reg }
+    {
+        self.values.get(reg)
+    }
+
+    /// Whether it was interrupted.
+    pub fn interrupted(&self) -> bool
+        ensures { result ≡ self.now.interrupted }
+    {
+        self.was_interrupted
+    }
+
+    /// Its stack from the bottom.
+    pub fn stack(&self) -> &[Frame]
+        ensures stack { result.now ≡ self.now.stack }
+        ensures few { length result.now ≤ 64 }
+    {
+        self.entries.as_slice()
+    }
+
+    /// What it put out, in order.
+    pub fn output(&self) -> &[i32]
+        ensures values { result.now ≡ self.now.output }
+        ensures few { length result.now ≤ 4096 }
+    {
+        self.put_out.as_slice()
+    }
+
+    /// Whether it has ended or died.
+    pub fn is_finished(&self) -> bool
+        ensures { result ≡ is_finished self.now.status }
+    {
+        matches!(self.state, Status::Ended | Status::Died(_))
+    }
+
+    /// Meets an exception at its row.
+    pub fn throw(&mut self, code: i32) -> What
+        ensures { record { thread = self.new; what = result } ≡ turn_of_throw code self.old }
+    {
+        self.state = Status::Throws(code);
+        What::Throws(code)
+    }
+
+    /// Puts a row's answer into a register and goes on.
+    pub fn answer(&mut self, into: Reg, value: i32) -> What
+        requires { self.old.pc < 65535 }
+        ensures { record { thread = self.new; what = result } ≡ turn_of_answer into value self.old }
+    {
+        self.values.set(into, value);
+        self.place += 1;
+        self.state = Status::Runs;
+        What::Value(value)
+    }
+
+    /// Begins to wait for the end of a phase.
+    pub fn wait(&mut self, phase: i32) -> What
+        ensures { record { thread = self.new; what = result } ≡ turn_of_wait phase self.old }
+    {
+        self.state = Status::AwaitsPhase(phase);
+        What::Waits
+    }
+
+    /// `halt`.
+    pub fn halt(&mut self) -> What
+        ensures { record { thread = self.new; what = result } ≡ turn_of_halt self.old }
+    {
+        if self.is_in_routine() {
+            return self.throw(7);
+        }
+        self.state = Status::Ended;
+        What::Ends
+    }
+
+    /// Whether an advance routine or a barrier's action is under way.
+    fn is_in_routine(&self) -> bool
+        ensures { result ≡ list_any is_routine self.now.stack }
+    {
+        self.entries.iter().any(|frame| frame.is_routine())
+    }
+
+    /// A row on registers alone.
+    pub fn local_row(&mut self, row: Row) -> What
+        requires row { IsTrue (is_local_row row) }
+        requires place { self.old.pc < 65535 }
+        ensures { record { thread = self.new; what = result } ≡ turn_of_local row self.old }
+    {
+        let effect = local(row, &self.values, self.place);
+        self.values = effect.registers;
+        self.place = effect.pc;
+        match effect.written {
+            Some(value) => What::Value(value),
+            None => What::Done,
+        }
+    }
+
+    /// `out`.
+    pub fn out(&mut self, from: Reg) -> Result<What, AllocError>
+        requires { self.old.pc < 65535 }
+        ensures ok { IfOk result (λ what.
+            record { thread = self.new; what = what } ≡ turn_of_out from self.old) }
+        ensures err { OnErr result (self.new ≡ self.old) }
+        ensures memory { IsErr result → length self.old.output < 4096 }
+    {
+        if self.put_out.len() == OUTPUT_ROOM {
+            return Ok(self.throw(8));
+        }
+        let value = self.values.get(from);
+        self.put_out.push(value)?;
+        self.place += 1;
+        Ok(What::Out(value))
+    }
+
+    /// Pops one entry while an exception looks for its handler.
+    pub fn pop(&mut self, code: i32) -> What
+        ensures { record { thread = self.new; what = result } ≡ turn_of_pop code self.old }
+    {
+        let top = self.entries.pop();
+        match &top {
+            None => {
+                self.state = Status::Died(code);
+                What::Dies(code)
+            }
+            Some(Frame::Call(_)) => What::Unwinds,
+            Some(Frame::Handler(row)) => {
+                self.values.set(Reg::R7, code);
+                self.place = *row;
+                self.state = Status::Runs;
+                What::Catches(code)
+            }
+            Some(Frame::Advance(_, registers, row)) => self.leave_routine(registers, *row),
+            Some(Frame::Action(_, registers, row)) => self.leave_routine(registers, *row),
+        }
+    }
+
+    fn leave_routine(&mut self, registers: &Regs, row: u16) -> What
+        ensures thread { self.new ≡ record self.old { registers = registers.now; pc = row } }
+        ensures what { result ≡ What.Unwinds }
+    {
+        self.values = *registers;
+        self.place = row;
+        What::Unwinds
+    }
+}
