@@ -1,5 +1,3 @@
-use std::fmt;
-
 /// Why a choice was refused. The machine is as before.
 #[derive(Clone, Copy, Debug, PartialEq, Eq)]
 pub enum StepFault {
@@ -10,14 +8,4 @@ pub enum StepFault {
     StepLimit,
     /// No memory for a value put out.
     Memory,
-}
-
-impl fmt::Display for StepFault {
-    fn fmt<W: fmt::Write>(&self, f: &mut fmt::Formatter<W>) -> fmt::Result {
-        f.write_str(match self {
-            StepFault::NoSuchThread => "there is no such thread",
-            StepFault::StepLimit => "no step is left",
-            StepFault::Memory => "out of memory",
-        })
-    }
 }

@@ -265,7 +265,8 @@ impl Machine {
 
     /// How many choices were played, the idle ones included.
     pub fn choices(&self) -> u64
-        ensures { result ≡ self.now.choices }
+        ensures choices { result ≡ self.now.choices }
+        ensures within { result ≤ 1000000000000 }
     {
         self.chosen
     }
