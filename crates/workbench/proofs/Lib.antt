@@ -1,0 +1,5 @@
+pub mod Digits
+pub mod Pieces
+pub mod Plays
+pub mod RunLine
+pub mod Traces

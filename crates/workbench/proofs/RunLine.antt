@@ -1,0 +1,188 @@
+-- The first line of a file, and the parts before and after the run line.
+use Rattle.std.proofs.Common.{◌≡◌, ◌∙◌, ◌+◌, ◌-◌, ◌<◌, ◌≤◌, ◌==◌, ◌&&◌, ℕ, Bool, true, false, List, [], ◌∷◌, ◌++◌, length, take, drop, get_or, Some, None, cond, nat_lt, refl, ap, sym, arith, rules, tests}
+use Rattle.std.specs.Prelude.{codes, not}
+use Rattle.std.proofs.Common.{inl, inr, ◌⊎◌}
+use Rattle.std.proofs.lemmas.Bool.{cases_lt}
+use Rattle.std.specs.List.{slice_split, position, position_or_len, before_first, after_first, list_all, join_with_byte}
+use Rattle.std.specs.Str.{bytes_eq}
+use Rattle.std.proofs.lemmas.Bool.Decides.{nat_tests}
+use Rattle.std.proofs.lemmas.List.{take_all, take_more, drop_all, drop-drop, append-nil, append_assoc, length-drop, take-append-drop, take-take, drop-take}
+use Rattle.std.proofs.lemmas.List.Splits.{slice_split_first, slice_split_none, join_with_byte-slice_split, length-slice_split}
+use Rattle.std.proofs.lemmas.List.Sums.{fails_before_first, passes_at_first, prefix_len-le-length}
+use Rattle.workbench.specs.RunLine.{is_line_end, is_run_line, are_run, after_run, before_run, schedule_part, program_part}
+
+-- a found place is the first one
+found_at : (b : Bool) (k n : ℕ) → Some k ≡ cond b (Some n) None → k ≡ n
+found_at true k n h = cc
+found_at false k n h = cc
+
+pub position_some : (p : ℕ → Bool) (bs : List ℕ) (k : ℕ) → Some k ≡ position p bs → k ≡ position_or_len p bs
+position_some p bs k h = found_at (nat_lt (position_or_len p bs) (length bs)) k (position_or_len p bs) h
+
+not_found : (b : Bool) (n : ℕ) → None ≡ cond b (Some n) None → b ≡ false
+not_found true n h = cc
+not_found false n h = refl
+
+pub position_none : (p : ℕ → Bool) (bs : List ℕ) → None ≡ position p bs → length bs ≡ position_or_len p bs
+position_none p bs h =
+    let far = not_found (nat_lt (position_or_len p bs) (length bs)) (position_or_len p bs) h in
+    let within = prefix_len-le-length (λ b. not (p b)) bs in
+    grind (arith, nat_tests, far, within)
+
+-- one word, and each word is `.run`
+pub are_run_by_count : (ws : List (List ℕ))
+    → are_run ws ≡ ((length ws == 1) && list_all (λ word. bytes_eq word (codes ".run")) ws)
+are_run_by_count [] = refl
+are_run_by_count (word ∷ []) = search (rules, tests)
+are_run_by_count (word ∷ next ∷ words) = search (rules, tests)
+
+-- where no LF is left, the first line is the last
+one_line : (bs : List ℕ) → length bs ≤ position_or_len is_line_end bs → slice_split is_line_end bs ≡ bs ∷ []
+one_line bs none =
+    slice_split_none is_line_end bs (λ k d there. fails_before_first is_line_end bs k d (omega (arith, none)))
+
+whole_line : (bs : List ℕ) → length bs ≤ position_or_len is_line_end bs → before_first is_line_end bs ≡ bs
+whole_line bs none = take_all (position_or_len is_line_end bs) bs none
+
+no_more : (bs : List ℕ) → length bs ≤ position_or_len is_line_end bs → after_first is_line_end bs ≡ []
+no_more bs none = drop_all (position_or_len is_line_end bs + 1) bs (omega (arith, none))
+
+-- the lines after a first line
+after_run-run : (line : List ℕ) (lines : List (List ℕ)) → is_run_line line ≡ true → after_run (line ∷ lines) ≡ lines
+after_run-run line lines h = ap (λ b. cond b lines (after_run lines)) h
+
+after_run-next : (line : List ℕ) (lines : List (List ℕ)) → is_run_line line ≡ false → after_run (line ∷ lines) ≡ after_run lines
+after_run-next line lines h = ap (λ b. cond b lines (after_run lines)) h
+
+-- the lines from a first line on
+before_run-run : (line : List ℕ) (lines : List (List ℕ)) → is_run_line line ≡ true → before_run (line ∷ lines) ≡ []
+before_run-run line [] h = ap (λ b. cond b [] line) h
+before_run-run line (next ∷ lines) h = ap (λ b. cond b [] (line ++ (10 ∷ before_run (next ∷ lines)))) h
+
+before_run-last : (line : List ℕ) → is_run_line line ≡ false → before_run (line ∷ []) ≡ line
+before_run-last line h = ap (λ b. cond b [] line) h
+
+before_run-next : (line : List ℕ) (lines : List (List ℕ)) → 0 < length lines → is_run_line line ≡ false
+    → before_run (line ∷ lines) ≡ line ++ (10 ∷ before_run lines)
+before_run-next line [] some h = absurd (omega (arith, some))
+before_run-next line (next ∷ lines) some h = ap (λ b. cond b [] (line ++ (10 ∷ before_run (next ∷ lines)))) h
+
+-- by whether an LF is left
+by_line_end : {P : Type 0} (bs : List ℕ)
+    → (position_or_len is_line_end bs < length bs → P) → (length bs ≤ position_or_len is_line_end bs → P) → P
+by_line_end bs more last =
+    elim (cases_lt (position_or_len is_line_end bs) (length bs)) [ inl h ↦ more h | inr h ↦ last h ]
+
+-- the first line is a run line
+pub schedule_part-run : (bs : List ℕ) → is_run_line (before_first is_line_end bs) ≡ true
+    → schedule_part bs ≡ after_first is_line_end bs
+schedule_part-run bs h =
+    by_line_end bs
+    (λ more. ap (λ ls. join_with_byte 10 (after_run ls)) (slice_split_first is_line_end bs 0 more)
+    ∙ ap (join_with_byte 10) (after_run-run (before_first is_line_end bs) (slice_split is_line_end (after_first is_line_end bs)) h)
+    ∙ join_with_byte-slice_split 10 (after_first is_line_end bs))
+    (λ last. ap (λ ls. join_with_byte 10 (after_run ls)) (one_line bs last)
+    ∙ ap (join_with_byte 10) (after_run-run bs [] (ap is_run_line (sym (whole_line bs last)) ∙ h))
+    ∙ sym (no_more bs last))
+
+pub program_part-run : (bs : List ℕ) → is_run_line (before_first is_line_end bs) ≡ true → program_part bs ≡ []
+program_part-run bs h =
+    by_line_end bs
+    (λ more. ap before_run (slice_split_first is_line_end bs 0 more)
+    ∙ before_run-run (before_first is_line_end bs) (slice_split is_line_end (after_first is_line_end bs)) h)
+    (λ last. ap before_run (one_line bs last) ∙ before_run-run bs [] (ap is_run_line (sym (whole_line bs last)) ∙ h))
+
+-- the first line is no run line
+pub schedule_part-next : (bs : List ℕ) → is_run_line (before_first is_line_end bs) ≡ false
+    → schedule_part bs ≡ schedule_part (after_first is_line_end bs)
+schedule_part-next bs h =
+    by_line_end bs
+    (λ more. ap (λ ls. join_with_byte 10 (after_run ls)) (slice_split_first is_line_end bs 0 more)
+    ∙ ap (join_with_byte 10) (after_run-next (before_first is_line_end bs) (slice_split is_line_end (after_first is_line_end bs)) h))
+    (λ last. ap (λ ls. join_with_byte 10 (after_run ls)) (one_line bs last)
+    ∙ ap (join_with_byte 10) (after_run-next bs [] (ap is_run_line (sym (whole_line bs last)) ∙ h))
+    ∙ ap schedule_part (sym (no_more bs last)))
+
+-- a line with its LF
+line_with_end : (bs : List ℕ) → position_or_len is_line_end bs < length bs
+    → take (position_or_len is_line_end bs + 1) bs ≡ before_first is_line_end bs ++ 10 ∷ []
+line_with_end bs more =
+    let end = passes_at_first is_line_end bs 0 more in
+    let ten : get_or bs (position_or_len is_line_end bs) 0 ≡ 10 = grind (arith, nat_tests, end) in
+    take_more bs (position_or_len is_line_end bs) 0 more ∙ ap (λ x. before_first is_line_end bs ++ x ∷ []) ten
+
+pub program_part-next : (bs : List ℕ) → is_run_line (before_first is_line_end bs) ≡ false
+    → program_part bs ≡ take (position_or_len is_line_end bs + 1) bs ++ program_part (after_first is_line_end bs)
+program_part-next bs h =
+    let line = before_first is_line_end bs in
+    let after = after_first is_line_end bs in
+    by_line_end bs
+    (λ more.
+    let some : 0 < length (slice_split is_line_end after) = omega (arith, length-slice_split is_line_end after) in
+    ap before_run (slice_split_first is_line_end bs 0 more)
+    ∙ before_run-next line (slice_split is_line_end after) some h
+    ∙ sym (append_assoc line (10 ∷ []) (program_part after))
+    ∙ ap (λ xs. xs ++ program_part after) (sym (line_with_end bs more)))
+    (λ last.
+    ap before_run (one_line bs last)
+    ∙ before_run-last bs (ap is_run_line (sym (whole_line bs last)) ∙ h)
+    ∙ sym (append-nil bs)
+    ∙ ap (λ xs. xs ++ []) (sym (take_all (position_or_len is_line_end bs + 1) bs (omega (arith, last))))
+    ∙ ap (λ xs. take (position_or_len is_line_end bs + 1) bs ++ program_part xs) (sym (no_more bs last)))
+
+take_in_two : (n m : ℕ) (bs : List ℕ) → take n bs ++ take m (drop n bs) ≡ take (n + m) bs
+take_in_two n m bs =
+    ap (λ xs. xs ++ take m (drop n bs)) (sym (take-take n (n + m) bs (omega arith)))
+    ∙ ap (λ xs. take n (take (n + m) bs) ++ xs) (sym (drop-take n m bs))
+    ∙ take-append-drop n (take (n + m) bs)
+
+-- as far as the list goes
+take_same : (bs : List ℕ) (n k : ℕ) → (k ≡ n) ⊎ ((length bs ≤ n) × (length bs ≤ k)) → take k bs ≡ take n bs
+take_same bs n k (inl same) = ap (λ i. take i bs) same
+take_same bs n k (inr both) = take_all k bs both.1 ∙ sym (take_all n bs both.0)
+
+-- up to what is left, after one line more
+pub take_up_to : (bs : List ℕ) (n m : ℕ) → n ≤ length bs
+    → take (length bs - length (drop m (drop n bs))) bs ≡ take n bs ++ take m (drop n bs)
+take_up_to bs n m within =
+    let left : length (drop m (drop n bs)) ≡ length bs - n - m = length-drop m (drop n bs) ∙ ap (λ k. k - m) (length-drop n bs) in
+    take_same bs (n + m) (length bs - length (drop m (drop n bs)))
+    (elim (cases_lt (n + m) (length bs)) [ inl h ↦ inl (omega (arith, left, within, h)) | inr h ↦ inr (omega (arith, h), omega (arith, left, h)) ])
+    ∙ sym (take_in_two n m bs)
+
+drop_same : (bs : List ℕ) (n k : ℕ) → (k ≡ n) ⊎ ((length bs ≤ n) × (length bs ≤ k)) → drop k bs ≡ drop n bs
+drop_same bs n k (inl same) = ap (λ i. drop i bs) same
+drop_same bs n k (inr both) = drop_all k bs both.1 ∙ sym (drop_all n bs both.0)
+
+-- what is left after one line more is the end of the bytes
+drop_up_to : (bs : List ℕ) (n m : ℕ) → n ≤ length bs
+    → drop m (drop n bs) ≡ drop (length bs - length (drop m (drop n bs))) bs
+drop_up_to bs n m within =
+    let left : length (drop m (drop n bs)) ≡ length bs - n - m = length-drop m (drop n bs) ∙ ap (λ k. k - m) (length-drop n bs) in
+    drop-drop m n bs
+    ∙ sym (drop_same bs (n + m) (length bs - length (drop m (drop n bs)))
+    (elim (cases_lt (n + m) (length bs)) [ inl h ↦ inl (omega (arith, left, within, h)) | inr h ↦ inr (omega (arith, h), omega (arith, left, h)) ]))
+
+-- one line further
+pub next_rest : (bs rest after : List ℕ) → length rest ≤ length bs → rest ≡ drop (length bs - length rest) bs
+    → after ≡ after_first is_line_end rest → after ≡ drop (length bs - length after) bs
+next_rest bs rest after within e a =
+    let n = length bs - length rest in
+    let m = position_or_len is_line_end rest + 1 in
+    let at : drop m (drop n bs) ≡ after = ap (drop m) (sym e) ∙ sym a in
+    sym at ∙ drop_up_to bs n m (omega arith) ∙ ap (λ xs. drop (length bs - length xs) bs) at
+
+pub next_text : (bs rest after : List ℕ) → length rest ≤ length bs → rest ≡ drop (length bs - length rest) bs
+    → after ≡ after_first is_line_end rest → is_run_line (before_first is_line_end rest) ≡ false
+    → program_part bs ≡ take (length bs - length rest) bs ++ program_part rest
+    → program_part bs ≡ take (length bs - length after) bs ++ program_part after
+next_text bs rest after within e a h text =
+    let n = length bs - length rest in
+    let m = position_or_len is_line_end rest + 1 in
+    let at : drop m (drop n bs) ≡ after = ap (drop m) (sym e) ∙ sym a in
+    let up : take (length bs - length after) bs ≡ take n bs ++ take m rest =
+    ap (λ xs. take (length bs - length xs) bs) (sym at) ∙ take_up_to bs n m (omega arith) ∙ ap (λ xs. take n bs ++ take m xs) (sym e) in
+    text
+    ∙ ap (λ xs. take n bs ++ xs) (program_part-next rest h ∙ ap (λ xs. take m rest ++ program_part xs) (sym a))
+    ∙ sym (append_assoc (take n bs) (take m rest) (program_part after))
+    ∙ ap (λ xs. xs ++ program_part after) (sym up)

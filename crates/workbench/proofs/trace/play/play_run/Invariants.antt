@@ -1,0 +1,11 @@
+use Rattle.std.proofs.Common.{replicate}
+use Rattle.workbench.proofs.Plays.{Continues}
+use Rattle.workbench.proofs.trace.play.play_run.Given as goal
+
+abbrev pub invariant-loop-left : goal.invariant-loop-left
+invariant-loop-left g l =
+    Continues l.initial.machine l.machine (replicate l.run.times l.run.choice) (replicate l.left l.run.choice)
+    (g.W.Sink.written l.initial.output) (g.W.Sink.written l.output)
+
+abbrev pub decreases-loop-left : goal.decreases-loop-left
+decreases-loop-left g l = l.left

@@ -1,0 +1,17 @@
+use Rattle.workbench.proofs.Plays.{Continues-next, Continues-refused, Continues-end, choices_of-drop, choices_of-drop_all}
+use Rattle.workbench.proofs.trace.play.play_runs.Goals as goal
+
+pub returns-then-not-branch-clause-plays : goal.returns-then-not-branch-clause-plays
+returns-then-not-branch-clause-plays g c =
+    Continues-refused _ _ _ _ _ _ _ _ _ _ _ (choices_of-drop c.args.runs.now c.loop-run.run-index _ c.loop-run-test.true)
+    c.loop-run.invariant c.in_ok-play_run.ensures.plays c.if-not-branch.true
+
+pub loop-run-preserved : goal.loop-run-preserved
+loop-run-preserved g c =
+    Continues-next _ _ _ _ _ _ _ _ _ _ _ (choices_of-drop c.args.runs.now c.loop-run.run-index _ c.loop-run-test.true)
+    c.loop-run.invariant c.in_ok-play_run.ensures.plays c.if-not-branch.false
+
+pub returns-clause-plays : goal.returns-clause-plays
+returns-clause-plays g c =
+    Continues-end _ _ _ _ _ _ (choices_of-drop_all c.args.runs.now c.loop-run.run-index c.loop-run-test.false)
+    c.loop-run.invariant

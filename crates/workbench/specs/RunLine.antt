@@ -1,0 +1,52 @@
+-- Where a file's program text ends and its schedule begins: at the first line whose only word is `.run`.
+use Rattle.std.specs.Prelude.{ℕ, ◌==◌, ◌||◌, not, if◌then◌else◌, Bool, false, List, [], ◌∷◌, ◌++◌, length, codes}
+use Rattle.std.specs.List.{slice_split, filter, before_first, join_with_byte}
+use Rattle.std.specs.Str.{bytes_eq}
+
+-- space, tab and CR
+abbrev pub is_blank : ℕ → Bool
+is_blank byte = (byte == 32) || (byte == 9) || (byte == 13)
+
+-- LF, which ends a line
+abbrev pub is_line_end : ℕ → Bool
+is_line_end byte = byte == 10
+
+-- a semicolon, which begins a comment
+abbrev pub begins_comment : ℕ → Bool
+begins_comment byte = byte == 59
+
+-- the pieces between blanks that aren't empty
+abbrev pub words_in : List ℕ → List (List ℕ)
+words_in text = filter (λ piece. not (length piece == 0)) (slice_split is_blank text)
+
+-- a line's words: those up to the comment
+abbrev pub words_of : List ℕ → List (List ℕ)
+words_of line = words_in (before_first begins_comment line)
+
+-- `.run` and no other word
+abbrev pub are_run : List (List ℕ) → Bool
+are_run (word ∷ []) = bytes_eq word (codes ".run")
+are_run _ = false
+
+-- whether `.run` is the line's only word
+abbrev pub is_run_line : List ℕ → Bool
+is_run_line line = are_run (words_of line)
+
+-- the lines that follow the first such line
+abbrev pub after_run : List (List ℕ) → List (List ℕ)
+after_run [] = []
+after_run (line ∷ lines) = if is_run_line line then lines else after_run lines
+
+-- what follows the first such line and its LF, nothing where there is no such line
+abbrev pub schedule_part : List ℕ → List ℕ
+schedule_part bytes = join_with_byte 10 (after_run (slice_split is_line_end bytes))
+
+-- the lines before the first such line, each with its LF; all bytes where there is no such line
+abbrev pub before_run : List (List ℕ) → List ℕ
+before_run [] = []
+before_run (line ∷ []) = if is_run_line line then [] else line
+before_run (line ∷ next ∷ lines) = if is_run_line line then [] else line ++ (10 ∷ before_run (next ∷ lines))
+
+-- what stands before the first such line
+abbrev pub program_part : List ℕ → List ℕ
+program_part bytes = before_run (slice_split is_line_end bytes)

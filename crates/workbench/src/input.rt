@@ -1,0 +1,50 @@
+ghost use Rattle.std.specs.Prelude.{◌≡◌, ◌≢◌, ◌⊎◌, ◌≤◌, IsTrue, IfOk, IfErr, length};
+ghost use Rattle.std.specs.Io.KnownBytes.{ReadConsumes, Consumes, IsAtEnd};
+ghost use Rattle.workbench.specs.Input.{GivesMoreThan};
+
+use crate::fault::Fault;
+use byte_ports::Source;
+use std::alloc::Global;
+
+/// How many bytes a text may have.
+pub const MOST_BYTES: usize = 16_777_216;
+
+/// How many bytes are asked for at a time.
+const PIECE: usize = 4096;
+
+fn pull<S: Source>(source: &mut S, piece: &mut [u8]) -> Result<usize, Fault>
+    ensures bytes { ReadConsumes (S.left source.old) (S.left source.new) result piece.new }
+    ensures bound { IfOk result (λ n. n ≤ length piece.new) }
+    ensures read { IfErr result (λ fault. (fault ≡ Fault.Read) × IsTrue (S.has_failed source.new)) }
+{
+    match source.pull(piece) {
+        Ok(count) => Ok(count),
+        Err(_) => Err(Fault::Read),
+    }
+}
+
+/// All that a source has left, `Read` where it fails or has more than `MOST_BYTES`.
+pub fn read_all<S: Source>(alloc: Global, source: &mut S) -> Result<Vec<u8>, Fault>
+    ensures bytes { IfOk result (λ bytes. Consumes (S.left source.old) (S.left source.new) bytes.items) }
+    ensures end { IfOk result (λ bytes. IsAtEnd (S.left source.new)) }
+    ensures read { result ≡ Err Fault.Read → IsTrue (S.has_failed source.new)
+        ⊎ GivesMoreThan MOST_BYTES (S.left source.old) (S.left source.new) }
+    ensures refused { result ≢ Err Fault.Refused }
+    ensures write { result ≢ Err Fault.Write }
+{
+    let mut bytes = Vec::new(alloc);
+    let mut piece = [0u8; PIECE];
+    for _ in 0..=MOST_BYTES {
+        let count = pull(source, &mut piece)?;
+        if count == 0 {
+            return Ok(bytes);
+        }
+        if count > MOST_BYTES - bytes.len() {
+            return Err(Fault::Read);
+        }
+        bytes
+            .extend_from_slice(&piece[..count])
+            .map_err(|_| Fault::Memory)?;
+    }
+    unreachable!()
+}

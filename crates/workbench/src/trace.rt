@@ -1,0 +1,8 @@
+//! The trace of a schedule: a line for each choice, and then the state of the machine.
+
+mod line;
+mod pieces;
+mod play;
+mod state;
+
+pub use play::{PlayFault, play};
