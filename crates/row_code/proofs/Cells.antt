@@ -1,0 +1,116 @@
+-- Numbers in bytes, and lists of so many bytes.
+use Rattle.std.proofs.Common.{◌≡◌, ℕ, zero, suc, ◌+◌, ◌<◌, ◌≤◌, ◌^◌, List, [], ◌∷◌, length, get_or, take, drop, refl, ap, ◌∙◌, arith}
+use Rattle.std.specs.Int.{w32, to_le_bytes, from_le_bytes}
+use Rattle.std.proofs.lemmas.Int.{of_z-to_z}
+use Rattle.std.proofs.lemmas.Nat.{le_bytes_2, le_bytes_4, from_le_bytes-to_le_bytes_2}
+use Rattle.std.proofs.lemmas.List.{get_or-drop, get_or-take, get_or_past, length-take}
+use Rattle.std.proofs.lemmas.Bool.{cases_lt}
+use Rattle.std.proofs.Common.{inl, inr}
+use Rattle.row_code.specs.Number.{u16_bytes, u16_of, i32_bytes, i32_of}
+
+abbrev pub IsBytes : List ℕ → Type 0
+IsBytes bytes = (i : ℕ) → get_or bytes i 0 < 256
+
+pub IsBytes-drop : (n : ℕ) (bytes : List ℕ) → IsBytes bytes → IsBytes (drop n bytes)
+IsBytes-drop n bytes h i = rw get_or-drop (h (n + i))
+
+pub IsBytes-take : (n : ℕ) (bytes : List ℕ) → IsBytes bytes → IsBytes (take n bytes)
+IsBytes-take n bytes h i =
+    elim (cases_lt i n) [
+      | inl lt ↦ rw (get_or-take n bytes i 0 lt) (h i)
+      | inr le ↦ rw (get_or_past (take n bytes) i 0 (omega (arith, length-take n bytes))) (omega arith)
+    ]
+
+two_fit : (a b : ℕ) → a < 256 → b < 256 → IsBytes (a ∷ b ∷ [])
+two_fit a b fa fb zero = fa
+two_fit a b fa fb (suc zero) = fb
+two_fit a b fa fb (suc (suc i)) = omega arith
+
+four_fit : (a b c d : ℕ) → a < 256 → b < 256 → c < 256 → d < 256 → IsBytes (a ∷ b ∷ c ∷ d ∷ [])
+four_fit a b c d fa fb fc fd zero = fa
+four_fit a b c d fa fb fc fd (suc zero) = fb
+four_fit a b c d fa fb fc fd (suc (suc zero)) = fc
+four_fit a b c d fa fb fc fd (suc (suc (suc zero))) = fd
+four_fit a b c d fa fb fc fd (suc (suc (suc (suc i)))) = omega arith
+
+-- two bytes are those of their number
+pub u16_cells : (a b : ℕ) → a < 256 → b < 256 → u16_bytes (u16_of (a ∷ b ∷ [])) ≡ a ∷ b ∷ []
+u16_cells a b fa fb = le_bytes_2 (a ∷ b ∷ []) (u16_of (a ∷ b ∷ [])) refl (two_fit a b fa fb) refl
+
+pub u16_back : (n : ℕ) → n < 65536 → u16_of (u16_bytes n) ≡ n
+u16_back n lt = from_le_bytes-to_le_bytes_2 n lt
+
+-- four bytes are those of their `int`
+pub i32_cells : (a b c d : ℕ) → a < 256 → b < 256 → c < 256 → d < 256 → i32_bytes (i32_of (a ∷ b ∷ c ∷ d ∷ [])) ≡ a ∷ b ∷ c ∷ d ∷ []
+i32_cells a b c d fa fb fc fd =
+    let n = from_le_bytes w32 (a ∷ b ∷ c ∷ d ∷ []) in
+    let below : n < 2 ^ 32 = omega arith in
+    ap (to_le_bytes w32) (of_z-to_z w32 n below) ∙ le_bytes_4 (a ∷ b ∷ c ∷ d ∷ []) n refl (four_fit a b c d fa fb fc fd) refl
+
+-- four bytes, one by one
+pub of_four : (bytes : List ℕ) → length bytes ≡ 4 →
+    bytes ≡ get_or bytes 0 0 ∷ get_or bytes 1 0 ∷ get_or bytes 2 0 ∷ get_or bytes 3 0 ∷ []
+of_four [] e = absurd (cc)
+of_four (_ ∷ []) e = absurd (cc)
+of_four (_ ∷ _ ∷ []) e = absurd (cc)
+of_four (_ ∷ _ ∷ _ ∷ []) e = absurd (cc)
+of_four (_ ∷ _ ∷ _ ∷ _ ∷ []) e = refl
+of_four (_ ∷ _ ∷ _ ∷ _ ∷ _ ∷ rest) e = absurd (cc)
+
+-- eight bytes, one by one
+pub of_eight : (bytes : List ℕ) → length bytes ≡ 8 →
+    bytes ≡ get_or bytes 0 0 ∷ get_or bytes 1 0 ∷ get_or bytes 2 0 ∷ get_or bytes 3 0 ∷ get_or bytes 4 0 ∷ get_or bytes 5 0 ∷ get_or bytes 6 0 ∷ get_or bytes 7 0 ∷ []
+of_eight [] e = absurd (cc)
+of_eight (_ ∷ []) e = absurd (cc)
+of_eight (_ ∷ _ ∷ []) e = absurd (cc)
+of_eight (_ ∷ _ ∷ _ ∷ []) e = absurd (cc)
+of_eight (_ ∷ _ ∷ _ ∷ _ ∷ []) e = absurd (cc)
+of_eight (_ ∷ _ ∷ _ ∷ _ ∷ _ ∷ []) e = absurd (cc)
+of_eight (_ ∷ _ ∷ _ ∷ _ ∷ _ ∷ _ ∷ []) e = absurd (cc)
+of_eight (_ ∷ _ ∷ _ ∷ _ ∷ _ ∷ _ ∷ _ ∷ []) e = absurd (cc)
+of_eight (_ ∷ _ ∷ _ ∷ _ ∷ _ ∷ _ ∷ _ ∷ _ ∷ []) e = refl
+of_eight (_ ∷ _ ∷ _ ∷ _ ∷ _ ∷ _ ∷ _ ∷ _ ∷ _ ∷ rest) e = absurd (cc)
+
+-- twelve bytes, one by one
+pub of_twelve : (bytes : List ℕ) → length bytes ≡ 12 →
+    bytes ≡ get_or bytes 0 0 ∷ get_or bytes 1 0 ∷ get_or bytes 2 0 ∷ get_or bytes 3 0 ∷ get_or bytes 4 0 ∷ get_or bytes 5 0 ∷ get_or bytes 6 0 ∷ get_or bytes 7 0 ∷ get_or bytes 8 0 ∷ get_or bytes 9 0 ∷ get_or bytes 10 0 ∷ get_or bytes 11 0 ∷ []
+of_twelve [] e = absurd (cc)
+of_twelve (_ ∷ []) e = absurd (cc)
+of_twelve (_ ∷ _ ∷ []) e = absurd (cc)
+of_twelve (_ ∷ _ ∷ _ ∷ []) e = absurd (cc)
+of_twelve (_ ∷ _ ∷ _ ∷ _ ∷ []) e = absurd (cc)
+of_twelve (_ ∷ _ ∷ _ ∷ _ ∷ _ ∷ []) e = absurd (cc)
+of_twelve (_ ∷ _ ∷ _ ∷ _ ∷ _ ∷ _ ∷ []) e = absurd (cc)
+of_twelve (_ ∷ _ ∷ _ ∷ _ ∷ _ ∷ _ ∷ _ ∷ []) e = absurd (cc)
+of_twelve (_ ∷ _ ∷ _ ∷ _ ∷ _ ∷ _ ∷ _ ∷ _ ∷ []) e = absurd (cc)
+of_twelve (_ ∷ _ ∷ _ ∷ _ ∷ _ ∷ _ ∷ _ ∷ _ ∷ _ ∷ []) e = absurd (cc)
+of_twelve (_ ∷ _ ∷ _ ∷ _ ∷ _ ∷ _ ∷ _ ∷ _ ∷ _ ∷ _ ∷ []) e = absurd (cc)
+of_twelve (_ ∷ _ ∷ _ ∷ _ ∷ _ ∷ _ ∷ _ ∷ _ ∷ _ ∷ _ ∷ _ ∷ []) e = absurd (cc)
+of_twelve (_ ∷ _ ∷ _ ∷ _ ∷ _ ∷ _ ∷ _ ∷ _ ∷ _ ∷ _ ∷ _ ∷ _ ∷ []) e = refl
+of_twelve (_ ∷ _ ∷ _ ∷ _ ∷ _ ∷ _ ∷ _ ∷ _ ∷ _ ∷ _ ∷ _ ∷ _ ∷ _ ∷ rest) e = absurd (cc)
+
+-- the first four bytes, one by one
+pub front_four : (bytes : List ℕ) → 4 ≤ length bytes →
+    take 4 bytes ≡ get_or bytes 0 0 ∷ get_or bytes 1 0 ∷ get_or bytes 2 0 ∷ get_or bytes 3 0 ∷ []
+front_four [] e = absurd (omega (arith, e))
+front_four (_ ∷ []) e = absurd (omega (arith, e))
+front_four (_ ∷ _ ∷ []) e = absurd (omega (arith, e))
+front_four (_ ∷ _ ∷ _ ∷ []) e = absurd (omega (arith, e))
+front_four (_ ∷ _ ∷ _ ∷ _ ∷ rest) e = refl
+
+-- the first twelve bytes, one by one
+pub front_twelve : (bytes : List ℕ) → 12 ≤ length bytes →
+    take 12 bytes ≡ get_or bytes 0 0 ∷ get_or bytes 1 0 ∷ get_or bytes 2 0 ∷ get_or bytes 3 0 ∷ get_or bytes 4 0 ∷ get_or bytes 5 0 ∷ get_or bytes 6 0 ∷ get_or bytes 7 0 ∷ get_or bytes 8 0 ∷ get_or bytes 9 0 ∷ get_or bytes 10 0 ∷ get_or bytes 11 0 ∷ []
+front_twelve [] e = absurd (omega (arith, e))
+front_twelve (_ ∷ []) e = absurd (omega (arith, e))
+front_twelve (_ ∷ _ ∷ []) e = absurd (omega (arith, e))
+front_twelve (_ ∷ _ ∷ _ ∷ []) e = absurd (omega (arith, e))
+front_twelve (_ ∷ _ ∷ _ ∷ _ ∷ []) e = absurd (omega (arith, e))
+front_twelve (_ ∷ _ ∷ _ ∷ _ ∷ _ ∷ []) e = absurd (omega (arith, e))
+front_twelve (_ ∷ _ ∷ _ ∷ _ ∷ _ ∷ _ ∷ []) e = absurd (omega (arith, e))
+front_twelve (_ ∷ _ ∷ _ ∷ _ ∷ _ ∷ _ ∷ _ ∷ []) e = absurd (omega (arith, e))
+front_twelve (_ ∷ _ ∷ _ ∷ _ ∷ _ ∷ _ ∷ _ ∷ _ ∷ []) e = absurd (omega (arith, e))
+front_twelve (_ ∷ _ ∷ _ ∷ _ ∷ _ ∷ _ ∷ _ ∷ _ ∷ _ ∷ []) e = absurd (omega (arith, e))
+front_twelve (_ ∷ _ ∷ _ ∷ _ ∷ _ ∷ _ ∷ _ ∷ _ ∷ _ ∷ _ ∷ []) e = absurd (omega (arith, e))
+front_twelve (_ ∷ _ ∷ _ ∷ _ ∷ _ ∷ _ ∷ _ ∷ _ ∷ _ ∷ _ ∷ _ ∷ []) e = absurd (omega (arith, e))
+front_twelve (_ ∷ _ ∷ _ ∷ _ ∷ _ ∷ _ ∷ _ ∷ _ ∷ _ ∷ _ ∷ _ ∷ _ ∷ rest) e = refl

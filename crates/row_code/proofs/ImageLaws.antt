@@ -1,0 +1,209 @@
+-- An image that is read is spelled by its file, and what an image's file says is that image.
+use Rattle.std.proofs.Common.{◌≡◌, ℕ, ◌+◌, ◌*◌, ◌≤◌, Bool, true, false, cond, not, ltb, List, [], ◌∷◌, ◌++◌, length, get_or, take, drop, bytes_eq, Result, Ok, Err, IfOk, refl, sym, ap, subst, ◌∙◌, arith}
+use Rattle.std.specs.List.{flat_map}
+use Rattle.std.proofs.lemmas.Bool.{ltb-false, le-ltb}
+use Rattle.std.proofs.lemmas.Slice.Eq.{bytes_eq-Decides}
+use Rattle.std.proofs.lemmas.List.{append-nil, drop_at, drop_all, drop-drop, take-append-drop, length-drop, length-append}
+use Rattle.row_code.specs.declared.image.Counts.{Counts}
+use Rattle.row_code.specs.declared.image.Image.{Image}
+use Rattle.row_code.specs.declared.image_fault.ImageFault.{ImageFault}
+use Rattle.row_code.specs.declared.image_fault.ImageFault.TheVariants as fault
+use Rattle.row_code.specs.Number.{u16_bytes}
+use Rattle.row_code.specs.RowFields.{IsRow}
+use Rattle.row_code.specs.RowBytes.{bytes_of}
+use Rattle.row_code.specs.Phasers.{IsPhaser, phaser_bytes}
+use Rattle.row_code.specs.Barriers.{IsBarrier, barrier_bytes}
+use Rattle.row_code.specs.Threads.{IsThread, thread_bytes}
+use Rattle.row_code.specs.Image.{IsImage, magic, counts_of, count_bytes, image_bytes}
+use Rattle.row_code.specs.Reading.{Answers, row_at, phaser_entry, barrier_entry, thread_entry, entries, counts_in, is_too_many, counts_at, barriers_start, threads_start, rows_start, file_end, image_of}
+use Rattle.row_code.proofs.Cells.{IsBytes, IsBytes-drop, u16_cells, u16_back, front_four, front_twelve}
+use Rattle.row_code.proofs.EntryLaws.{bind_ok, ok_is, phaser_again, phaser_takes, barrier_again, barrier_takes, thread_again, thread_takes, row_again, row_takes}
+use Rattle.row_code.proofs.ListLaws.{IsFormat, entries_take, entries_again, length-entries}
+
+phaser_format : (start : ℕ) → IsFormat 12 phaser_bytes IsPhaser (phaser_entry start)
+phaser_format start = record {
+  len = λ p. refl;
+  takes = λ k bytes p. phaser_takes (start + 12 * k) bytes p;
+  again = λ k p. phaser_again (start + 12 * k) p;
+}
+
+barrier_format : (start : ℕ) → IsFormat 8 barrier_bytes IsBarrier (barrier_entry start)
+barrier_format start = record {
+  len = λ b. refl;
+  takes = λ k bytes b. barrier_takes (start + 8 * k) bytes b;
+  again = λ k b. barrier_again (start + 8 * k) b;
+}
+
+thread_format : (start : ℕ) → IsFormat 4 thread_bytes IsThread (thread_entry start)
+thread_format start = record {
+  len = λ t. refl;
+  takes = λ k bytes t. thread_takes (start + 4 * k) bytes t;
+  again = λ k t. thread_again (start + 4 * k) t;
+}
+
+row_format : IsFormat 8 bytes_of IsRow row_at
+row_format = record { len = λ row. refl; takes = row_takes; again = row_again }
+
+-- ---- the head
+
+-- a test that did not end the reading
+passed : {A : Type 0} (b : Bool) (f : ImageFault) (read : Result A ImageFault) (x : A) → cond b (Err f) read ≡ Ok x → (b ≡ false) × (read ≡ Ok x)
+passed true f read x e = absurd (cc)
+passed false f read x e = (refl, e)
+
+pub record IsHead (bytes : List ℕ) (c : Counts) : Type 0 where
+  pub long : 12 ≤ length bytes
+  pub is_magic : take 4 bytes ≡ magic
+  pub counts : counts_in bytes ≡ c
+  pub size : length bytes ≡ file_end c
+
+not_false : (b : Bool) → not b ≡ false → b ≡ true
+not_false true e = refl
+not_false false e = absurd (cc)
+
+head_takes : (bytes : List ℕ) (c : Counts) → counts_at bytes ≡ Ok c → IsHead bytes c
+unfolding counts_at
+head_takes bytes c e =
+    let n = counts_in bytes in
+    let a = passed (ltb (length bytes) 12) fault.Short _ c e in
+    let b = passed (not (bytes_eq (take 4 bytes) magic)) fault.Magic _ c a.1 in
+    let d = passed (is_too_many n) fault.Count _ c b.1 in
+    let f = passed (ltb (length bytes) (file_end n)) fault.Short _ c d.1 in
+    let g = passed (ltb (file_end n) (length bytes)) fault.Extra (Ok n) c f.1 in
+    let is : n ≡ c = ok_is n c g.1 in
+    record {
+      long = ltb-false _ _ a.0;
+      is_magic = (bytes_eq-Decides (take 4 bytes) magic).0 (not_false _ b.0);
+      counts = is;
+      size = subst (λ (m : Counts). length bytes ≡ file_end m) is (omega (arith, ltb-false _ _ f.0, ltb-false _ _ g.0));
+    }
+
+-- the first twelve bytes are the magic and the counts
+head_spelled : (bytes : List ℕ) (c : Counts) → IsBytes bytes → IsHead bytes c → take 12 bytes ≡ magic ++ count_bytes c
+head_spelled bytes c fits h =
+    let b : ℕ → ℕ = λ i. get_or bytes i 0 in
+    let join : List ℕ → List ℕ → List ℕ → List ℕ → List ℕ → List ℕ = λ m p q t r. m ++ (p ++ (q ++ (t ++ r))) in
+    let first : b 0 ∷ b 1 ∷ b 2 ∷ b 3 ∷ [] ≡ magic = sym (front_four bytes (omega (arith, h.long))) ∙ h.is_magic in
+    let phasers : b 4 ∷ b 5 ∷ [] ≡ u16_bytes c.phasers = sym (u16_cells (b 4) (b 5) (fits 4) (fits 5)) ∙ ap (λ (n : Counts). u16_bytes n.phasers) h.counts in
+    let barriers : b 6 ∷ b 7 ∷ [] ≡ u16_bytes c.barriers = sym (u16_cells (b 6) (b 7) (fits 6) (fits 7)) ∙ ap (λ (n : Counts). u16_bytes n.barriers) h.counts in
+    let threads : b 8 ∷ b 9 ∷ [] ≡ u16_bytes c.threads = sym (u16_cells (b 8) (b 9) (fits 8) (fits 9)) ∙ ap (λ (n : Counts). u16_bytes n.threads) h.counts in
+    let rows : b 10 ∷ b 11 ∷ [] ≡ u16_bytes c.rows = sym (u16_cells (b 10) (b 11) (fits 10) (fits 11)) ∙ ap (λ (n : Counts). u16_bytes n.rows) h.counts in
+    front_twelve bytes h.long ∙ (λ i. join (first i) (phasers i) (barriers i) (threads i) (rows i))
+
+-- a list, the list behind it, and what is behind both
+list_takes : {E : Type 0} (size : ℕ) (spell : E → List ℕ) (Fits : E → Type 0) (read : ℕ → List ℕ → Result E ImageFault) → IsFormat size spell Fits read →
+    (n start : ℕ) (bytes : List ℕ) (es : List E) → IsBytes bytes → start + size * n ≤ length bytes → entries size read 0 n (drop start bytes) ≡ Ok es →
+    (drop start bytes ≡ flat_map spell es ++ drop (start + size * n) bytes) × (length es ≡ n)
+list_takes size spell Fits read format n start bytes es fits long e =
+    let taken = entries_take size spell Fits read format 0 n (drop start bytes) es (IsBytes-drop start bytes fits) (omega (arith, length-drop start bytes, long)) e in
+    (taken.0 ∙ ap (λ (r : List ℕ). flat_map spell es ++ r) (drop-drop (size * n) start bytes), taken.1)
+
+pub image_takes : (bytes : List ℕ) (i : Image) → IsBytes bytes → image_of bytes ≡ Ok i → bytes ≡ image_bytes i
+unfolding image_of
+image_takes bytes i fits e =
+    let a = bind_ok (counts_at bytes) _ i e in
+    let c = a.0 in
+    let head = head_takes bytes c a.1 in
+    let p = bind_ok (entries 12 (phaser_entry 12) 0 c.phasers (drop 12 bytes)) _ i a.2 in
+    let b = bind_ok (entries 8 (barrier_entry (barriers_start c)) 0 c.barriers (drop (barriers_start c) bytes)) _ i p.2 in
+    let t = bind_ok (entries 4 (thread_entry (threads_start c)) 0 c.threads (drop (threads_start c) bytes)) _ i b.2 in
+    let r = bind_ok (entries 8 row_at 0 c.rows (drop (rows_start c) bytes)) _ i t.2 in
+    let phasers = list_takes 12 phaser_bytes IsPhaser (phaser_entry 12) (phaser_format 12) c.phasers 12 bytes p.0 fits (omega (arith, head.size)) p.1 in
+    let barriers = list_takes 8 barrier_bytes IsBarrier (barrier_entry (barriers_start c)) (barrier_format (barriers_start c)) c.barriers (barriers_start c) bytes b.0 fits (omega (arith, head.size)) b.1 in
+    let threads = list_takes 4 thread_bytes IsThread (thread_entry (threads_start c)) (thread_format (threads_start c)) c.threads (threads_start c) bytes t.0 fits (omega (arith, head.size)) t.1 in
+    let rows = list_takes 8 bytes_of IsRow row_at row_format c.rows (rows_start c) bytes r.0 fits (omega (arith, head.size)) r.1 in
+    let end : drop (file_end c) bytes ≡ [] = drop_all (file_end c) bytes (omega (arith, head.size)) in
+    let counts : c ≡ record { phasers = length p.0; barriers = length b.0; threads = length t.0; rows = length r.0 } =
+    (λ k. record { phasers = sym phasers.1 k; barriers = sym barriers.1 k; threads = sym threads.1 k; rows = sym rows.1 k }) in
+    let made : Image = record { phasers = p.0; barriers = b.0; threads = t.0; rows = r.0 } in
+    let whole : bytes ≡ image_bytes made =
+    sym (take-append-drop 12 bytes)
+    ∙ ap (λ (x : List ℕ). x ++ drop 12 bytes) (head_spelled bytes c fits head ∙ ap (λ n. magic ++ count_bytes n) counts)
+    ∙ ap (λ (x : List ℕ). (magic ++ count_bytes (counts_of made)) ++ x)
+    (phasers.0 ∙ ap (λ (x : List ℕ). flat_map phaser_bytes p.0 ++ x)
+    (barriers.0 ∙ ap (λ (x : List ℕ). flat_map barrier_bytes b.0 ++ x)
+    (threads.0 ∙ ap (λ (x : List ℕ). flat_map thread_bytes t.0 ++ x)
+    (rows.0 ∙ ap (λ (x : List ℕ). flat_map bytes_of r.0 ++ x) end ∙ append-nil (flat_map bytes_of r.0))))) in
+    subst (λ (j : Image). bytes ≡ image_bytes j) (ok_is made i r.2) whole
+
+-- ---- and back
+
+head_again : (bytes : List ℕ) (c : Counts) → 12 ≤ length bytes → bytes_eq (take 4 bytes) magic ≡ true → counts_in bytes ≡ c →
+    is_too_many c ≡ false → length bytes ≡ file_end c → counts_at bytes ≡ Ok c
+unfolding counts_at
+head_again bytes c long is_magic counts few size =
+    let n = counts_in bytes in
+    let ends : file_end n ≡ file_end c = ap file_end counts in
+    let not_short : ltb (length bytes) 12 ≡ false = le-ltb _ _ long in
+    let few_counted : is_too_many n ≡ false = ap is_too_many counts ∙ few in
+    let enough : ltb (length bytes) (file_end n) ≡ false = le-ltb _ _ (omega (arith, size, ends)) in
+    let no_more : ltb (file_end n) (length bytes) ≡ false = le-ltb _ _ (omega (arith, size, ends)) in
+    rw (not_short, is_magic, few_counted, enough, no_more) (ap (λ (m : Counts). Ok m) counts)
+
+parts_again : (bytes : List ℕ) (i : Image) (c : Counts) → counts_at bytes ≡ Ok c →
+    entries 12 (phaser_entry 12) 0 c.phasers (drop 12 bytes) ≡ Ok i.phasers →
+    entries 8 (barrier_entry (barriers_start c)) 0 c.barriers (drop (barriers_start c) bytes) ≡ Ok i.barriers →
+    entries 4 (thread_entry (threads_start c)) 0 c.threads (drop (threads_start c) bytes) ≡ Ok i.threads →
+    entries 8 row_at 0 c.rows (drop (rows_start c) bytes) ≡ Ok i.rows → image_of bytes ≡ Ok i
+unfolding image_of
+parts_again bytes i c e0 e1 e2 e3 e4 = rw (e0, e1, e2, e3, e4) refl
+
+few_enough : (c : Counts) → c.phasers ≤ 64 → c.barriers ≤ 64 → c.threads ≤ 64 → is_too_many c ≡ false
+few_enough c p b t =
+    let np : ltb 64 c.phasers ≡ false = le-ltb _ _ p in
+    let nb : ltb 64 c.barriers ≡ false = le-ltb _ _ b in
+    let nt : ltb 64 c.threads ≡ false = le-ltb _ _ t in
+    rw (np, nb, nt) refl
+
+-- what is behind a list
+behind : {E : Type 0} (size : ℕ) (spell : E → List ℕ) → ((e : E) → length (spell e) ≡ size) → (start : ℕ) (bytes : List ℕ) (es : List E) (rest : List ℕ) →
+    drop start bytes ≡ flat_map spell es ++ rest → drop (start + size * length es) bytes ≡ rest
+behind size spell len start bytes es rest e =
+    sym (drop-drop (size * length es) start bytes) ∙ ap (drop (size * length es)) e
+    ∙ drop_at (flat_map spell es) rest (size * length es) (length-entries size spell len es)
+
+pub image_again : (i : Image) → IsImage i → image_of (image_bytes i) ≡ Ok i
+image_again i h =
+    let bytes = image_bytes i in
+    let c = counts_of i in
+    let ps = flat_map phaser_bytes i.phasers in
+    let bs = flat_map barrier_bytes i.barriers in
+    let ts = flat_map thread_bytes i.threads in
+    let rs = flat_map bytes_of i.rows in
+    let size : length bytes ≡ file_end c =
+    omega (
+      arith,
+      length-append ps (bs ++ (ts ++ rs)),
+      length-append bs (ts ++ rs),
+      length-append ts rs,
+      length-entries 12 phaser_bytes (λ p. refl) i.phasers,
+      length-entries 8 barrier_bytes (λ b. refl) i.barriers,
+      length-entries 4 thread_bytes (λ t. refl) i.threads,
+      length-entries 8 bytes_of (λ r. refl) i.rows,
+    ) in
+    let counts : counts_in bytes ≡ c =
+    (λ k. record {
+      phasers = u16_back (length i.phasers) (omega (arith, h.phasers.0)) k;
+      barriers = u16_back (length i.barriers) (omega (arith, h.barriers.0)) k;
+      threads = u16_back (length i.threads) (omega (arith, h.threads.0)) k;
+      rows = u16_back (length i.rows) (omega (arith, h.rows.0)) k;
+    }) in
+    let e0 = head_again bytes c (omega (arith, size)) refl counts (few_enough c h.phasers.0 h.barriers.0 h.threads.0) size in
+    let d1 : drop 12 bytes ≡ ps ++ (bs ++ (ts ++ rs)) = refl in
+    let d2 = behind 12 phaser_bytes (λ p. refl) 12 bytes i.phasers (bs ++ (ts ++ rs)) d1 in
+    let d3 = behind 8 barrier_bytes (λ b. refl) (barriers_start c) bytes i.barriers (ts ++ rs) d2 in
+    let d4 = behind 4 thread_bytes (λ t. refl) (threads_start c) bytes i.threads rs d3 in
+    let e1 = entries_again 12 phaser_bytes IsPhaser (phaser_entry 12) (phaser_format 12) 0 i.phasers (bs ++ (ts ++ rs)) h.phasers.1 in
+    let e2 = entries_again 8 barrier_bytes IsBarrier (barrier_entry (barriers_start c)) (barrier_format (barriers_start c)) 0 i.barriers (ts ++ rs) h.barriers.1 in
+    let e3 = entries_again 4 thread_bytes IsThread (thread_entry (threads_start c)) (thread_format (threads_start c)) 0 i.threads rs h.threads.1 in
+    let e4 = entries_again 8 bytes_of IsRow row_at row_format 0 i.rows [] h.rows.1 in
+    parts_again bytes i c e0 e1
+    (ap (entries 8 (barrier_entry (barriers_start c)) 0 c.barriers) d2 ∙ e2)
+    (ap (entries 4 (thread_entry (threads_start c)) 0 c.threads) d3 ∙ e3)
+    (ap (entries 8 row_at 0 c.rows) (d4 ∙ sym (append-nil rs)) ∙ e4)
+
+-- an image that was answered is the one that the bytes spell
+pub is_found : (bytes : List ℕ) (r : Result Image ImageFault) → IsBytes bytes → IfOk r (λ i. IsImage i) → Answers (λ read. read) r (image_of bytes) →
+    IfOk r (λ i. IsImage i × (bytes ≡ image_bytes i))
+is_found bytes (Ok i) fits within given = (within, image_takes bytes i fits given)
+is_found bytes (Err e) fits within given = tt

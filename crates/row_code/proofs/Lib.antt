@@ -1,0 +1,7 @@
+pub mod RowLaws
+pub mod Written
+pub mod Cells
+pub mod Loop
+pub mod EntryLaws
+pub mod ListLaws
+pub mod ImageLaws

@@ -1,0 +1,67 @@
+-- Reading entries one after the other, as a loop does.
+use Rattle.std.proofs.Common.{◌≡◌, ℕ, suc, ◌-◌, ◌+◌, ◌≤◌, ◌<◌, List, [], ◌∷◌, ◌++◌, take, drop, Result, Ok, Err, refl, sym, ap, ◌∙◌, append_assoc, arith}
+use Rattle.std.proofs.lemmas.List.{append-nil}
+use Rattle.row_code.specs.declared.image_fault.ImageFault.{ImageFault}
+use Rattle.row_code.specs.declared.image_fault.ImageFault.TheVariants as fault
+use Rattle.row_code.specs.Reading.{◌>>=◌, FailsAs, entries}
+
+-- what was read before, and what is still read
+abbrev pub with_front : {E : Type 0} → List E → Result (List E) ImageFault → Result (List E) ImageFault
+with_front front read = read >>= λ es. Ok (front ++ es)
+
+regroup : {E : Type 0} (front : List E) (e : E) (read : Result (List E) ImageFault) →
+    with_front front (read >>= λ es. Ok (e ∷ es)) ≡ with_front (front ++ e ∷ []) read
+regroup front e (Ok es) = ap (λ (all : List _). Ok all) (sym (append_assoc front (e ∷ []) es))
+regroup front e (Err f) = refl
+
+-- one entry more was read
+pub goes_on : {E : Type 0} (size : ℕ) (read : ℕ → List ℕ → Result E ImageFault) (front : List E) (count i : ℕ) (bytes : List ℕ) (e : E)
+    (total : Result (List E) ImageFault) → i < count → read i (take size bytes) ≡ Ok e →
+    with_front front (entries size read i (count - i) bytes) ≡ total →
+    with_front (front ++ e ∷ []) (entries size read (i + 1) (count - (i + 1)) (drop size bytes)) ≡ total
+unfolding entries
+goes_on size read front count i bytes e total lt h so_far =
+    let k : count - i ≡ suc (count - (i + 1)) = omega arith in
+    let one : with_front front (entries size read i (count - i) bytes) ≡ with_front (front ++ e ∷ []) (entries size read (i + 1) (count - (i + 1)) (drop size bytes)) =
+    rw (k, h) (regroup front e (entries size read (i + 1) (count - (i + 1)) (drop size bytes))) in
+    sym one ∙ so_far
+
+-- an entry that is none is the first fault
+pub ends : {E : Type 0} (size : ℕ) (read : ℕ → List ℕ → Result E ImageFault) (front : List E) (count i : ℕ) (bytes : List ℕ) (f : ImageFault)
+    (total : Result (List E) ImageFault) → i < count → read i (take size bytes) ≡ Err f →
+    with_front front (entries size read i (count - i) bytes) ≡ total → total ≡ Err f
+unfolding entries
+ends size read front count i bytes f total lt h so_far =
+    let k : count - i ≡ suc (count - (i + 1)) = omega arith in
+    let one : with_front front (entries size read i (count - i) bytes) ≡ Err f = rw (k, h) refl in
+    sym so_far ∙ one
+
+-- no entry is left
+pub is_done : {E : Type 0} (size : ℕ) (read : ℕ → List ℕ → Result E ImageFault) (front : List E) (count i : ℕ) (bytes : List ℕ)
+    (total : Result (List E) ImageFault) → count ≤ i → with_front front (entries size read i (count - i) bytes) ≡ total → total ≡ Ok front
+unfolding entries
+is_done size read front count i bytes total le so_far =
+    let k : count - i ≡ 0 = omega arith in
+    let one : with_front front (entries size read i (count - i) bytes) ≡ Ok front = rw k (ap (λ (all : List _). Ok all) (append-nil front)) in
+    sym so_far ∙ one
+
+-- what is read fails as the fault that was found
+pub fails : {Y : Type 0} (f : ImageFault) (read : Result Y ImageFault) → read ≡ Err f → FailsAs f read
+fails fault.Memory read e = tt
+fails fault.Short read e = e
+fails fault.Magic read e = e
+fails fault.Count read e = e
+fails (fault.Field at) read e = e
+fails (fault.Row n) read e = e
+fails fault.Extra read e = e
+
+-- the whole fails as its part does
+pub fails_through : {Y Z : Type 0} (f : ImageFault) (part : Result Y ImageFault) (whole : Result Z ImageFault) →
+    (part ≡ Err f → whole ≡ Err f) → FailsAs f part → FailsAs f whole
+fails_through fault.Memory part whole through e = tt
+fails_through fault.Short part whole through e = through e
+fails_through fault.Magic part whole through e = through e
+fails_through fault.Count part whole through e = through e
+fails_through (fault.Field at) part whole through e = through e
+fails_through (fault.Row n) part whole through e = through e
+fails_through fault.Extra part whole through e = through e

@@ -1,0 +1,159 @@
+-- What a row's bytes lead back to.
+use Rattle.std.proofs.Common.{◌≡◌, ℕ, ◌<◌, ◌^◌, ℤ, pos, negsuc, ◌<ℤ◌, FitsSigned, true, false, cond, List, bytes_eq, Some, None, refl, ap, sym, subst, ◌∙◌, arith, rules}
+use Rattle.std.specs.Int.{w32, cast_unsigned, cast_signed}
+use Rattle.std.proofs.lemmas.Int.{ints, to_z-of_z}
+use Rattle.std.proofs.lemmas.Nat.{from_le_bytes-to_le_bytes_4}
+use Rattle.std.proofs.lemmas.Bool.Decides.{nat_tests}
+use Rattle.instruction_table.specs.declared.register.Reg.{Reg}
+use Rattle.instruction_table.specs.declared.register.Reg.TheVariants.{R0, R1, R2, R3, R4, R5, R6, R7}
+use Rattle.instruction_table.specs.declared.row.Row.{Row}
+use Rattle.instruction_table.specs.declared.row.Row.TheVariants.{Halt, Ldi, Mov, Add, Sub, Jmp, Beq, Bne, Blt, Call, Ret, Try, Endtry, Throw, Out, Lds, Sts, SelfNumber, Intr, Intrd, Preg, Pbulk, Parr, Pdereg, Paaa, Pawait, Pawaiti, Pforce, Pphase, Pparties, Parrived, Punarr, Pterm, Pparent, Proot, Cawait, Creset, Cbroken, Cwaiting, Cparties}
+use Rattle.instruction_table.specs.Register.{number_of}
+use Rattle.instruction_table.specs.Row.{opcode_of}
+use Rattle.row_code.specs.Number.{i32_bytes, i32_of}
+use Rattle.row_code.specs.RowFields.{filled, fields_of, IsRow}
+use Rattle.row_code.specs.RowOperands.{register_at, object_at, operands_at, row_with, row_in}
+use Rattle.row_code.specs.RowBytes.{bytes_of, fields_at}
+
+register_back : (r : Reg) → register_at (number_of r) ≡ r
+register_back R0 = refl
+register_back R1 = refl
+register_back R2 = refl
+register_back R3 = refl
+register_back R4 = refl
+register_back R5 = refl
+register_back R6 = refl
+register_back R7 = refl
+
+object_back : (n : ℕ) → pos n <ℤ pos 65536 → object_at (pos n) ≡ n
+object_back n h = grind (arith, ints, nat_tests)
+
+small_fits : (n : ℕ) → pos n <ℤ pos 65536 → FitsSigned w32 (pos n)
+small_fits n h = record { sfits = omega (arith, ints) }
+
+-- the number in imm is an `int`
+imm_fits : (row : Row) → IsRow row → FitsSigned w32 (fields_of row).imm
+imm_fits Halt h = small_fits 0 h
+imm_fits (Ldi into value) h = h
+imm_fits (Mov into from) h = small_fits 0 h
+imm_fits (Add into left right) h = small_fits 0 h
+imm_fits (Sub into left right) h = small_fits 0 h
+imm_fits (Jmp target) h = small_fits target h
+imm_fits (Beq left right target) h = small_fits target h
+imm_fits (Bne left right target) h = small_fits target h
+imm_fits (Blt left right target) h = small_fits target h
+imm_fits (Call target) h = small_fits target h
+imm_fits Ret h = small_fits 0 h
+imm_fits (Try handler) h = small_fits handler h
+imm_fits Endtry h = small_fits 0 h
+imm_fits (Throw code) h = small_fits 0 h
+imm_fits (Out value) h = small_fits 0 h
+imm_fits (Lds into cell) h = small_fits cell h
+imm_fits (Sts from cell) h = small_fits cell h
+imm_fits (SelfNumber into) h = small_fits 0 h
+imm_fits (Intr thread) h = small_fits thread h
+imm_fits (Intrd into) h = small_fits 0 h
+imm_fits (Preg into phaser) h = small_fits phaser h
+imm_fits (Pbulk into phaser count) h = small_fits phaser h
+imm_fits (Parr into phaser) h = small_fits phaser h
+imm_fits (Pdereg into phaser) h = small_fits phaser h
+imm_fits (Paaa into phaser) h = small_fits phaser h
+imm_fits (Pawait into phaser phase) h = small_fits phaser h
+imm_fits (Pawaiti into phaser phase) h = small_fits phaser h
+imm_fits (Pforce phaser) h = small_fits phaser h
+imm_fits (Pphase into phaser) h = small_fits phaser h
+imm_fits (Pparties into phaser) h = small_fits phaser h
+imm_fits (Parrived into phaser) h = small_fits phaser h
+imm_fits (Punarr into phaser) h = small_fits phaser h
+imm_fits (Pterm into phaser) h = small_fits phaser h
+imm_fits (Pparent into phaser) h = small_fits phaser h
+imm_fits (Proot into phaser) h = small_fits phaser h
+imm_fits (Cawait into barrier) h = small_fits barrier h
+imm_fits (Creset barrier) h = small_fits barrier h
+imm_fits (Cbroken into barrier) h = small_fits barrier h
+imm_fits (Cwaiting into barrier) h = small_fits barrier h
+imm_fits (Cparties into barrier) h = small_fits barrier h
+
+-- a row's own fields lead back to it
+likely_back : (row : Row) → IsRow row → row_with (opcode_of row) (operands_at (fields_of row)) ≡ row
+likely_back Halt h = refl
+likely_back (Ldi into value) h = rw (register_back into) refl
+likely_back (Mov into from) h = rw (register_back into, register_back from) refl
+likely_back (Add into left right) h = rw (register_back into, register_back left, register_back right) refl
+likely_back (Sub into left right) h = rw (register_back into, register_back left, register_back right) refl
+likely_back (Jmp target) h = rw (object_back target h) refl
+likely_back (Beq left right target) h = rw (register_back left, register_back right, object_back target h) refl
+likely_back (Bne left right target) h = rw (register_back left, register_back right, object_back target h) refl
+likely_back (Blt left right target) h = rw (register_back left, register_back right, object_back target h) refl
+likely_back (Call target) h = rw (object_back target h) refl
+likely_back Ret h = refl
+likely_back (Try handler) h = rw (object_back handler h) refl
+likely_back Endtry h = refl
+likely_back (Throw code) h = rw (register_back code) refl
+likely_back (Out value) h = rw (register_back value) refl
+likely_back (Lds into cell) h = rw (register_back into, object_back cell h) refl
+likely_back (Sts from cell) h = rw (register_back from, object_back cell h) refl
+likely_back (SelfNumber into) h = rw (register_back into) refl
+likely_back (Intr thread) h = rw (object_back thread h) refl
+likely_back (Intrd into) h = rw (register_back into) refl
+likely_back (Preg into phaser) h = rw (register_back into, object_back phaser h) refl
+likely_back (Pbulk into phaser count) h = rw (register_back into, register_back count, object_back phaser h) refl
+likely_back (Parr into phaser) h = rw (register_back into, object_back phaser h) refl
+likely_back (Pdereg into phaser) h = rw (register_back into, object_back phaser h) refl
+likely_back (Paaa into phaser) h = rw (register_back into, object_back phaser h) refl
+likely_back (Pawait into phaser phase) h = rw (register_back into, register_back phase, object_back phaser h) refl
+likely_back (Pawaiti into phaser phase) h = rw (register_back into, register_back phase, object_back phaser h) refl
+likely_back (Pforce phaser) h = rw (object_back phaser h) refl
+likely_back (Pphase into phaser) h = rw (register_back into, object_back phaser h) refl
+likely_back (Pparties into phaser) h = rw (register_back into, object_back phaser h) refl
+likely_back (Parrived into phaser) h = rw (register_back into, object_back phaser h) refl
+likely_back (Punarr into phaser) h = rw (register_back into, object_back phaser h) refl
+likely_back (Pterm into phaser) h = rw (register_back into, object_back phaser h) refl
+likely_back (Pparent into phaser) h = rw (register_back into, object_back phaser h) refl
+likely_back (Proot into phaser) h = rw (register_back into, object_back phaser h) refl
+likely_back (Cawait into barrier) h = rw (register_back into, object_back barrier h) refl
+likely_back (Creset barrier) h = rw (object_back barrier h) refl
+likely_back (Cbroken into barrier) h = rw (register_back into, object_back barrier h) refl
+likely_back (Cwaiting into barrier) h = rw (register_back into, object_back barrier h) refl
+likely_back (Cparties into barrier) h = rw (register_back into, object_back barrier h) refl
+
+unsigned_below : (z : ℤ) → FitsSigned w32 z → cast_unsigned w32 z < 2 ^ 32
+unsigned_below (pos n) h = omega (arith, ints, h.sfits)
+unsigned_below (negsuc n) h = omega (arith, ints)
+
+-- an `int` is read as it was written
+pub i32_back : (z : ℤ) → FitsSigned w32 z → i32_of (i32_bytes z) ≡ z
+i32_back z h =
+    ap (cast_signed w32) (from_le_bytes-to_le_bytes_4 (cast_unsigned w32 z) (unsigned_below z h)) ∙ to_z-of_z w32 z h
+
+-- the row that a row's bytes are taken for is that row
+pub row_back : (row : Row) → IsRow row → row_with (opcode_of row) (operands_at (fields_at (bytes_of row))) ≡ row
+row_back row h =
+    let f = fields_of row in
+    ap (λ imm. row_with (opcode_of row) (operands_at (filled f.a f.b f.c imm))) (i32_back f.imm (imm_fits row h))
+    ∙ likely_back row h
+
+same_bytes : (bytes : List ℕ) → bytes_eq bytes bytes ≡ true
+same_bytes bytes = search rules
+
+-- what is taken for a row is one where its bytes are those, and none where they are others
+pub when_spelled : (row taken : Row) (bytes : List ℕ) → row ≡ taken → bytes_eq (bytes_of row) bytes ≡ true →
+    Some row ≡ cond (bytes_eq (bytes_of taken) bytes) (Some taken) None
+when_spelled row taken bytes e same =
+    subst (λ (r : Row). Some row ≡ cond (bytes_eq (bytes_of r) bytes) (Some r) None) e
+    (ap (λ b. cond b (Some row) None) (sym same))
+
+pub when_not : (row taken : Row) (bytes : List ℕ) → row ≡ taken → bytes_eq (bytes_of row) bytes ≡ false →
+    None ≡ cond (bytes_eq (bytes_of taken) bytes) (Some taken) None
+when_not row taken bytes e other =
+    subst (λ (r : Row). None ≡ cond (bytes_eq (bytes_of r) bytes) (Some r) None) e
+    (ap (λ b. cond b (Some row) None) (sym other))
+
+row_in_bytes_of : (row : Row) → IsRow row → row_in (bytes_of row) ≡ Some row
+row_in_bytes_of row fits =
+    sym (when_spelled row (row_with (opcode_of row) (operands_at (fields_at (bytes_of row)))) (bytes_of row)
+    (sym (row_back row fits)) (same_bytes (bytes_of row)))
+
+-- eight bytes that spell a row are that row
+pub row_in_its_bytes : (bytes : List ℕ) (row : Row) → IsRow row → bytes_of row ≡ bytes → row_in bytes ≡ Some row
+row_in_its_bytes bytes row fits spelled = subst (λ (bs : List ℕ). row_in bs ≡ Some row) spelled (row_in_bytes_of row fits)

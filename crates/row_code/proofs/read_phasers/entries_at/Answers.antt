@@ -1,0 +1,35 @@
+use Rattle.std.proofs.Common.{◌≡◌, take, Ok, Err, arith, rules}
+use Rattle.std.proofs.lemmas.Result.{err_from_is_err_and}
+use Rattle.std.proofs.lemmas.List.Elements.{All-push}
+use Rattle.row_code.specs.Phasers.{IsPhaser}
+use Rattle.row_code.specs.Reading.{phaser_entry, entries}
+use Rattle.row_code.proofs.Loop.{goes_on, ends, is_done, fails}
+use Rattle.row_code.proofs.read_phasers.entries_at.Goals as goal
+
+pub returns-in_err-phaser_at-clause-read : goal.returns-in_err-phaser_at-clause-read
+returns-in_err-phaser_at-clause-read c =
+    let f = c.in_err-phaser_at.field-0.0 in
+    let total = entries 12 (phaser_entry c.args.start) 0 c.args.count c.args.bytes.now in
+    let first : phaser_entry c.args.start c.loop-n.n (take 12 c.loop-n.rest.now) ≡ Err f = cc (c.split_at.ensures.front, c.from-in-loop-n.ensures, c.in_err-phaser_at.ensures.phaser) in
+    let p = err_from_is_err_and c.from_residual-in_err-phaser_at.result c.from_residual-in_err-phaser_at.ensures.1 in
+    rw (p.1, p.2) (fails f total (ends 12 (phaser_entry c.args.start) c.loop-n.phasers.items c.args.count c.loop-n.n c.loop-n.rest.now f total
+    c.loop-n-test.true first c.loop-n.invariant.told))
+
+pub loop-n-preserved : goal.loop-n-preserved
+loop-n-preserved c =
+    let p = c.in_ok-phaser_at.field-0 in
+    let total = entries 12 (phaser_entry c.args.start) 0 c.args.count c.args.bytes.now in
+    let first : phaser_entry c.args.start c.loop-n.n (take 12 c.loop-n.rest.now) ≡ Ok p = cc (c.split_at.ensures.front, c.from-in-loop-n.ensures, c.in_ok-phaser_at.ensures.phaser) in
+    record {
+      told = rw (c.in_ok-push.ensures.items, c.split_at.ensures.back)
+          (goes_on 12 (phaser_entry c.args.start) c.loop-n.phasers.items c.args.count c.loop-n.n c.loop-n.rest.now p total
+          c.loop-n-test.true first c.loop-n.invariant.told);
+      count = search rules;
+      fits = rw c.in_ok-push.ensures.items (All-push IsPhaser c.loop-n.phasers.items p c.loop-n.invariant.fits c.in_ok-phaser_at.ensures.fits);
+      size = omega (arith, c.split_at.ensures.back_len, c.loop-n.invariant.size, c.loop-n-test.true);
+    }
+
+pub returns-clause-read : goal.returns-clause-read
+returns-clause-read c =
+    is_done 12 (phaser_entry c.args.start) c.loop-n.phasers.items c.args.count c.loop-n.n c.loop-n.rest.now
+    (entries 12 (phaser_entry c.args.start) 0 c.args.count c.args.bytes.now) c.loop-n-test.false c.loop-n.invariant.told

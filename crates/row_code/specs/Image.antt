@@ -1,0 +1,42 @@
+-- An image as the bytes of its file.
+use Rattle.std.specs.Prelude.{ℕ, List, ◌++◌, length, codes}
+use Rattle.std.specs.List.{flat_map}
+use Rattle.row_code.specs.declared.image.Counts.{Counts}
+use Rattle.row_code.specs.declared.image.Image.{Image}
+use Rattle.row_code.specs.Number.{u16_bytes}
+use Rattle.row_code.specs.RowBytes.{bytes_of}
+use Rattle.row_code.specs.Phasers.{ArePhasers, phaser_bytes}
+use Rattle.row_code.specs.Barriers.{AreBarriers, barrier_bytes}
+use Rattle.row_code.specs.Threads.{AreThreads, thread_bytes}
+use Rattle.row_code.specs.Rows.{AreRows}
+
+-- each list of an image is within its limits
+pub record IsImage (i : Image) : Type 0 where
+  pub phasers : ArePhasers i.phasers
+  pub barriers : AreBarriers i.barriers
+  pub threads : AreThreads i.threads
+  pub rows : AreRows i.rows
+
+-- what every image begins with
+abbrev pub magic : List ℕ
+magic = codes "PBW1"
+
+-- how many of each there are
+abbrev pub counts_of : Image → Counts
+counts_of i = record {
+  phasers = length i.phasers;
+  barriers = length i.barriers;
+  threads = length i.threads;
+  rows = length i.rows;
+}
+
+abbrev pub count_bytes : Counts → List ℕ
+count_bytes c =
+    u16_bytes c.phasers ++ (u16_bytes c.barriers ++ (u16_bytes c.threads ++ u16_bytes c.rows))
+
+-- the one spelling of an image
+abbrev pub image_bytes : Image → List ℕ
+image_bytes i =
+    (magic ++ count_bytes (counts_of i)) ++ (flat_map phaser_bytes i.phasers
+    ++ (flat_map barrier_bytes i.barriers
+    ++ (flat_map thread_bytes i.threads ++ flat_map bytes_of i.rows)))

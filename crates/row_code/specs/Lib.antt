@@ -1,0 +1,10 @@
+pub mod Number
+pub mod RowFields
+pub mod RowBytes
+pub mod RowOperands
+pub mod Phasers
+pub mod Barriers
+pub mod Threads
+pub mod Rows
+pub mod Image
+pub mod Reading

@@ -1,0 +1,76 @@
+ghost use Rattle.std.specs.Prelude.{◌≡◌, ◌↔◌, ◌≤◌, length, All, IsTrue, IsOk, IfOk, IfErr, OnOk, List};
+ghost use Rattle.row_code.specs.declared.barriers.DeclaredBarrier.{DeclaredBarrier};
+ghost use Rattle.row_code.specs.Barriers.{IsBarrier, AreBarriers};
+
+use std::marker::Model;
+
+/// A barrier as a program declares it.
+#[derive(Clone, Copy, Debug, PartialEq, Eq)]
+pub struct DeclaredBarrier {
+    pub parties: u16,
+    /// The row of the action that the last party runs, where there is one.
+    pub action: Option<u16>,
+}
+
+/// The barriers of a program, at most 64.
+#[derive(Drop)]
+pub struct Barriers {
+    entries: Vec<DeclaredBarrier>,
+}
+
+impl Model for Barriers {
+    ghost Value = { List DeclaredBarrier };
+
+    ghost view = { λ b. b.entries.items };
+
+    ghost invariant = { λ b. AreBarriers b.entries.items };
+}
+
+fn barrier_fits(barrier: DeclaredBarrier)
+    ensures { IsBarrier barrier }
+{
+    let _parties = barrier.parties;
+    match barrier.action {
+        None => {}
+        Some(_row) => {}
+    }
+}
+
+fn each_fits(barriers: &[DeclaredBarrier])
+    ensures { All IsBarrier barriers.now }
+{
+    for barrier in barriers {
+        barrier_fits(*barrier);
+    }
+}
+
+impl Barriers {
+    /// Takes the barriers as they are, or gives them back where there are too many.
+    pub fn new(barriers: Vec<DeclaredBarrier>) -> Result<Barriers, Vec<DeclaredBarrier>>
+        ensures made { IfOk result (λ made. made ≡ barriers.items) }
+        ensures back { IfErr result (λ back. back ≡ barriers) }
+        ensures room { IsOk result ↔ (length barriers.items ≤ 64) }
+        ensures fits { OnOk result (AreBarriers barriers.items) }
+    {
+        if barriers.len() > 64 {
+            return Err(barriers);
+        }
+        each_fits(&barriers);
+        Ok(Barriers { entries: barriers })
+    }
+
+    pub fn as_slice(&self) -> &[DeclaredBarrier]
+        ensures barriers { result.now ≡ self.now }
+        ensures fits { AreBarriers self.now }
+    {
+        &self.entries
+    }
+
+    /// The barriers in the memory that was taken for them.
+    pub fn into_vec(self) -> Vec<DeclaredBarrier>
+        ensures barriers { result.items ≡ self }
+        ensures fits { AreBarriers self }
+    {
+        self.entries
+    }
+}

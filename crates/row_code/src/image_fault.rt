@@ -1,0 +1,39 @@
+ghost use Rattle.std.specs.Prelude.{◌≡◌};
+ghost use Rattle.row_code.specs.declared.image_fault.ImageFault.TheVariants.{Memory};
+
+use std::alloc::{AllocError, AllocFailed};
+
+/// Why bytes are no image: the first fault in the order in which `read_image` checks.
+#[derive(Clone, Copy, Debug, PartialEq, Eq)]
+pub enum ImageFault {
+    /// The bytes end before the counts, or before the end that the counts ask for.
+    Short,
+    /// The first four bytes are not those of an image.
+    Magic,
+    /// There are more than 64 phasers, barriers or threads.
+    Count,
+    /// A field holds what it can't: the place of its first byte in the file, from 0.
+    Field(usize),
+    /// The bytes of a row spell none: the row's number.
+    Row(u16),
+    /// Bytes follow after the last row.
+    Extra,
+    /// Memory was refused.
+    Memory,
+}
+
+impl From<AllocError> for ImageFault {
+    ghost from_gives = { λ _ e. e ≡ Memory };
+
+    fn from(_e: AllocError) -> ImageFault {
+        ImageFault::Memory
+    }
+}
+
+impl<T: Drop> From<AllocFailed<T>> for ImageFault {
+    ghost from_gives = { λ _ e. e ≡ Memory };
+
+    fn from(_e: AllocFailed<T>) -> ImageFault {
+        ImageFault::Memory
+    }
+}

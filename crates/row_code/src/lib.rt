@@ -1,0 +1,51 @@
+//! Rows and whole programs as bytes: the image format, in which an assembled program is stored.
+//!
+//! Each row and each image has one spelling. `encode` and `write_image` write it, and `decode` and
+//! `read_image` accept it and nothing else: a byte that isn't used must be 0, a number must be in
+//! its range, and no byte may follow. Where bytes are no image, `read_image` answers the first
+//! fault in a fixed order, with the place of the field or the number of the row. What was written
+//! is read again as the same image. An image says nothing yet of whether a row or an object that
+//! is named is there.
+//!
+//! For a Java porter: `write_image` and `read_image` are a `writeExternal` and a `readExternal`
+//! whose format is proved both ways.
+#![tactic(auto)]
+
+// The bytes of a row.
+mod fields;
+mod operands;
+pub mod row_bytes;
+
+// What an image consists of.
+pub mod barriers;
+pub mod image;
+pub mod phasers;
+pub mod rows;
+pub mod threads;
+
+// From an image to bytes.
+pub mod write_fault;
+pub mod writing;
+
+// From bytes to an image.
+pub mod image_fault;
+mod read_barriers;
+mod read_fields;
+mod read_phasers;
+mod read_rows;
+mod read_threads;
+pub mod reading;
+
+// What was written is read again.
+pub mod round_trip;
+
+pub use barriers::{Barriers, DeclaredBarrier};
+pub use image::Image;
+pub use image_fault::ImageFault;
+pub use phasers::{DeclaredPhaser, DeclaredPolicy, Phasers};
+pub use reading::read_image;
+pub use row_bytes::{decode, encode};
+pub use rows::Rows;
+pub use threads::{DeclaredThread, Threads};
+pub use write_fault::WriteFault;
+pub use writing::write_image;

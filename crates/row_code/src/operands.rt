@@ -1,0 +1,203 @@
+ghost use Rattle.std.specs.Prelude.{◌≡◌, ◌<◌, ◌≤◌};
+ghost use Rattle.row_code.specs.RowFields.{IsRow};
+ghost use Rattle.row_code.specs.RowOperands.{register_at, object_at, operands_at, row_with};
+
+use crate::fields::Fields;
+use instruction_table::{Reg, Row};
+
+/// What the fields hold, read as operands of each kind: a row uses some of them.
+#[derive(Clone, Copy)]
+pub struct Operands {
+    pub a: Reg,
+    pub b: Reg,
+    pub c: Reg,
+    pub number: i32,
+    pub object: u16,
+}
+
+fn register_at(number: u8) -> Reg
+    ensures { result ≡ register_at number }
+{
+    match number {
+        1 => Reg::R1,
+        2 => Reg::R2,
+        3 => Reg::R3,
+        4 => Reg::R4,
+        5 => Reg::R5,
+        6 => Reg::R6,
+        7 => Reg::R7,
+        _ => Reg::R0,
+    }
+}
+
+fn object_at(imm: i32) -> u16
+    ensures { result ≡ object_at imm }
+{
+    u16::try_from(imm).unwrap_or(0)
+}
+
+/// Reads the fields as operands of each kind. A field that holds no such operand is read as 0.
+pub fn operands_at(fields: Fields) -> Operands
+    ensures { result ≡ operands_at fields }
+{
+    Operands {
+        a: register_at(fields.a),
+        b: register_at(fields.b),
+        c: register_at(fields.c),
+        number: fields.imm,
+        object: object_at(fields.imm),
+    }
+}
+
+fn local_row(opcode: u8, operands: Operands) -> Row
+    requires { opcode < 9 }
+    ensures row { result ≡ row_with opcode operands }
+    ensures fits { IsRow result }
+{
+    let Operands {
+        a,
+        b,
+        c,
+        number,
+        object,
+    } = operands;
+    match opcode {
+        1 => Row::Ldi {
+            into: a,
+            value: number,
+        },
+        2 => Row::Mov { into: a, from: b },
+        3 => Row::Add {
+            into: a,
+            left: b,
+            right: c,
+        },
+        4 => Row::Sub {
+            into: a,
+            left: b,
+            right: c,
+        },
+        5 => Row::Jmp { target: object },
+        6 => Row::Beq {
+            left: a,
+            right: b,
+            target: object,
+        },
+        7 => Row::Bne {
+            left: a,
+            right: b,
+            target: object,
+        },
+        8 => Row::Blt {
+            left: a,
+            right: b,
+            target: object,
+        },
+        _ => Row::Halt,
+    }
+}
+
+fn thread_row(opcode: u8, operands: Operands) -> Row
+    requires low { 9 ≤ opcode }
+    requires high { opcode < 20 }
+    ensures row { result ≡ row_with opcode operands }
+    ensures fits { IsRow result }
+{
+    let Operands { a, object, .. } = operands;
+    match opcode {
+        9 => Row::Call { target: object },
+        10 => Row::Ret,
+        11 => Row::Try { handler: object },
+        12 => Row::Endtry,
+        13 => Row::Throw { code: a },
+        14 => Row::Out { value: a },
+        15 => Row::Lds {
+            into: a,
+            cell: object,
+        },
+        16 => Row::Sts {
+            from: a,
+            cell: object,
+        },
+        17 => Row::SelfNumber { into: a },
+        18 => Row::Intr { thread: object },
+        _ => Row::Intrd { into: a },
+    }
+}
+
+fn phaser_row(opcode: u8, operands: Operands) -> Row
+    requires low { 20 ≤ opcode }
+    requires high { opcode < 35 }
+    ensures row { result ≡ row_with opcode operands }
+    ensures fits { IsRow result }
+{
+    let Operands {
+        a: into,
+        b,
+        object: phaser,
+        ..
+    } = operands;
+    match opcode {
+        20 => Row::Preg { into, phaser },
+        21 => Row::Pbulk {
+            into,
+            phaser,
+            count: b,
+        },
+        22 => Row::Parr { into, phaser },
+        23 => Row::Pdereg { into, phaser },
+        24 => Row::Paaa { into, phaser },
+        25 => Row::Pawait {
+            into,
+            phaser,
+            phase: b,
+        },
+        26 => Row::Pawaiti {
+            into,
+            phaser,
+            phase: b,
+        },
+        27 => Row::Pforce { phaser },
+        28 => Row::Pphase { into, phaser },
+        29 => Row::Pparties { into, phaser },
+        30 => Row::Parrived { into, phaser },
+        31 => Row::Punarr { into, phaser },
+        32 => Row::Pterm { into, phaser },
+        33 => Row::Pparent { into, phaser },
+        _ => Row::Proot { into, phaser },
+    }
+}
+
+fn barrier_row(opcode: u8, operands: Operands) -> Row
+    requires low { 35 ≤ opcode }
+    requires high { opcode < 40 }
+    ensures row { result ≡ row_with opcode operands }
+    ensures fits { IsRow result }
+{
+    let Operands {
+        a: into,
+        object: barrier,
+        ..
+    } = operands;
+    match opcode {
+        35 => Row::Cawait { into, barrier },
+        36 => Row::Creset { barrier },
+        37 => Row::Cbroken { into, barrier },
+        38 => Row::Cwaiting { into, barrier },
+        _ => Row::Cparties { into, barrier },
+    }
+}
+
+/// The row with this opcode and these operands; `halt` where there is no such opcode.
+pub fn row_with(opcode: u8, operands: Operands) -> Row
+    ensures row { result ≡ row_with opcode operands }
+    ensures fits { IsRow result }
+{
+    match opcode {
+        0..=8 => local_row(opcode, operands),
+        9..=19 => thread_row(opcode, operands),
+        20..=34 => phaser_row(opcode, operands),
+        35..=39 => barrier_row(opcode, operands),
+        _ => Row::Halt,
+    }
+}

@@ -1,0 +1,108 @@
+ghost use Rattle.std.specs.Prelude.{◌≡◌, ◌↔◌, ◌<◌, ℕ, slice_index_or, length, All, IsTrue, IsOk, IfOk, IfErr, List};
+ghost use Rattle.row_code.specs.declared.phasers.DeclaredPhaser.{DeclaredPhaser};
+ghost use Rattle.row_code.specs.Phasers.{IsPolicy, IsPhaser, ArePhasers};
+
+use std::marker::Model;
+
+/// What a phaser's `onAdvance` answers.
+#[derive(Clone, Copy, Debug, PartialEq, Eq)]
+pub enum DeclaredPolicy {
+    /// True where no party is left, as in Java's `Phaser`.
+    Default,
+    /// False.
+    Never,
+    /// True from this phase on, or where no party is left. Not negative.
+    Until(i32),
+    /// What the routine at this row says.
+    Routine(u16),
+}
+
+/// A phaser as a program declares it.
+#[derive(Clone, Copy, Debug, PartialEq, Eq)]
+pub struct DeclaredPhaser {
+    /// The number of the parent, below 64, whether there is such a phaser or not.
+    pub parent: Option<u8>,
+    pub policy: DeclaredPolicy,
+    pub parties: u16,
+    /// The number of the first phase, not negative.
+    pub first_phase: i32,
+}
+
+/// The phasers of a program, at most 64.
+#[derive(Drop)]
+pub struct Phasers {
+    entries: Vec<DeclaredPhaser>,
+}
+
+impl Model for Phasers {
+    ghost Value = { List DeclaredPhaser };
+
+    ghost view = { λ p. p.entries.items };
+
+    ghost invariant = { λ p. ArePhasers p.entries.items };
+}
+
+fn is_policy(policy: DeclaredPolicy) -> bool
+    ensures { IsTrue result ↔ IsPolicy policy }
+{
+    match policy {
+        DeclaredPolicy::Default | DeclaredPolicy::Never | DeclaredPolicy::Routine(_) => true,
+        DeclaredPolicy::Until(phase) => 0 <= phase,
+    }
+}
+
+fn is_phaser(phaser: DeclaredPhaser) -> bool
+    ensures { IsTrue result ↔ IsPhaser phaser }
+{
+    let _parties = phaser.parties;
+    let has_parent = match phaser.parent {
+        None => true,
+        Some(parent) => parent < 64,
+    };
+    has_parent && 0 <= phaser.first_phase && is_policy(phaser.policy)
+}
+
+fn are_all_phasers(phasers: &[DeclaredPhaser]) -> bool
+    ensures { IsTrue result ↔ All IsPhaser phasers.now }
+{
+    for phaser in phasers {
+        if !is_phaser(*phaser) {
+            return false;
+        }
+    }
+    true
+}
+
+impl Phasers {
+    /// Takes the phasers as they are, or gives them back where there are too many or one of them
+    /// has a field out of its range.
+    pub fn new(phasers: Vec<DeclaredPhaser>) -> Result<Phasers, Vec<DeclaredPhaser>>
+        ensures made { IfOk result (λ made. made ≡ phasers.items) }
+        ensures back { IfErr result (λ back. back ≡ phasers) }
+        ensures fits { IsOk result ↔ ArePhasers phasers.items }
+    {
+        if phasers.len() <= 64 && are_all_phasers(&phasers) {
+            Ok(Phasers { entries: phasers })
+        } else {
+            Err(phasers)
+        }
+    }
+
+    pub fn as_slice(&self) -> &[DeclaredPhaser]
+        ensures phasers { result.now ≡ self.now }
+        ensures fits { ArePhasers self.now }
+    {
+        &self.entries
+    }
+
+    /// The phasers in the memory that was taken for them.
+    pub fn into_vec(self) -> Vec<DeclaredPhaser>
+        ensures phasers { result.items ≡ self }
+        ensures fits { ArePhasers self }
+    {
+        self.entries
+    }
+}
+
+#[cfg(test)]
+mod tests;

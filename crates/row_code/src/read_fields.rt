@@ -1,0 +1,54 @@
+ghost use Rattle.std.specs.Prelude.{◌≡◌, ◌+◌, ◌<◌, length, IfOk};
+ghost use Rattle.row_code.specs.Phasers.{IsCount};
+ghost use Rattle.row_code.specs.Reading.{u16_at, i32_at, target_at, phase_at, zero_at};
+
+use crate::image_fault::ImageFault;
+
+/// The number in the two bytes from a place on.
+pub fn u16_at(bytes: &[u8], i: usize) -> u16
+    requires { i + 1 < length bytes.now }
+    ensures { result ≡ u16_at bytes.now i }
+{
+    u16::from_le_bytes([bytes[i], bytes[i + 1]])
+}
+
+/// The `int` in the four bytes from a place on.
+pub fn i32_at(bytes: &[u8], i: usize) -> i32
+    requires { i + 3 < length bytes.now }
+    ensures { result ≡ i32_at bytes.now i }
+{
+    i32::from_le_bytes([bytes[i], bytes[i + 1], bytes[i + 2], bytes[i + 3]])
+}
+
+/// A row's number, out of a field that begins at this place of the file.
+pub fn target_at(at: usize, value: i32) -> Result<u16, ImageFault>
+    ensures { result ≡ target_at at value }
+{
+    match u16::try_from(value) {
+        Ok(row) => Ok(row),
+        Err(_) => Err(ImageFault::Field(at)),
+    }
+}
+
+/// The number of a phase.
+pub fn phase_at(at: usize, value: i32) -> Result<i32, ImageFault>
+    ensures phase { result ≡ phase_at at value }
+    ensures fits { IfOk result (λ phase. IsCount phase) }
+{
+    if value < 0 {
+        Err(ImageFault::Field(at))
+    } else {
+        Ok(value)
+    }
+}
+
+/// A field that isn't used.
+pub fn zero_at(at: usize, value: i32) -> Result<i32, ImageFault>
+    ensures { result ≡ zero_at at value }
+{
+    if value == 0 {
+        Ok(0)
+    } else {
+        Err(ImageFault::Field(at))
+    }
+}

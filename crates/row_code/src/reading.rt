@@ -1,0 +1,131 @@
+ghost use Rattle.std.specs.Prelude.{◌≡◌, ◌≤◌, ◌<◌, ◌^◌, length, drop, Ok, IfOk};
+ghost use Rattle.row_code.specs.declared.image.Image.{Image};
+ghost use Rattle.row_code.specs.Image.{IsImage, image_bytes};
+ghost use Rattle.row_code.specs.Reading.{Answers, counts_in, counts_at, is_too_many, barriers_start, threads_start, rows_start, file_end, image_of};
+
+use crate::image::{Counts, Image, MAGIC};
+use crate::image_fault::ImageFault;
+use crate::read_barriers::read_barriers;
+use crate::read_fields::u16_at;
+use crate::read_phasers::read_phasers;
+use crate::read_rows::read_rows;
+use crate::read_threads::read_threads;
+use std::alloc::Global;
+
+fn counts_in(bytes: &[u8]) -> Counts
+    requires { 12 ≤ length bytes.now }
+    ensures { result ≡ counts_in bytes.now }
+{
+    Counts {
+        phasers: u16_at(bytes, 4),
+        barriers: u16_at(bytes, 6),
+        threads: u16_at(bytes, 8),
+        rows: u16_at(bytes, 10),
+    }
+}
+
+fn is_too_many(counts: Counts) -> bool
+    ensures { result ≡ is_too_many counts }
+{
+    64 < counts.phasers || 64 < counts.barriers || 64 < counts.threads
+}
+
+fn barriers_start(counts: Counts) -> usize
+    ensures { result ≡ barriers_start counts }
+{
+    12 + 12 * usize::from(counts.phasers)
+}
+
+fn threads_start(counts: Counts) -> usize
+    ensures { result ≡ threads_start counts }
+{
+    barriers_start(counts) + 8 * usize::from(counts.barriers)
+}
+
+fn rows_start(counts: Counts) -> usize
+    ensures { result ≡ rows_start counts }
+{
+    threads_start(counts) + 4 * usize::from(counts.threads)
+}
+
+/// How many bytes an image with these counts has.
+pub fn file_end(counts: Counts) -> usize
+    ensures { result ≡ file_end counts }
+{
+    rows_start(counts) + 8 * usize::from(counts.rows)
+}
+
+#[tactic(auto, unfolding(crate::specs::Reading::counts_at))]
+fn counts_at(bytes: &[u8]) -> Result<Counts, ImageFault>
+    ensures counts { result ≡ counts_at bytes.now }
+    ensures size { IfOk result (λ c. length bytes.now ≡ file_end c) }
+    ensures phasers { IfOk result (λ c. c.phasers ≤ 64) }
+    ensures barriers { IfOk result (λ c. c.barriers ≤ 64) }
+    ensures threads { IfOk result (λ c. c.threads ≤ 64) }
+{
+    if bytes.len() < 12 {
+        return Err(ImageFault::Short);
+    }
+    if &bytes[..4] != MAGIC.as_slice() {
+        return Err(ImageFault::Magic);
+    }
+    let counts = counts_in(bytes);
+    if is_too_many(counts) {
+        return Err(ImageFault::Count);
+    }
+    if bytes.len() < file_end(counts) {
+        return Err(ImageFault::Short);
+    }
+    if file_end(counts) < bytes.len() {
+        return Err(ImageFault::Extra);
+    }
+    Ok(counts)
+}
+
+fn bytes_from(bytes: &[u8], start: usize) -> &[u8]
+    requires { start ≤ length bytes.now }
+    ensures { result.now ≡ drop start bytes.now }
+{
+    &bytes[start..]
+}
+
+#[tactic(auto, unfolding(crate::specs::Reading::image_of))]
+fn image_of(alloc: Global, bytes: &[u8]) -> Result<Image, ImageFault>
+    ensures read { Answers (λ i. i) result (image_of bytes.now) }
+    ensures fits { IfOk result (λ i. IsImage i) }
+{
+    let counts = counts_at(bytes)?;
+    let phasers = read_phasers(alloc, counts.phasers, 12, bytes_from(bytes, 12))?;
+    let start = barriers_start(counts);
+    let barriers = read_barriers(alloc, counts.barriers, start, bytes_from(bytes, start))?;
+    let start = threads_start(counts);
+    let threads = read_threads(alloc, counts.threads, start, bytes_from(bytes, start))?;
+    let start = rows_start(counts);
+    let rows = read_rows(alloc, counts.rows, bytes_from(bytes, start))?;
+    Ok(Image {
+        phasers,
+        barriers,
+        threads,
+        rows,
+    })
+}
+
+/// The image that the bytes spell, all of the bytes. The faults are looked for in this order: too
+/// few bytes for the counts, another magic, a count above its limit, fewer bytes than the counts
+/// ask for, more bytes, then the fields and then the rows, from the left.
+pub fn read_image(alloc: Global, bytes: &[u8]) -> Result<Image, ImageFault>
+    // What is read is spelled so.
+    ensures found { IfOk result (λ i. IsImage i × (bytes.now ≡ image_bytes i)) }
+
+    // What is spelled so is read, unless memory is refused.
+    ensures only { (i : Image) → IsImage i → bytes.now ≡ image_bytes i →
+        Answers (λ read. read) result (Ok i) }
+
+    // Which fault it is.
+    ensures exact { Answers (λ read. read) result (image_of bytes.now) }
+{
+    image_of(alloc, bytes)
+}
+
+#[cfg(test)]
+mod tests;

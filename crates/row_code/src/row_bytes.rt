@@ -1,0 +1,64 @@
+ghost use Rattle.std.specs.Prelude.{◌≡◌, IfSome, Some};
+ghost use Rattle.instruction_table.specs.declared.row.Row.{Row};
+ghost use Rattle.row_code.specs.RowBytes.{bytes_of, fields_at};
+ghost use Rattle.row_code.specs.RowFields.{IsRow};
+ghost use Rattle.row_code.specs.RowOperands.{row_in};
+
+use crate::fields::{Fields, fields_of};
+use crate::operands::{operands_at, row_with};
+use instruction_table::{Row, opcode};
+
+/// The eight bytes of a row.
+pub fn encode(row: Row) -> [u8; 8]
+    ensures bytes { result ≡ bytes_of row }
+
+    // Every row in memory can be spelled.
+    ensures fits { IsRow row }
+{
+    let fields = fields_of(row);
+    let imm = fields.imm.to_le_bytes();
+    [
+        opcode(row),
+        fields.a,
+        fields.b,
+        fields.c,
+        imm[0],
+        imm[1],
+        imm[2],
+        imm[3],
+    ]
+}
+
+fn fields_at(bytes: [u8; 8]) -> Fields
+    ensures { result ≡ fields_at bytes }
+{
+    let [_, a, b, c, imm0, imm1, imm2, imm3] = bytes;
+    let imm = i32::from_le_bytes([imm0, imm1, imm2, imm3]);
+    Fields { a, b, c, imm }
+}
+
+/// `decode`, with the row that it takes the bytes for.
+pub fn row_in(bytes: [u8; 8]) -> Option<Row>
+    ensures taken { result ≡ row_in bytes }
+    ensures found { IfSome result (λ row. IsRow row × (bytes_of row ≡ bytes)) }
+{
+    let row = row_with(bytes[0], operands_at(fields_at(bytes)));
+    if encode(row) == bytes {
+        Some(row)
+    } else {
+        None
+    }
+}
+
+/// The row that the bytes spell, if they spell one: `None` where a field that the row doesn't use
+/// isn't 0, or an operand is none of its kind.
+pub fn decode(bytes: [u8; 8]) -> Option<Row>
+    // A row is the one with these bytes, and where there is such a row it is found.
+    ensures found { IfSome result (λ row. IsRow row × (bytes_of row ≡ bytes)) }
+    ensures only { (row : Row) → IsRow row → bytes_of row ≡ bytes → result ≡ Some row }
+{
+    row_in(bytes)
+}
+
+#[cfg(test)]
+mod tests;

@@ -1,0 +1,64 @@
+ghost use Rattle.std.specs.Prelude.{◌≡◌, ◌≤◌, ◌↔◌, length, All, IsOk, IfOk, IfErr, OnOk, List};
+ghost use Rattle.instruction_table.specs.declared.row.Row.{Row};
+ghost use Rattle.row_code.specs.RowFields.{IsRow};
+ghost use Rattle.row_code.specs.Rows.{AreRows};
+
+use crate::row_bytes::encode;
+use instruction_table::Row;
+use std::marker::Model;
+
+/// The most rows that an image has: its count of them is a number of two bytes.
+pub const MOST_ROWS: usize = 65535;
+
+/// The rows of a program, at most 65535.
+#[derive(Drop)]
+pub struct Rows {
+    entries: Vec<Row>,
+}
+
+impl Model for Rows {
+    ghost Value = { List Row };
+
+    ghost view = { λ r. r.entries.items };
+
+    ghost invariant = { λ r. AreRows r.entries.items };
+}
+
+fn each_fits(rows: &[Row])
+    ensures { All IsRow rows.now }
+{
+    for row in rows {
+        encode(*row);
+    }
+}
+
+impl Rows {
+    /// Takes the rows as they are, or gives them back where there are too many.
+    pub fn new(rows: Vec<Row>) -> Result<Rows, Vec<Row>>
+        ensures made { IfOk result (λ made. made ≡ rows.items) }
+        ensures back { IfErr result (λ back. back ≡ rows) }
+        ensures room { IsOk result ↔ (length rows.items ≤ 65535) }
+        ensures fits { OnOk result (AreRows rows.items) }
+    {
+        if rows.len() > MOST_ROWS {
+            return Err(rows);
+        }
+        each_fits(&rows);
+        Ok(Rows { entries: rows })
+    }
+
+    pub fn as_slice(&self) -> &[Row]
+        ensures rows { result.now ≡ self.now }
+        ensures fits { AreRows self.now }
+    {
+        &self.entries
+    }
+
+    /// The rows in the memory that was taken for them.
+    pub fn into_vec(self) -> Vec<Row>
+        ensures rows { result.items ≡ self }
+        ensures fits { AreRows self }
+    {
+        self.entries
+    }
+}

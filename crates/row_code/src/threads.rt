@@ -1,0 +1,71 @@
+ghost use Rattle.std.specs.Prelude.{◌≡◌, ◌↔◌, ◌≤◌, length, All, IsTrue, IsOk, IfOk, IfErr, OnOk, List};
+ghost use Rattle.row_code.specs.declared.threads.DeclaredThread.{DeclaredThread};
+ghost use Rattle.row_code.specs.Threads.{IsThread, AreThreads};
+
+use std::marker::Model;
+
+/// A thread as a program declares it.
+#[derive(Clone, Copy, Debug, PartialEq, Eq)]
+pub struct DeclaredThread {
+    /// The row that the thread begins at.
+    pub first_row: u16,
+}
+
+/// The threads of a program, at most 64.
+#[derive(Drop)]
+pub struct Threads {
+    entries: Vec<DeclaredThread>,
+}
+
+impl Model for Threads {
+    ghost Value = { List DeclaredThread };
+
+    ghost view = { λ t. t.entries.items };
+
+    ghost invariant = { λ t. AreThreads t.entries.items };
+}
+
+fn thread_fits(thread: DeclaredThread)
+    ensures { IsThread thread }
+{
+    let _row = thread.first_row;
+}
+
+fn each_fits(threads: &[DeclaredThread])
+    ensures { All IsThread threads.now }
+{
+    for thread in threads {
+        thread_fits(*thread);
+    }
+}
+
+impl Threads {
+    /// Takes the threads as they are, or gives them back where there are too many.
+    pub fn new(threads: Vec<DeclaredThread>) -> Result<Threads, Vec<DeclaredThread>>
+        ensures made { IfOk result (λ made. made ≡ threads.items) }
+        ensures back { IfErr result (λ back. back ≡ threads) }
+        ensures room { IsOk result ↔ (length threads.items ≤ 64) }
+        ensures fits { OnOk result (AreThreads threads.items) }
+    {
+        if threads.len() > 64 {
+            return Err(threads);
+        }
+        each_fits(&threads);
+        Ok(Threads { entries: threads })
+    }
+
+    pub fn as_slice(&self) -> &[DeclaredThread]
+        ensures threads { result.now ≡ self.now }
+        ensures fits { AreThreads self.now }
+    {
+        &self.entries
+    }
+
+    /// The threads in the memory that was taken for them.
+    pub fn into_vec(self) -> Vec<DeclaredThread>
+        ensures threads { result.items ≡ self }
+        ensures fits { AreThreads self }
+    {
+        self.entries
+    }
+}
