@@ -424,3 +424,20 @@ fn more_output_than_there_is_room_for(rt: HostRuntime) -> Result<(), Fail> {
         (0, trace.as_str(), ""),
     )
 }
+
+#[test]
+fn the_longest_input(rt: HostRuntime) -> Result<(), Fail> {
+    // a line of blanks is none of a program; one byte more isn't even read
+    let lengths = [(MOST_BYTES, 3, "refused\n"), (MOST_BYTES + 1, 5, "read\n")];
+    for (length, expected, line) in lengths {
+        let input = vec![in rt.alloc(); b' '; length]?;
+        let mut source = MemorySource::new(input.as_slice(), None);
+        let mut output = MemorySink::new(rt.alloc(), 100, None)?;
+        let mut errors = MemorySink::new(rt.alloc(), 100, None)?;
+        let status = both_cmd(rt.alloc(), &mut source, &mut output, &mut errors);
+        assert_eq!(rt; status, expected, "{length} bytes");
+        assert_eq!(rt; errors.bytes(), line.as_bytes(), "{length} bytes");
+        assert_eq!(rt; output.bytes().len(), 0);
+    }
+    Ok(())
+}
