@@ -119,7 +119,38 @@ fn a_byte_of_255_is_a_fault_or_a_number(rt: HostRuntime) -> Result<(), Fail> {
         (48, Some(ImageFault::Row(2))),
         (55, Some(ImageFault::Row(2))),
     ];
-    check_changes(rt.alloc(), &rt, &TWO_THREADS, 255, &rows)
+    check_changes(rt.alloc(), &rt, &TWO_THREADS, 255, &rows)?;
+    // the bytes between these
+    let inner = [
+        (1, Some(ImageFault::Magic)),
+        (2, Some(ImageFault::Magic)),
+        (7, Some(ImageFault::Count)),
+        (17, None),
+        (21, Some(ImageFault::Field(20))),
+        (22, Some(ImageFault::Field(20))),
+        (28, None),
+        (29, None),
+        (30, Some(ImageFault::Field(28))),
+        (33, Some(ImageFault::Row(0))),
+        (35, Some(ImageFault::Row(0))),
+        (39, Some(ImageFault::Row(0))),
+    ];
+    check_changes(rt.alloc(), &rt, &TWO_THREADS, 255, &inner)?;
+    let unused = [
+        (41, Some(ImageFault::Row(1))),
+        (42, Some(ImageFault::Row(1))),
+        (43, Some(ImageFault::Row(1))),
+        (45, Some(ImageFault::Row(1))),
+        (46, Some(ImageFault::Row(1))),
+        (47, Some(ImageFault::Row(1))),
+        (49, Some(ImageFault::Row(2))),
+        (50, Some(ImageFault::Row(2))),
+        (51, Some(ImageFault::Row(2))),
+        (52, Some(ImageFault::Row(2))),
+        (53, Some(ImageFault::Row(2))),
+        (54, Some(ImageFault::Row(2))),
+    ];
+    check_changes(rt.alloc(), &rt, &TWO_THREADS, 255, &unused)
 }
 
 #[test]
