@@ -1,0 +1,452 @@
+-- What an arrival makes of the counts of a forest.
+use Rattle.std.proofs.Common.{inl, inr, ◌≡◌, ◌≢◌, ◌∙◌, ℕ, zero, suc, ◌+◌, ◌-◌, ◌<◌, ◌≤◌, ◌==◌, Bool, true, false, List, [], ◌∷◌, length, ap, refl, sym, subst, arith, if◌then◌else◌}
+use Rattle.std.specs.Prelude.{◌&&◌, not, slice_index_or}
+use Rattle.std.proofs.lemmas.Bool.{cases_eq}
+use Rattle.std.proofs.lemmas.Bool.Decides.{nat_tests}
+use Rattle.std.proofs.lemmas.List.{get_or-set_same, get_or-set_other}
+use Rattle.packed_phaser.specs.Flat.{Flat, Arrival, Counts, Turns, ComesLate, IsUnregistered, is_empty, unarrived_of, arrive, settled, vacate, view_of}
+use Rattle.tier_tree.specs.declared.climb.Climb.{Climb}
+use Rattle.tier_tree.specs.declared.climb.Climb.TheVariants as climb
+use Rattle.tier_tree.specs.Forest.{PhaserState, no_phaser, phaser_at, flat_at, root_at, with_flat}
+use Rattle.tier_tree.specs.Arrival.{Climbed, is_top, passed_on, with_child, climbed_by, climbed}
+use Rattle.tier_tree.specs.Sound.{Place, place_of, places_of, IsForest}
+use Rattle.tier_tree.specs.Origin.{is_under, children, has_joined, is_awaited}
+use Rattle.tier_tree.proofs.Lines.{place_at-places, length-places, climbed-places}
+use Rattle.tier_tree.proofs.Safe.{linked, line_own, last_of}
+
+-- a test as a number
+abbrev pub bit : Bool → ℕ
+bit true = 1
+bit false = 0
+
+add-bit : (b : Bool) → (if b then 1 else 0) ≡ bit b
+add-bit true = refl
+add-bit false = refl
+
+-- one phaser changes: its parent counts it anew
+pub children-set : (test : Flat → Bool) (id : ℕ) (phasers : List PhaserState) (i : ℕ) (flat : Flat) → i < length phasers
+    → children test id (with_flat phasers i flat) + bit (is_under id (phaser_at phasers i).line && test (flat_at phasers i))
+    ≡ children test id phasers + bit (is_under id (phaser_at phasers i).line && test flat)
+children-set test id [] i flat there = absurd (omega (arith, there))
+children-set test id (p ∷ phasers) zero flat there =
+    let old = add-bit (is_under id p.line && test p.flat) in
+    let new = add-bit (is_under id p.line && test flat) in
+    omega (arith, old, new)
+children-set test id (p ∷ phasers) (suc i) flat there =
+    let others = children-set test id phasers i flat (omega (arith, there)) in
+    omega (arith, others)
+
+pub put_same : (test : Flat → Bool) (id : ℕ) (phasers : List PhaserState) (i : ℕ) (flat : Flat) → i < length phasers
+    → test flat ≡ test (flat_at phasers i) → children test id (with_flat phasers i flat) ≡ children test id phasers
+put_same test id phasers i flat there same =
+    let all = children-set test id phasers i flat there in
+    let bits : bit (is_under id (phaser_at phasers i).line && test flat) ≡ bit (is_under id (phaser_at phasers i).line && test (flat_at phasers i)) =
+    ap (λ (t : Bool). bit (is_under id (phaser_at phasers i).line && t)) same in
+    omega (arith, all, bits)
+
+pub put_apart : (test : Flat → Bool) (id : ℕ) (phasers : List PhaserState) (i : ℕ) (flat : Flat) → i < length phasers
+    → is_under id (phaser_at phasers i).line ≡ false → children test id (with_flat phasers i flat) ≡ children test id phasers
+put_apart test id phasers i flat there apart =
+    let all = children-set test id phasers i flat there in
+    let new : bit (is_under id (phaser_at phasers i).line && test flat) ≡ 0 = ap (λ (u : Bool). bit (u && test flat)) apart in
+    let old : bit (is_under id (phaser_at phasers i).line && test (flat_at phasers i)) ≡ 0 =
+    ap (λ (u : Bool). bit (u && test (flat_at phasers i))) apart in
+    omega (arith, all, new, old)
+
+pub put_under : (test : Flat → Bool) (id : ℕ) (phasers : List PhaserState) (i : ℕ) (flat : Flat) → i < length phasers
+    → is_under id (phaser_at phasers i).line ≡ true
+    → children test id (with_flat phasers i flat) + bit (test (flat_at phasers i)) ≡ children test id phasers + bit (test flat)
+put_under test id phasers i flat there under =
+    let all = children-set test id phasers i flat there in
+    let new : bit (is_under id (phaser_at phasers i).line && test flat) ≡ bit (test flat) = ap (λ (u : Bool). bit (u && test flat)) under in
+    let old : bit (is_under id (phaser_at phasers i).line && test (flat_at phasers i)) ≡ bit (test (flat_at phasers i)) =
+    ap (λ (u : Bool). bit (u && test (flat_at phasers i))) under in
+    omega (arith, all, new, old)
+
+pub flat-put : (phasers : List PhaserState) (i : ℕ) (flat : Flat) → i < length phasers → flat_at (with_flat phasers i flat) i ≡ flat
+flat-put phasers i flat there =
+    ap (λ (p : PhaserState). p.flat) (get_or-set_same phasers i (record (phaser_at phasers i) { flat = flat }) no_phaser there)
+
+pub flat-other : (phasers : List PhaserState) (i : ℕ) (flat : Flat) (id : ℕ) → id ≢ i → flat_at (with_flat phasers i flat) id ≡ flat_at phasers id
+flat-other phasers i flat id other =
+    ap (λ (p : PhaserState). p.flat) (get_or-set_other phasers i id (record (phaser_at phasers i) { flat = flat }) no_phaser other)
+
+-- the counts of one phaser and of its children have gone this much apart
+pub record IsOff (id more less more_left less_left : ℕ) (before after : List PhaserState) : Type 0 where
+  pub registered : (flat_at after id).parties + less + children has_joined id before
+      ≡ (flat_at before id).parties + more + children has_joined id after
+  pub unarrived : unarrived_of (flat_at after id) + less_left + children is_awaited id before
+      ≡ unarrived_of (flat_at before id) + more_left + children is_awaited id after
+
+-- what one phaser is by itself
+pub record IsGood (root id : ℕ) (flat : Flat) : Type 0 where
+  pub arrived : flat.arrived ≤ flat.parties
+  pub turned : flat.turned ≡ true → (flat.ended ≡ false) × (flat.arrived ≡ flat.parties)
+  pub child : flat.turned ≡ true → root ≢ id → 0 < flat.parties
+
+-- a change that begins at this phaser and goes up
+pub record Changes (first more less more_left less_left : ℕ) (before after : List PhaserState) : Type 0 where
+  pub own : IsOff first more less more_left less_left before after
+  pub others : (id : ℕ) → id ≢ first → IsOff id 0 0 0 0 before after
+  pub same : (id : ℕ) → first < id → flat_at after id ≡ flat_at before id
+  pub ended : (id : ℕ) → (flat_at after id).ended ≡ (flat_at before id).ended
+  pub good : (id : ℕ) → IsGood (root_at before id) id (flat_at before id) → IsGood (root_at before id) id (flat_at after id)
+
+-- a phaser isn't its own parent
+pub not-own : (phasers : List PhaserState) (i : ℕ) → IsForest phasers → i < length phasers → is_under i (phaser_at phasers i).line ≡ false
+not-own phasers i sound there =
+    elim (linked phasers i sound there) as (λ _. is_under i (phaser_at phasers i).line ≡ false) [
+      | inl top ↦ ap (is_under i) top
+      | inr child ↦
+          let below : child.0 < i = child.1 in
+          let within : child.0 < length phasers = omega (arith, below, there) in
+          let own = line_own phasers child.0 sound within in
+          let whole : (phaser_at phasers i).line ≡ i ∷ child.0 ∷ own.0 = child.2 ∙ ap (λ (l : List ℕ). i ∷ l) own.1 in
+          let other : (child.0 == i) ≡ false = grind (arith, nat_tests, below) in
+          ap (is_under i) whole ∙ other
+    ]
+
+-- where no parent counts it otherwise, only the phaser itself changes
+simple : (phasers : List PhaserState) (i less : ℕ) (flat : Flat) → i < length phasers
+    → ((id : ℕ) → children has_joined id (with_flat phasers i flat) ≡ children has_joined id phasers)
+    → ((id : ℕ) → children is_awaited id (with_flat phasers i flat) ≡ children is_awaited id phasers)
+    → flat.parties + less ≡ (flat_at phasers i).parties → unarrived_of flat + 1 ≡ unarrived_of (flat_at phasers i)
+    → flat.ended ≡ (flat_at phasers i).ended
+    → (IsGood (root_at phasers i) i (flat_at phasers i) → IsGood (root_at phasers i) i flat)
+    → Changes i 0 less 0 1 phasers (with_flat phasers i flat)
+simple phasers i less flat there joined awaited parties unarrived ended good =
+    let put = flat-put phasers i flat there in
+    record {
+      own = record {
+        registered = (let p : (flat_at (with_flat phasers i flat) i).parties ≡ flat.parties = ap (λ (f : Flat). f.parties) put in
+            let j = joined i in omega (arith, p, j, parties));
+        unarrived = (let u : unarrived_of (flat_at (with_flat phasers i flat) i) ≡ unarrived_of flat = ap unarrived_of put in
+            let j = awaited i in omega (arith, u, j, unarrived));
+      };
+      others = λ id other.
+          let apart = flat-other phasers i flat id other in
+          record {
+            registered = (let p : (flat_at (with_flat phasers i flat) id).parties ≡ (flat_at phasers id).parties = ap (λ (f : Flat). f.parties) apart in
+                let j = joined id in omega (arith, p, j));
+            unarrived = (let u : unarrived_of (flat_at (with_flat phasers i flat) id) ≡ unarrived_of (flat_at phasers id) = ap unarrived_of apart in
+                let j = awaited id in omega (arith, u, j));
+          };
+      same = λ id above. flat-other phasers i flat id (λ is. absurd (omega (arith, is, above)));
+      ended = λ id. elim (cases_eq id i) as (λ _. (flat_at (with_flat phasers i flat) id).ended ≡ (flat_at phasers id).ended) [
+        | inl is ↦ subst (λ (n : ℕ). (flat_at (with_flat phasers i flat) n).ended ≡ (flat_at phasers n).ended) (sym is)
+            (ap (λ (f : Flat). f.ended) put ∙ ended)
+        | inr other ↦ ap (λ (f : Flat). f.ended) (flat-other phasers i flat id other)
+      ];
+      good = λ id was. elim (cases_eq id i) as (λ _. IsGood (root_at phasers id) id (flat_at (with_flat phasers i flat) id)) [
+        | inl is ↦ subst (λ (n : ℕ). IsGood (root_at phasers n) n (flat_at (with_flat phasers i flat) n)) (sym is)
+            (subst (λ (f : Flat). IsGood (root_at phasers i) i f) (sym put)
+            (good (subst (λ (n : ℕ). IsGood (root_at phasers n) n (flat_at phasers n)) is was)))
+        | inr other ↦ subst (λ (f : Flat). IsGood (root_at phasers id) id f) (sym (flat-other phasers i flat id other)) was
+      ];
+    }
+
+-- the parties that arrived leave or stay
+abbrev pub counted : Bool → Flat → Flat
+counted leave f = if leave then record f { parties = f.parties - 1 } else record f { arrived = f.arrived + 1 }
+
+arrive-is : (leave : Bool) (f : Flat) → arrive leave f
+    ≡ (if f.ended then ComesLate (view_of f) else (if f.arrived == f.parties then IsUnregistered else settled (counted leave f)))
+arrive-is true f = refl
+arrive-is false f = refl
+
+-- one arrival in numbers
+record IsCounted (leave : Bool) (before after : Flat) : Type 0 where
+  parties : after.parties + bit leave ≡ before.parties
+  unarrived : unarrived_of after + 1 ≡ unarrived_of before
+  within : after.arrived ≤ after.parties
+  ended : after.ended ≡ before.ended
+  turned : after.turned ≡ before.turned
+
+in_numbers : (leave : Bool) (f : Flat) → f.arrived ≤ f.parties → f.arrived ≢ f.parties → IsCounted leave f (counted leave f)
+in_numbers true f within some = record {
+  parties = omega (arith, within, some);
+  unarrived = omega (arith, within, some);
+  within = omega (arith, within, some);
+  ended = refl;
+  turned = refl;
+}
+in_numbers false f within some = record {
+  parties = omega arith;
+  unarrived = omega (arith, within, some);
+  within = omega (arith, within, some);
+  ended = refl;
+  turned = refl;
+}
+
+-- a phaser that waits for somebody has joined its parent, and its parent waits for it
+pub waiting : (f : Flat) → f.ended ≡ false → f.turned ≡ false → 0 < f.parties → (has_joined f ≡ true) × (is_awaited f ≡ true)
+waiting f live idle some =
+    let zero : (f.parties == 0) ≡ false = grind (arith, nat_tests, some) in
+    let empty : is_empty f ≡ false =
+    ap (λ (e : Bool). if e then false else (if f.turned then false else f.parties == 0)) live
+    ∙ ap (λ (t : Bool). if t then false else f.parties == 0) idle ∙ zero in
+    (ap not empty, ap (λ (e : Bool). not e && not f.turned) empty ∙ ap not idle)
+
+open_flat : (f : Flat) → (f.turned ≡ true → (f.ended ≡ false) × (f.arrived ≡ f.parties)) → f.arrived ≢ f.parties → f.turned ≡ false
+open_flat f turned some = by_cases f.turned turned
+  where
+    by_cases : (t : Bool) → (t ≡ true → (f.ended ≡ false) × (f.arrived ≡ f.parties)) → t ≡ false
+    by_cases true turned = absurd (some (turned refl).1)
+    by_cases false turned = refl
+
+-- an arrival that comes through
+abbrev pub Succeeds : Climb → Type 0
+Succeeds climb.Counted = Unit {0}
+Succeeds climb.Turned = Unit {0}
+Succeeds climb.Refused = ⊥
+
+abbrev pub AllGood : List PhaserState → Type 0
+AllGood phasers = (id : ℕ) → id < length phasers → IsGood (root_at phasers id) id (flat_at phasers id)
+
+some_of : (arrived parties : ℕ) → arrived ≤ parties → arrived ≢ parties → 0 < parties
+some_of arrived parties within some = omega (arith, within, some)
+
+-- others are still to arrive
+counted_case : (leave : Bool) (phasers : List PhaserState) (i : ℕ) → i < length phasers → AllGood phasers
+    → (flat_at phasers i).ended ≡ false → (flat_at phasers i).arrived ≢ (flat_at phasers i).parties
+    → (counted leave (flat_at phasers i)).arrived ≢ (counted leave (flat_at phasers i)).parties
+    → Changes i 0 (bit leave) 0 1 phasers (with_flat phasers i (counted leave (flat_at phasers i)))
+counted_case leave phasers i there good live some others =
+    let f = flat_at phasers i in
+    let was = good i there in
+    let new = in_numbers leave f was.arrived some in
+    let idle = open_flat f was.turned some in
+    let before = waiting f live idle (some_of f.arrived f.parties was.arrived some) in
+    let after = waiting (counted leave f) (new.ended ∙ live) (new.turned ∙ idle)
+    (some_of (counted leave f).arrived (counted leave f).parties new.within others) in
+    simple phasers i (bit leave) (counted leave f) there
+    (λ id. put_same has_joined id phasers i (counted leave f) there (after.0 ∙ sym before.0))
+    (λ id. put_same is_awaited id phasers i (counted leave f) there (after.1 ∙ sym before.1))
+    new.parties new.unarrived new.ended
+    (λ _. record {
+      arrived = new.within;
+      turned = (λ yes. absurd (cc (yes, new.turned, idle)));
+      child = (λ yes _. absurd (cc (yes, new.turned, idle)));
+    })
+
+-- the root's last
+top_case : (leave : Bool) (phasers : List PhaserState) (i : ℕ) → i < length phasers → AllGood phasers
+    → (phaser_at phasers i).line ≡ i ∷ []
+    → (flat_at phasers i).ended ≡ false → (flat_at phasers i).arrived ≢ (flat_at phasers i).parties
+    → (counted leave (flat_at phasers i)).arrived ≡ (counted leave (flat_at phasers i)).parties
+    → Changes i 0 (bit leave) 0 1 phasers (with_flat phasers i (record (counted leave (flat_at phasers i)) { turned = true }))
+top_case leave phasers i there good top live some all =
+    let f = flat_at phasers i in
+    let was = good i there in
+    let new = in_numbers leave f was.arrived some in
+    let last = record (counted leave f) { turned = true } in
+    simple phasers i (bit leave) last there
+    (λ id. put_apart has_joined id phasers i last there (ap (is_under id) top))
+    (λ id. put_apart is_awaited id phasers i last there (ap (is_under id) top))
+    new.parties new.unarrived new.ended
+    (λ _. record {
+      arrived = new.within;
+      turned = (λ _. (new.ended ∙ live, all));
+      child = (λ _ below. absurd (below (ap last_of top)));
+    })
+
+-- what a child that all have arrived at shows its parent
+record IsPassed (none : Bool) (last after : Flat) : Type 0 where
+  joined : has_joined after ≡ not none
+  awaited : is_awaited after ≡ false
+  parties : after.parties ≡ last.parties
+  unarrived : unarrived_of after ≡ unarrived_of last
+  ended : after.ended ≡ last.ended
+  good : (root id : ℕ) → IsGood root id after
+
+passed : (none : Bool) (g : Flat) → g.ended ≡ false → (g.parties == 0) ≡ none → g.arrived ≡ g.parties
+    → IsPassed none g (if none then vacate (record g { turned = true }) else record g { turned = true })
+passed true g live none all = record {
+  joined = ap (λ (e : Bool). not (if e then false else g.parties == 0)) live ∙ ap not none;
+  awaited = ap (λ (e : Bool). not (if e then false else g.parties == 0) && true) live ∙ ap (λ (z : Bool). not z && true) none;
+  parties = refl;
+  unarrived = refl;
+  ended = refl;
+  good = λ root id. record { arrived = omega (arith, all); turned = (λ yes. absurd (cc (yes))); child = (λ yes _. absurd (cc (yes))) };
+}
+passed false g live none all = record {
+  joined = ap (λ (e : Bool). not (if e then false else false)) live;
+  awaited = ap (λ (e : Bool). not (if e then false else false) && false) live;
+  parties = refl;
+  unarrived = refl;
+  ended = refl;
+  good = λ root id. record { arrived = omega (arith, all); turned = (λ _. (live, all)); child = (λ _ _. grind (arith, nat_tests, none)) };
+}
+
+bit-not : (b : Bool) → bit b + bit (not b) ≡ 1
+bit-not true = refl
+bit-not false = refl
+
+pub apart : (q id : ℕ) → id ≢ q → (q == id) ≡ false
+apart q id other = grind (arith, nat_tests, other)
+
+-- a child's last: its parent changed to `mid`, and then the child
+child_case : (leave none : Bool) (phasers mid : List PhaserState) (i q : ℕ) (more : List ℕ) (after : Flat) → i < length phasers → q < i → AllGood phasers
+    → (phaser_at mid i).line ≡ i ∷ q ∷ more → length mid ≡ length phasers
+    → (flat_at phasers i).ended ≡ false → (flat_at phasers i).arrived ≢ (flat_at phasers i).parties
+    → IsPassed none (counted leave (flat_at phasers i)) after
+    → Changes q 0 (bit none) 0 1 phasers mid
+    → Changes i 0 (bit leave) 0 1 phasers (with_flat mid i after)
+child_case leave none phasers mid i q more after there below good line many live some new rest =
+    let f = flat_at phasers i in
+    let was = good i there in
+    let numbers = in_numbers leave f was.arrived some in
+    let within : i < length mid = omega (arith, many, there) in
+    let kept : flat_at mid i ≡ f = rest.same i below in
+    let idle = open_flat f was.turned some in
+    let before = waiting f live idle (some_of f.arrived f.parties was.arrived some) in
+    let joined_before : has_joined (flat_at mid i) ≡ true = ap has_joined kept ∙ before.0 in
+    let awaited_before : is_awaited (flat_at mid i) ≡ true = ap is_awaited kept ∙ before.1 in
+    let put = flat-put mid i after within in
+    let not_parent : i ≢ q = λ is. absurd (omega (arith, is, below)) in
+    let own_apart : is_under i (phaser_at mid i).line ≡ false = ap (is_under i) line ∙ apart q i not_parent in
+    let own_mid = rest.others i not_parent in
+    record {
+      own = record {
+        registered = (let p : (flat_at (with_flat mid i after) i).parties ≡ (counted leave f).parties = ap (λ (x : Flat). x.parties) put ∙ new.parties in
+            let pm : (flat_at mid i).parties ≡ f.parties = ap (λ (x : Flat). x.parties) kept in
+            let j = put_apart has_joined i mid i after within own_apart in
+            let n = numbers.parties in let m = own_mid.registered in omega (arith, p, pm, j, n, m));
+        unarrived = (let u : unarrived_of (flat_at (with_flat mid i after) i) ≡ unarrived_of (counted leave f) = ap unarrived_of put ∙ new.unarrived in
+            let um : unarrived_of (flat_at mid i) ≡ unarrived_of f = ap unarrived_of kept in
+            let j = put_apart is_awaited i mid i after within own_apart in
+            let n = numbers.unarrived in let m = own_mid.unarrived in omega (arith, u, um, j, n, m));
+      };
+      others = λ id other.
+          let away = flat-other mid i after id other in
+          let p : (flat_at (with_flat mid i after) id).parties ≡ (flat_at mid id).parties = ap (λ (x : Flat). x.parties) away in
+          let u : unarrived_of (flat_at (with_flat mid i after) id) ≡ unarrived_of (flat_at mid id) = ap unarrived_of away in
+          elim (cases_eq id q) as (λ _. IsOff id 0 0 0 0 phasers (with_flat mid i after)) [
+            | inl is ↦
+                let under : is_under id (phaser_at mid i).line ≡ true = ap (is_under id) line ∙ (grind (arith, nat_tests, is)) in
+                let m : IsOff id 0 (bit none) 0 1 phasers mid = subst (λ (n : ℕ). IsOff n 0 (bit none) 0 1 phasers mid) (sym is) rest.own in
+                let mr = m.registered in let mu = m.unarrived in
+                let j : children has_joined id (with_flat mid i after) + 1 ≡ children has_joined id mid + bit (not none) =
+                ap (λ (b : Bool). children has_joined id (with_flat mid i after) + bit b) (sym joined_before)
+                ∙ put_under has_joined id mid i after within under ∙ ap (λ (b : Bool). children has_joined id mid + bit b) new.joined in
+                let w : children is_awaited id (with_flat mid i after) + 1 ≡ children is_awaited id mid + 0 =
+                ap (λ (b : Bool). children is_awaited id (with_flat mid i after) + bit b) (sym awaited_before)
+                ∙ put_under is_awaited id mid i after within under ∙ ap (λ (b : Bool). children is_awaited id mid + bit b) new.awaited in
+                let bits = bit-not none in
+                record { registered = omega (arith, p, j, bits, mr); unarrived = omega (arith, u, w, mu) }
+            | inr not_it ↦
+                let under : is_under id (phaser_at mid i).line ≡ false = ap (is_under id) line ∙ apart q id not_it in
+                let m = rest.others id not_it in
+                let mr = m.registered in let mu = m.unarrived in
+                let j = put_apart has_joined id mid i after within under in
+                let w = put_apart is_awaited id mid i after within under in
+                record { registered = omega (arith, p, j, mr); unarrived = omega (arith, u, w, mu) }
+          ];
+      same = λ id above. flat-other mid i after id (λ is. absurd (omega (arith, is, above))) ∙ rest.same id (omega (arith, below, above));
+      ended = λ id. elim (cases_eq id i) as (λ _. (flat_at (with_flat mid i after) id).ended ≡ (flat_at phasers id).ended) [
+        | inl is ↦ subst (λ (n : ℕ). (flat_at (with_flat mid i after) n).ended ≡ (flat_at phasers n).ended) (sym is)
+            (ap (λ (x : Flat). x.ended) put ∙ new.ended ∙ numbers.ended)
+        | inr other ↦ ap (λ (x : Flat). x.ended) (flat-other mid i after id other) ∙ rest.ended id
+      ];
+      good = λ id had. elim (cases_eq id i) as (λ _. IsGood (root_at phasers id) id (flat_at (with_flat mid i after) id)) [
+        | inl is ↦ subst (λ (n : ℕ). IsGood (root_at phasers n) n (flat_at (with_flat mid i after) n)) (sym is)
+            (subst (λ (x : Flat). IsGood (root_at phasers i) i x) (sym put) (new.good (root_at phasers i) i))
+        | inr other ↦ subst (λ (x : Flat). IsGood (root_at phasers id) id x) (sym (flat-other mid i after id other)) (rest.good id had)
+      ];
+    }
+
+-- what the arrival above has made of the counts, where it comes through
+abbrev pub Onward : List ℕ → (Bool → Climbed) → List PhaserState → Type 0
+Onward [] onward phasers = Unit {0}
+Onward (q ∷ more) onward phasers =
+    (leaves : Bool) → Succeeds (onward leaves).climb → Changes q 0 (bit leaves) 0 1 phasers (onward leaves).phasers
+
+child_by : (c : Climb) (id first less : ℕ) (last : Flat) (phasers mid : List PhaserState) → Succeeds (with_child id last c mid).climb
+    → (Succeeds c → Changes first 0 less 0 1 phasers (with_flat mid id (passed_on last)))
+    → Changes first 0 less 0 1 phasers (with_child id last c mid).phasers
+child_by climb.Counted id first less last phasers mid ok changes = changes tt
+child_by climb.Turned id first less last phasers mid ok changes = changes tt
+child_by climb.Refused id first less last phasers mid ok changes = absurd ok
+
+abbrev second_of : List ℕ → ℕ
+second_of [] = 0
+second_of (x ∷ []) = 0
+second_of (x ∷ y ∷ rest) = y
+
+abbrev others_of : List ℕ → List ℕ
+others_of [] = []
+others_of (x ∷ rest) = rest
+
+-- the next phaser of a line is the parent
+pub next-parent : (phasers : List PhaserState) (i q : ℕ) (more : List ℕ) → IsForest phasers → i < length phasers
+    → (phaser_at phasers i).line ≡ i ∷ q ∷ more → (q < i) × ((phaser_at phasers q).line ≡ q ∷ more)
+next-parent phasers i q more sound there line =
+    elim (linked phasers i sound there) as (λ _. (q < i) × ((phaser_at phasers q).line ≡ q ∷ more)) [
+      | inl top ↦ absurd (cc (top, line))
+      | inr child ↦
+          let below : child.0 < i = child.1 in
+          let within : child.0 < length phasers = omega (arith, below, there) in
+          let own = line_own phasers child.0 sound within in
+          let whole : i ∷ child.0 ∷ own.0 ≡ i ∷ q ∷ more = sym (child.2 ∙ ap (λ (l : List ℕ). i ∷ l) own.1) ∙ line in
+          let same : child.0 ≡ q = ap second_of whole in
+          let rest : child.0 ∷ own.0 ≡ q ∷ more = ap others_of whole in
+          (subst (λ (n : ℕ). n < i) same below, ap (λ (n : ℕ). (phaser_at phasers n).line) (sym same) ∙ own.1 ∙ rest)
+    ]
+
+-- the phasers after an arrival, by how it fares at its first phaser
+climb_by : (above : List ℕ) (leave : Bool) (phasers : List PhaserState) (i : ℕ) (onward : Bool → Climbed) → IsForest phasers → i < length phasers
+    → (phaser_at phasers i).line ≡ i ∷ above → AllGood phasers
+    → (ended missing last : Bool) → (flat_at phasers i).ended ≡ ended
+    → ((flat_at phasers i).arrived == (flat_at phasers i).parties) ≡ missing
+    → ((counted leave (flat_at phasers i)).arrived == (counted leave (flat_at phasers i)).parties) ≡ last
+    → Onward above onward phasers
+    → ((leaves : Bool) → places_of (onward leaves).phasers ≡ places_of phasers)
+    → let r = climbed_by (if ended then ComesLate (view_of (flat_at phasers i)) else (if missing then IsUnregistered
+    else (if last then Turns (record (counted leave (flat_at phasers i)) { turned = true }) else Counts (counted leave (flat_at phasers i)))))
+    i (is_top above) onward phasers in
+    Succeeds r.climb → Changes i 0 (bit leave) 0 1 phasers r.phasers
+climb_by above leave phasers i onward sound there line good true missing last is_ended is_missing is_last rest kept ok = absurd ok
+climb_by above leave phasers i onward sound there line good false true last is_ended is_missing is_last rest kept ok = absurd ok
+climb_by above leave phasers i onward sound there line good false false false is_ended is_missing is_last rest kept ok =
+    counted_case leave phasers i there good is_ended (λ all. absurd (grind (arith, nat_tests, all, is_missing)))
+    (λ all. absurd (grind (arith, nat_tests, all, is_last)))
+climb_by [] leave phasers i onward sound there line good false false true is_ended is_missing is_last rest kept ok =
+    top_case leave phasers i there good line is_ended (λ all. absurd (grind (arith, nat_tests, all, is_missing)))
+    (grind (arith, nat_tests, is_last))
+climb_by (q ∷ more) leave phasers i onward sound there line good false false true is_ended is_missing is_last rest kept ok =
+    let f = flat_at phasers i in
+    let g = counted leave f in
+    let none : Bool = g.parties == 0 in
+    let mid = onward none in
+    let some : f.arrived ≢ f.parties = λ all. absurd (grind (arith, nat_tests, all, is_missing)) in
+    let all : g.arrived ≡ g.parties = grind (arith, nat_tests, is_last) in
+    let live : g.ended ≡ false = (in_numbers leave f (good i there).arrived some).ended ∙ is_ended in
+    let same = kept none in
+    let many : length mid.phasers ≡ length phasers = sym (length-places mid.phasers) ∙ ap length same ∙ length-places phasers in
+    let moved : (phaser_at mid.phasers i).line ≡ i ∷ q ∷ more =
+    ap (λ (p : Place). p.line) (place_at-places mid.phasers i ∙ ap (λ (ps : List Place). slice_index_or ps i (place_of no_phaser)) same
+    ∙ sym (place_at-places phasers i)) ∙ line in
+    child_by mid.climb i i (bit leave) (record g { turned = true }) phasers mid.phasers ok
+    (λ through. child_case leave none phasers mid.phasers i q more (passed_on (record g { turned = true })) there
+    (next-parent phasers i q more sound there line).0 good moved many is_ended some (passed none g live refl all) (rest none through))
+
+-- an arrival that comes through takes one from its first phaser, and the phasers above stay balanced
+pub climb-changes : (above : List ℕ) (i : ℕ) (leave : Bool) (phasers : List PhaserState) → IsForest phasers → i < length phasers
+    → (phaser_at phasers i).line ≡ i ∷ above → AllGood phasers → Succeeds (climbed (i ∷ above) leave phasers).climb
+    → Changes i 0 (bit leave) 0 1 phasers (climbed (i ∷ above) leave phasers).phasers
+climb-changes [] i leave phasers sound there line good =
+    let onward : Bool → Climbed = λ leaves. climbed [] leaves phasers in
+    let P : Arrival → Type 0 = λ (a : Arrival). Succeeds (climbed_by a i true onward phasers).climb
+    → Changes i 0 (bit leave) 0 1 phasers (climbed_by a i true onward phasers).phasers in
+    subst P (sym (arrive-is leave (flat_at phasers i)))
+    (climb_by [] leave phasers i onward sound there line good _ _ _ refl refl refl tt (λ leaves. climbed-places [] leaves phasers))
+climb-changes (q ∷ more) i leave phasers sound there line good =
+    let onward : Bool → Climbed = λ leaves. climbed (q ∷ more) leaves phasers in
+    let P : Arrival → Type 0 = λ (a : Arrival). Succeeds (climbed_by a i false onward phasers).climb
+    → Changes i 0 (bit leave) 0 1 phasers (climbed_by a i false onward phasers).phasers in
+    let parent = next-parent phasers i q more sound there line in
+    let below : q < i = parent.0 in
+    subst P (sym (arrive-is leave (flat_at phasers i)))
+    (climb_by (q ∷ more) leave phasers i onward sound there line good _ _ _ refl refl refl
+    (λ leaves. climb-changes more q leaves phasers sound (omega (arith, below, there)) parent.1 good)
+    (λ leaves. climbed-places (q ∷ more) leaves phasers))

@@ -1,0 +1,44 @@
+-- Declarations leave all phasers as they began.
+use Rattle.std.proofs.Common.{inl, inr, ◌≡◌, ℕ, ◌+◌, ◌==◌, Bool, true, false, List, [], ◌∷◌, ◌++◌, length, refl, sym, subst, pos, if◌then◌else◌}
+use Rattle.std.specs.Prelude.{nat_lt}
+use Rattle.std.proofs.lemmas.Bool.{cases_lt}
+use Rattle.std.proofs.lemmas.List.{get_or_past}
+use Rattle.std.proofs.lemmas.List.Elements.{All-set, All-push}
+use Rattle.packed_phaser.specs.Flat.{Flat, Joins, Overfull, fresh, register}
+use Rattle.tier_tree.specs.Forest.{PhaserState, no_phaser, phaser_at, flat_at}
+use Rattle.tier_tree.specs.Registration.{Join, joined, flat_by}
+use Rattle.tier_tree.specs.Declaration.{IsFresh, AreAllFresh}
+
+fresh_if : (none over : Bool) (phase parties count : ℕ) → let f = fresh phase parties in
+    let after = flat_by (if none then Joins f (pos phase) else (if over then Overfull else Joins (record f { parties = parties + count }) (pos phase))) f in
+    after ≡ fresh after.phase after.parties
+fresh_if true over phase parties count = refl
+fresh_if false true phase parties count = refl
+fresh_if false false phase parties count = refl
+
+fresh_joined : (count : ℕ) (f : Flat) → f ≡ fresh f.phase f.parties
+    → flat_by (register count f) f ≡ fresh (flat_by (register count f) f).phase (flat_by (register count f) f).parties
+fresh_joined count f is =
+    subst (λ (g : Flat). flat_by (register count g) g ≡ fresh (flat_by (register count g) g).phase (flat_by (register count g) g).parties)
+    (sym is) (fresh_if (count == 0) (nat_lt 65535 (f.parties + count)) f.phase f.parties count)
+
+fresh_at : (phasers : List PhaserState) (id : ℕ) → AreAllFresh phasers → IsFresh (phaser_at phasers id)
+fresh_at phasers id all = elim (cases_lt id (length phasers)) as (λ _. IsFresh (phaser_at phasers id)) [
+  | inl there ↦ all id no_phaser there
+  | inr past ↦ subst IsFresh (sym (get_or_past phasers id no_phaser past)) refl
+]
+
+pub fresh_after_joins : (all : List Join) (phasers : List PhaserState) → AreAllFresh phasers → AreAllFresh (joined all phasers)
+fresh_after_joins [] phasers fresh = fresh
+fresh_after_joins (join ∷ others) phasers fresh =
+    let after = joined others phasers in
+    let now = fresh_after_joins others phasers fresh in
+    All-set IsFresh after join.id
+    (record (phaser_at after join.id) { flat = flat_by (register join.count (flat_at after join.id)) (flat_at after join.id) })
+    (fresh_joined join.count (flat_at after join.id) (fresh_at after join.id now)) now
+
+pub fresh_declared : (all : List Join) (phasers more after : List PhaserState) (new : PhaserState) → after ≡ joined all more
+    → more ≡ phasers ++ new ∷ [] → IsFresh new → AreAllFresh phasers → AreAllFresh after
+fresh_declared all phasers more after new is longer first fresh =
+    subst AreAllFresh (sym is) (fresh_after_joins all more
+    (subst AreAllFresh (sym longer) (All-push IsFresh phasers new fresh first)))

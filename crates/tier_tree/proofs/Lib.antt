@@ -1,0 +1,11 @@
+pub mod Steps
+pub mod Lines
+pub mod Undone
+pub mod Fresh
+pub mod Safe
+pub mod Balance
+pub mod Stands
+pub mod Turned
+pub mod Joined
+pub mod Added
+pub mod Between

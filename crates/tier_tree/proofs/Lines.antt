@@ -1,0 +1,294 @@
+-- The calls change no line.
+use Rattle.std.proofs.Common.{inl, inr, ◌≡◌, ◌∙◌, ℕ, zero, suc, ◌+◌, ◌-◌, ◌<◌, ◌≤◌, ◌==◌, Bool, true, false, List, [], ◌∷◌, ◌++◌, map, take, drop, get_or, length, ap, refl, sym, subst, arith, if◌then◌else◌}
+use Rattle.std.proofs.lemmas.List.{length-map, get_or_read, take_at, length_push, get_or_append_left, get_or_push, map-append}
+use Rattle.std.proofs.lemmas.List.Elements.{All-weaker, All-cons, All-nil}
+use Rattle.std.proofs.lemmas.Bool.Decides.{nat_tests}
+use Rattle.std.proofs.lemmas.Bool.{cases_lt}
+use Rattle.std.specs.Prelude.{Option, Some, None, ◌⊎◌}
+use Rattle.packed_phaser.specs.declared.policy.Policy.{Policy}
+use Rattle.tier_tree.specs.declared.id.PhaserId.{PhaserId}
+use Rattle.tier_tree.specs.Declaration.{has_parent, declared}
+use Rattle.std.specs.Prelude.{slice_set, slice_index_or, All}
+use Rattle.packed_phaser.specs.Flat.{Flat, Arrival, Counts, Turns, ComesLate, IsUnregistered, register, arrive, advance}
+use Rattle.tier_tree.specs.declared.climb.Climb.{Climb}
+use Rattle.tier_tree.specs.declared.climb.Climb.TheVariants as climb
+use Rattle.tier_tree.specs.declared.registered.Registered.{Registered}
+use Rattle.tier_tree.specs.declared.registered.Registered.TheVariants as registered
+use Rattle.tier_tree.specs.Forest.{PhaserState, no_phaser, phaser_at, flat_at, root_of, root_at, with_flat}
+use Rattle.tier_tree.specs.Registration.{Join, joins, joined, flat_by, registration, registered_by, after_registration}
+use Rattle.tier_tree.specs.Arrival.{Climbed, is_top, passed_on, with_child, climbed_by, climbed, arrival_by, arrival}
+use Rattle.tier_tree.specs.PhaseEnd.{follow, in_step, terminated, after_turn, after_force}
+use Rattle.tier_tree.specs.Sound.{Place, place_of, places_of, IsForest, IsForestOf, IsLine, IsLinked, line_at}
+
+-- a phaser in the place of the one that stands there
+set-places : (phasers : List PhaserState) (id : ℕ) (flat : Flat) (ends : ℕ)
+    → places_of (slice_set phasers id (record (phaser_at phasers id) { flat = flat; ends = ends })) ≡ places_of phasers
+set-places [] id flat ends = refl
+set-places (p ∷ phasers) zero flat ends = refl
+set-places (p ∷ phasers) (suc id) flat ends = ap (λ ps. place_of p ∷ ps) (set-places phasers id flat ends)
+
+with_flat-places : (phasers : List PhaserState) (id : ℕ) (flat : Flat) → places_of (with_flat phasers id flat) ≡ places_of phasers
+with_flat-places phasers id flat = set-places phasers id flat (phaser_at phasers id).ends
+
+pub joined-places : (all : List Join) (phasers : List PhaserState) → places_of (joined all phasers) ≡ places_of phasers
+joined-places [] phasers = refl
+joined-places (join ∷ others) phasers =
+    let after = joined others phasers in
+    with_flat-places after join.id (flat_by (register join.count (flat_at after join.id)) (flat_at after join.id))
+    ∙ joined-places others phasers
+
+by-places : (r : Registered) (all : List Join) (phasers : List PhaserState) → places_of (registered_by r all phasers) ≡ places_of phasers
+by-places (registered.At phase) all phasers = joined-places all phasers
+by-places (registered.Dead view) all phasers = refl
+by-places registered.Held all phasers = refl
+by-places registered.TooMany all phasers = refl
+
+pub registration-places : (id count : ℕ) (phasers : List PhaserState) → places_of (after_registration id count phasers) ≡ places_of phasers
+registration-places id count phasers = by-places (registration id count phasers) (joins id count phasers) phasers
+
+child-places : (id : ℕ) (flat : Flat) (c : Climb) (above : List PhaserState)
+    → places_of (with_child id flat c above).phasers ≡ places_of above
+child-places id flat climb.Counted above = with_flat-places above id (passed_on flat)
+child-places id flat climb.Turned above = with_flat-places above id (passed_on flat)
+child-places id flat climb.Refused above = refl
+
+climbed_by-places : (a : Arrival) (id : ℕ) (top : Bool) (above : Bool → Climbed) (phasers : List PhaserState)
+    → ((leave : Bool) → places_of (above leave).phasers ≡ places_of phasers)
+    → places_of (climbed_by a id top above phasers).phasers ≡ places_of phasers
+climbed_by-places (Counts flat) id top above phasers kept = with_flat-places phasers id flat
+climbed_by-places (Turns flat) id true above phasers kept = with_flat-places phasers id flat
+climbed_by-places (Turns flat) id false above phasers kept =
+    let rest = above (flat.parties == 0) in child-places id flat rest.climb rest.phasers ∙ kept (flat.parties == 0)
+climbed_by-places (ComesLate view) id top above phasers kept = refl
+climbed_by-places IsUnregistered id top above phasers kept = refl
+
+pub climbed-places : (line : List ℕ) (leave : Bool) (phasers : List PhaserState)
+    → places_of (climbed line leave phasers).phasers ≡ places_of phasers
+climbed-places [] leave phasers = refl
+climbed-places (id ∷ above) leave phasers =
+    climbed_by-places (arrive leave (flat_at phasers id)) id (is_top above) (λ leaves. climbed above leaves phasers) phasers
+    (λ leaves. climbed-places above leaves phasers)
+
+arrival_by-places : (c : Climb) (id : ℕ) (after phasers : List PhaserState) → places_of after ≡ places_of phasers
+    → places_of (arrival_by c id after phasers).phasers ≡ places_of phasers
+arrival_by-places climb.Counted id after phasers same = same
+arrival_by-places climb.Turned id after phasers same = same
+arrival_by-places climb.Refused id after phasers same = refl
+
+arrival_if-places : (ended : Bool) (id : ℕ) (leave : Bool) (phasers : List PhaserState) (view : _)
+    → places_of (if ended then record { phasers = phasers; answer = view }
+    else arrival_by (climbed (phaser_at phasers id).line leave phasers).climb id (climbed (phaser_at phasers id).line leave phasers).phasers phasers).phasers ≡ places_of phasers
+arrival_if-places true id leave phasers view = refl
+arrival_if-places false id leave phasers view =
+    arrival_by-places (climbed (phaser_at phasers id).line leave phasers).climb id _ phasers
+    (climbed-places (phaser_at phasers id).line leave phasers)
+
+pub arrival-places : (id : ℕ) (leave : Bool) (phasers : List PhaserState) → places_of (arrival id leave phasers).phasers ≡ places_of phasers
+arrival-places id leave phasers = arrival_if-places (flat_at phasers id).ended id leave phasers _
+
+in_step-place : (here : Bool) (phaser : PhaserState) (flat : Flat)
+    → place_of (if here then record phaser { flat = flat } else phaser) ≡ place_of phaser
+in_step-place true phaser flat = refl
+in_step-place false phaser flat = refl
+
+follow-places : (root phase : ℕ) (ended : Bool) (phasers : List PhaserState)
+    → places_of (map (in_step root phase ended) phasers) ≡ places_of phasers
+follow-places root phase ended [] = refl
+follow-places root phase ended (p ∷ phasers) =
+    ap (λ q. q ∷ places_of (map (in_step root phase ended) phasers)) (in_step-place (root_of p == root) p (follow phase ended p.flat))
+    ∙ ap (λ ps. place_of p ∷ ps) (follow-places root phase ended phasers)
+
+pub terminated-places : (root : ℕ) (phasers : List PhaserState) → places_of (map (terminated root) phasers) ≡ places_of phasers
+terminated-places root [] = refl
+terminated-places root (p ∷ phasers) =
+    ap (λ q. q ∷ places_of (map (terminated root) phasers)) (in_step-place (root_of p == root) p _)
+    ∙ ap (λ ps. place_of p ∷ ps) (terminated-places root phasers)
+
+-- another phaser of the same place
+put-places : (phasers : List PhaserState) (id : ℕ) (phaser : PhaserState) → place_of phaser ≡ place_of (phaser_at phasers id)
+    → places_of (slice_set phasers id phaser) ≡ places_of phasers
+put-places [] id phaser same = refl
+put-places (p ∷ phasers) zero phaser same = ap (λ q. q ∷ places_of phasers) same
+put-places (p ∷ phasers) (suc id) phaser same = ap (λ ps. place_of p ∷ ps) (put-places phasers id phaser same)
+
+-- the place of the phaser at this number
+pub place_at-places : (phasers : List PhaserState) (id : ℕ) → place_of (phaser_at phasers id) ≡ get_or (places_of phasers) id (place_of no_phaser)
+place_at-places [] id = refl
+place_at-places (p ∷ phasers) zero = refl
+place_at-places (p ∷ phasers) (suc id) = place_at-places phasers id
+
+pub turn-places : (root : ℕ) (ends : Bool) (phasers : List PhaserState) → places_of (after_turn root ends phasers) ≡ places_of phasers
+turn-places root ends phasers =
+    let before = phaser_at phasers root in
+    let flat = advance ends before.flat in
+    let all = follow-places root flat.phase flat.ended phasers in
+    put-places (map (in_step root flat.phase flat.ended) phasers) root (record before { flat = flat; ends = before.ends + 1 })
+    (place_at-places phasers root ∙ ap (λ ps. get_or ps root (place_of no_phaser)) (sym all)
+    ∙ sym (place_at-places (map (in_step root flat.phase flat.ended) phasers) root))
+    ∙ all
+
+pub force-places : (id : ℕ) (phasers : List PhaserState) → places_of (after_force id phasers) ≡ places_of phasers
+force-places id phasers = terminated-places (root_at phasers id) phasers
+
+-- a forest whose phasers have kept their places is a forest
+pub forest_kept : (phasers after : List PhaserState) → places_of after ≡ places_of phasers → IsForest phasers → IsForest after
+forest_kept phasers after same sound = subst IsForestOf (sym same) sound
+
+pub length-places : (phasers : List PhaserState) → length (places_of phasers) ≡ length phasers
+length-places phasers = length-map phasers place_of
+
+-- a phaser's line is within the forest
+pub line_within : (phasers : List PhaserState) (id : ℕ) → IsForest phasers → id < length phasers
+    → All (λ (above : ℕ). above < length phasers) (phaser_at phasers id).line
+line_within phasers id sound there =
+    let many = length-places phasers in
+    let line = (sound.lines id (omega (arith, many, there))).within in
+    let same : line_at (places_of phasers) id ≡ (phaser_at phasers id).line = ap (λ (p : Place). p.line) (sym (place_at-places phasers id)) in
+    subst (λ (n : ℕ). All (λ (above : ℕ). above < n) (phaser_at phasers id).line) many
+    (subst (λ (l : List ℕ). All (λ (above : ℕ). above < length (places_of phasers)) l) same line)
+
+-- and so is its root
+pub root_within : (phasers : List PhaserState) (id : ℕ) → IsForest phasers → id < length phasers → root_at phasers id < length phasers
+root_within phasers id sound there =
+    let many = length-places phasers in
+    let root = (sound.lines id (omega (arith, many, there))).root in
+    let same : line_at (places_of phasers) id ≡ (phaser_at phasers id).line = ap (λ (p : Place). p.line) (sym (place_at-places phasers id)) in
+    subst (λ (n : ℕ). root_at phasers id < n) many
+    (subst (λ (l : List ℕ). slice_index_or l (length l - 1) 0 < length (places_of phasers)) same root)
+
+-- the same for a line that was read from a list which shows the forest
+pub line_read : (items now : List PhaserState) (id : ℕ) (phaser : PhaserState) (line : List ℕ) → items ≡ now → line ≡ phaser.line
+    → phaser ≡ get_or items id phaser → IsForest items → id < length now → All (λ (above : ℕ). above < length now) line
+line_read items now id phaser line shown is read sound there =
+    let within : id < length items = subst (λ (ps : List PhaserState). id < length ps) (sym shown) there in
+    let same : line ≡ (phaser_at items id).line = is ∙ ap (λ (p : PhaserState). p.line) (get_or_read items id phaser within read no_phaser) in
+    subst (λ (ps : List PhaserState). All (λ (above : ℕ). above < length ps) line) shown
+    (subst (λ (l : List ℕ). All (λ (above : ℕ). above < length items) l) (sym same) (line_within items id sound within))
+
+-- a slice of all phasers, written back
+pub forest_back : (items given written : List PhaserState) (n : ℕ) → given ≡ items → length given ≡ n
+    → places_of written ≡ places_of given → IsForest items → IsForest (take n (written ++ drop (length written) items))
+forest_back items given written n is many same sound =
+    let count : length written ≡ n = sym (length-places written) ∙ ap length same ∙ length-places given ∙ many in
+    subst IsForest (sym (take_at written (drop (length written) items) n count))
+    (forest_kept items written (same ∙ ap places_of is) sound)
+
+pub climbed_same : (line : List ℕ) (leave : Bool) (phasers after : List PhaserState) (c : Climb)
+    → record { phasers = after; climb = c } ≡ climbed line leave phasers → places_of after ≡ places_of phasers
+climbed_same line leave phasers after c is =
+    ap (λ (r : Climbed). places_of r.phasers) is ∙ climbed-places line leave phasers
+
+-- a line stays one in a forest of one more phaser
+line_more : (places : List Place) (more : Place) (id : ℕ) (line : List ℕ) → id < length places → IsLine places id line
+    → IsLine (places ++ more ∷ []) id line
+line_more places more id line there is =
+    let longer : length (places ++ more ∷ []) ≡ length places + 1 = length_push places more in
+    record {
+      within = All-weaker (λ (above : ℕ). above < length places) (λ (above : ℕ). above < length (places ++ more ∷ []))
+          (λ above below. omega (arith, below, longer)) line is.within;
+      root = (let below = is.root in omega (arith, below, longer));
+      linked = elim is.linked as (λ _. IsLinked (places ++ more ∷ []) id line) [
+        | inl root ↦ inl root
+        | inr child ↦ inr (
+          child.0,
+          child.1,
+          child.2 ∙ ap (λ (p : Place). id ∷ p.line)
+              (sym (get_or_append_left places (more ∷ []) (place_of no_phaser) child.0 (let below = child.1 in omega (arith, below, there)))),
+        )
+      ];
+    }
+
+root_above : (id bound : ℕ) (line : List ℕ) → id < bound → slice_index_or line (length line - 1) 0 < bound
+    → slice_index_or (id ∷ line) (length (id ∷ line) - 1) 0 < bound
+root_above id bound [] own above = own
+root_above id bound (x ∷ line) own above =
+    let here : suc (suc (length line)) - 1 ≡ suc (length line) = omega arith in
+    let there : suc (length line) - 1 ≡ length line = omega arith in
+    subst (λ (n : ℕ). slice_index_or (id ∷ x ∷ line) n 0 < bound) (sym here)
+    (subst (λ (n : ℕ). slice_index_or (x ∷ line) n 0 < bound) there above)
+
+-- the line of a new phaser
+line_new : (places : List Place) (more : Place) (line : List ℕ) → IsForestOf places
+    → (line ≡ length places ∷ []) ⊎ ((parent : ℕ) × (parent < length places) × (line ≡ length places ∷ line_at places parent))
+    → IsLine (places ++ more ∷ []) (length places) line
+line_new places more line sound (inl root) =
+    let longer : length (places ++ more ∷ []) ≡ length places + 1 = length_push places more in
+    let own : length places < length (places ++ more ∷ []) = omega (arith, longer) in
+    let P : List ℕ → Type 0 = λ (l : List ℕ). IsLine (places ++ more ∷ []) (length places) l in
+    subst P (sym root) (record {
+      within = All-cons (λ (above : ℕ). above < length (places ++ more ∷ [])) (length places) [] own (All-nil _);
+      root = own;
+      linked = inl refl;
+    })
+line_new places more line sound (inr child) =
+    let longer : length (places ++ more ∷ []) ≡ length places + 1 = length_push places more in
+    let own : length places < length (places ++ more ∷ []) = omega (arith, longer) in
+    let above = sound.lines child.0 child.1 in
+    let P : List ℕ → Type 0 = λ (l : List ℕ). IsLine (places ++ more ∷ []) (length places) l in
+    subst P (sym child.2) (record {
+      within = All-cons (λ (above : ℕ). above < length (places ++ more ∷ [])) (length places) (line_at places child.0) own
+          (All-weaker (λ (above : ℕ). above < length places) (λ (above : ℕ). above < length (places ++ more ∷ []))
+          (λ above below. omega (arith, below, longer)) (line_at places child.0) above.within);
+      root = root_above (length places) (length (places ++ more ∷ [])) (line_at places child.0) own
+          (let below = above.root in omega (arith, below, longer));
+      linked = inr (
+        child.0,
+        child.1,
+        ap (λ (p : Place). length places ∷ p.line)
+            (sym (get_or_append_left places (more ∷ []) (place_of no_phaser) child.0 child.1)),
+      );
+    })
+
+-- a forest of one more phaser
+forest_more : (places : List Place) (more : Place) → length places < 64 → IsForestOf places
+    → (more.line ≡ length places ∷ []) ⊎ ((parent : ℕ) × (parent < length places) × (more.line ≡ length places ∷ line_at places parent))
+    → IsForestOf (places ++ more ∷ [])
+forest_more places more few sound is =
+    let longer : length (places ++ more ∷ []) ≡ length places + 1 = length_push places more in
+    record {
+      few = omega (arith, few, longer);
+      lines = λ id there. elim (cases_lt id (length places)) as (λ _. IsLine (places ++ more ∷ []) id (line_at (places ++ more ∷ []) id)) [
+        | inl below ↦ subst (λ (p : Place). IsLine (places ++ more ∷ []) id p.line)
+            (sym (get_or_append_left places (more ∷ []) (place_of no_phaser) id below))
+            (line_more places more id (line_at places id) below (sound.lines id below))
+        | inr last ↦
+            let same : id ≡ length places = omega (arith, there, longer, last) in
+            subst (λ (n : ℕ). IsLine (places ++ more ∷ []) n (line_at (places ++ more ∷ []) n)) (sym same)
+            (subst (λ (p : Place). IsLine (places ++ more ∷ []) (length places) p.line)
+            (sym (get_or_push places more (place_of no_phaser) (length places) refl))
+            (line_new places more more.line sound is))
+      ];
+    }
+
+-- the forest with a new phaser at its end
+pub forest_declared : (parent : Option PhaserId) (parties : ℕ) (policy : Policy) (phase : ℕ) (phasers : List PhaserState)
+    → length phasers < 64 → has_parent parent phasers ≡ true → IsForest phasers
+    → IsForest (phasers ++ declared parent parties policy phase phasers ∷ [])
+forest_declared None parties policy phase phasers few there sound =
+    let many = length-places phasers in
+    subst IsForestOf (sym (map-append place_of phasers (declared None parties policy phase phasers ∷ [])))
+    (forest_more (places_of phasers) (place_of (declared None parties policy phase phasers)) (omega (arith, many, few)) sound
+    (inl (ap (λ (n : ℕ). n ∷ []) (sym many))))
+forest_declared (Some parent) parties policy phase phasers few there sound =
+    let many = length-places phasers in
+    let below : parent.0 < length (places_of phasers) = grind (arith, nat_tests, there, many) in
+    subst IsForestOf (sym (map-append place_of phasers (declared (Some parent) parties policy phase phasers ∷ [])))
+    (forest_more (places_of phasers) (place_of (declared (Some parent) parties policy phase phasers)) (omega (arith, many, few)) sound
+    (inr (
+      parent.0,
+      below,
+      ap (λ (n : ℕ). n ∷ (phaser_at phasers parent.0).line) (sym many)
+          ∙ ap (λ (p : Place). length (places_of phasers) ∷ p.line) (place_at-places phasers parent.0),
+    )))
+
+pub forest_pushed : (parent : Option PhaserId) (parties : ℕ) (policy : Policy) (phase : ℕ) (items now after : List PhaserState) (node : PhaserState)
+    → items ≡ now → node ≡ declared parent parties policy phase now → after ≡ items ++ node ∷ [] → length now < 64
+    → has_parent parent now ≡ true → IsForest items → IsForest after
+forest_pushed parent parties policy phase items now after node shown new is few there sound =
+    let same : after ≡ now ++ declared parent parties policy phase now ∷ [] =
+    is ∙ ap (λ (p : PhaserState). items ++ p ∷ []) new
+    ∙ ap (λ (ps : List PhaserState). ps ++ declared parent parties policy phase now ∷ []) shown in
+    subst IsForest (sym same) (forest_declared parent parties policy phase now few there (subst IsForest shown sound))
+
+pub few_phasers : (items given : List PhaserState) → given ≡ items → IsForest items → length given ≤ 64
+few_phasers items given is sound = let many = length-places items in let same = ap length is in let few = sound.few in omega (arith, many, same, few)

@@ -1,0 +1,148 @@
+-- When a root without strays is turned, everybody in its tree has arrived.
+use Rattle.std.proofs.Common.{inl, inr, ◌≡◌, ◌∙◌, ℕ, zero, suc, ◌+◌, ◌-◌, ◌<◌, ◌==◌, Bool, true, false, List, [], ◌∷◌, length, ap, refl, sym, subst, arith, if◌then◌else◌}
+use Rattle.std.specs.Prelude.{◌⊎◌, ◌&&◌, not, slice_index_or}
+use Rattle.std.proofs.lemmas.Bool.Decides.{nat_tests}
+use Rattle.packed_phaser.specs.Flat.{Flat, is_empty, unarrived_of}
+use Rattle.tier_tree.specs.Forest.{PhaserState, phaser_at, flat_at, root_at}
+use Rattle.tier_tree.specs.Sound.{Place, places_of, line_at, IsForest}
+use Rattle.tier_tree.specs.Origin.{Origin, is_under, children, is_awaited, IsSteady, StandsFor, HaveAllArrived}
+use Rattle.tier_tree.proofs.Lines.{place_at-places, length-places}
+
+-- the line of a phaser is its own number, or that and the line of its parent
+pub linked : (phasers : List PhaserState) (id : ℕ) → IsForest phasers → id < length phasers
+    → ((phaser_at phasers id).line ≡ id ∷ [])
+    ⊎ ((parent : ℕ) × (parent < id) × ((phaser_at phasers id).line ≡ id ∷ (phaser_at phasers parent).line))
+linked phasers id sound there =
+    let many = length-places phasers in
+    let own : line_at (places_of phasers) id ≡ (phaser_at phasers id).line = ap (λ (p : Place). p.line) (sym (place_at-places phasers id)) in
+    elim (sound.lines id (omega (arith, many, there))).linked as (λ _. ((phaser_at phasers id).line ≡ id ∷ [])
+    ⊎ ((parent : ℕ) × (parent < id) × ((phaser_at phasers id).line ≡ id ∷ (phaser_at phasers parent).line))) [
+      | inl root ↦ inl (sym own ∙ root)
+      | inr child ↦ inr (
+        child.0,
+        child.1,
+        sym own ∙ child.2
+            ∙ ap (λ (p : Place). id ∷ p.line) (sym (place_at-places phasers child.0)),
+      )
+    ]
+
+first-fails : (under pass : Bool) (others : ℕ) → (if under && pass then 1 else 0) + others ≡ 0 → under ≡ true → pass ≡ false
+first-fails true true others none under = absurd (omega (arith, none))
+first-fails true false others none under = refl
+first-fails false pass others none under = absurd (cc)
+
+-- a child of a phaser without children that pass the test doesn't pass it
+none-passes : (test : Flat → Bool) (parent : ℕ) (phasers : List PhaserState) (id : ℕ) → children test parent phasers ≡ 0
+    → id < length phasers → is_under parent (phaser_at phasers id).line ≡ true → test (flat_at phasers id) ≡ false
+none-passes test parent [] id none there under = absurd (omega (arith, there))
+none-passes test parent (p ∷ phasers) zero none there under =
+    first-fails (is_under parent p.line) (test p.flat) (children test parent phasers) none under
+none-passes test parent (p ∷ phasers) (suc id) none there under =
+    none-passes test parent phasers id (omega (arith, none)) (omega (arith, there)) under
+
+-- a phaser is turned or empty
+abbrev pub HasAll : Flat → Type 0
+HasAll flat = (flat.turned ≡ true) ⊎ (is_empty flat ≡ true)
+
+not_awaited : (flat : Flat) → is_awaited flat ≡ false → HasAll flat
+not_awaited flat none = by_tests (is_empty flat) flat.turned none
+  where
+    by_tests : (empty turned : Bool) → (not empty && not turned) ≡ false → (turned ≡ true) ⊎ (empty ≡ true)
+    by_tests true turned none = inr refl
+    by_tests false true none = inl refl
+    by_tests false false none = absurd (cc)
+
+-- nobody is missing where all have arrived or nobody is registered
+none_missing : (arrived parties : ℕ) → arrived ≡ parties → parties - arrived ≡ 0
+none_missing arrived parties all = omega (arith, all)
+
+if_ended : (ended turned : Bool) (parties : ℕ) → (if ended then false else (if turned then false else parties == 0)) ≡ true
+    → (ended ≡ false) × (parties ≡ 0)
+if_ended true turned parties empty = absurd (cc)
+if_ended false true parties empty = absurd (cc)
+if_ended false false parties empty = (refl, grind (arith, nat_tests, empty))
+
+-- such a phaser isn't terminated, and waits for nobody
+pub all_there : (id : ℕ) (phasers : List PhaserState) → IsSteady id phasers → HasAll (flat_at phasers id)
+    → ((flat_at phasers id).ended ≡ false) × (unarrived_of (flat_at phasers id) ≡ 0)
+all_there id phasers steady (inl turned) =
+    ((steady.turned turned).0, none_missing (flat_at phasers id).arrived (flat_at phasers id).parties (steady.turned turned).1)
+all_there id phasers steady (inr empty) =
+    let flat = flat_at phasers id in
+    let parts = if_ended flat.ended flat.turned flat.parties empty in
+    let none = parts.1 in
+    (parts.0, omega (arith, none))
+
+under-parent : (line : List ℕ) (id parent : ℕ) (above : List ℕ) → line ≡ id ∷ parent ∷ above → is_under parent line ≡ true
+under-parent line id parent above is =
+    subst (λ (l : List ℕ). is_under parent l ≡ true) (sym is) (same_is_equal parent)
+  where
+    same_is_equal : (n : ℕ) → (n == n) ≡ true
+    same_is_equal n = grind (arith, nat_tests)
+
+-- a line begins with the phaser's own number
+pub line_own : (phasers : List PhaserState) (id : ℕ) → IsForest phasers → id < length phasers
+    → (above : List ℕ) × ((phaser_at phasers id).line ≡ id ∷ above)
+line_own phasers id sound there =
+    elim (linked phasers id sound there) as (λ _. (above : List ℕ) × ((phaser_at phasers id).line ≡ id ∷ above)) [
+      | inl root ↦ ([], root)
+      | inr child ↦ ((phaser_at phasers child.0).line, child.2)
+    ]
+
+abbrev pub last_of : List ℕ → ℕ
+last_of line = slice_index_or line (length line - 1) 0
+
+last-more : (id x : ℕ) (rest : List ℕ) → last_of (id ∷ x ∷ rest) ≡ last_of (x ∷ rest)
+last-more id x rest =
+    let here : suc (suc (length rest)) - 1 ≡ suc (length rest) = omega arith in
+    let there : suc (length rest) - 1 ≡ length rest = omega arith in
+    ap (λ (n : ℕ). slice_index_or (id ∷ x ∷ rest) n 0) here ∙ sym (ap (λ (n : ℕ). slice_index_or (x ∷ rest) n 0) there)
+
+abbrev pub rest_of : List ℕ → List ℕ
+rest_of [] = []
+rest_of (x ∷ rest) = rest
+
+-- a child's root is its parent's
+pub root-parent : (phasers : List PhaserState) (id parent : ℕ) → IsForest phasers → parent < length phasers
+    → (phaser_at phasers id).line ≡ id ∷ (phaser_at phasers parent).line → root_at phasers id ≡ root_at phasers parent
+root-parent phasers id parent sound within is =
+    let own = line_own phasers parent sound within in
+    ap last_of is ∙ ap (λ (l : List ℕ). last_of (id ∷ l)) own.1 ∙ last-more id parent own.0 ∙ ap last_of (sym own.1)
+
+-- below a turned root without strays each phaser is turned or empty
+pub all_turned : (phasers : List PhaserState) (origin : Origin) (root : ℕ) → IsForest phasers → StandsFor phasers origin
+    → origin.stray root ≡ false → (flat_at phasers root).turned ≡ true → (line : List ℕ) (id : ℕ) → id < length phasers
+    → (phaser_at phasers id).line ≡ line → root_at phasers id ≡ root → HasAll (flat_at phasers id)
+all_turned phasers origin root sound stands clean turned [] id there is tree =
+    let own = line_own phasers id sound there in absurd (cc (is, own.1))
+all_turned phasers origin root sound stands clean turned (first ∷ above) id there is tree =
+    elim (linked phasers id sound there) as (λ _. HasAll (flat_at phasers id)) [
+      | inl top ↦
+          let same : root_at phasers id ≡ id = ap last_of top in
+          inl (subst (λ (n : ℕ). (flat_at phasers n).turned ≡ true) (sym tree ∙ same) turned)
+      | inr child ↦
+          let parent = child.0 in
+          let below : parent < id = child.1 in
+          let within : parent < length phasers = omega (arith, below, there) in
+          let rest : (phaser_at phasers parent).line ≡ above = ap rest_of (sym child.2 ∙ is) in
+          let same : root_at phasers parent ≡ root = sym (root-parent phasers id parent sound within child.2) ∙ tree in
+          let parents : HasAll (flat_at phasers parent) =
+          all_turned phasers origin root sound stands clean turned above parent within rest same in
+          let there_all = all_there parent phasers (stands.steady parent within) parents in
+          let nobody : unarrived_of (flat_at phasers parent) ≡ 0 = there_all.1 in
+          let tally = (stands.tallied parent within (ap origin.stray same ∙ clean) there_all.0).unarrived in
+          let none : children is_awaited parent phasers ≡ 0 = omega (arith, tally, nobody) in
+          let own = line_own phasers parent sound within in
+          let under = under-parent (phaser_at phasers id).line id parent own.0 (child.2 ∙ ap (λ (l : List ℕ). id ∷ l) own.1) in
+          not_awaited (flat_at phasers id) (none-passes is_awaited parent phasers id none there under)
+    ]
+
+-- so everybody who registered directly has arrived
+pub all_arrived : (phasers : List PhaserState) (origin : Origin) (root : ℕ) → IsForest phasers → StandsFor phasers origin
+    → origin.stray root ≡ false → (flat_at phasers root).turned ≡ true → HaveAllArrived origin root phasers
+all_arrived phasers origin root sound stands clean turned id there tree =
+    let all = all_turned phasers origin root sound stands clean turned (phaser_at phasers id).line id there refl tree in
+    let there_all = all_there id phasers (stands.steady id there) all in
+    let nobody : unarrived_of (flat_at phasers id) ≡ 0 = there_all.1 in
+    let tally = (stands.tallied id there (ap origin.stray tree ∙ clean) there_all.0).unarrived in
+    omega (arith, tally, nobody)

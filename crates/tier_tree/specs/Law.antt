@@ -1,0 +1,17 @@
+-- What nobody can do while a phase is about to end.
+use Rattle.std.specs.Prelude.{◌≡◌, ◌⊎◌, ℕ, ◌<◌, Bool, true, false, List, length}
+use Rattle.tier_tree.specs.declared.registered.Registered.TheVariants as registered
+use Rattle.tier_tree.specs.declared.arrived.Arrived.TheVariants as arrived
+use Rattle.tier_tree.specs.Forest.{PhaserState, flat_at, root_at}
+use Rattle.tier_tree.specs.Registration.{registration}
+use Rattle.tier_tree.specs.Arrival.{arrival}
+use Rattle.tier_tree.specs.Origin.{Origin, StandsFor}
+
+-- in a tree whose root is turned and that had no stray, every registration of somebody is held or too many, and every
+-- arrival is refused
+abbrev pub NobodyComesBetween : List PhaserState → Type 0
+NobodyComesBetween phasers =
+    (origin : Origin) (id : ℕ) → StandsFor phasers origin → id < length phasers → origin.stray (root_at phasers id) ≡ false
+    → (flat_at phasers (root_at phasers id)).turned ≡ true
+    → ((count : ℕ) → 0 < count → (registration id count phasers ≡ registered.Held) ⊎ (registration id count phasers ≡ registered.TooMany))
+    × ((leave : Bool) → (arrival id leave phasers).answer ≡ arrived.NotThere)

@@ -1,0 +1,11 @@
+pub mod Forest
+pub mod Registration
+pub mod Arrival
+pub mod PhaseEnd
+pub use Rattle.packed_phaser.specs.Flat
+pub use Rattle.packed_phaser.specs.Policy
+pub mod Declaration
+pub mod Sound
+pub mod Undo
+pub mod Origin
+pub mod Law

@@ -1,0 +1,78 @@
+ghost use Rattle.std.specs.Prelude.{◌≡◌, ◌-◌, ◌<◌, [], ◌∷◌, length, slice_index_or};
+
+use std::marker::Model;
+
+/// The most phasers from one up to its root.
+const MOST: usize = 8;
+
+/// The numbers of a phaser, its parent, its parent's parent and so on up to its root.
+#[derive(Drop)]
+pub struct Line {
+    ids: [u8; 8],
+    len: u8,
+}
+
+impl Model for Line {
+    ghost use Rattle.std.specs.Prelude.{ℕ, ◌≤◌, ◌<◌, List, take};
+
+    ghost Value = { List ℕ };
+
+    ghost view = { λ line. take line.len line.ids };
+
+    ghost invariant = { λ line. (0 < line.len) × (line.len ≤ 8) };
+}
+
+impl Line {
+    /// The line of a root.
+    pub fn of_root(id: u8) -> Line
+        ensures { result ≡ id ∷ [] }
+    {
+        Line {
+            ids: [id, 0, 0, 0, 0, 0, 0, 0],
+            len: 1,
+        }
+    }
+
+    /// The same line.
+    pub fn copy(&self) -> Line
+        ensures { result ≡ self.now }
+    {
+        Line {
+            ids: self.ids,
+            len: self.len,
+        }
+    }
+
+    /// Its numbers.
+    pub fn as_slice(&self) -> &[u8]
+        ensures { result.now ≡ self.now }
+    {
+        &self.ids[..self.len as usize]
+    }
+
+    /// How many phasers it has.
+    pub fn len(&self) -> usize
+        ensures { result ≡ length self.now }
+    {
+        self.len as usize
+    }
+
+    /// The number of the root.
+    pub fn root(&self) -> u8
+        ensures { result ≡ slice_index_or self.now (length self.now - 1) 0 }
+    {
+        self.ids[self.len as usize - 1]
+    }
+
+    /// The line of a child of the phaser that this is the line of.
+    pub fn of_child(&self, id: u8) -> Line
+        requires { length self.now < 8 }
+        ensures { result ≡ id ∷ self.now }
+    {
+        let ids = self.ids;
+        Line {
+            ids: [id, ids[0], ids[1], ids[2], ids[3], ids[4], ids[5], ids[6]],
+            len: self.len + 1,
+        }
+    }
+}
