@@ -44,7 +44,8 @@ fn count_child(nodes: &mut [Node], i: usize, word: Word, climb: Climb)
 /// Counts an arrival at the first phaser of the line and, where all have arrived there, at the one above.
 pub fn arrive_along(nodes: &mut [Node], line: &[u8], leave: bool) -> Climb
     requires { All (λ id. id < length nodes.old) line.now }
-    ensures climbed { record { phasers = nodes.new; climb = result } ≡ climbed line.now leave nodes.old }
+    ensures climbed { record { phasers = nodes.new; climb = result }
+        ≡ climbed line.now leave nodes.old }
     ensures refused { result ≡ Climb.Refused → nodes.new ≡ nodes.old }
 {
     let Some((id, above)) = line.split_first() else {

@@ -89,7 +89,8 @@ impl Forest {
         phase: Phase,
     ) -> Result<PhaserId, DeclareFault>
         requires { IsFreshAbove parent self.old }
-        ensures fault { IfSome (fault_of parent parties phase self.old) (λ fault. result ≡ Err fault) }
+        ensures fault { IfSome (fault_of parent parties phase self.old)
+            (λ fault. result ≡ Err fault) }
         ensures memory { fault_of parent parties phase self.old ≡ None
             → IfErr result (λ fault. fault ≡ DeclareFault.Memory) }
         ensures id { IfOk result (λ id. id.0 ≡ length self.old) }
@@ -97,7 +98,8 @@ impl Forest {
             ≡ after_declaration parent (nat_abs parties) policy phase self.old) }
         ensures err { OnErr result (self.new ≡ self.old) }
         ensures fresh { AreAllFresh self.old → AreAllFresh self.new }
-        ensures origin { (origin : Origin) → StandsFor self.old origin → IfOk result (λ id. StandsFor self.new
+        ensures origin { (origin : Origin) → StandsFor self.old origin
+            → IfOk result (λ id. StandsFor self.new
             (declared_at id.0 (nat_abs parties) (is_root parent) origin)) }
     {
         if let Some(fault) = self.fault(parent, parties, phase) {
@@ -122,12 +124,14 @@ impl Forest {
         requires parent { has_parent parent self.old ≡ true }
         requires levels { length (line_above parent self.old) < 8 }
         requires tree { IsFreshAbove parent self.old }
-        requires room { list_any (is_overfull self.old) (joins_above parent parties self.old) ≡ false }
+        requires room { list_any (is_overfull self.old) (joins_above parent parties self.old)
+            ≡ false }
         ensures ok { IfOk result (λ _. self.new
             ≡ after_declaration parent parties policy phase self.old) }
         ensures err { OnErr result (self.new ≡ self.old) }
         ensures fresh { AreAllFresh self.old → AreAllFresh self.new }
-        ensures origin { (origin : Origin) → StandsFor self.old origin → IfOk result (λ _. StandsFor self.new
+        ensures origin { (origin : Origin) → StandsFor self.old origin
+            → IfOk result (λ _. StandsFor self.new
             (declared_at (length self.old) parties (is_root parent) origin)) }
     {
         let _ = &self.nodes;
@@ -306,7 +310,8 @@ impl Forest {
     /// `arrive`, or `arriveAndDeregister` where the party leaves. `Turning` leaves the root turned, until `finish_turn`.
     pub fn arrive(&mut self, id: PhaserId, leave: bool) -> Arrived
         requires { id.0 < length self.old }
-        ensures arrival { record { phasers = self.new; answer = result } ≡ arrival id.0 leave self.old }
+        ensures arrival { record { phasers = self.new; answer = result }
+            ≡ arrival id.0 leave self.old }
         ensures origin { (origin : Origin) → StandsFor self.old origin
             → StandsFor self.new (after_arrival result id.0 (root_at self.old id.0) leave origin) }
     {
@@ -463,7 +468,8 @@ impl Forest {
     /// `getParent`.
     pub fn parent(&self, id: PhaserId) -> Option<PhaserId>
         requires { id.0 < length self.now }
-        ensures { result ≡ option_map (λ n. record { 0 = n }) (slice_get (phaser_at self.now id.0).line 1) }
+        ensures { result ≡ option_map (λ n. record { 0 = n })
+            (slice_get (phaser_at self.now id.0).line 1) }
     {
         let line = self.nodes[id.0 as usize].line();
         match line.as_slice().get(1) {

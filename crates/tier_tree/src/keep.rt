@@ -26,7 +26,8 @@ pub fn keep_all(nodes: &[Node]) -> Saved
 /// What was kept of one phaser stands again, where there is such a phaser.
 #[tactic(auto, using(std::proofs::lemmas::List::set_past))]
 fn put_back_at(nodes: &mut [Node], i: usize, kept: &KeptWord)
-    ensures { nodes.new ≡ slice_set nodes.old i (with_kept (kept_by kept.now) (phaser_at nodes.old i)) }
+    ensures { nodes.new ≡ slice_set nodes.old i
+        (with_kept (kept_by kept.now) (phaser_at nodes.old i)) }
 {
     if i < nodes.len() {
         nodes[i].put_back(kept);

@@ -138,7 +138,9 @@ impl Node {
 
     /// Parties register here as with a phaser without tiers.
     pub fn join(&mut self, count: u32)
-        ensures { self.new ≡ record self.old { flat = flat_by (register count self.old.flat) self.old.flat } }
+        ensures { self.new ≡ record self.old {
+          flat = flat_by (register count self.old.flat) self.old.flat;
+        } }
     {
         if let Registered::At(word, _) = self.word.register(count) {
             self.word = word;
@@ -168,7 +170,10 @@ impl Node {
     pub fn advance(&mut self, ends: bool)
         requires turned { self.old.flat.turned ≡ true }
         requires ends { self.old.ends < 4294967295 }
-        ensures { self.new ≡ record self.old { flat = advance ends self.old.flat; ends = self.old.ends + 1 } }
+        ensures { self.new ≡ record self.old {
+          flat = advance ends self.old.flat;
+          ends = self.old.ends + 1;
+        } }
     {
         self.word = self.word.advance(ends);
         self.ended_phases += 1;
@@ -201,7 +206,8 @@ pub fn set_word(nodes: &mut [Node], i: usize, word: Word)
 /// Parties register with one phaser as with one without tiers.
 pub fn join_at(nodes: &mut [Node], i: usize, count: u32)
     requires { i < length nodes.old }
-    ensures { nodes.new ≡ with_flat nodes.old i (flat_by (register count (flat_at nodes.old i)) (flat_at nodes.old i)) }
+    ensures { nodes.new ≡ with_flat nodes.old i
+        (flat_by (register count (flat_at nodes.old i)) (flat_at nodes.old i)) }
 {
     nodes[i].join(count);
 }
