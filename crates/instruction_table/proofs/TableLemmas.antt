@@ -1,4 +1,5 @@
-use Rattle.std.proofs.Common.{◌≡◌, ℕ, zero, suc, ◌+◌, ◌<◌, Bool, true, false, cond, not, ◌&&◌, ◌==◌, List, [], ◌∷◌, length, Some, unwrap_or, IfSome, All, slice_index_or, bytes_eq, refl, ap, sym, ◌∙◌, arith, rules, add-one, zero-add, drop-cons}
+use Rattle.std.proofs.Common.{◌≡◌, ℕ, zero, suc, ◌+◌, ◌<◌, ◌≤◌, nat_lt, Bool, true, false, cond, not, ◌&&◌, ◌==◌, List, [], ◌∷◌, length, Some, unwrap_or, IfSome, All, slice_index_or, bytes_eq, refl, ap, sym, ◌∙◌, arith, rules, add-one, zero-add, drop-cons}
+use Rattle.std.proofs.lemmas.Bool.Decides.{nat_tests}
 use Rattle.std.proofs.lemmas.Grind.{common_steps}
 use Rattle.std.proofs.lemmas.List.{get_or_default}
 use Rattle.instruction_table.specs.Table.{Entry, no_entry, entry_named, table}
@@ -20,6 +21,11 @@ are_distinct (e ∷ es) = lacks es e.word && are_distinct es
 abbrev pub are_placed : ℕ → List Entry → Bool
 are_placed n [] = true
 are_placed n (e ∷ es) = (e.opcode == n) && are_placed (n + 1) es
+
+-- a test over a whole table: no entry has more than three operands
+abbrev pub are_short : List Entry → Bool
+are_short [] = true
+are_short (e ∷ es) = nat_lt (length e.operands) 4 && are_short es
 
 same_word : (word : List ℕ) → bytes_eq word word ≡ true
 same_word word = search rules
@@ -45,6 +51,12 @@ opcode-at [] n k d placed within = absurd (omega (arith, within))
 opcode-at (x ∷ xs) n zero d placed within = grind (arith, common_steps)
 opcode-at (x ∷ xs) n (suc j) d placed within = grind (arith, common_steps, opcode-at xs (n + 1) j d)
 
+short-at : (es : List Entry) (k : ℕ) (d : Entry) → are_short es ≡ true → k < length es →
+    length (slice_index_or es k d).operands ≤ 3
+short-at [] k d short within = absurd (omega (arith, within))
+short-at (x ∷ xs) zero d short within = grind (arith, nat_tests, common_steps, short)
+short-at (x ∷ xs) (suc j) d short within = grind (arith, common_steps, short-at xs j d)
+
 -- what a look-up finds is an entry
 found_is_entry : (P : Entry → Type 0) (es : List Entry) (word : List ℕ) → All P es → IfSome (entry_named es word) P
 found_is_entry P [] word each = tt
@@ -59,6 +71,15 @@ table_distinct = refl
 
 pub table_placed : are_placed 0 table ≡ true
 table_placed = refl
+
+table_short : are_short table ≡ true
+table_short = refl
+
+-- an entry that a look-up finds has at most three operands
+pub named_is_short : (word : List ℕ) → IfSome (entry_named table word) (λ e. length e.operands ≤ 3)
+named_is_short word =
+    found_is_entry (λ e. length e.operands ≤ 3) table word
+    (λ k d within. short-at table k d table_short within)
 
 -- an entry that a look-up finds stands at the place of its opcode
 pub named_is_placed : (word : List ℕ) → IfSome (entry_named table word) (λ e. slice_index_or table e.opcode no_entry ≡ e)

@@ -1,4 +1,4 @@
-ghost use Rattle.std.specs.Prelude.{◌≡◌, ◌<◌, All, IfSome, Some, map, option_map, length, slice_index_or, slice_get};
+ghost use Rattle.std.specs.Prelude.{◌≡◌, ◌<◌, ◌≤◌, All, IfSome, Some, map, option_map, length, slice_index_or, slice_get};
 ghost use Rattle.instruction_table.specs.Row.{opcode_of};
 ghost use Rattle.instruction_table.specs.Table.{no_entry, entry_listed, entry_of, entry_named, table, entry_for};
 
@@ -91,6 +91,7 @@ pub fn shape_of(word: &[u8]) -> Option<Shape>
     // No other kind of row has the word, and the opcode leads back to the entry.
     ensures only { IfSome result (λ s. All (λ e. e.word ≡ word.now → e ≡ entry_of s) table) }
     ensures place { IfSome result (λ s. slice_index_or table s.opcode no_entry ≡ entry_of s) }
+    ensures short { IfSome result (λ s. length s.operands.now ≤ 3) }
 {
     shape_in(&TABLE, word)
 }

@@ -1,5 +1,6 @@
 -- What a row's bytes lead back to.
-use Rattle.std.proofs.Common.{◌≡◌, ℕ, ◌<◌, ◌^◌, ℤ, pos, negsuc, ◌<ℤ◌, FitsSigned, true, false, cond, List, bytes_eq, Some, None, refl, ap, sym, subst, ◌∙◌, arith, rules}
+use Rattle.std.proofs.Common.{◌≡◌, ℕ, zero, suc, ◌<◌, ◌^◌, ℤ, pos, negsuc, ◌<ℤ◌, FitsSigned, true, false, cond, List, [], ◌∷◌, get_or, bytes_eq, Some, None, refl, ap, sym, subst, ◌∙◌, arith, rules}
+use Rattle.std.specs.List.{AllByRecursion}
 use Rattle.std.specs.Int.{w32, cast_unsigned, cast_signed}
 use Rattle.std.proofs.lemmas.Int.{ints, to_z-of_z}
 use Rattle.std.proofs.lemmas.Nat.{from_le_bytes-to_le_bytes_4}
@@ -12,7 +13,8 @@ use Rattle.instruction_table.specs.Register.{number_of}
 use Rattle.instruction_table.specs.Row.{opcode_of}
 use Rattle.row_code.specs.Number.{i32_bytes, i32_of}
 use Rattle.row_code.specs.RowFields.{filled, fields_of, IsRow}
-use Rattle.row_code.specs.RowOperands.{register_at, object_at, operands_at, row_with, row_in}
+use Rattle.row_code.specs.declared.operands.Operands.{Operands}
+use Rattle.row_code.specs.RowOperands.{register_at, object_at, operands_at, rows_with, row_with, row_in}
 use Rattle.row_code.specs.RowBytes.{bytes_of, fields_at}
 
 register_back : (r : Reg) → register_at (number_of r) ≡ r
@@ -157,3 +159,17 @@ row_in_bytes_of row fits =
 -- eight bytes that spell a row are that row
 pub row_in_its_bytes : (bytes : List ℕ) (row : Row) → IsRow row → bytes_of row ≡ bytes → row_in bytes ≡ Some row
 row_in_its_bytes bytes row fits spelled = subst (λ (bs : List ℕ). row_in bs ≡ Some row) spelled (row_in_bytes_of row fits)
+
+-- ---- a row of operands in their ranges
+
+entry_has : (P : Row → Type 0) (rows : List Row) (place : ℕ) (past : Row) → AllByRecursion P rows → P past → P (get_or rows place past)
+entry_has P [] place past all h = h
+entry_has P (row ∷ rows) zero past all h = all.0
+entry_has P (row ∷ rows) (suc place) past all h = entry_has P rows place past all.1 h
+
+-- each row of these operands is in its ranges
+pub row_with_fits : (opcode : ℕ) (o : Operands) → FitsSigned w32 o.number → o.object < 65536 → IsRow (row_with opcode o)
+row_with_fits opcode o number small =
+    let none : pos 0 <ℤ pos 65536 = omega (arith, ints) in
+    let object : pos o.object <ℤ pos 65536 = omega (arith, ints) in
+    entry_has IsRow (rows_with o) opcode Halt (search rules) none

@@ -1,5 +1,6 @@
--- How the row of eight bytes is looked for: the one row that they could spell is made, and then
--- compared. The format doesn't need it: `decode` answers exactly the row with these bytes.
+-- The row of an opcode with its operands, by which a program's text has its meaning; and how the row
+-- of eight bytes is looked for: the one row that they could spell is made, and then compared. The
+-- bytes of a row don't need it: `decode` answers exactly the row with these bytes.
 use Rattle.std.specs.Prelude.{ℕ, nat_lt, ℤ, pos, negsuc, List, [], ◌∷◌, slice_index, slice_index_or, bytes_eq, Option, Some, None, if◌then◌else◌}
 use Rattle.instruction_table.specs.declared.register.Reg.{Reg}
 use Rattle.instruction_table.specs.declared.register.Reg.TheVariants.{R0, R1, R2, R3, R4, R5, R6, R7}

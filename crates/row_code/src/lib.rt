@@ -11,9 +11,9 @@
 //! whose format is proved both ways.
 #![tactic(auto)]
 
-// The bytes of a row.
-mod fields;
-mod operands;
+// The operands of a row, in their fields, and the bytes of a row.
+pub mod fields;
+pub mod operands;
 pub mod row_bytes;
 
 // What an image consists of.
@@ -40,8 +40,10 @@ pub mod reading;
 pub mod round_trip;
 
 pub use barriers::{Barriers, DeclaredBarrier};
+pub use fields::{Fields, fields_of};
 pub use image::Image;
 pub use image_fault::ImageFault;
+pub use operands::{Operands, row_with};
 pub use phasers::{DeclaredPhaser, DeclaredPolicy, Phasers};
 pub use reading::read_image;
 pub use row_bytes::{decode, encode};

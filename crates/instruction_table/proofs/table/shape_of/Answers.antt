@@ -1,7 +1,7 @@
-use Rattle.std.proofs.Common.{◌≡◌, All, IfSome, option_map, Option, Some, None, slice_index_or, List, ℕ, sym, subst}
+use Rattle.std.proofs.Common.{◌≡◌, All, IfSome, option_map, Option, Some, None, slice_index_or, List, ℕ, ◌≤◌, length, sym, subst}
 use Rattle.instruction_table.specs.declared.shape.Shape.{Shape}
 use Rattle.instruction_table.specs.Table.{Entry, no_entry, entry_of, entry_named, table}
-use Rattle.instruction_table.proofs.TableLemmas.{named_is_only, named_is_placed}
+use Rattle.instruction_table.proofs.TableLemmas.{named_is_only, named_is_placed, named_is_short}
 use Rattle.instruction_table.proofs.table.shape_of.Goals as goal
 
 -- the answer is the only entry with the word
@@ -18,8 +18,18 @@ placed word (Some s) is =
     let P : Option Entry → Type 0 = λ o. IfSome o (λ e. slice_index_or table e.opcode no_entry ≡ e) in
     subst P (sym is) (named_is_placed word)
 
+-- the answer has at most three operands
+short : (word : List ℕ) (found : Option Shape) → option_map entry_of found ≡ entry_named table word →
+    IfSome found (λ s. length s.operands.now ≤ 3)
+short word None is = tt
+short word (Some s) is =
+    subst (λ o. IfSome o (λ e. length e.operands ≤ 3)) (sym is) (named_is_short word)
+
 pub returns-clause-only : goal.returns-clause-only
 returns-clause-only c = only c.args.word.now c.shape_in.result c.shape_in.ensures
 
 pub returns-clause-place : goal.returns-clause-place
 returns-clause-place c = placed c.args.word.now c.shape_in.result c.shape_in.ensures
+
+pub returns-clause-short : goal.returns-clause-short
+returns-clause-short c = short c.args.word.now c.shape_in.result c.shape_in.ensures

@@ -1,0 +1,241 @@
+-- The lines of rows as words, and what they say.
+use Rattle.std.proofs.Common.{◌≡◌, ℕ, ◌+◌, ◌<◌, ◌≤◌, ℤ, pos, negsuc, ◌≤ℤ◌, ◌<ℤ◌, FitsSigned, w32, Bool, true, ◌&&◌, nat_lt, List, [], ◌∷◌, ◌++◌, length, Some, None, refl, sym, ap, ◌∙◌, arith, rules, append_assoc, codes, decimal, ltb-true}
+use Rattle.std.specs.Fmt.{signed_decimal}
+use Rattle.std.specs.List.{list_all}
+use Rattle.std.proofs.lemmas.Bool.{and_parts}
+use Rattle.std.proofs.lemmas.Fmt.{decimal_digit}
+use Rattle.std.proofs.lemmas.Int.{ints}
+use Rattle.instruction_table.specs.declared.register.Reg.{Reg}
+use Rattle.instruction_table.specs.declared.register.Reg.TheVariants.{R0, R1, R2, R3, R4, R5, R6, R7}
+use Rattle.instruction_table.specs.declared.row.Row.{Row}
+use Rattle.instruction_table.specs.declared.row.Row.TheVariants.{Halt}
+use Rattle.instruction_table.specs.declared.shape.OperandKind.{OperandKind}
+use Rattle.instruction_table.specs.declared.shape.OperandKind.TheVariants as kind
+use Rattle.instruction_table.specs.Register.{number_of}
+use Rattle.instruction_table.specs.Table.{Entry, table, entry_named, entry_for}
+use Rattle.row_code.specs.RowFields.{fields_of, IsRow}
+use Rattle.row_code.specs.RowOperands.{register_at}
+use Rattle.assembler.specs.declared.reference.Reference.TheVariants.{Numbered}
+use Rattle.assembler.specs.declared.symbolic_row.Operand.{Operand}
+use Rattle.assembler.specs.declared.symbolic_row.Operand.TheVariants as operand
+use Rattle.assembler.specs.declared.symbolic_row.SymbolicRow.{SymbolicRow}
+use Rattle.assembler.specs.declared.statement.Line.{Line}
+use Rattle.assembler.specs.declared.statement.Statement.{Statement}
+use Rattle.assembler.specs.declared.statement.Statement.TheVariants as statement
+use Rattle.assembler.specs.Symbols.{Name, operands_in}
+use Rattle.assembler.specs.Spelling.{greatest_number, SpellsReference, SpellOperands, with_operands, Says}
+use Rattle.assembler.specs.Meaning.{is_operand_known, row_of}
+use Rattle.assembler.specs.Listing.{operands_text, row_text}
+use Rattle.assembler.proofs.JoinedWords.{is_plain, IsWord, AreWords, spaced, words_of-line, is_line, ended}
+use Rattle.assembler.proofs.Decimals.{decimal_digits, marked_word, decimal_spells, int_spells, int_word}
+
+-- the words of operands of these kinds
+abbrev pub operand_words : List OperandKind → List ℕ → ℤ → List (List ℕ)
+operand_words [] registers imm = []
+operand_words (kind.Register ∷ kinds) [] imm = []
+operand_words (kind.Register ∷ kinds) (register ∷ registers) imm = (114 ∷ decimal register) ∷ operand_words kinds registers imm
+operand_words (kind.Number ∷ kinds) registers imm = signed_decimal imm ∷ operand_words kinds registers imm
+operand_words (_ ∷ kinds) registers imm = (35 ∷ signed_decimal imm) ∷ operand_words kinds registers imm
+
+-- the number of a row or an object
+abbrev pub number_in : ℤ → ℕ
+number_in (pos n) = n
+number_in (negsuc n) = 0
+
+-- what they say
+abbrev pub operands_said : List OperandKind → List ℕ → ℤ → List (Operand Name)
+operands_said [] registers imm = []
+operands_said (kind.Register ∷ kinds) [] imm = []
+operands_said (kind.Register ∷ kinds) (register ∷ registers) imm = operand.Register (register_at register) ∷ operands_said kinds registers imm
+operands_said (kind.Number ∷ kinds) registers imm = operand.Number imm ∷ operands_said kinds registers imm
+operands_said (k ∷ kinds) registers imm = operand.Object k (Numbered (number_in imm)) ∷ operands_said kinds registers imm
+
+-- the number of a row or an object has two bytes
+pub record IsNumbered (imm : ℤ) : Type 0 where
+  pub least : pos 0 ≤ℤ imm
+  pub greatest : imm <ℤ pos 65536
+
+-- there is a register for each that is wanted, and imm fits the kind that it stands for
+abbrev pub OperandsFit : List OperandKind → List ℕ → ℤ → Type 0
+OperandsFit [] registers imm = Unit {0}
+OperandsFit (kind.Register ∷ kinds) [] imm = ⊥
+OperandsFit (kind.Register ∷ kinds) (register ∷ registers) imm = (number_of (register_at register) ≡ register) × OperandsFit kinds registers imm
+OperandsFit (kind.Number ∷ kinds) registers imm = FitsSigned w32 imm × OperandsFit kinds registers imm
+OperandsFit (_ ∷ kinds) registers imm = IsNumbered imm × OperandsFit kinds registers imm
+
+-- ---- one operand
+
+below_eight : (reg : Reg) → number_of reg < 8
+below_eight R0 = omega arith
+below_eight R1 = omega arith
+below_eight R2 = omega arith
+below_eight R3 = omega arith
+below_eight R4 = omega arith
+below_eight R5 = omega arith
+below_eight R6 = omega arith
+below_eight R7 = omega arith
+
+register_word : (register : ℕ) → number_of (register_at register) ≡ register → IsWord (114 ∷ decimal register)
+register_word register e =
+    marked_word 114 register (decimal register) refl (decimal_digits register (omega (arith, below_eight (register_at register), e)))
+
+register_spelled : (register : ℕ) → number_of (register_at register) ≡ register →
+    114 ∷ decimal register ≡ 114 ∷ (48 + number_of (register_at register)) ∷ []
+register_spelled register e =
+    ap (λ digits. 114 ∷ digits) (decimal_digit register (omega (arith, below_eight (register_at register), e))
+    ∙ ap (λ n. (48 + n) ∷ []) (sym e))
+
+number_is_word : (imm : ℤ) → FitsSigned w32 imm → IsWord (signed_decimal imm)
+number_is_word imm h = int_word imm (omega (arith, ints, h.sfits)) (omega (arith, ints, h.sfits))
+
+object_word : (imm : ℤ) → IsNumbered imm → IsWord (35 ∷ signed_decimal imm)
+object_word (pos n) h = marked_word 35 n (decimal n) refl (decimal_digits n (omega (arith, ints, h.greatest)))
+object_word (negsuc n) h = absurd (omega (arith, ints, h.least))
+
+object_spelled : (imm : ℤ) → IsNumbered imm →
+    SpellsReference greatest_number (35 ∷ signed_decimal imm) (Numbered (number_in imm))
+object_spelled (pos n) h = (decimal n, refl, decimal_spells greatest_number n (omega (arith, ints, h.greatest)) (omega (arith, ints, h.greatest)))
+object_spelled (negsuc n) h = absurd (omega (arith, ints, h.least))
+
+-- ---- all operands
+
+operands_spaced : (kinds : List OperandKind) (registers : List ℕ) (imm : ℤ) →
+    operands_text kinds registers imm ≡ spaced (operand_words kinds registers imm)
+operands_spaced [] registers imm = refl
+operands_spaced (kind.Register ∷ kinds) [] imm = refl
+operands_spaced (kind.Register ∷ kinds) (register ∷ registers) imm =
+    ap (λ rest. codes " r" ++ (decimal register ++ rest)) (operands_spaced kinds registers imm)
+operands_spaced (kind.Number ∷ kinds) registers imm = ap (λ rest. codes " " ++ (signed_decimal imm ++ rest)) (operands_spaced kinds registers imm)
+operands_spaced (_ ∷ kinds) registers imm = ap (λ rest. codes " #" ++ (signed_decimal imm ++ rest)) (operands_spaced kinds registers imm)
+
+operands_are : (kinds : List OperandKind) (registers : List ℕ) (imm : ℤ) → OperandsFit kinds registers imm →
+    AreWords (operand_words kinds registers imm)
+operands_are [] registers imm h = tt
+operands_are (kind.Register ∷ kinds) [] imm h = absurd h
+operands_are (kind.Register ∷ kinds) (register ∷ registers) imm h = (register_word register h.0, operands_are kinds registers imm h.1)
+operands_are (kind.Number ∷ kinds) registers imm h = (number_is_word imm h.0, operands_are kinds registers imm h.1)
+operands_are (_ ∷ kinds) registers imm h = (object_word imm h.0, operands_are kinds registers imm h.1)
+
+operands_few : (kinds : List OperandKind) (registers : List ℕ) (imm : ℤ) →
+    length (operand_words kinds registers imm) ≤ length kinds
+operands_few [] registers imm = omega arith
+operands_few (kind.Register ∷ kinds) [] imm = omega arith
+operands_few (kind.Register ∷ kinds) (register ∷ registers) imm = omega (arith, operands_few kinds registers imm)
+operands_few (kind.Number ∷ kinds) registers imm = omega (arith, operands_few kinds registers imm)
+operands_few (_ ∷ kinds) registers imm = omega (arith, operands_few kinds registers imm)
+
+operands_spelled : (kinds : List OperandKind) (registers : List ℕ) (imm : ℤ) → OperandsFit kinds registers imm →
+    SpellOperands kinds (operand_words kinds registers imm) (operands_said kinds registers imm)
+operands_spelled [] registers imm h = tt
+operands_spelled (kind.Register ∷ kinds) [] imm h = absurd h
+operands_spelled (kind.Register ∷ kinds) (register ∷ registers) imm h =
+    ((refl, register_spelled register h.0), operands_spelled kinds registers imm h.1)
+operands_spelled (kind.Number ∷ kinds) registers imm h =
+    ((refl, int_spells imm (omega (arith, ints, h.0.sfits)) (omega (arith, ints, h.0.sfits))), operands_spelled kinds registers imm h.1)
+operands_spelled (_ ∷ kinds) registers imm h = ((refl, (tt, object_spelled imm h.0)), operands_spelled kinds registers imm h.1)
+
+-- ---- rows
+
+abbrev pub row_words : Row → List (List ℕ)
+row_words row = let f = fields_of row in operand_words (entry_for row).operands (f.a ∷ f.b ∷ f.c ∷ []) f.imm
+
+abbrev pub row_line : Row → List ℕ
+row_line row = (entry_for row).word ++ spaced (row_words row)
+
+abbrev pub symbolic : Row → SymbolicRow Name
+symbolic row =
+    let f = fields_of row in
+    with_operands (entry_for row).opcode (operands_said (entry_for row).operands (f.a ∷ f.b ∷ f.c ∷ []) f.imm)
+
+abbrev pub row_said : Row → Statement Name
+row_said row = statement.Row None (symbolic row)
+
+pub row_ended : (row : Row) → row_text row ≡ ended (row_line row)
+row_ended row =
+    let f = fields_of row in
+    ap (λ rest. (entry_for row).word ++ (rest ++ codes "\n")) (operands_spaced (entry_for row).operands (f.a ∷ f.b ∷ f.c ∷ []) f.imm)
+    ∙ sym (append_assoc (entry_for row).word (spaced (row_words row)) (codes "\n"))
+
+-- ---- the table
+
+-- tests that each entry passes
+abbrev is_short_word : List ℕ → Bool
+is_short_word word = nat_lt 0 (length word) && (nat_lt (length word) 13 && list_all is_plain word)
+
+record IsEntry (e : Entry) : Type 0 where
+  word : is_short_word e.word ≡ true
+  few : nat_lt (length e.operands) 4 ≡ true
+  found : entry_named table e.word ≡ Some e
+
+is_entry : (row : Row) → IsEntry (entry_for row)
+is_entry Halt = record { word = refl; few = refl; found = refl }
+is_entry row = record { word = refl; few = refl; found = refl }
+
+entry_word : (e : Entry) → IsEntry e → IsWord e.word
+entry_word e h =
+    let a = and_parts (nat_lt 0 (length e.word)) (nat_lt (length e.word) 13 && list_all is_plain e.word) h.word in
+    let b = and_parts (nat_lt (length e.word) 13) (list_all is_plain e.word) a.1 in
+    record {
+      some = ltb-true 0 (length e.word) a.0;
+      short = omega (arith, ltb-true (length e.word) 13 b.0);
+      plain = b.1;
+    }
+
+-- ---- what each row says
+
+register_back : (reg : Reg) → register_at (number_of reg) ≡ reg
+register_back R0 = refl
+register_back R1 = refl
+register_back R2 = refl
+register_back R3 = refl
+register_back R4 = refl
+register_back R5 = refl
+register_back R6 = refl
+register_back R7 = refl
+
+number_back : (reg : Reg) → number_of (register_at (number_of reg)) ≡ number_of reg
+number_back reg = ap number_of (register_back reg)
+
+number_fits : (n : ℕ) → pos n <ℤ pos 65536 → IsNumbered (pos n)
+number_fits n h = record { least = omega (arith, ints); greatest = h }
+
+ruleset operand_facts = (number_back, number_fits)
+
+-- each operand refers to something by its number
+pub row_known : (lines : List (Line Name)) (row : Row) →
+    list_all (is_operand_known lines) (operands_in (symbolic row)) ≡ true
+row_known lines Halt = refl
+row_known lines row = refl
+
+-- what is said of a row is that row
+pub row_back : (lines : List (Line Name)) (row : Row) → row_of lines (symbolic row) ≡ row
+row_back lines Halt = refl
+row_back lines row = first_of (simp register_back, search rules)
+
+row_fits : (row : Row) → IsRow row →
+    OperandsFit (entry_for row).operands ((fields_of row).a ∷ (fields_of row).b ∷ (fields_of row).c ∷ []) (fields_of row).imm
+row_fits Halt h = tt
+row_fits row h = search (operand_facts, h)
+
+pub row_says : (row : Row) → IsRow row → Says (row_line row) (row_said row)
+row_says row h =
+    let f = fields_of row in
+    let e = entry_for row in
+    let registers = f.a ∷ f.b ∷ f.c ∷ [] in
+    let is = is_entry row in
+    let word = entry_word e is in
+    let fits = row_fits row h in
+    let words = operands_are e.operands registers f.imm fits in
+    let few = ltb-true (length e.operands) 4 is.few in (
+      is_line e.word (row_words row) word words (omega (arith, few, operands_few e.operands registers f.imm)),
+      (
+        e,
+        e.word,
+        row_words row,
+        operands_said e.operands registers f.imm,
+        words_of-line e.word (row_words row) word words,
+        is.found,
+        refl,
+        operands_spelled e.operands registers f.imm fits,
+      ),
+    )

@@ -1,0 +1,104 @@
+-- How many things of a kind there are, and the numbers that names stand for.
+use Rattle.std.proofs.Common.{◌≡◌, ℕ, ◌+◌, ◌<◌, ◌≤◌, Bool, true, false, cond, nat_lt, List, [], ◌∷◌, ◌++◌, length, Option, Some, None, refl, sym, ap, subst, append_assoc, arith}
+use Rattle.std.specs.Prelude.{IfSome, option_map, bytes_eq}
+use Rattle.std.proofs.lemmas.Bool.Decides.{nat_tests}
+use Rattle.std.proofs.lemmas.List.{append-nil}
+use Rattle.instruction_table.specs.declared.shape.OperandKind.{OperandKind}
+use Rattle.instruction_table.specs.declared.shape.OperandKind.TheVariants as kind
+use Rattle.assembler.specs.declared.statement.Statement.{Statement}
+use Rattle.assembler.specs.declared.statement.Statement.TheVariants as statement
+use Rattle.assembler.specs.declared.statement.Line.{Line}
+use Rattle.assembler.specs.Symbols.{Name}
+use Rattle.assembler.specs.Statements.{adds, count, gives, gives_to, has_room, is_kind, kind_named, most, number_named, Follows, EachFollows}
+
+same_kind : (k named : OperandKind) → is_kind k named ≡ true → k ≡ named
+same_kind kind.Register kind.Register h = refl
+same_kind kind.Number kind.Number h = refl
+same_kind kind.Target kind.Target h = refl
+same_kind kind.Phaser kind.Phaser h = refl
+same_kind kind.Barrier kind.Barrier h = refl
+same_kind kind.Thread kind.Thread h = refl
+same_kind kind.Cell kind.Cell h = refl
+same_kind _ _ h = absurd (cc)
+
+-- one thing more of a kind that there is room for
+one_more : (k named : OperandKind) (before : List (Line Name)) → nat_lt (count named before) (most named) ≡ true →
+    count k before ≤ most k → count k before + cond (is_kind k named) 1 0 ≤ most k
+one_more k named before room few = by_test (is_kind k named) refl
+  where
+    by_test : (same : Bool) → is_kind k named ≡ same → count k before + cond same 1 0 ≤ most k
+    by_test true is =
+        let e : named ≡ k = sym (same_kind k named is) in
+        let here : nat_lt (count k before) (most k) ≡ true = subst (λ (j : OperandKind). nat_lt (count j before) (most j) ≡ true) e room in
+        grind (arith, nat_tests, here)
+    by_test false is = omega (arith, few)
+
+room_kept : (k : OperandKind) (before : List (Line Name)) (s : Statement Name) → has_room before s ≡ true →
+    count k before ≤ most k → count k before + adds k s ≤ most k
+room_kept k before (statement.Phaser p) room few = one_more k kind.Phaser before room few
+room_kept k before (statement.Barrier b) room few = one_more k kind.Barrier before room few
+room_kept k before (statement.Thread t) room few = one_more k kind.Thread before room few
+room_kept k before (statement.Cell name) room few = one_more k kind.Cell before room few
+room_kept k before (statement.Label name) room few = omega (arith, few)
+room_kept k before (statement.Row label row) room few = one_more k kind.Target before room few
+
+count-append : (k : OperandKind) (before : List (Line Name)) (line : Line Name) →
+    count k (before ++ line ∷ []) ≡ count k before + adds k line.statement
+count-append k [] line = omega arith
+count-append k (first ∷ before) line = omega (arith, count-append k before line)
+
+few_behind : (k : OperandKind) (before lines : List (Line Name)) → count k before ≤ most k → EachFollows before lines →
+    count k (before ++ lines) ≤ most k
+few_behind k before [] few follow = rw (append-nil before) few
+few_behind k before (line ∷ lines) few follow =
+    let more : count k (before ++ line ∷ []) ≤ most k = omega (arith, count-append k before line, room_kept k before line.statement follow.0.room few) in
+    subst (λ (all : List (Line Name)). count k all ≤ most k) (append_assoc before (line ∷ []) lines)
+    (few_behind k (before ++ line ∷ []) lines more follow.1)
+
+-- there are no more things of each kind than there may be
+abbrev pub AreFew : List (Line Name) → Type 0
+AreFew lines = (k : OperandKind) → count k lines ≤ most k
+
+pub few_of_each : (lines : List (Line Name)) → EachFollows [] lines → AreFew lines
+few_of_each lines follow k = few_behind k [] lines (omega arith) follow
+
+-- ---- numbers of names
+
+-- the number of a thing is at most how many there are: it is as many, where a label stands last
+later : (n more : ℕ) (found : Option ℕ) → IfSome found (λ m. m ≤ n) → IfSome (option_map (λ m. more + m) found) (λ m. m ≤ more + n)
+later n more None h = tt
+later n more (Some m) h = omega (arith, h)
+
+pub number_within : (k : OperandKind) (name : Name) (lines : List (Line Name)) → IfSome (number_named k name lines) (λ n. n ≤ count k lines)
+number_within k name [] = tt
+number_within k name (line ∷ lines) = by_test (gives_to k name line.statement) (number_within k name lines)
+  where
+    by_test : (here : Bool) → IfSome (number_named k name lines) (λ n. n ≤ count k lines) →
+        IfSome (cond here (Some 0) (option_map (λ n. adds k line.statement + n) (number_named k name lines))) (λ n. n ≤ adds k line.statement + count k lines)
+    by_test true h = omega arith
+    by_test false h = later (count k lines) (adds k line.statement) (number_named k name lines) h
+
+-- a phaser's number is below their count
+below : (n more : ℕ) (found : Option ℕ) → IfSome found (λ m. m < n) → IfSome (option_map (λ m. more + m) found) (λ m. m < more + n)
+below n more None h = tt
+below n more (Some m) h = omega (arith, h)
+
+abbrev IsBelow : Name → List (Line Name) → Type 0
+IsBelow name lines = IfSome (number_named kind.Phaser name lines) (λ n. n < count kind.Phaser lines)
+
+next_below : (name : Name) (number : ℕ) (s : Statement Name) (lines : List (Line Name)) → IsBelow name lines →
+    IsBelow name (record { number = number; statement = s } ∷ lines)
+next_below name number (statement.Phaser p) lines h = by_test (bytes_eq p.name name)
+  where
+    by_test : (here : Bool) → IfSome (cond here (Some 0) (option_map (λ n. 1 + n) (number_named kind.Phaser name lines))) (λ n. n < 1 + count kind.Phaser lines)
+    by_test true = omega arith
+    by_test false = below (count kind.Phaser lines) 1 (number_named kind.Phaser name lines) h
+next_below name number (statement.Barrier b) lines h = below (count kind.Phaser lines) 0 (number_named kind.Phaser name lines) h
+next_below name number (statement.Thread t) lines h = below (count kind.Phaser lines) 0 (number_named kind.Phaser name lines) h
+next_below name number (statement.Cell c) lines h = below (count kind.Phaser lines) 0 (number_named kind.Phaser name lines) h
+next_below name number (statement.Label l) lines h = below (count kind.Phaser lines) 0 (number_named kind.Phaser name lines) h
+next_below name number (statement.Row label row) lines h = below (count kind.Phaser lines) 0 (number_named kind.Phaser name lines) h
+
+pub phaser_below : (name : Name) (lines : List (Line Name)) → IfSome (number_named kind.Phaser name lines) (λ n. n < count kind.Phaser lines)
+phaser_below name [] = tt
+phaser_below name (line ∷ lines) = next_below name line.number line.statement lines (phaser_below name lines)

@@ -1,0 +1,125 @@
+-- Numbers as they are printed, read as words, names and numbers.
+use Rattle.std.proofs.Common.{◌≡◌, ℕ, suc, ◌<◌, ◌≤◌, ℤ, pos, negsuc, neg_ℤ, ◌≤ℤ◌, Bool, true, false, cond, not, ◌&&◌, nat_lt, ◌==◌, List, [], ◌∷◌, length, refl, ap, ◌∙◌, arith, ne_eqb, decimal}
+use Rattle.std.specs.Char.{is_ascii_digit}
+use Rattle.std.specs.Fmt.{signed_decimal}
+use Rattle.std.specs.List.{list_all}
+use Rattle.std.specs.Str.Parse.{AllDigits, digits_value}
+use Rattle.std.proofs.lemmas.Bool.{and_from}
+use Rattle.std.proofs.lemmas.Bool.Decides.{nat_tests}
+use Rattle.std.proofs.lemmas.Fmt.{decimal_is_IsNumeral, length-decimal-le}
+use Rattle.std.proofs.lemmas.Int.{ints}
+use Rattle.std.proofs.lemmas.Str.Parse.{digit_from_value}
+use Rattle.assembler.specs.Names.{begins_name, goes_on_name, is_name}
+use Rattle.assembler.specs.Numbers.{is_negative, digits_in}
+use Rattle.assembler.specs.Spelling.{SpellsNumber, least_int, greatest_int}
+use Rattle.assembler.proofs.JoinedWords.{is_plain, IsWord}
+
+-- the digits of a number, at most ten
+pub record AreDigits (n : ℕ) (ds : List ℕ) : Type 0 where
+  pub some : 0 < length ds
+  pub short : length ds ≤ 10
+  pub digits : AllDigits 10 ds
+  pub value : digits_value 10 ds ≡ n
+
+pub decimal_digits : (n : ℕ) → n < 10000000000 → AreDigits n (decimal n)
+decimal_digits n small =
+    let k = decimal_is_IsNumeral n (omega arith) in
+    record {
+      some = k.0.0;
+      short = length-decimal-le 10 n (omega arith) (omega arith) (omega arith);
+      digits = k.0.1;
+      value = k.1;
+    }
+
+-- a test that each digit passes
+all_digits : (p : ℕ → Bool) → ((c : ℕ) → 48 ≤ c → c ≤ 57 → p c ≡ true) → (ds : List ℕ) → AllDigits 10 ds →
+    list_all p ds ≡ true
+all_digits p each [] d = refl
+all_digits p each (c ∷ cs) d =
+    let k = digit_from_value c d.0 in
+    and_from (p c) (list_all p cs) (each c (omega arith) (omega arith)) (all_digits p each cs d.1)
+
+digit_plain : (c : ℕ) → 48 ≤ c → c ≤ 57 → is_plain c ≡ true
+digit_plain c low high = grind (arith, nat_tests)
+
+digit_in_name : (c : ℕ) → 48 ≤ c → c ≤ 57 → goes_on_name c ≡ true
+digit_in_name c low high = grind (arith, nat_tests)
+
+digit_is : (c : ℕ) → 48 ≤ c → c ≤ 57 → is_ascii_digit c ≡ true
+digit_is c low high = grind (arith, nat_tests)
+
+-- ---- words and names
+
+pub digits_word : (n : ℕ) (ds : List ℕ) → AreDigits n ds → IsWord ds
+digits_word n ds h = record { some = h.some; short = omega (arith, h.short); plain = all_digits is_plain digit_plain ds h.digits }
+
+-- with a plain byte before them
+pub marked_word : (mark n : ℕ) (ds : List ℕ) → is_plain mark ≡ true → AreDigits n ds → IsWord (mark ∷ ds)
+marked_word mark n ds plain h = record {
+  some = omega arith;
+  short = omega (arith, h.short);
+  plain = and_from (is_plain mark) (list_all is_plain ds) plain (all_digits is_plain digit_plain ds h.digits);
+}
+
+pub marked_name : (letter n : ℕ) (ds : List ℕ) → begins_name letter ≡ true → goes_on_name letter ≡ true →
+    AreDigits n ds → is_name (letter ∷ ds) ≡ true
+marked_name letter n ds begins goes_on h =
+    let all = and_from (goes_on_name letter) (list_all goes_on_name ds) goes_on (all_digits goes_on_name digit_in_name ds h.digits) in
+    let some : nat_lt 0 (length (letter ∷ ds)) ≡ true = grind (arith, nat_tests) in
+    let short : nat_lt (length (letter ∷ ds)) 33 ≡ true = grind (arith, nat_tests, h.short) in
+    and_from _ _ (and_from _ _ (and_from _ _ some short) begins) all
+
+-- ---- numbers
+
+digits_in-digits : (ds : List ℕ) → AllDigits 10 ds → digits_in ds ≡ ds
+digits_in-digits [] d = refl
+digits_in-digits (c ∷ cs) d =
+    let k = digit_from_value c d.0 in
+    ap (λ b. cond b cs (c ∷ cs)) (ne_eqb c 45 (λ e. omega arith))
+
+not_negative : (ds : List ℕ) → AllDigits 10 ds → is_negative ds ≡ false
+not_negative [] d = refl
+not_negative (c ∷ cs) d = let k = digit_from_value c d.0 in ne_eqb c 45 (λ e. omega arith)
+
+not_none : (ds : List ℕ) → 0 < length ds → not (length ds == 0) ≡ true
+not_none ds some = grind (arith, nat_tests)
+
+are_number : (n : ℕ) (ds : List ℕ) → AreDigits n ds → (not (length ds == 0) && list_all is_ascii_digit ds) ≡ true
+are_number n ds h = and_from _ _ (not_none ds h.some) (all_digits is_ascii_digit digit_is ds h.digits)
+
+pub digits_spell : (low high : ℤ) (n : ℕ) (ds : List ℕ) → AreDigits n ds → low ≤ℤ pos n → pos n ≤ℤ high →
+    SpellsNumber low high ds (pos n)
+digits_spell low high n ds h least greatest =
+    let same = digits_in-digits ds h.digits in
+    record {
+      spelled = ap (λ all. not (length all == 0) && list_all is_ascii_digit all) same ∙ are_number n ds h;
+      short = omega (arith, ap length same, h.short);
+      value = ap (λ b. cond b (neg_ℤ (pos (digits_value 10 (digits_in ds)))) (pos (digits_value 10 (digits_in ds)))) (not_negative ds h.digits)
+          ∙ ap (λ all. pos (digits_value 10 all)) same ∙ ap pos h.value;
+      least = least;
+      greatest = greatest;
+    }
+
+minus_spell : (low high : ℤ) (n : ℕ) (ds : List ℕ) → AreDigits (suc n) ds → low ≤ℤ negsuc n → negsuc n ≤ℤ high →
+    SpellsNumber low high (45 ∷ ds) (negsuc n)
+minus_spell low high n ds h least greatest = record {
+  spelled = are_number (suc n) ds h;
+  short = h.short;
+  value = ap (λ m. neg_ℤ (pos m)) h.value;
+  least = least;
+  greatest = greatest;
+}
+
+-- a count of parties, a phase or the number of a row or an object
+pub decimal_spells : (high n : ℕ) → n ≤ high → n < 10000000000 → SpellsNumber (pos 0) (pos high) (decimal n) (pos n)
+decimal_spells high n most small = digits_spell (pos 0) (pos high) n (decimal n) (decimal_digits n small) (omega (arith, ints)) (omega (arith, ints))
+
+-- an `int`
+pub int_spells : (z : ℤ) → least_int ≤ℤ z → z ≤ℤ greatest_int →
+    SpellsNumber least_int greatest_int (signed_decimal z) z
+int_spells (pos n) least greatest = digits_spell least_int greatest_int n (decimal n) (decimal_digits n (omega (arith, ints))) least greatest
+int_spells (negsuc n) least greatest = minus_spell least_int greatest_int n (decimal (suc n)) (decimal_digits (suc n) (omega (arith, ints))) least greatest
+
+pub int_word : (z : ℤ) → least_int ≤ℤ z → z ≤ℤ greatest_int → IsWord (signed_decimal z)
+int_word (pos n) least greatest = digits_word n (decimal n) (decimal_digits n (omega (arith, ints)))
+int_word (negsuc n) least greatest = marked_word 45 (suc n) (decimal (suc n)) refl (decimal_digits (suc n) (omega (arith, ints)))

@@ -1,0 +1,58 @@
+-- Decimal digits and the number that they spell.
+use Rattle.std.proofs.lemmas.List.{get_or-take, get_or_default}
+use Rattle.std.proofs.lemmas.List.Folds.{length-prefix_len}
+use Rattle.std.proofs.Common.{suc, ◌≡◌, ◌∙◌, ◌+◌, ◌-◌, ◌*◌, ◌^◌, ◌<◌, ◌≤◌, ℕ, true, List, [], ◌∷◌, length, take, get_or, ap, arith}
+use Rattle.std.specs.List.{prefix_len, AllPass}
+use Rattle.std.specs.Char.{is_ascii_digit, digit_value}
+use Rattle.std.specs.Str.Parse.{AllDigits, digits_value}
+use Rattle.std.proofs.lemmas.Bool.Decides.{nat_tests}
+use Rattle.std.proofs.lemmas.Int.Digits.{digits_value-lt, digits_value_more}
+use Rattle.std.proofs.lemmas.Str.Parse.{digits_value-take-le}
+use Rattle.std.proofs.lemmas.List.Sums.{prefix_len_passes}
+use Rattle.std.proofs.Math.Nat.{pow-le-pow_right}
+
+-- a digit's value is below 10
+pub digit_value-lt : (c : ℕ) → is_ascii_digit c ≡ true → digit_value c < 10
+digit_value-lt c h = grind (arith, nat_tests)
+
+pub digit_value-digit : (c : ℕ) → is_ascii_digit c ≡ true → digit_value c + 48 ≡ c
+digit_value-digit c h = grind (arith, nat_tests)
+
+pub AllDigits-from_AllPass : (cs : List ℕ) → AllPass is_ascii_digit cs → AllDigits 10 cs
+AllDigits-from_AllPass [] all = tt
+AllDigits-from_AllPass (c ∷ cs) all = (
+  digit_value-lt c (all 0 c (omega arith)),
+  AllDigits-from_AllPass cs (λ k d there. all (suc k) d (omega arith)),
+)
+
+-- ten digits spell a number below 10 ^ 10
+pub digits_value-few : (cs : List ℕ) → AllPass is_ascii_digit cs → length cs ≤ 10 → digits_value 10 cs < 10000000000
+digits_value-few cs all few =
+    let below = digits_value-lt 10 cs (AllDigits-from_AllPass cs all) in
+    let most : 10 ^ length cs ≤ 10 ^ 10 = pow-le-pow_right (omega arith) few in
+    omega (arith, below, most)
+
+-- one digit more
+pub digits_value-next : (cs : List ℕ) (i d : ℕ) → AllPass is_ascii_digit cs → i < length cs
+    → digits_value 10 (take (i + 1) cs) ≡ digits_value 10 (take i cs) * 10 + (get_or cs i d - 48)
+digits_value-next cs i d all there =
+    let same : get_or cs i 0 ≡ get_or cs i d = get_or_default cs i 0 d there in
+    let digit = digit_value-digit (get_or cs i d) (all i d there) in
+    let value : digit_value (get_or cs i 0) ≡ get_or cs i d - 48 = ap digit_value same ∙ omega (arith, digit) in
+    digits_value_more 10 cs i there ∙ ap (λ v. digits_value 10 (take i cs) * 10 + v) value
+
+-- stays below 10 ^ 10
+pub digits_value-next_few : (cs : List ℕ) (i d : ℕ) → AllPass is_ascii_digit cs → length cs ≤ 10 → i < length cs
+    → digits_value 10 (take i cs) * 10 + (get_or cs i d - 48) < 10000000000
+digits_value-next_few cs i d all few there =
+    let next = digits_value-next cs i d all there in
+    let less = digits_value-take-le 10 cs (i + 1) (omega arith) in
+    let whole = digits_value-few cs all few in
+    omega (arith, next, less, whole)
+
+-- the bytes up to the first that is no digit
+pub AllPass-digits : (cs : List ℕ) → AllPass is_ascii_digit (take (prefix_len is_ascii_digit cs) cs)
+AllPass-digits cs k d there =
+    let count = length-prefix_len is_ascii_digit cs in
+    let within : k < prefix_len is_ascii_digit cs = omega (arith, count) in
+    rw (get_or-take (prefix_len is_ascii_digit cs) cs k d within) (prefix_len_passes is_ascii_digit cs k d within)

@@ -1,0 +1,168 @@
+-- What is kept beside the lines, with one line more.
+use Rattle.std.proofs.Common.{◌≡◌, ◌∙◌, ℕ, ◌+◌, Bool, true, false, cond, ◌||◌, List, [], ◌∷◌, ◌++◌, Option, Some, None, option_map, is_some, bytes_eq, refl, sym, ap, arith}
+use Rattle.std.specs.List.{list_any}
+use Rattle.std.proofs.lemmas.List.Folds.{list_any-append}
+use Rattle.instruction_table.specs.declared.shape.OperandKind.{OperandKind}
+use Rattle.instruction_table.specs.declared.shape.OperandKind.TheVariants as kind
+use Rattle.assembler.specs.declared.draft.Counts.{Counts}
+use Rattle.assembler.specs.declared.draft.Place.{Place}
+use Rattle.assembler.specs.declared.statement.Line.{Line}
+use Rattle.assembler.specs.Symbols.{Name, Borrowed}
+use Rattle.assembler.specs.Statements.{name_in, kind_named, is_kind, is_named, gives, gives_to, adds, count, is_given, is_new, number_named, is_code}
+use Rattle.assembler.specs.Draft.{counted, number_there, IsKept, named_with}
+use Rattle.assembler.proofs.Steps.{is_bytes, not_true}
+
+-- the number found, or else this one
+abbrev or_else : Option ℕ → Option ℕ → Option ℕ
+or_else (Some n) other = Some n
+or_else None other = other
+
+or_false : (b : Bool) → (b || false) ≡ b
+or_false true = refl
+or_false false = refl
+
+pub count-append : (k : OperandKind) (lines : List (Line Name)) (line : Line Name) →
+    count k (lines ++ (line ∷ [])) ≡ count k lines + adds k line.statement
+count-append k [] line = omega arith
+count-append k (l ∷ lines) line =
+    let rest = count-append k lines line in
+    omega (arith, rest)
+
+any-append : (test : Line Name → Bool) (lines : List (Line Name)) (line : Line Name) →
+    list_any test (lines ++ (line ∷ [])) ≡ (list_any test lines || test line)
+any-append test lines line =
+    list_any-append test lines (line ∷ []) ∙ ap (λ b. list_any test lines || b) (or_false (test line))
+
+-- a number that comes behind more things
+moved : (first : Bool) (before : ℕ) (a b : Option ℕ) (c : Option ℕ) →
+    option_map (λ n. before + n) b ≡ c →
+    cond first (Some 0) (option_map (λ n. before + n) (or_else a b))
+    ≡ or_else (cond first (Some 0) (option_map (λ n. before + n) a)) c
+moved true before a b c is = refl
+moved false before (Some n) b c is = refl
+moved false before None b c is = is
+
+counted_on : (here : Bool) (before n : ℕ) →
+    option_map (λ n. before + n) (cond here (Some n) None) ≡ cond here (Some (before + n)) None
+counted_on true before n = refl
+counted_on false before n = refl
+
+-- the name of one more line
+pub named-append : (k : OperandKind) (name : Name) (lines : List (Line Name)) (line : Line Name) →
+    number_named k name (lines ++ (line ∷ []))
+    ≡ or_else (number_named k name lines) (cond (gives_to k name line.statement) (Some (count k lines)) None)
+named-append k name [] line = refl
+named-append k name (l ∷ lines) line =
+    ap (λ o. cond (gives_to k name l.statement) (Some 0) (option_map (λ n. adds k l.statement + n) o))
+    (named-append k name lines line)
+    ∙ moved (gives_to k name l.statement) (adds k l.statement) (number_named k name lines)
+    (cond (gives_to k name line.statement) (Some (count k lines)) None)
+    (cond (gives_to k name line.statement) (Some (adds k l.statement + count k lines)) None)
+    (counted_on (gives_to k name line.statement) (adds k l.statement) (count k lines))
+
+either_false : (a b : Bool) → (a || b) ≡ false → (a ≡ false) × (b ≡ false)
+either_false true b h = absurd (cc)
+either_false false b h = (refl, h)
+
+not_given_to : (a b : Bool) → b ≡ false → cond a b false ≡ false
+not_given_to true b h = h
+not_given_to false b h = refl
+
+-- a name that no line gives names nothing
+pub unnamed : (k : OperandKind) (name : Name) (lines : List (Line Name)) → is_given name lines ≡ false →
+    number_named k name lines ≡ None
+unnamed k name [] h = refl
+unnamed k name (l ∷ lines) h =
+    let both = either_false (gives name l.statement) (is_given name lines) h in
+    rw (not_given_to (is_kind k (kind_named l.statement)) (gives name l.statement) both.0, unnamed k name lines both.1) refl
+
+none_else : (o : Option ℕ) → or_else o None ≡ o
+none_else None = refl
+none_else (Some n) = refl
+
+or_true : (b : Bool) → (b || true) ≡ true
+or_true true = refl
+or_true false = refl
+
+same_kind : (a b : OperandKind) → is_kind a b ≡ true → a ≡ b
+same_kind kind.Register kind.Register h = refl
+same_kind kind.Number kind.Number h = refl
+same_kind kind.Target kind.Target h = refl
+same_kind kind.Phaser kind.Phaser h = refl
+same_kind kind.Barrier kind.Barrier h = refl
+same_kind kind.Thread kind.Thread h = refl
+same_kind kind.Cell kind.Cell h = refl
+same_kind _ _ h = absurd (cc)
+
+-- whether a name is given, with one name more
+given_there : (b : Bool) (place : Place) (o : Option Place) →
+    is_some (cond b (Some place) o) ≡ (is_some o || b)
+given_there true place o = sym (or_true (is_some o))
+given_there false place o = sym (or_false (is_some o))
+
+given_with : (given : Option Name) (place : Place) (names : Borrowed → Option Place) (q : Borrowed) →
+    is_some (named_with given place names q) ≡ (is_some (names q) || is_named q.now given)
+given_with None place names q = sym (or_false (is_some (names q)))
+given_with (Some name) place names q = given_there (bytes_eq name q.now) place (names q)
+
+module _ (k : OperandKind) (lines : List (Line Name)) (names : Borrowed → Option Place) (counts : Counts)
+    (code : Bool) (kept : IsKept lines names counts code) (named : OperandKind) (q : Borrowed) where
+  -- the number that a name has, where it is the new name or not
+  abbrev number_now : Bool → Option ℕ
+  number_now here = or_else (number_named k q.now lines)
+      (cond (cond (is_kind k named) here false) (Some (count k lines)) None)
+
+  not_here : (b : Bool) → number_there k (names q)
+      ≡ or_else (number_named k q.now lines) (cond (cond b false false) (Some (count k lines)) None)
+  not_here true = kept.named k q ∙ sym (none_else (number_named k q.now lines))
+  not_here false = kept.named k q ∙ sym (none_else (number_named k q.now lines))
+
+  right_kind : (b : Bool) → is_kind k named ≡ b →
+      cond b (Some (counted counts named)) None ≡ cond (cond b true false) (Some (count k lines)) None
+  right_kind true is =
+      ap (λ n. Some n) (kept.number named ∙ ap (λ x. count x lines) (sym (same_kind k named is)))
+  right_kind false is = refl
+
+  here : is_given q.now lines ≡ false →
+      cond (is_kind k named) (Some (counted counts named)) None ≡ number_now true
+  here new =
+      right_kind (is_kind k named) refl
+      ∙ ap (λ o. or_else o (cond (cond (is_kind k named) true false) (Some (count k lines)) None))
+      (sym (unnamed k q.now lines new))
+
+  by_name : (b : Bool) → (b ≡ true → is_given q.now lines ≡ false) →
+      number_there k (cond b (Some (record { kind = named; number = counted counts named })) (names q))
+      ≡ number_now b
+  by_name true new = here (new refl)
+  by_name false new = not_here (is_kind k named)
+
+  named_there : (given : Option Name) → is_new lines given ≡ true →
+      number_there k (named_with given (record { kind = named; number = counted counts named }) names q)
+      ≡ number_now (is_named q.now given)
+  named_there None new = not_here (is_kind k named)
+  named_there (Some name) new =
+      by_name (bytes_eq name q.now)
+      (λ same. ap (λ n. is_given n lines) (sym (is_bytes name q.now same)) ∙ not_true (is_given name lines) new)
+
+-- what is kept, of the lines with one more
+pub kept_with : (lines : List (Line Name)) (names with : Borrowed → Option Place) (counts counted_now : Counts)
+    (code : Bool) (line : Line Name) (place : Place) → IsKept lines names counts code →
+    is_new lines (name_in line.statement) ≡ true →
+    place ≡ record { kind = kind_named line.statement; number = counted counts (kind_named line.statement) } →
+    ((q : Borrowed) → with q ≡ named_with (name_in line.statement) place names q) →
+    ((k : OperandKind) → counted counted_now k ≡ counted counts k + adds k line.statement) →
+    IsKept (lines ++ (line ∷ [])) with counted_now (code || is_code line.statement)
+kept_with lines names with counts counted_now code line place kept new placed found number = record {
+  given = λ q.
+      ap is_some (found q)
+      ∙ given_with (name_in line.statement) place names q
+      ∙ ap (λ b. b || gives q.now line.statement) (kept.given q)
+      ∙ sym (any-append (λ l. gives q.now l.statement) lines line);
+  named = λ k q.
+      ap (number_there k) (found q)
+      ∙ ap (λ p. number_there k (named_with (name_in line.statement) p names q)) placed
+      ∙ named_there k lines names counts code kept (kind_named line.statement) q (name_in line.statement) new
+      ∙ sym (named-append k q.now lines line);
+  number = λ k. number k ∙ ap (λ n. n + adds k line.statement) (kept.number k) ∙ sym (count-append k lines line);
+  any_code = ap (λ b. b || is_code line.statement) kept.any_code ∙ sym (any-append (λ l. is_code l.statement) lines line);
+}

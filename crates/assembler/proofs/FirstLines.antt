@@ -1,0 +1,61 @@
+-- The first line of a text, and what follows its end.
+use Rattle.std.proofs.Common.{◌≡◌, ◌∙◌, ℕ, ◌+◌, ◌-◌, ◌<◌, ◌==◌, true, List, [], ◌∷◌, ◌++◌, length, take, drop, Some, None, refl, sym, ap, arith}
+use Rattle.std.specs.List.{slice_split, position, before_first, after_first}
+use Rattle.std.proofs.lemmas.Bool.Decides.{nat_tests}
+use Rattle.std.proofs.lemmas.List.{take_all, drop_all, length-drop}
+use Rattle.std.proofs.lemmas.List.Splits.{slice_split_first, slice_split_none, length-slice_split}
+use Rattle.std.proofs.lemmas.List.Sums.{fails_before_first}
+use Rattle.assembler.specs.Words.{is_line_end, without_empty_last, lines_of}
+use Rattle.assembler.proofs.Places.{position_some, position_within, position_none}
+
+pub without_empty_end : (pieces : List (List ℕ)) → without_empty_last (pieces ++ ([] ∷ [])) ≡ pieces
+without_empty_end [] = refl
+without_empty_end ([] ∷ []) = refl
+without_empty_end ((byte ∷ bytes) ∷ []) = refl
+without_empty_end ([] ∷ next ∷ pieces) = ap (λ rest. [] ∷ rest) (without_empty_end (next ∷ pieces))
+without_empty_end ((byte ∷ bytes) ∷ next ∷ pieces) =
+    ap (λ rest. (byte ∷ bytes) ∷ rest) (without_empty_end (next ∷ pieces))
+
+-- a piece with more behind it is a line, also an empty one
+piece_first : (piece : List ℕ) (pieces : List (List ℕ)) → 0 < length pieces →
+    without_empty_last (piece ∷ pieces) ≡ piece ∷ without_empty_last pieces
+piece_first piece [] some = absurd (omega (arith, some))
+piece_first [] (next ∷ pieces) some = refl
+piece_first (byte ∷ bytes) (next ∷ pieces) some = refl
+
+-- the only piece
+piece_only : (piece : List ℕ) → 0 < length piece → without_empty_last (piece ∷ []) ≡ piece ∷ []
+piece_only [] some = absurd (omega (arith, some))
+piece_only (byte ∷ bytes) some = refl
+
+-- a slice to its end
+to_end : (text : List ℕ) (n : ℕ) → take (length text - n) (drop n text) ≡ drop n text
+to_end text n =
+    let all = length-drop n text in
+    take_all (length text - n) (drop n text) (omega (arith, all))
+
+pub line_at : (text : List ℕ) (place : ℕ) → Some place ≡ position is_line_end text →
+    lines_of text ≡ take place text ∷ lines_of (take (length text - (place + 1)) (drop (place + 1) text))
+line_at text place found =
+    let first = position_some is_line_end text place found in
+    let within = position_within is_line_end text place found in
+    let after = after_first is_line_end text in
+    let some : 0 < length (slice_split is_line_end after) = omega (arith, length-slice_split is_line_end after) in
+    ap without_empty_last (slice_split_first is_line_end text 0 within)
+    ∙ piece_first (before_first is_line_end text) (slice_split is_line_end after) some
+    ∙ ap (λ k. take k text ∷ lines_of (drop (k + 1) text)) (sym first)
+    ∙ ap (λ rest. take place text ∷ lines_of rest) (sym (to_end text (place + 1)))
+
+pub line_alone : (text : List ℕ) → 0 < length text → None ≡ position is_line_end text →
+    lines_of text ≡ text ∷ lines_of (take (length text - length text) (drop (length text) text))
+line_alone text some none =
+    let all = position_none is_line_end text none in
+    ap without_empty_last (slice_split_none is_line_end text
+    (λ k d there. fails_before_first is_line_end text k d (omega (arith, there, all))))
+    ∙ piece_only text some
+    ∙ ap (λ rest. text ∷ lines_of rest) (sym (to_end text (length text) ∙ drop_all (length text) text (omega arith)))
+
+-- an empty text has no lines
+pub no_lines : (text : List ℕ) → true ≡ (length text == 0) → lines_of text ≡ []
+no_lines [] h = refl
+no_lines (byte ∷ bytes) h = absurd (grind (arith, nat_tests, h))

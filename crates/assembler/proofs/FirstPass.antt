@@ -1,0 +1,77 @@
+-- The first pass, one line more.
+use Rattle.std.proofs.Common.{◌≡◌, ◌∙◌, ℕ, ◌+◌, ◌<◌, ◌≤◌, List, [], ◌∷◌, length, take, drop, Result, Ok, Err, sym, ap, arith}
+use Rattle.std.proofs.lemmas.List.{length-take, length-drop, drop-drop, take-take, drop-take}
+use Rattle.assembler.specs.declared.asm_fault.AsmFault.{AsmFault}
+use Rattle.assembler.specs.declared.asm_fault.AsmFaultKind.{AsmFaultKind}
+use Rattle.assembler.specs.declared.asm_fault.AsmFaultKind.TheVariants as fault
+use Rattle.assembler.specs.declared.statement.Line.{Line}
+use Rattle.assembler.specs.Symbols.{Name}
+use Rattle.assembler.specs.Answers.{FailsAt}
+use Rattle.assembler.specs.Reading.{◌>>=◌, line_behind}
+use Rattle.assembler.specs.Passes.{behind, lines_read}
+use Rattle.assembler.proofs.ReadLines.{lines_read-middle}
+
+-- a text more is there
+pub one_left : (texts : List (List ℕ)) (k : ℕ) (line : List ℕ) (more : List (List ℕ)) →
+    drop k texts ≡ line ∷ more → k < length texts
+one_left texts k line more left =
+    let long = ap length left in
+    let rest = length-drop k texts in
+    omega (arith, long, rest)
+
+-- the line behind those that were read, and then the others
+pub next_line : (texts : List (List ℕ)) (k : ℕ) (middle : List (Line Name)) (line : List ℕ) (more : List (List ℕ)) →
+    lines_read 1 [] (take k texts) ≡ Ok middle → drop k texts ≡ line ∷ more →
+    lines_read 1 [] texts
+    ≡ (behind middle (k + 1) (line_behind middle line) >>= (λ lines. lines_read (k + 1 + 1) lines more))
+unfolding lines_read
+next_line texts k middle line more met left =
+    let within = one_left texts k line more left in
+    let taken = length-take k texts in
+    let number : 1 + length (take k texts) ≡ k + 1 = omega (arith, within, taken) in
+    lines_read-middle 1 k [] middle texts met
+    ∙ ap (λ (n : ℕ). lines_read n middle (drop k texts)) number
+    ∙ ap (λ (ts : List (List ℕ)). lines_read (k + 1) middle ts) left
+
+alone : (r : Result (List (Line Name)) AsmFault) (after : List (Line Name)) (n : ℕ) → r ≡ Ok after →
+    (r >>= (λ lines. lines_read n lines [])) ≡ Ok after
+unfolding lines_read
+alone (Ok lines) after n is = is
+alone (Err e) after n is = absurd (cc)
+
+-- the lines up to that one
+pub one_more : (texts : List (List ℕ)) (k : ℕ) (middle after : List (Line Name)) (line : List ℕ)
+    (more : List (List ℕ)) → lines_read 1 [] (take k texts) ≡ Ok middle → drop k texts ≡ line ∷ more →
+    behind middle (k + 1) (line_behind middle line) ≡ Ok after →
+    lines_read 1 [] (take (k + 1) texts) ≡ Ok after
+one_more texts k middle after line more met left is =
+    let front : take k (take (k + 1) texts) ≡ take k texts = take-take k (k + 1) texts (omega arith) in
+    let last : drop k (take (k + 1) texts) ≡ line ∷ [] = drop-take k 1 texts ∙ ap (λ (ts : List (List ℕ)). take 1 ts) left in
+    next_line (take (k + 1) texts) k middle line [] (ap (λ (ts : List (List ℕ)). lines_read 1 [] ts) front ∙ met) last
+    ∙ alone (behind middle (k + 1) (line_behind middle line)) after (k + 1 + 1) is
+
+-- the texts behind that one
+pub one_less : (texts : List (List ℕ)) (k : ℕ) (line : List ℕ) (more : List (List ℕ)) →
+    drop k texts ≡ line ∷ more → drop (k + 1) texts ≡ more
+one_less texts k line more left =
+    sym (drop-drop 1 k texts) ∙ ap (λ (ts : List (List ℕ)). drop 1 ts) left
+
+-- no text is left
+pub all_read : (texts : List (List ℕ)) (k : ℕ) (middle : List (Line Name)) →
+    lines_read 1 [] (take k texts) ≡ Ok middle → drop k texts ≡ [] → lines_read 1 [] texts ≡ Ok middle
+unfolding lines_read
+all_read texts k middle met none =
+    lines_read-middle 1 k [] middle texts met
+    ∙ ap (λ (ts : List (List ℕ)). lines_read (1 + length (take k texts)) middle ts) none
+
+pub all_counted : (texts : List (List ℕ)) (k : ℕ) → k ≤ length texts → drop k texts ≡ [] → k ≡ length texts
+all_counted texts k within none =
+    let long = ap length none in
+    let rest = length-drop k texts in
+    omega (arith, long, rest, within)
+
+-- what fails goes on failing
+pub fails_then : {A B : Type 0} (kind : AsmFaultKind) (e : AsmFault) (r : Result A AsmFault)
+    (f : A → Result B AsmFault) → FailsAt kind e r → FailsAt kind e (r >>= f)
+fails_then fault.Memory e r f fails = tt
+fails_then _ e r f fails = ap (λ x. x >>= f) fails

@@ -1,0 +1,190 @@
+-- What a statement adds to each list of an image is in its ranges.
+use Rattle.std.proofs.Common.{◌≡◌, inl, inr, ℕ, zero, suc, ◌<◌, ◌≤◌, ℤ, pos, negsuc, FitsSigned, List, [], ◌∷◌, Option, Some, None, sym, subst, arith}
+use Rattle.std.specs.Prelude.{IfSome, option_map}
+use Rattle.std.specs.Int.{w32}
+use Rattle.std.specs.List.{AllByRecursion}
+use Rattle.std.proofs.lemmas.Int.{ints}
+use Rattle.instruction_table.specs.declared.shape.OperandKind.{OperandKind}
+use Rattle.instruction_table.specs.declared.shape.OperandKind.TheVariants as kind
+use Rattle.row_code.specs.declared.operands.Operands.{Operands}
+use Rattle.row_code.specs.RowFields.{IsRow}
+use Rattle.row_code.specs.Phasers.{IsCount, IsPolicy, IsPhaser}
+use Rattle.row_code.specs.Barriers.{IsBarrier}
+use Rattle.row_code.specs.Threads.{IsThread}
+use Rattle.row_code.proofs.RowLaws.{row_with_fits}
+use Rattle.assembler.specs.declared.reference.Reference.{Reference}
+use Rattle.assembler.specs.declared.reference.Reference.TheVariants.{Named, Numbered}
+use Rattle.assembler.specs.declared.symbolic_row.Operand.{Operand}
+use Rattle.assembler.specs.declared.symbolic_row.Operand.TheVariants as operand
+use Rattle.assembler.specs.declared.symbolic_row.SymbolicRow.{SymbolicRow}
+use Rattle.assembler.specs.declared.symbolic_phaser.SymbolicPolicy.{SymbolicPolicy}
+use Rattle.assembler.specs.declared.symbolic_phaser.SymbolicPolicy.TheVariants as policy
+use Rattle.assembler.specs.declared.statement.Statement.{Statement}
+use Rattle.assembler.specs.declared.statement.Statement.TheVariants as statement
+use Rattle.assembler.specs.declared.statement.Line.{Line}
+use Rattle.assembler.specs.Symbols.{Name}
+use Rattle.assembler.specs.Spelling.{Spell, SpellAction, SpellFirstPhase, SpellOperands, SpellParent, SpellPolicy, SpellRow, SpellsNumber, SpellsOperand, SpellsReference, greatest_int, greatest_number, least_int, operand_in}
+use Rattle.assembler.specs.Statements.{count, most, number_named}
+use Rattle.assembler.specs.Meaning.{barriers_in, referent_or_0, number_or_0, operands_of, phasers_in, policy_of, row_of, rows_in, threads_in, with_operand}
+use Rattle.assembler.proofs.Counts.{AreFew, number_within, phaser_below}
+
+-- ---- numbers
+
+few_kinds : (k : OperandKind) → most k ≤ 65535
+few_kinds kind.Target = omega arith
+few_kinds kind.Cell = omega arith
+few_kinds kind.Register = omega arith
+few_kinds kind.Number = omega arith
+few_kinds kind.Phaser = omega arith
+few_kinds kind.Barrier = omega arith
+few_kinds kind.Thread = omega arith
+
+small_or_0 : (n : ℕ) (found : Option ℕ) → IfSome found (λ m. m ≤ n) → number_or_0 found ≤ n
+small_or_0 n None h = omega arith
+small_or_0 n (Some m) h = h
+
+below_or_0 : (n : ℕ) (found : Option ℕ) → IfSome found (λ m. m < n) → n ≤ 64 → number_or_0 found < 64
+below_or_0 n None h few = omega arith
+below_or_0 n (Some m) h few = omega (arith, h)
+
+spelled_below : (high n : ℕ) (word : List ℕ) → SpellsNumber (pos 0) (pos high) word (pos n) → n ≤ high
+spelled_below high n word h = omega (arith, ints, h.greatest)
+
+number_fits : (all : List (Line Name)) → AreFew all → (k : OperandKind) (word : List ℕ) (r : Reference Name) →
+    SpellsReference greatest_number word r → referent_or_0 all k r < 65536
+number_fits all few k word (Named name) h =
+    omega (arith, small_or_0 (count k all) (number_named k name all) (number_within k name all), few k, few_kinds k)
+number_fits all few k word (Numbered n) h = omega (arith, spelled_below 65535 n h.0 h.2)
+
+parent_fits : (all : List (Line Name)) → AreFew all → (word : List ℕ) (r : Reference Name) →
+    SpellsReference 63 word r → referent_or_0 all kind.Phaser r < 64
+parent_fits all few word (Named name) h = below_or_0 (count kind.Phaser all) (number_named kind.Phaser name all) (phaser_below name all) (few kind.Phaser)
+parent_fits all few word (Numbered n) h = omega (arith, spelled_below 63 n h.0 h.2)
+
+int_fits : (word : List ℕ) (value : ℤ) → SpellsNumber least_int greatest_int word value → FitsSigned w32 value
+int_fits word (pos n) h = record { sfits = omega (arith, ints, h.greatest) }
+int_fits word (negsuc n) h = record { sfits = omega (arith, ints, h.least) }
+
+phase_fits : (word : List ℕ) (value : ℤ) → SpellsNumber (pos 0) greatest_int word value → IsCount value
+phase_fits word value h = (h.least, omega (arith, ints, h.greatest))
+
+-- ---- operands
+
+abbrev IsInRange : List (Line Name) → Operand Name → Type 0
+IsInRange all operand.Absent = Unit {0}
+IsInRange all (operand.Register reg) = Unit {0}
+IsInRange all (operand.Number value) = FitsSigned w32 value
+IsInRange all (operand.Object k reference) = referent_or_0 all k reference < 65536
+
+operand_fits : (all : List (Line Name)) → AreFew all → (k : OperandKind) (word : List ℕ) (o : Operand Name) →
+    SpellsOperand k word o → IsInRange all o
+operand_fits all few k word operand.Absent h = tt
+operand_fits all few k word (operand.Register reg) h = tt
+operand_fits all few k word (operand.Number value) h = int_fits word value h.1
+operand_fits all few k word (operand.Object object reference) h = number_fits all few object word reference h.1.1
+
+each_fits : (all : List (Line Name)) → AreFew all → (kinds : List OperandKind) (words : List (List ℕ)) (operands : List (Operand Name)) →
+    SpellOperands kinds words operands → (place : ℕ) → IsInRange all (operand_in operands place)
+each_fits all few [] [] [] h place = tt
+each_fits all few (k ∷ kinds) (word ∷ words) (o ∷ operands) h zero = operand_fits all few k word o h.0
+each_fits all few (k ∷ kinds) (word ∷ words) (o ∷ operands) h (suc place) = each_fits all few kinds words operands h.1 place
+each_fits all few _ _ _ h place = absurd h
+
+record AreInRange (o : Operands) : Type 0 where
+  number : FitsSigned w32 o.number
+  object : o.object < 65536
+
+one_more : (all : List (Line Name)) (operand : Operand Name) (o : Operands) → IsInRange all operand → AreInRange o → AreInRange (with_operand all operand o)
+one_more all operand.Absent o h fit = fit
+one_more all (operand.Register reg) o h fit = record { number = fit.number; object = fit.object }
+one_more all (operand.Number value) o h fit = record { number = h; object = fit.object }
+one_more all (operand.Object k reference) o h fit = record { number = fit.number; object = h }
+
+no_operands : (all : List (Line Name)) → AreInRange (operands_of all [])
+no_operands all = record { number = record { sfits = omega (arith, ints) }; object = omega arith }
+
+row_fits : (all : List (Line Name)) → AreFew all → (words : List (List ℕ)) (row : SymbolicRow Name) → SpellRow words row → IsRow (row_of all row)
+row_fits all few words row (entry, word, rest, operands, spelled, named, is, spell) =
+    let each = each_fits all few entry.operands rest operands spell in
+    let third = one_more all (operand_in operands 2) (operands_of all []) (each 2) (no_operands all) in
+    let second = one_more all (operand_in operands 1) (operands_of all (operand_in operands 2 ∷ [])) (each 1) third in
+    let o = operands_of all (operand_in operands 0 ∷ operand_in operands 1 ∷ operand_in operands 2 ∷ []) in
+    let fit : AreInRange o = one_more all (operand_in operands 0) (operands_of all (operand_in operands 1 ∷ operand_in operands 2 ∷ [])) (each 0) second in
+    subst (λ (r : SymbolicRow Name). IsRow (row_of all r)) (sym is) (row_with_fits entry.opcode o fit.number fit.object)
+
+-- ---- statements
+
+routine_fits : (all : List (Line Name)) → AreFew all → (words : List (List ℕ)) (p : SymbolicPolicy Name) → SpellPolicy words p → IsPolicy (policy_of all p)
+routine_fits all few words policy.Default h = tt
+routine_fits all few words policy.Never h = tt
+routine_fits all few words (policy.Until phase) h = phase_fits h.0 phase h.2
+routine_fits all few words (policy.Routine row) h = number_fits all few kind.Target h.0 row h.2
+
+parent_option : (all : List (Line Name)) → AreFew all → (words : List (List ℕ)) (parent : Option (Reference Name)) → SpellParent words parent →
+    IfSome (option_map (referent_or_0 all kind.Phaser) parent) (λ n. n < 64)
+parent_option all few words None h = tt
+parent_option all few words (Some parent) h = parent_fits all few h.0 parent h.2
+
+action_option : (all : List (Line Name)) → AreFew all → (words : List (List ℕ)) (action : Option (Reference Name)) → SpellAction words action →
+    IfSome (option_map (referent_or_0 all kind.Target) action) (λ n. n < 65536)
+action_option all few words None h = tt
+action_option all few words (Some row) h = number_fits all few kind.Target h.0 row h.2
+
+first_fits : (words : List (List ℕ)) (phase : ℤ) → SpellFirstPhase words phase → IsCount phase
+first_fits words phase (inl h) = subst IsCount (sym h.1) (omega (arith, ints), omega (arith, ints))
+first_fits words phase (inr h) = phase_fits h.0 phase h.2
+
+-- what a statement adds to each list is in its ranges
+pub record Fits (all : List (Line Name)) (s : Statement Name) : Type 0 where
+  pub phasers : AllByRecursion IsPhaser (phasers_in all s)
+  pub barriers : AllByRecursion IsBarrier (barriers_in all s)
+  pub threads : AllByRecursion IsThread (threads_in all s)
+  pub rows : AllByRecursion IsRow (rows_in all s)
+
+pub spelled_fits : (all : List (Line Name)) → AreFew all → (words : List (List ℕ)) (s : Statement Name) → Spell words s → Fits all s
+spelled_fits all few words (statement.Phaser p) (parties, parent, phase, policy, spelled, name, count, has_parent, begins, has_policy) = record {
+  phasers = (
+    record {
+      parent = parent_option all few parent p.parent has_parent;
+      policy = routine_fits all few policy p.policy has_policy;
+      parties = omega (arith, spelled_below 65535 p.parties parties count);
+      first_phase = first_fits phase p.first_phase begins;
+    },
+    tt,
+  );
+  barriers = tt;
+  threads = tt;
+  rows = tt;
+}
+spelled_fits all few words (statement.Barrier b) (parties, action, spelled, name, count, has_action) = record {
+  phasers = tt;
+  barriers = (
+    record {
+      parties = omega (arith, spelled_below 65535 b.parties parties count);
+      action = action_option all few action b.action has_action;
+    },
+    tt,
+  );
+  threads = tt;
+  rows = tt;
+}
+spelled_fits all few words (statement.Thread t) (row, spelled, name, first) = record {
+  phasers = tt;
+  barriers = tt;
+  threads = (record { first_row = number_fits all few kind.Target row t.first_row first }, tt);
+  rows = tt;
+}
+spelled_fits all few words (statement.Cell name) h = record { phasers = tt; barriers = tt; threads = tt; rows = tt }
+spelled_fits all few words (statement.Label name) h = record { phasers = tt; barriers = tt; threads = tt; rows = tt }
+spelled_fits all few words (statement.Row None row) h = record {
+  phasers = tt;
+  barriers = tt;
+  threads = tt;
+  rows = (row_fits all few words row h, tt);
+}
+spelled_fits all few words (statement.Row (Some name) row) (label, rest, spelled, labelled, h) = record {
+  phasers = tt;
+  barriers = tt;
+  threads = tt;
+  rows = (row_fits all few rest row h, tt);
+}

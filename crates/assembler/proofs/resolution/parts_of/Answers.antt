@@ -1,0 +1,15 @@
+use Rattle.std.proofs.Common.{List}
+use Rattle.std.specs.List.{flat_map}
+use Rattle.row_code.specs.declared.phasers.DeclaredPhaser.{DeclaredPhaser}
+use Rattle.row_code.specs.Phasers.{IsPhaser}
+use Rattle.assembler.specs.declared.statement.Line.{Line}
+use Rattle.assembler.specs.Meaning.{phasers_in}
+use Rattle.assembler.specs.Symbols.{Name, line_seen}
+use Rattle.assembler.proofs.RestOfLines.{next_has}
+use Rattle.assembler.proofs.resolution.parts_of.Goals as goal
+
+pub add-requires : goal.add-requires
+add-requires c =
+    let added : Line Name → List DeclaredPhaser = λ line. phasers_in c.args.draft.now line.statement in
+    next_has IsPhaser added line_seen c.args.lines.now c.loop-line.line-index _ c.loop-line.parts.phasers (flat_map added c.args.draft.now)
+    c.loop-line-test.true c.loop-line.invariant.phasers c.requires.fits.phasers.1

@@ -1,0 +1,44 @@
+-- What the assembler keeps of the lines read so far, beside the lines: the meaning of a text doesn't
+-- need it.
+use Rattle.std.specs.Prelude.{◌≡◌, ℕ, if◌then◌else◌, Bool, bytes_eq, List, Option, Some, None, is_some}
+use Rattle.indexmap.specs.IndexMap.{IndexMap, get}
+use Rattle.instruction_table.specs.declared.shape.OperandKind.{OperandKind}
+use Rattle.instruction_table.specs.declared.shape.OperandKind.TheVariants as kind
+use Rattle.assembler.specs.declared.draft.Counts.{Counts}
+use Rattle.assembler.specs.declared.draft.Place.{Place}
+use Rattle.assembler.specs.declared.statement.Line.{Line}
+use Rattle.assembler.specs.Symbols.{Name, Borrowed}
+use Rattle.assembler.specs.Statements.{is_kind, count, is_given, number_named, has_code}
+
+-- how many things of a kind were counted
+abbrev pub counted : Counts → OperandKind → ℕ
+counted counts kind.Target = counts.rows
+counted counts kind.Phaser = counts.phasers
+counted counts kind.Barrier = counts.barriers
+counted counts kind.Thread = counts.threads
+counted counts kind.Cell = counts.cells
+counted counts _ = 0
+
+-- the number at a place that was looked up, where it is of this kind
+abbrev pub number_there : OperandKind → Option Place → Option ℕ
+number_there k None = None
+number_there k (Some place) = if is_kind k place.kind then Some place.number else None
+
+-- what a map has at each name
+abbrev pub places : {S : Type 0} → IndexMap Borrowed Place S → Borrowed → Option Place
+places names name = get (λ a b. bytes_eq a.now b.now) names name
+
+-- names by what they name, counts and whether there is code are those of the lines
+pub record IsKept (lines : List (Line Name)) (names : Borrowed → Option Place) (counts : Counts)
+    (code : Bool) : Type 0 where
+  pub given : (name : Borrowed) → is_some (names name) ≡ is_given name.now lines
+  pub named : (k : OperandKind) → (name : Borrowed) →
+      number_there k (names name) ≡ number_named k name.now lines
+  pub number : (k : OperandKind) → counted counts k ≡ count k lines
+  pub any_code : code ≡ has_code lines
+
+-- places by name, and one name more where there is one
+abbrev pub named_with : Option Name → Place → (Borrowed → Option Place) → Borrowed → Option Place
+named_with None place names name = names name
+named_with (Some given) place names name =
+    if bytes_eq given name.now then Some place else names name

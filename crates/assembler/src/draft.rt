@@ -1,0 +1,295 @@
+ghost use Rattle.std.specs.Prelude.{◌≡◌, ◌+◌, ◌<◌, ◌||◌, ◌++◌, ◌∷◌, [], IfOk, List, map, option_copied, option_map};
+ghost use Rattle.instruction_table.specs.declared.shape.OperandKind.{OperandKind};
+ghost use Rattle.assembler.specs.declared.statement.Line.{Line};
+ghost use Rattle.assembler.specs.Draft.{IsKept, counted, named_with, number_there, places};
+ghost use Rattle.assembler.specs.Meaning.{referent};
+ghost use Rattle.assembler.specs.Statements.{Follows, adds, has_code, has_room, is_code, is_given, is_kind, kind_named, most, name_in};
+ghost use Rattle.assembler.specs.Symbols.{Borrowed, Name, line_seen, name_seen, reference_seen, statement_seen};
+
+use crate::reference::Reference;
+use crate::statement::{Line, Statement};
+use indexmap::IndexMap;
+use instruction_table::OperandKind;
+use std::alloc::{AllocError, Global};
+use std::marker::Model;
+
+/// What a name names: the row or the object of this kind and this number.
+#[derive(Clone, Copy)]
+pub struct Place {
+    pub kind: OperandKind,
+    pub number: u16,
+}
+
+/// How many things of each kind there are.
+#[derive(Clone, Copy)]
+pub struct Counts {
+    pub rows: u16,
+    pub phasers: u16,
+    pub barriers: u16,
+    pub threads: u16,
+    pub cells: u16,
+}
+
+/// The lines of a text read so far that say something, with each name that they give.
+#[derive(Drop)]
+pub struct Draft<'a> {
+    lines: Vec<Line<&'a [u8]>>,
+    names: IndexMap<&'a [u8], Place>,
+    counts: Counts,
+    has_code: bool,
+}
+
+impl<'a> Model for Draft<'a> {
+    ghost Value = { List (Line Name) };
+
+    ghost view = { λ d. map line_seen d.lines.items };
+
+    ghost invariant = { λ d. IsKept (map line_seen d.lines.items)
+        (places d.names) d.counts d.has_code };
+}
+
+/// The name that a statement gives.
+pub fn name_in<'a>(statement: &Statement<&'a [u8]>) -> Option<&'a [u8]>
+    ensures { option_map name_seen result ≡ name_in (statement_seen statement.now) }
+{
+    match statement {
+        Statement::Phaser(phaser) => Some(phaser.name),
+        Statement::Barrier(barrier) => Some(barrier.name),
+        Statement::Thread(thread) => Some(thread.name),
+        Statement::Cell(name) | Statement::Label(name) => Some(*name),
+        Statement::Row(label, _) => *label,
+    }
+}
+
+/// What that name names.
+fn kind_named(statement: &Statement<&[u8]>) -> OperandKind
+    ensures { result ≡ kind_named (statement_seen statement.now) }
+{
+    match statement {
+        Statement::Phaser(_) => OperandKind::Phaser,
+        Statement::Barrier(_) => OperandKind::Barrier,
+        Statement::Thread(_) => OperandKind::Thread,
+        Statement::Cell(_) => OperandKind::Cell,
+        Statement::Label(_) | Statement::Row(_, _) => OperandKind::Target,
+    }
+}
+
+/// How many things of a kind a program may have.
+fn most(kind: OperandKind) -> u16
+    ensures { result ≡ most kind }
+{
+    match kind {
+        OperandKind::Target => 65535,
+        OperandKind::Cell => 32,
+        _ => 64,
+    }
+}
+
+fn counted(counts: &Counts, kind: OperandKind) -> u16
+    ensures { result ≡ counted counts.now kind }
+{
+    match kind {
+        OperandKind::Target => counts.rows,
+        OperandKind::Phaser => counts.phasers,
+        OperandKind::Barrier => counts.barriers,
+        OperandKind::Thread => counts.threads,
+        OperandKind::Cell => counts.cells,
+        OperandKind::Register | OperandKind::Number => 0,
+    }
+}
+
+/// Whether a statement is a label or a row.
+fn is_code(statement: &Statement<&[u8]>) -> bool
+    ensures { result ≡ is_code (statement_seen statement.now) }
+{
+    matches!(statement, Statement::Label(_) | Statement::Row(_, _))
+}
+
+/// Counts what a statement adds.
+fn counted_with(counts: Counts, statement: &Statement<&[u8]>) -> Counts
+    requires { let said = statement_seen statement.now in
+        counted counts (kind_named said) + adds (kind_named said) said < 65536 }
+    ensures { (k : OperandKind) →
+        counted result k ≡ counted counts k + adds k (statement_seen statement.now) }
+{
+    match statement {
+        Statement::Phaser(_) => Counts {
+            phasers: counts.phasers + 1,
+            ..counts
+        },
+        Statement::Barrier(_) => Counts {
+            barriers: counts.barriers + 1,
+            ..counts
+        },
+        Statement::Thread(_) => Counts {
+            threads: counts.threads + 1,
+            ..counts
+        },
+        Statement::Cell(_) => Counts {
+            cells: counts.cells + 1,
+            ..counts
+        },
+        Statement::Label(_) => counts,
+        Statement::Row(_, _) => Counts {
+            rows: counts.rows + 1,
+            ..counts
+        },
+    }
+}
+
+/// Whether there is code with a statement more.
+fn code_with(has_code: bool, statement: &Statement<&[u8]>) -> bool
+    ensures { result ≡ (has_code || is_code (statement_seen statement.now)) }
+{
+    has_code || is_code(statement)
+}
+
+/// What the name of a statement names behind things of these counts.
+fn place_behind(counts: &Counts, statement: &Statement<&[u8]>) -> Place
+    ensures { let kind = kind_named (statement_seen statement.now) in
+        result ≡ record { kind = kind; number = counted counts.now kind } }
+{
+    let kind = kind_named(statement);
+    Place {
+        kind,
+        number: counted(counts, kind),
+    }
+}
+
+/// The names with one more, where there is one.
+fn named_with<'a>(
+    names: IndexMap<&'a [u8], Place>,
+    name: Option<&'a [u8]>,
+    place: Place,
+) -> Result<IndexMap<&'a [u8], Place>, AllocError>
+    ensures { IfOk result (λ with. (q : Borrowed) → places with q
+        ≡ named_with (option_map name_seen name.entry) place (places names.entry) q) }
+{
+    let mut names = names;
+    if let Some(name) = name {
+        names.insert(name, place)?;
+    }
+    Ok(names)
+}
+
+/// The lines with one more.
+fn with_last<'a>(
+    lines: Vec<Line<&'a [u8]>>,
+    line: Line<&'a [u8]>,
+) -> Result<Vec<Line<&'a [u8]>>, AllocError>
+    ensures { IfOk result (λ with. map line_seen with.items
+        ≡ map line_seen lines.entry.items ++ (line_seen line.entry ∷ [])) }
+{
+    let mut lines = lines;
+    lines.push(line)?;
+    Ok(lines)
+}
+
+fn is_kind(one: OperandKind, other: OperandKind) -> bool
+    ensures { result ≡ is_kind one other }
+{
+    one == other
+}
+
+/// The number of a place that is of this kind.
+fn number_there(kind: OperandKind, place: Option<&Place>) -> Option<u16>
+    ensures { result ≡ number_there kind (option_copied place.entry) }
+{
+    match place {
+        Some(place) => {
+            if is_kind(kind, place.kind) {
+                Some(place.number)
+            } else {
+                None
+            }
+        }
+        None => None,
+    }
+}
+
+impl<'a> Draft<'a> {
+    /// Before the first line.
+    pub fn new(alloc: Global) -> Draft<'a>
+        ensures { result ≡ [] }
+    {
+        Draft {
+            lines: Vec::new(alloc),
+            names: IndexMap::new(alloc),
+            counts: Counts {
+                rows: 0,
+                phasers: 0,
+                barriers: 0,
+                threads: 0,
+                cells: 0,
+            },
+            has_code: false,
+        }
+    }
+
+    /// The lines that say something.
+    pub fn lines(&self) -> &[Line<&'a [u8]>]
+        ensures { map line_seen result.now ≡ self.now }
+    {
+        &self.lines
+    }
+
+    /// Whether a label or a row was read.
+    pub fn has_code(&self) -> bool
+        ensures { result ≡ has_code self.now }
+    {
+        self.has_code
+    }
+
+    /// Whether a line gives this name.
+    pub fn is_given(&self, name: &[u8]) -> bool
+        ensures { result ≡ is_given name.now self.now }
+    {
+        self.names.get(&name).is_some()
+    }
+
+    /// Whether there is room for what a statement adds.
+    pub fn has_room(&self, statement: &Statement<&'a [u8]>) -> bool
+        ensures { result ≡ has_room self.now (statement_seen statement.now) }
+    {
+        match statement {
+            Statement::Label(_) => true,
+            _ => {
+                let kind = kind_named(statement);
+                counted(&self.counts, kind) < most(kind)
+            }
+        }
+    }
+
+    /// The number of the row or the object of this kind that is referred to, where there is one.
+    pub fn referent(&self, kind: OperandKind, reference: &Reference<&'a [u8]>) -> Option<u16>
+        ensures { result ≡ referent self.now kind (reference_seen reference.now) }
+    {
+        match reference {
+            Reference::Numbered(number) => Some(*number),
+            Reference::Named(name) => number_there(kind, self.names.get(name)),
+        }
+    }
+
+    /// The draft with one line more, which may follow those so far.
+    pub fn with_line(
+        self,
+        number: u64,
+        statement: Statement<&'a [u8]>,
+    ) -> Result<Draft<'a>, AllocError>
+        requires { Follows self (statement_seen statement) }
+        ensures { IfOk result (λ draft. draft
+            ≡ self.entry ++ (line_seen (record { number = number; statement = statement.entry }) ∷ [])) }
+    {
+        let place = place_behind(&self.counts, &statement);
+        let counts = counted_with(self.counts, &statement);
+        let has_code = code_with(self.has_code, &statement);
+        let names = named_with(self.names, name_in(&statement), place)?;
+        let lines = with_last(self.lines, Line { number, statement })?;
+        Ok(Draft {
+            lines,
+            names,
+            counts,
+            has_code,
+        })
+    }
+}

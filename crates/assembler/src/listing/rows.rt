@@ -1,0 +1,62 @@
+// The lines of the rows.
+ghost use Rattle.std.specs.Prelude.{◌≡◌, ◌++◌, OnOk};
+ghost use Rattle.std.specs.List.{flat_map};
+ghost use Rattle.assembler.specs.Listing.{operands_text, row_text};
+
+use super::pieces::{push_count, push_value};
+use instruction_table::{OperandKind, Row, row_shape};
+use row_code::fields_of;
+use std::alloc::AllocError;
+
+/// The operands of these kinds; a register that is missing ends them.
+#[tactic(auto, using(crate::proofs::ListedTexts::operand_steps))]
+fn push_operands(
+    text: &mut Vec<u8>,
+    kinds: &[OperandKind],
+    registers: &[u8],
+    imm: i32,
+) -> Result<(), AllocError>
+    ensures { OnOk result (text.new.items
+        ≡ text.old.items ++ operands_text kinds.now registers.now imm) }
+{
+    let mut next = 0;
+    for kind in kinds {
+        match *kind {
+            OperandKind::Register => {
+                if next == registers.len() {
+                    return Ok(());
+                }
+                push_count(text, b" r", u64::from(registers[next]))?;
+                next += 1;
+            }
+            OperandKind::Number => push_value(text, b" ", imm)?,
+            OperandKind::Target
+            | OperandKind::Phaser
+            | OperandKind::Barrier
+            | OperandKind::Thread
+            | OperandKind::Cell => push_value(text, b" #", imm)?,
+        }
+    }
+    Ok(())
+}
+
+fn push_row(text: &mut Vec<u8>, row: Row) -> Result<(), AllocError>
+    ensures { OnOk result (text.new.items ≡ text.old.items ++ row_text row) }
+{
+    let shape = row_shape(row);
+    let fields = fields_of(row);
+    text.extend_from_slice(shape.word.as_bytes())?;
+    let registers = [fields.a, fields.b, fields.c];
+    push_operands(text, shape.operands, &registers, fields.imm)?;
+    text.extend_from_slice(b"\n")
+}
+
+#[tactic(auto, using(crate::proofs::ListedTexts::text_steps))]
+pub(super) fn push_rows(text: &mut Vec<u8>, rows: &[Row]) -> Result<(), AllocError>
+    ensures { OnOk result (text.new.items ≡ text.old.items ++ flat_map row_text rows.now) }
+{
+    for row in rows {
+        push_row(text, *row)?;
+    }
+    Ok(())
+}

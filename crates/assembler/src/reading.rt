@@ -1,0 +1,161 @@
+ghost use Rattle.std.specs.Prelude.{◌≡◌, map, option_map};
+ghost use Rattle.assembler.specs.Answers.{Answers, seen};
+ghost use Rattle.assembler.specs.Reading.{before_last, directive_behind, is_label, labelled_behind, line_behind, row_behind, statement_behind, words_behind};
+ghost use Rattle.assembler.specs.Statements.{is_new};
+ghost use Rattle.assembler.specs.Symbols.{name_seen, statement_seen};
+
+use crate::asm_fault::AsmFaultKind;
+use crate::directive::{directive_at, is_directive};
+use crate::draft::{Draft, name_in};
+use crate::name::name_at;
+use crate::statement::Statement;
+use crate::symbolic_row::row_at;
+use crate::words::{are_allowed, words_of};
+use std::alloc::Global;
+
+/// The most bytes that a line holds.
+const LONGEST_LINE: usize = 256;
+
+/// Whether the name that a statement gives, if any, is new.
+fn is_new(draft: &Draft, name: Option<&[u8]>) -> bool
+    ensures { result ≡ is_new draft.now (option_map name_seen name.entry) }
+{
+    match name {
+        Some(name) => !draft.is_given(name),
+        None => true,
+    }
+}
+
+/// Reads a directive behind the lines so far.
+#[tactic(auto, unfolding(crate::specs::Reading::directive_behind))]
+fn directive_behind<'a>(
+    draft: &Draft<'a>,
+    word: &[u8],
+    words: &[&'a [u8]],
+) -> Result<Statement<&'a [u8]>, AsmFaultKind>
+    ensures { seen statement_seen result
+        ≡ directive_behind draft.now word.now (map name_seen words.now) }
+{
+    if draft.has_code() {
+        return Err(AsmFaultKind::MisplacedDirective);
+    }
+    let said = directive_at(word, words)?;
+    if !is_new(draft, name_in(&said)) {
+        return Err(AsmFaultKind::NameTwice);
+    }
+    if !draft.has_room(&said) {
+        return Err(AsmFaultKind::TooMany);
+    }
+    Ok(said)
+}
+
+/// Reads a row behind the lines so far; its label was looked at before.
+#[tactic(auto, unfolding(crate::specs::Reading::row_behind))]
+fn row_behind<'a>(
+    draft: &Draft<'a>,
+    label: Option<&'a [u8]>,
+    word: &[u8],
+    words: &[&'a [u8]],
+) -> Result<Statement<&'a [u8]>, AsmFaultKind>
+    ensures { seen statement_seen result ≡ row_behind draft.now (option_map name_seen label.entry)
+        word.now (map name_seen words.now) }
+{
+    let said = Statement::Row(label, row_at(word, words)?);
+    if !draft.has_room(&said) {
+        return Err(AsmFaultKind::TooMany);
+    }
+    Ok(said)
+}
+
+/// Reads what follows a label: nothing, or a row.
+#[tactic(auto, unfolding(crate::specs::Reading::labelled_behind))]
+fn labelled_behind<'a>(
+    draft: &Draft<'a>,
+    label: &'a [u8],
+    words: &[&'a [u8]],
+) -> Result<Statement<&'a [u8]>, AsmFaultKind>
+    ensures { seen statement_seen result
+        ≡ labelled_behind draft.now label.now (map name_seen words.now) }
+{
+    match words {
+        [] => Ok(Statement::Label(label)),
+        [word, operands @ ..] => {
+            if is_directive(*word) {
+                return Err(AsmFaultKind::MisplacedDirective);
+            }
+            row_behind(draft, Some(label), *word, operands)
+        }
+    }
+}
+
+/// Whether a word ends in a colon.
+#[tactic(auto, using(crate::proofs::Labels::label_by_last))]
+fn is_label(word: &[u8]) -> bool
+    ensures { result ≡ is_label word.now }
+{
+    !word.is_empty() && word[word.len() - 1] == b':'
+}
+
+/// What stands before a word's last byte.
+fn before_last(word: &[u8]) -> &[u8]
+    ensures { result.now ≡ before_last word.now }
+{
+    &word[..word.len().saturating_sub(1)]
+}
+
+/// Reads a line of one word or more behind the lines so far.
+#[tactic(auto, unfolding(crate::specs::Reading::statement_behind))]
+fn statement_behind<'a>(
+    draft: &Draft<'a>,
+    word: &'a [u8],
+    words: &[&'a [u8]],
+) -> Result<Statement<&'a [u8]>, AsmFaultKind>
+    ensures { seen statement_seen result
+        ≡ statement_behind draft.now word.now (map name_seen words.now) }
+{
+    if is_label(word) {
+        let label = name_at(before_last(word))?;
+        if !is_new(draft, Some(label)) {
+            return Err(AsmFaultKind::NameTwice);
+        }
+        labelled_behind(draft, label, words)
+    } else if is_directive(word) {
+        directive_behind(draft, word, words)
+    } else {
+        row_behind(draft, None, word, words)
+    }
+}
+
+/// Reads the words of a line behind the lines so far.
+#[tactic(auto, unfolding(crate::specs::Reading::words_behind))]
+fn words_behind<'a>(
+    draft: &Draft<'a>,
+    words: &[&'a [u8]],
+) -> Result<Option<Statement<&'a [u8]>>, AsmFaultKind>
+    ensures { seen (option_map statement_seen) result
+        ≡ words_behind draft.now (map name_seen words.now) }
+{
+    match words {
+        [] => Ok(None),
+        [word, operands @ ..] => Ok(Some(statement_behind(draft, *word, operands)?)),
+    }
+}
+
+/// Reads a line behind the lines so far: `None` where it says nothing.
+#[tactic(auto, unfolding(crate::specs::Reading::line_behind))]
+pub fn line_behind<'a>(
+    alloc: Global,
+    draft: &Draft<'a>,
+    line: &'a [u8],
+) -> Result<Option<Statement<&'a [u8]>>, AsmFaultKind>
+    ensures { Answers (option_map statement_seen) result (line_behind draft.now line.now) }
+{
+    if !are_allowed(line) {
+        return Err(AsmFaultKind::BadByte);
+    }
+    if line.len() > LONGEST_LINE {
+        return Err(AsmFaultKind::LongLine);
+    }
+    let words = words_of(alloc, line)?;
+    words_behind(draft, &words)
+}

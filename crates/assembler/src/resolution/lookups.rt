@@ -1,0 +1,150 @@
+ghost use Rattle.std.specs.Prelude.{◌≡◌, ◌<◌, if◌then◌else◌, option_map, IfSome, Some, None};
+ghost use Rattle.std.specs.List.{list_all};
+ghost use Rattle.instruction_table.specs.declared.shape.OperandKind.TheVariants as kind;
+ghost use Rattle.row_code.specs.Phasers.{IsPhaser};
+ghost use Rattle.assembler.specs.declared.statement.Statement.TheVariants as statement;
+ghost use Rattle.assembler.specs.Meaning.{are_known, barrier_of, is_known_or_none, is_operand_known, is_policy_known, referent_or_0, operands_of, phaser_of, policy_of, row_of, thread_of, with_operand};
+ghost use Rattle.assembler.specs.Symbols.{barrier_seen, operand_seen, operands_in, phaser_seen, policy_seen, reference_seen, row_seen, thread_seen};
+
+use crate::draft::Draft;
+use crate::reference::Reference;
+use crate::symbolic_barrier::SymbolicBarrier;
+use crate::symbolic_phaser::{SymbolicPhaser, SymbolicPolicy};
+use crate::symbolic_row::{Operand, SymbolicRow};
+use crate::symbolic_thread::SymbolicThread;
+use instruction_table::{OperandKind, Reg, Row};
+use row_code::{
+    DeclaredBarrier, DeclaredPhaser, DeclaredPolicy, DeclaredThread, Operands, row_with,
+};
+
+/// The parent of a phaser, where there is one; nothing where its name is not known.
+fn parent_of<'a>(draft: &Draft<'a>, parent: &Option<Reference<&'a [u8]>>) -> Option<Option<u8>>
+    requires { let parent = option_map reference_seen parent.now in
+        IfSome (option_map (referent_or_0 draft.now kind.Phaser) parent) (λ n. n < 64) }
+    ensures { let parent = option_map reference_seen parent.now in
+        result ≡ (if is_known_or_none draft.now kind.Phaser parent
+        then Some (option_map (referent_or_0 draft.now kind.Phaser) parent) else None) }
+{
+    match parent {
+        None => Some(None),
+        Some(reference) => {
+            let number = draft.referent(OperandKind::Phaser, reference)?;
+            Some(Some(number as u8))
+        }
+    }
+}
+
+/// The policy of a phaser; nothing where the name of its routine is not known.
+fn policy_of<'a>(draft: &Draft<'a>, policy: &SymbolicPolicy<&'a [u8]>) -> Option<DeclaredPolicy>
+    ensures { result ≡ (if is_policy_known draft.now (policy_seen policy.now)
+        then Some (policy_of draft.now (policy_seen policy.now)) else None) }
+{
+    match policy {
+        SymbolicPolicy::Default => Some(DeclaredPolicy::Default),
+        SymbolicPolicy::Never => Some(DeclaredPolicy::Never),
+        SymbolicPolicy::Until(phase) => Some(DeclaredPolicy::Until(*phase)),
+        SymbolicPolicy::Routine(row) => {
+            let row = draft.referent(OperandKind::Target, row)?;
+            Some(DeclaredPolicy::Routine(row))
+        }
+    }
+}
+
+/// A phaser; nothing where a name is not known.
+pub fn phaser_of<'a>(draft: &Draft<'a>, phaser: &SymbolicPhaser<&'a [u8]>) -> Option<DeclaredPhaser>
+    requires { IsPhaser (phaser_of draft.now (phaser_seen phaser.now)) }
+    ensures { result ≡ (if are_known draft.now (statement.Phaser (phaser_seen phaser.now))
+        then Some (phaser_of draft.now (phaser_seen phaser.now)) else None) }
+{
+    let parent = parent_of(draft, &phaser.parent)?;
+    let policy = policy_of(draft, &phaser.policy)?;
+    Some(DeclaredPhaser {
+        parent,
+        policy,
+        parties: phaser.parties,
+        first_phase: phaser.first_phase,
+    })
+}
+
+/// A barrier; nothing where the name of its action is not known.
+pub fn barrier_of<'a>(
+    draft: &Draft<'a>,
+    barrier: &SymbolicBarrier<&'a [u8]>,
+) -> Option<DeclaredBarrier>
+    ensures { result ≡ (if are_known draft.now (statement.Barrier (barrier_seen barrier.now))
+        then Some (barrier_of draft.now (barrier_seen barrier.now)) else None) }
+{
+    let action = match &barrier.action {
+        None => None,
+        Some(row) => Some(draft.referent(OperandKind::Target, row)?),
+    };
+    Some(DeclaredBarrier {
+        parties: barrier.parties,
+        action,
+    })
+}
+
+/// A thread; nothing where the name of its first row is not known.
+pub fn thread_of<'a>(draft: &Draft<'a>, thread: &SymbolicThread<&'a [u8]>) -> Option<DeclaredThread>
+    ensures { result ≡ (if are_known draft.now (statement.Thread (thread_seen thread.now))
+        then Some (thread_of draft.now (thread_seen thread.now)) else None) }
+{
+    let first_row = draft.referent(OperandKind::Target, &thread.first_row)?;
+    Some(DeclaredThread { first_row })
+}
+
+/// One more operand before these; nothing where its name is not known.
+fn with_operand<'a>(
+    draft: &Draft<'a>,
+    operand: &Operand<&'a [u8]>,
+    operands: Operands,
+) -> Option<Operands>
+    ensures { result ≡ (if is_operand_known draft.now (operand_seen operand.now)
+        then Some (with_operand draft.now (operand_seen operand.now) operands) else None) }
+{
+    match operand {
+        Operand::Absent => Some(operands),
+        Operand::Register(reg) => Some(Operands {
+            a: *reg,
+            b: operands.a,
+            c: operands.b,
+            ..operands
+        }),
+        Operand::Number(value) => Some(Operands {
+            number: *value,
+            ..operands
+        }),
+        Operand::Object(kind, reference) => {
+            let object = draft.referent(*kind, reference)?;
+            Some(Operands { object, ..operands })
+        }
+    }
+}
+
+/// The operands of a row; nothing where a name is not known.
+fn operands_of<'a>(draft: &Draft<'a>, row: &SymbolicRow<&'a [u8]>) -> Option<Operands>
+    ensures { result
+        ≡ (if list_all (is_operand_known draft.now) (operands_in (row_seen row.now))
+        then Some (operands_of draft.now (operands_in (row_seen row.now))) else None) }
+{
+    let none = Operands {
+        a: Reg::R0,
+        b: Reg::R0,
+        c: Reg::R0,
+        number: 0,
+        object: 0,
+    };
+    let operands = with_operand(draft, &row.third, none)?;
+    let operands = with_operand(draft, &row.second, operands)?;
+    with_operand(draft, &row.first, operands)
+}
+
+/// A row; nothing where a name is not known.
+pub fn row_of<'a>(draft: &Draft<'a>, row: &SymbolicRow<&'a [u8]>) -> Option<Row>
+    ensures { result
+        ≡ (if list_all (is_operand_known draft.now) (operands_in (row_seen row.now))
+        then Some (row_of draft.now (row_seen row.now)) else None) }
+{
+    let operands = operands_of(draft, row)?;
+    Some(row_with(row.opcode, operands))
+}

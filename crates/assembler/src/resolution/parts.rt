@@ -1,0 +1,109 @@
+ghost use Rattle.std.specs.Prelude.{◌≡◌, ◌++◌, [], IfOk, true, Ok, is_some};
+ghost use Rattle.std.specs.List.{AllByRecursion, cons_option};
+ghost use Rattle.row_code.specs.declared.image.Image.{Image};
+ghost use Rattle.row_code.specs.Image.{IsImage};
+ghost use Rattle.row_code.specs.Phasers.{IsPhaser};
+ghost use Rattle.assembler.specs.Meaning.{are_known, barriers_in, image_of, phasers_in, rows_in, threads_in};
+ghost use Rattle.assembler.specs.Symbols.{statement_seen};
+
+use super::lookups::{barrier_of, phaser_of, row_of, thread_of};
+use crate::draft::Draft;
+use crate::statement::Statement;
+use instruction_table::Row;
+use row_code::{
+    Barriers, DeclaredBarrier, DeclaredPhaser, DeclaredThread, Image, Phasers, Rows, Threads,
+};
+use std::alloc::{AllocError, Global};
+use std::marker::Model;
+
+/// What the lines so far add to an image, as an image that need not be within its limits.
+#[derive(Drop)]
+pub struct Parts {
+    phasers: Vec<DeclaredPhaser>,
+    barriers: Vec<DeclaredBarrier>,
+    threads: Vec<DeclaredThread>,
+    rows: Vec<Row>,
+}
+
+impl Model for Parts {
+    ghost Value = { Image };
+
+    ghost view = { λ p. record {
+      phasers = p.phasers.items;
+      barriers = p.barriers.items;
+      threads = p.threads.items;
+      rows = p.rows.items;
+    } };
+}
+
+/// Adds what was found, and tells whether anything was.
+fn push_found<T: Drop>(list: &mut Vec<T>, found: Option<T>) -> Result<bool, AllocError>
+    ensures found { IfOk result (λ known. known ≡ is_some found) }
+    ensures list { IfOk result (λ _. list.new.items ≡ list.old.items ++ cons_option found []) }
+{
+    match found {
+        Some(part) => {
+            list.push(part)?;
+            Ok(true)
+        }
+        None => Ok(false),
+    }
+}
+
+impl Parts {
+    /// Without any line.
+    pub fn new(alloc: Global) -> Parts
+        ensures { result ≡ image_of [] }
+    {
+        Parts {
+            phasers: Vec::new(alloc),
+            barriers: Vec::new(alloc),
+            threads: Vec::new(alloc),
+            rows: Vec::new(alloc),
+        }
+    }
+
+    /// Adds what a statement adds to an image, where each name that it refers to is known, and
+    /// tells whether this is so.
+    pub fn add<'a>(
+        &mut self,
+        draft: &Draft<'a>,
+        statement: &Statement<&'a [u8]>,
+    ) -> Result<bool, AllocError>
+        requires { AllByRecursion IsPhaser (phasers_in draft.now (statement_seen statement.now)) }
+        ensures known { IfOk result (λ known. known
+            ≡ are_known draft.now (statement_seen statement.now)) }
+        ensures phasers { result ≡ Ok true → self.new.phasers
+            ≡ self.old.phasers ++ phasers_in draft.now (statement_seen statement.now) }
+        ensures barriers { result ≡ Ok true → self.new.barriers
+            ≡ self.old.barriers ++ barriers_in draft.now (statement_seen statement.now) }
+        ensures threads { result ≡ Ok true → self.new.threads
+            ≡ self.old.threads ++ threads_in draft.now (statement_seen statement.now) }
+        ensures rows { result ≡ Ok true → self.new.rows
+            ≡ self.old.rows ++ rows_in draft.now (statement_seen statement.now) }
+    {
+        match statement {
+            Statement::Phaser(phaser) => push_found(&mut self.phasers, phaser_of(draft, phaser)),
+            Statement::Barrier(barrier) => push_found(
+                &mut self.barriers,
+                barrier_of(draft, barrier),
+            ),
+            Statement::Thread(thread) => push_found(&mut self.threads, thread_of(draft, thread)),
+            Statement::Row(_, row) => push_found(&mut self.rows, row_of(draft, row)),
+            Statement::Cell(_) | Statement::Label(_) => Ok(true),
+        }
+    }
+
+    /// The image, once it is within its limits.
+    pub fn into_image(self) -> Image
+        requires { IsImage self }
+        ensures { result ≡ self }
+    {
+        Image {
+            phasers: Phasers::new(self.phasers).unwrap(),
+            barriers: Barriers::new(self.barriers).unwrap(),
+            threads: Threads::new(self.threads).unwrap(),
+            rows: Rows::new(self.rows).unwrap(),
+        }
+    }
+}
