@@ -1,5 +1,5 @@
 -- How many things of a kind there are, and the numbers that names stand for.
-use Rattle.std.proofs.Common.{◌≡◌, ℕ, ◌+◌, ◌<◌, ◌≤◌, Bool, true, false, cond, nat_lt, List, [], ◌∷◌, ◌++◌, length, Option, Some, None, refl, sym, ap, subst, append_assoc, arith}
+use Rattle.std.proofs.Common.{◌≡◌, ℕ, ◌+◌, ◌<◌, ◌≤◌, Bool, true, false, cond, nat_lt, List, [], ◌∷◌, ◌++◌, Option, Some, None, refl, sym, subst, append_assoc, arith}
 use Rattle.std.specs.Prelude.{IfSome, option_map, bytes_eq}
 use Rattle.std.proofs.lemmas.Bool.Decides.{nat_tests}
 use Rattle.std.proofs.lemmas.List.{append-nil}
@@ -9,7 +9,7 @@ use Rattle.assembler.specs.declared.statement.Statement.{Statement}
 use Rattle.assembler.specs.declared.statement.Statement.TheVariants as statement
 use Rattle.assembler.specs.declared.statement.Line.{Line}
 use Rattle.assembler.specs.Symbols.{Name}
-use Rattle.assembler.specs.Statements.{adds, count, gives, gives_to, has_room, is_kind, kind_named, most, number_named, Follows, EachFollows}
+use Rattle.assembler.specs.Statements.{adds, count, gives_to, has_room, is_kind, most, number_named, EachFollows}
 
 same_kind : (k named : OperandKind) → is_kind k named ≡ true → k ≡ named
 same_kind kind.Register kind.Register h = refl

@@ -81,7 +81,7 @@ fn two_threads_meet_in_56_bytes(rt: HostRuntime) -> Result<(), Fail> {
 /// A line that begins so, filled up with a byte to this length.
 fn line_of(alloc: Global, begin: &[u8], fill: u8, length: usize) -> Result<Vec<u8>, AllocError> {
     let mut line = Vec::from_slice(alloc, begin)?;
-    while line.len() < length {
+    for _ in begin.len()..length {
         line.push(fill)?;
     }
     Ok(line)

@@ -1,4 +1,4 @@
-use Rattle.std.proofs.Common.{◌≡◌, [], sym, subst}
+use Rattle.std.proofs.Common.{[], sym, subst}
 use Rattle.row_code.specs.Image.{IsImage}
 use Rattle.assembler.specs.Meaning.{image_of}
 use Rattle.assembler.specs.Passes.{IsAtHand}

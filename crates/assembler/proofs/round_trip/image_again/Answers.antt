@@ -1,4 +1,4 @@
-use Rattle.std.proofs.Common.{◌≡◌, sym, subst}
+use Rattle.std.proofs.Common.{sym, subst}
 use Rattle.assembler.specs.Meaning.{StandsFor}
 use Rattle.assembler.proofs.ReadLines.{same_again, memory_alone}
 use Rattle.assembler.proofs.round_trip.image_again.Goals as goal
