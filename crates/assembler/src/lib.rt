@@ -14,7 +14,7 @@
 // What the lines of a text consist of.
 mod name;
 mod number;
-mod words;
+pub mod words;
 
 // What a line says: a row or an object that it declares, with names where there may be names.
 mod reference;

@@ -41,7 +41,7 @@ pub fn place_of(byte: u8, bytes: &[u8]) -> Option<usize>
 
 /// How many bytes stand before the first one that is this byte: all where none is.
 #[tactic(auto, using(crate::proofs::Places::position_some, crate::proofs::Places::position_none))]
-fn length_before(byte: u8, bytes: &[u8]) -> usize
+pub fn length_before(byte: u8, bytes: &[u8]) -> usize
     ensures length { result ≡ position_or_len (λ one. one == byte) bytes.now }
     ensures within { result ≤ length bytes.now }
 {
@@ -52,7 +52,7 @@ fn length_before(byte: u8, bytes: &[u8]) -> usize
 }
 
 /// What stands before the line's comment.
-fn before_comment(line: &[u8]) -> &[u8]
+pub fn before_comment(line: &[u8]) -> &[u8]
     ensures { result.now ≡ before_first begins_comment line.now }
 {
     &line[..length_before(b';', line)]

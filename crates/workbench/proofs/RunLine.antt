@@ -1,33 +1,16 @@
 -- The first line of a file, and the parts before and after the run line.
-use Rattle.std.proofs.Common.{◌≡◌, ◌∙◌, ◌+◌, ◌-◌, ◌<◌, ◌≤◌, ◌==◌, ◌&&◌, ℕ, Bool, true, false, List, [], ◌∷◌, ◌++◌, length, take, drop, get_or, Some, None, cond, nat_lt, refl, ap, sym, arith, rules, tests}
-use Rattle.std.specs.Prelude.{codes, not}
+use Rattle.std.proofs.Common.{◌≡◌, ◌∙◌, ◌+◌, ◌-◌, ◌<◌, ◌≤◌, ◌==◌, ◌&&◌, ℕ, true, false, List, [], ◌∷◌, ◌++◌, length, take, drop, get_or, cond, refl, ap, sym, arith, rules, tests}
+use Rattle.std.specs.Prelude.{codes}
 use Rattle.std.proofs.Common.{inl, inr, ◌⊎◌}
 use Rattle.std.proofs.lemmas.Bool.{cases_lt}
-use Rattle.std.specs.List.{slice_split, position, position_or_len, before_first, after_first, list_all, join_with_byte}
+use Rattle.std.specs.List.{slice_split, position_or_len, before_first, after_first, list_all, join_with_byte}
 use Rattle.std.specs.Str.{bytes_eq}
 use Rattle.std.proofs.lemmas.Bool.Decides.{nat_tests}
 use Rattle.std.proofs.lemmas.List.{take_all, take_more, drop_all, drop-drop, append-nil, append_assoc, length-drop, take-append-drop, take-take, drop-take}
 use Rattle.std.proofs.lemmas.List.Splits.{slice_split_first, slice_split_none, join_with_byte-slice_split, length-slice_split}
-use Rattle.std.proofs.lemmas.List.Sums.{fails_before_first, passes_at_first, prefix_len-le-length}
-use Rattle.workbench.specs.RunLine.{is_line_end, is_run_line, are_run, after_run, before_run, schedule_part, program_part}
-
--- a found place is the first one
-found_at : (b : Bool) (k n : ℕ) → Some k ≡ cond b (Some n) None → k ≡ n
-found_at true k n h = cc
-found_at false k n h = cc
-
-pub position_some : (p : ℕ → Bool) (bs : List ℕ) (k : ℕ) → Some k ≡ position p bs → k ≡ position_or_len p bs
-position_some p bs k h = found_at (nat_lt (position_or_len p bs) (length bs)) k (position_or_len p bs) h
-
-not_found : (b : Bool) (n : ℕ) → None ≡ cond b (Some n) None → b ≡ false
-not_found true n h = cc
-not_found false n h = refl
-
-pub position_none : (p : ℕ → Bool) (bs : List ℕ) → None ≡ position p bs → length bs ≡ position_or_len p bs
-position_none p bs h =
-    let far = not_found (nat_lt (position_or_len p bs) (length bs)) (position_or_len p bs) h in
-    let within = prefix_len-le-length (λ b. not (p b)) bs in
-    grind (arith, nat_tests, far, within)
+use Rattle.std.proofs.lemmas.List.Sums.{fails_before_first, passes_at_first}
+use Rattle.assembler.specs.Words.{is_line_end}
+use Rattle.workbench.specs.RunLine.{is_run_line, are_run, after_run, before_run, schedule_part, program_part}
 
 -- one word, and each word is `.run`
 pub are_run_by_count : (ws : List (List ℕ))

@@ -1,28 +1,65 @@
 -- What the program without words does with its input.
-use Rattle.std.specs.Prelude.{◌≡◌, ℕ, List, Option, None}
+use Rattle.std.specs.Prelude.{◌≡◌, ◌⊎◌, ℕ, Bool, List, map, Option, Some, None, Err, IsSome, IsTrue}
 use Rattle.std.specs.Io.KnownBytes.{Consumes, IsAtEnd, Appends}
 use Rattle.instruction_table.specs.declared.row.Row.{Row}
 use Rattle.packed_phaser.specs.declared.policy.Policy.{Policy}
+use Rattle.row_code.specs.declared.image.Image.{Image}
+use Rattle.assembler.specs.Meaning.{StandsFor}
+use Rattle.assembler.specs.Passes.{assembled}
 use Rattle.thread_machine.specs.World.{World}
-use Rattle.thread_machine.specs.Program.{IsProgram, first_world}
+use Rattle.thread_machine.specs.Program.{IsProgram, first_world, new_phaser}
+use Rattle.workbench.specs.declared.fault.Fault.{Fault}
+use Rattle.workbench.specs.declared.fault.Fault.TheVariants as fault
 use Rattle.workbench.specs.declared.schedule.Run.{Run}
-use Rattle.workbench.specs.RunLine.{schedule_part}
+use Rattle.workbench.specs.Fault.{line_of}
+use Rattle.workbench.specs.Playable.{parts_of}
+use Rattle.workbench.specs.RunLine.{program_part, schedule_part}
 use Rattle.workbench.specs.Schedule.{finished_schedule, choices_of}
 use Rattle.workbench.specs.Trace.{trace_of}
 
--- the world of some program before its first choice
-abbrev pub IsFirstWorld : World → Type 0
-IsFirstWorld world =
-    (rows : List Row) × ((threads : List ℕ) × ((phasers : List (ℕ × Policy))
-    × (IsProgram rows threads phasers × (world ≡ first_world rows threads phasers 1000000000))))
+-- an image's rows, the first rows of its threads, and words for its phasers, each with its policy
+abbrev pub ArePartsOf : Image → List Row → List ℕ → List (ℕ × Policy) → Type 0
+ArePartsOf image rows threads phasers =
+    parts_of image ≡ Some (record { rows = rows; threads = threads; phasers = map new_phaser phasers })
 
--- the trace of some program, played from its beginning under the schedule that follows the text's line `.run`
+-- the world of an image before its first choice: its parts are a program
+abbrev pub IsFirstWorld : Image → World → Type 0
+IsFirstWorld image world =
+    (rows : List Row) × ((threads : List ℕ) × ((phasers : List (ℕ × Policy))
+    × (ArePartsOf image rows threads phasers × (IsProgram rows threads phasers
+    × (world ≡ first_world rows threads phasers 1000000000)))))
+
+-- an image that isn't played: there is no such world
+abbrev pub IsUnplayed : Image → Type 0
+IsUnplayed image = (world : World) → IsFirstWorld image world → ⊥
+
+-- the world of the program that a text stands for, before its first choice
+abbrev pub Begins : List ℕ → World → Type 0
+Begins program world = (image : Image) × (StandsFor program image × IsFirstWorld image world)
+
+-- a text that stands for a program that isn't played
+abbrev pub StandsForUnplayed : List ℕ → Type 0
+StandsForUnplayed program = (image : Image) × (StandsFor program image × IsUnplayed image)
+
+-- the trace of the program that stands before a text's line `.run`, played from its beginning under the schedule that
+-- follows this line
 abbrev pub IsTraceOf : List ℕ → List ℕ → Type 0
 IsTraceOf text trace =
     (world : World) × ((runs : List Run)
-    × (IsFirstWorld world
+    × (Begins (program_part text) world
     × (finished_schedule (schedule_part text) ≡ record { runs = runs; fault = None })
     × (trace ≡ trace_of world (choices_of runs))))
+
+-- a schedule with a fault
+abbrev pub IsFaulty : List ℕ → Type 0
+IsFaulty schedule = IsSome (finished_schedule schedule).fault
+
+-- why a program and a schedule have no trace, by the fault that is told: the program's text has this fault; or it stands
+-- for no program that is played, or the schedule has a fault
+abbrev pub AreRefusedFor : Fault → List ℕ → List ℕ → Type 0
+AreRefusedFor (fault.Asm f) program schedule = assembled program ≡ Err f
+AreRefusedFor fault.Refused program schedule = StandsForUnplayed program ⊎ IsFaulty schedule
+AreRefusedFor _ program schedule = ⊥
 
 -- the input was read to its end, and such a trace of it was written
 abbrev pub HasTraced : Option (List ℕ) → Option (List ℕ) → Option (List ℕ) → Option (List ℕ) → Type 0
@@ -30,3 +67,14 @@ HasTraced input_before input_after output_before output_after =
     (text : List ℕ) × ((trace : List ℕ)
     × (Consumes input_before input_after text × IsAtEnd input_after × IsTraceOf text trace
     × Appends output_before output_after trace))
+
+-- the input was read to its end, and is refused for this fault
+abbrev pub HasRefused : Fault → Option (List ℕ) → Option (List ℕ) → Type 0
+HasRefused f input_before input_after =
+    (text : List ℕ) × (Consumes input_before input_after text × IsAtEnd input_after
+    × AreRefusedFor f (program_part text) (schedule_part text))
+
+-- the line of a fault was written, unless the port failed
+abbrev pub HasTold : Fault → Bool → Option (List ℕ) → Option (List ℕ) → Type 0
+HasTold f has_failed errors_before errors_after =
+    IsTrue has_failed ⊎ Appends errors_before errors_after (line_of f)

@@ -1,7 +1,7 @@
 pub mod Both
 pub mod Fault
 pub mod Input
-pub mod Operand
+pub mod Playable
 pub mod RunLine
 pub mod Schedule
 pub mod Trace

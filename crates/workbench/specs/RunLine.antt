@@ -1,27 +1,8 @@
 -- Where a file's program text ends and its schedule begins: at the first line whose only word is `.run`.
-use Rattle.std.specs.Prelude.{ℕ, ◌==◌, ◌||◌, not, if◌then◌else◌, Bool, false, List, [], ◌∷◌, ◌++◌, length, codes}
-use Rattle.std.specs.List.{slice_split, filter, before_first, join_with_byte}
+use Rattle.std.specs.Prelude.{ℕ, if◌then◌else◌, Bool, false, List, [], ◌∷◌, ◌++◌, codes}
+use Rattle.std.specs.List.{slice_split, join_with_byte}
 use Rattle.std.specs.Str.{bytes_eq}
-
--- space, tab and CR
-abbrev pub is_blank : ℕ → Bool
-is_blank byte = (byte == 32) || (byte == 9) || (byte == 13)
-
--- LF, which ends a line
-abbrev pub is_line_end : ℕ → Bool
-is_line_end byte = byte == 10
-
--- a semicolon, which begins a comment
-abbrev pub begins_comment : ℕ → Bool
-begins_comment byte = byte == 59
-
--- the pieces between blanks that aren't empty
-abbrev pub words_in : List ℕ → List (List ℕ)
-words_in text = filter (λ piece. not (length piece == 0)) (slice_split is_blank text)
-
--- a line's words: those up to the comment
-abbrev pub words_of : List ℕ → List (List ℕ)
-words_of line = words_in (before_first begins_comment line)
+use Rattle.assembler.specs.Words.{is_line_end, words_of}
 
 -- `.run` and no other word
 abbrev pub are_run : List (List ℕ) → Bool

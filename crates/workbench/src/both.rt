@@ -1,17 +1,26 @@
-ghost use Rattle.std.specs.Prelude.{◌≡◌, ◌≢◌, ◌⊎◌, List, ℕ, IsTrue, OnOk, IfOk, None};
+ghost use Rattle.std.specs.Prelude.{◌≡◌, ◌≢◌, ◌⊎◌, List, ℕ, IsTrue, OnOk, IfOk, IfErr, None};
 ghost use Rattle.std.specs.Io.KnownBytes.{Appends};
+ghost use Rattle.assembler.specs.declared.asm_fault.AsmFault.{AsmFault};
+ghost use Rattle.assembler.specs.Answers.{FailsAt};
+ghost use Rattle.assembler.specs.Passes.{assembled};
+ghost use Rattle.workbench.specs.declared.fault.Fault.{Fault};
+ghost use Rattle.workbench.specs.Both.{AreRefusedFor, Begins, HasRefused, HasTold, HasTraced, IsFaulty, IsFirstWorld, IsTraceOf, IsUnplayed, StandsForUnplayed};
+ghost use Rattle.workbench.specs.Fault.{status_of};
 ghost use Rattle.workbench.specs.Input.{GivesMoreThan};
-ghost use Rattle.workbench.specs.Both.{IsFirstWorld, IsTraceOf, HasTraced};
+ghost use Rattle.workbench.specs.RunLine.{program_part, schedule_part};
 ghost use Rattle.workbench.specs.Schedule.{finished_schedule};
 
 use crate::fault::Fault;
 use crate::input::{MOST_BYTES, read_all};
-use crate::program_text::{Parts, TextFault, read_program, split_at_run};
+use crate::playable::parts_of;
+use crate::run_line::split_at_run;
 use crate::schedule::{Run, ScheduleFault, read_schedule};
 use crate::trace::{PlayFault, play};
+use assembler::assemble;
 use byte_ports::{Sink, Source};
+use row_code::Image;
 use std::alloc::Global;
-use thread_machine::Machine;
+use thread_machine::{Machine, is_program};
 
 /// How many effective steps a program may take.
 const MOST_STEPS: u32 = 1_000_000_000;
@@ -21,17 +30,24 @@ const DONE: u8 = 0;
 
 /// Reads a program text, a line `.run` and a schedule from `input`, plays the program under the schedule and writes the
 /// trace to `output`. Answers the exit status, 0 where all went well. For any other status one line stands on `errors`:
-/// `refused` (3) where the program or the schedule is none, `memory` (4), or `read` or `write` (5). What `errors` makes of
-/// that line changes no status.
+/// `refused asm LINE KIND` (3) for a fault of the program's text, `refused` (3) where the program isn't played or the
+/// schedule has a fault, `memory` (4), or `read` or `write` (5). What `errors` makes of that line changes no status.
 pub fn both_cmd<S: Source, K: Sink, E: Sink>(
     alloc: Global,
     input: &mut S,
     output: &mut K,
     errors: &mut E,
 ) -> u8
+    ensures statuses { (result ≡ 0) ⊎ ((result ≡ 3) ⊎ ((result ≡ 4) ⊎ (result ≡ 5))) }
     ensures done { result ≡ 0 → HasTraced (S.left input.old) (S.left input.new)
         (K.written output.old) (K.written output.new) }
-    ensures refused { result ≡ 3 → K.written output.new ≡ K.written output.old }
+    ensures refused { result ≡ 3 → (fault : Fault)
+        × (HasRefused fault (S.left input.old) (S.left input.new)
+        × HasTold fault (E.has_failed errors.new) (E.written errors.old) (E.written errors.new)) }
+    ensures told { ((result ≡ 0) × (E.written errors.new ≡ E.written errors.old))
+        ⊎ ((fault : Fault) × ((result ≡ status_of fault)
+        × HasTold fault (E.has_failed errors.new) (E.written errors.old) (E.written errors.new))) }
+    ensures unchanged { result ≡ 3 → K.written output.new ≡ K.written output.old }
     ensures port { result ≡ 5 → IsTrue (S.has_failed input.new)
         ⊎ (GivesMoreThan MOST_BYTES (S.left input.old) (S.left input.new)
         ⊎ IsTrue (K.has_failed output.new)) }
@@ -39,7 +55,7 @@ pub fn both_cmd<S: Source, K: Sink, E: Sink>(
     match both(alloc, input, output) {
         Ok(()) => DONE,
         Err(fault) => {
-            let _ = errors.push(fault.line());
+            let _ = fault.tell(errors);
             fault.status()
         }
     }
@@ -49,7 +65,10 @@ pub fn both_cmd<S: Source, K: Sink, E: Sink>(
 fn both<S: Source, K: Sink>(alloc: Global, input: &mut S, output: &mut K) -> Result<(), Fault>
     ensures done { OnOk result (HasTraced (S.left input.old) (S.left input.new)
         (K.written output.old) (K.written output.new)) }
-    ensures refused { result ≡ Err Fault.Refused → K.written output.new ≡ K.written output.old }
+    ensures refused { IfErr result (λ fault. status_of fault ≡ 3
+        → HasRefused fault (S.left input.old) (S.left input.new)) }
+    ensures unchanged { IfErr result (λ fault. status_of fault ≡ 3
+        → K.written output.new ≡ K.written output.old) }
     ensures read { result ≡ Err Fault.Read → IsTrue (S.has_failed input.new)
         ⊎ GivesMoreThan MOST_BYTES (S.left input.old) (S.left input.new) }
     ensures write { result ≡ Err Fault.Write → IsTrue (K.has_failed output.new) }
@@ -62,13 +81,22 @@ fn both<S: Source, K: Sink>(alloc: Global, input: &mut S, output: &mut K) -> Res
 fn trace_text<K: Sink>(alloc: Global, text: &[u8], output: &mut K) -> Result<(), Fault>
     ensures done { OnOk result ((trace : List ℕ) × (IsTraceOf text.now trace
         × Appends (K.written output.old) (K.written output.new) trace)) }
-    ensures refused { result ≡ Err Fault.Refused → K.written output.new ≡ K.written output.old }
+    ensures refused { IfErr result (λ fault. status_of fault ≡ 3
+        → AreRefusedFor fault (program_part text.now) (schedule_part text.now)) }
+    ensures unchanged { IfErr result (λ fault. status_of fault ≡ 3
+        → K.written output.new ≡ K.written output.old) }
     ensures read { result ≢ Err Fault.Read }
     ensures write { result ≡ Err Fault.Write → IsTrue (K.has_failed output.new) }
 {
     let (program, schedule) = split_at_run(text);
-    let mut machine = machine_of(alloc, program)?;
-    let runs = runs_of(alloc, schedule)?;
+    let mut machine = match machine_of(alloc, program) {
+        Ok(machine) => machine,
+        Err(fault) => return Err(fault),
+    };
+    let runs = match runs_of(alloc, schedule) {
+        Ok(runs) => runs,
+        Err(fault) => return Err(fault),
+    };
     match play(alloc, &mut machine, runs.as_slice(), output) {
         Ok(()) => Ok(()),
         Err(PlayFault::Memory) => Err(Fault::Memory),
@@ -78,21 +106,34 @@ fn trace_text<K: Sink>(alloc: Global, text: &[u8], output: &mut K) -> Result<(),
 
 /// The machine of a program text, before its first choice.
 fn machine_of(alloc: Global, program: &[u8]) -> Result<Machine, Fault>
-    ensures machine { IfOk result IsFirstWorld }
+    ensures machine { IfOk result (λ machine. Begins program.now machine) }
+    ensures asm { (fault : AsmFault) → result ≡ Err (Fault.Asm fault)
+        → FailsAt fault.kind fault (assembled program.now) }
+    ensures refused { result ≡ Err Fault.Refused → StandsForUnplayed program.now }
     ensures read { result ≢ Err Fault.Read }
     ensures write { result ≢ Err Fault.Write }
 {
-    let parts = match read_program(alloc, program) {
-        Ok(parts) => parts,
-        Err(TextFault::Refused) => return Err(Fault::Refused),
-        Err(TextFault::Memory) => return Err(Fault::Memory),
+    match assemble(alloc, program) {
+        Ok(image) => machine_of_image(alloc, image),
+        Err(fault) => Err(Fault::Asm(fault)),
+    }
+}
+
+/// The machine of an image, before its first choice.
+fn machine_of_image(alloc: Global, image: Image) -> Result<Machine, Fault>
+    ensures machine { IfOk result (λ machine. IsFirstWorld image machine) }
+    ensures refused { result ≡ Err Fault.Refused → IsUnplayed image }
+    ensures fault { IfErr result (λ fault. (fault ≡ Fault.Refused) ⊎ (fault ≡ Fault.Memory)) }
+{
+    let parts = match parts_of(alloc, image) {
+        Ok(Some(parts)) => parts,
+        Ok(None) => return Err(Fault::Refused),
+        Err(_) => return Err(Fault::Memory),
     };
-    let Parts {
-        rows,
-        threads,
-        phasers,
-    } = parts;
-    match Machine::of_parts(alloc, rows, threads, phasers, MOST_STEPS) {
+    if !is_program(&parts.rows, &parts.threads, &parts.phasers) {
+        return Err(Fault::Refused);
+    }
+    match Machine::of_parts(alloc, parts.rows, parts.threads, parts.phasers, MOST_STEPS) {
         Ok(machine) => Ok(machine),
         Err(_) => Err(Fault::Memory),
     }
@@ -102,8 +143,8 @@ fn machine_of(alloc: Global, program: &[u8]) -> Result<Machine, Fault>
 fn runs_of(alloc: Global, schedule: &[u8]) -> Result<Vec<Run>, Fault>
     ensures runs { IfOk result (λ runs.
         finished_schedule schedule.now ≡ record { runs = runs.items; fault = None }) }
-    ensures read { result ≢ Err Fault.Read }
-    ensures write { result ≢ Err Fault.Write }
+    ensures refused { result ≡ Err Fault.Refused → IsFaulty schedule.now }
+    ensures fault { IfErr result (λ fault. (fault ≡ Fault.Refused) ⊎ (fault ≡ Fault.Memory)) }
 {
     match read_schedule(alloc, schedule) {
         Ok(runs) => Ok(runs),

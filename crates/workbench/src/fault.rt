@@ -1,17 +1,73 @@
-ghost use Rattle.std.specs.Prelude.{◌≡◌};
-ghost use Rattle.workbench.specs.Fault.{status_of, line_of};
+ghost use Rattle.std.specs.Prelude.{◌≡◌, ◌++◌, IsTrue, OnErr, OnOk};
+ghost use Rattle.std.specs.Fmt.{decimal};
+ghost use Rattle.std.specs.Io.KnownBytes.{Appends};
+ghost use Rattle.workbench.specs.Fault.{line_of, number_of, status_of, text_line};
 
-/// Why a command gave up; the text is what stands on standard error.
+use assembler::{AsmFault, AsmFaultKind};
+use byte_ports::{Failed, Sink};
+use itoa::Buffer;
+
+/// Why a command gave up.
 #[derive(Clone, Copy, Debug, PartialEq, Eq)]
 pub enum Fault {
-    /// The program text or the schedule is none that is taken.
+    /// The program isn't played, or the schedule is none.
     Refused,
+    /// The program's text has this fault, or there was no memory for it.
+    Asm(AsmFault),
     /// Out of memory.
     Memory,
     /// The input failed, or is too long.
     Read,
     /// The output failed.
     Write,
+}
+
+/// A kind's number in the line of a text's fault, `None` for memory.
+fn number_of(kind: AsmFaultKind) -> Option<u8>
+    ensures { result ≡ number_of kind }
+{
+    match kind {
+        AsmFaultKind::BadByte => Some(1),
+        AsmFaultKind::LongLine => Some(2),
+        AsmFaultKind::UnknownWord => Some(3),
+        AsmFaultKind::OperandCount => Some(4),
+        AsmFaultKind::BadRegister => Some(5),
+        AsmFaultKind::BadNumber => Some(6),
+        AsmFaultKind::OutOfRange => Some(7),
+        AsmFaultKind::BadName => Some(8),
+        AsmFaultKind::UnknownName => Some(9),
+        AsmFaultKind::NameTwice => Some(10),
+        AsmFaultKind::MisplacedDirective => Some(11),
+        AsmFaultKind::BadOption => Some(12),
+        AsmFaultKind::TooMany => Some(13),
+        AsmFaultKind::Memory => None,
+    }
+}
+
+/// A word, and a number behind it.
+fn push_with_count<E: Sink>(errors: &mut E, word: &[u8], count: u64) -> Result<(), Failed>
+    ensures bytes { OnOk result (Appends (E.written errors.old) (E.written errors.new)
+        (word.now ++ decimal count)) }
+    ensures failed { OnErr result (IsTrue (E.has_failed errors.new)) }
+{
+    errors.push(word)?;
+    errors.push(Buffer::new().format(count).as_bytes())
+}
+
+/// The line of a text's fault at this line of the text, by the kind's number.
+fn push_text_line<E: Sink>(errors: &mut E, line: u64, number: Option<u8>) -> Result<(), Failed>
+    ensures bytes { OnOk result (Appends (E.written errors.old) (E.written errors.new)
+        (text_line line number)) }
+    ensures failed { OnErr result (IsTrue (E.has_failed errors.new)) }
+{
+    match number {
+        Some(number) => {
+            push_with_count(errors, b"refused asm ", line)?;
+            push_with_count(errors, b" ", u64::from(number))?;
+            errors.push(b"\n")
+        }
+        None => errors.push(b"memory\n"),
+    }
 }
 
 impl Fault {
@@ -21,20 +77,24 @@ impl Fault {
     {
         match self {
             Fault::Refused => 3,
-            Fault::Memory => 4,
+            Fault::Asm(fault) if number_of(fault.kind).is_some() => 3,
+            Fault::Asm(_) | Fault::Memory => 4,
             Fault::Read | Fault::Write => 5,
         }
     }
 
-    /// The line on standard error.
-    pub fn line(self) -> &'static [u8]
-        ensures { result.now ≡ line_of self }
+    /// Writes the line that stands on standard error, piece by piece and without memory.
+    pub fn tell<E: Sink>(self, errors: &mut E) -> Result<(), Failed>
+        ensures bytes { OnOk result (Appends (E.written errors.old) (E.written errors.new)
+            (line_of self)) }
+        ensures failed { OnErr result (IsTrue (E.has_failed errors.new)) }
     {
         match self {
-            Fault::Refused => b"refused\n",
-            Fault::Memory => b"memory\n",
-            Fault::Read => b"read\n",
-            Fault::Write => b"write\n",
+            Fault::Refused => errors.push(b"refused\n"),
+            Fault::Asm(fault) => push_text_line(errors, fault.line, number_of(fault.kind)),
+            Fault::Memory => errors.push(b"memory\n"),
+            Fault::Read => errors.push(b"read\n"),
+            Fault::Write => errors.push(b"write\n"),
         }
     }
 }

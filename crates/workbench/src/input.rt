@@ -29,8 +29,7 @@ pub fn read_all<S: Source>(alloc: Global, source: &mut S) -> Result<Vec<u8>, Fau
     ensures end { IfOk result (λ bytes. IsAtEnd (S.left source.new)) }
     ensures read { result ≡ Err Fault.Read → IsTrue (S.has_failed source.new)
         ⊎ GivesMoreThan MOST_BYTES (S.left source.old) (S.left source.new) }
-    ensures refused { result ≢ Err Fault.Refused }
-    ensures write { result ≢ Err Fault.Write }
+    ensures fault { IfErr result (λ fault. (fault ≡ Fault.Memory) ⊎ (fault ≡ Fault.Read)) }
 {
     let mut bytes = Vec::new(alloc);
     let mut piece = [0u8; PIECE];

@@ -6,7 +6,7 @@ use std::test::Fail;
 /// An input, and the whole trace that it gives.
 type Played = (&'static str, &'static str, &'static str);
 
-const PLAYED: [Played; 13] = [
+const PLAYED: [Played; 15] = [
     (
         "two threads meet",
         ".phaser p 2\n\
@@ -226,24 +226,99 @@ const PLAYED: [Played; 13] = [
          t0 0 runs 0 regs 0 0 0 0 0 0 0 0 stack out\n\
          p0 0 65535 0 65535\n",
     ),
+    (
+        "first phases and policies",
+        ".phaser p 1 phase 2147483647 never\n\
+         .phaser q 1 phase 6 until 7\n\
+         .phaser r 0 phase 5\n\
+         .thread t m\n\
+         m: parr r0 p\n\
+         parr r1 q\n\
+         parr r2 #1\n\
+         paaa r3 q\n\
+         halt\n\
+         .run\n\
+         t0*5",
+        "1 t0 0 = 2147483647 +p0 0\n\
+         2 t0 1 = 6 +p1 7\n\
+         3 t0 2 = 7 +p1 -2147483640\n\
+         4 t0 3 = -2147483640\n\
+         5 t0 4 end\n\
+         state 5 5 all\n\
+         t0 4 ended 0 regs 2147483647 6 7 -2147483640 0 0 0 0 stack out\n\
+         p0 0 1 0 1\n\
+         p1 -2147483640 1 1 0\n\
+         p2 5 0 0 0\n",
+    ),
+    (
+        "a cell that nobody names, and a thread by its row",
+        ".cell c\n\
+         .thread t #1\n\
+         ldi r0 1\n\
+         halt\n\
+         .run\n\
+         t0",
+        "1 t0 1 end\n\
+         state 1 1 all\n\
+         t0 1 ended 0 regs 0 0 0 0 0 0 0 0 stack out\n",
+    ),
 ];
 
-/// Inputs whose program text is none.
-const REFUSED_TEXTS: [&str; 14] = [
+/// An input that is refused for its program, and the line on standard error.
+type Refused = (&'static str, &'static str);
+
+/// Texts with a fault.
+const FAULTY_TEXTS: [Refused; 15] = [
+    (".thread a m ; \t\x0b\nm: halt\n", "refused asm 1 1\n"),
+    (".thread a m\nm: stop\nhalt\n", "refused asm 2 3\n"),
+    (".thread a m\nm: halt\n.run x\nt0\n", "refused asm 3 3\n"),
+    (".thread a m\nm: ldi r0\nhalt\n", "refused asm 2 4\n"),
+    (".thread a m\nm: ldi r8 1\nhalt\n", "refused asm 2 5\n"),
+    (".thread a m\nm: ldi r0 +5\nhalt\n", "refused asm 2 6\n"),
+    (
+        ".thread a m\nm: ldi r0 2147483648\nhalt\n",
+        "refused asm 2 7\n",
+    ),
+    (
+        ".phaser p 65536\n.thread a m\nm: halt\n",
+        "refused asm 1 7\n",
+    ),
+    (".thread 1a m\nm: halt\n", "refused asm 1 8\n"),
+    (".thread a m\n", "refused asm 1 9\n"),
+    (".thread a n\nm: halt\n", "refused asm 1 9\n"),
+    (".thread a m\nm: parr r0 p\nhalt\n", "refused asm 2 9\n"),
+    (
+        ".phaser p 1\n.phaser p 2\n.thread a m\nm: halt\n",
+        "refused asm 2 10\n",
+    ),
+    (".thread a m\nm: halt\n.phaser p 1\n", "refused asm 3 11\n"),
+    (
+        ".phaser p 1 never until 3\n.thread a m\nm: halt\n.run\nt64",
+        "refused asm 1 12\n",
+    ),
+];
+
+/// Texts that stand for no program that is played.
+const UNPLAYED_TEXTS: [&str; 15] = [
+    // no thread, no row, or another last row than `halt`
     "",
     ".run\nt0\n",
     "halt\n",
+    ".thread a #0\n",
     ".thread a m\nm: ldi r0 1\n",
-    ".thread a m\n",
-    ".thread a n\nm: halt\n",
-    ".thread a m\nm: ldi r8 1\nhalt\n",
-    ".thread a m\nm: ldi r0 2147483648\nhalt\n",
-    ".thread a m\nm: parr r0 p\nhalt\n",
-    ".phaser p 65536\n.thread a m\nm: halt\n",
-    ".thread a m\nm: halt\n.phaser p 1\n",
+    // a thread that begins behind the last row
+    ".thread a end\nhalt\nend:\n",
+    ".thread a #1\nhalt\n",
+    // rows that aren't played, and a phaser that isn't there
     ".thread a m\nm: mov r0 r1\nhalt\n",
-    ".phaser p 1\n.phaser p 2\n.thread a m\nm: halt\n",
-    ".thread a m\nm: halt\n.run x\nt0\n",
+    ".cell c\n.thread a m\nm: lds r0 c\nhalt\n",
+    ".thread a m\nm: parr r0 #0\nhalt\n",
+    // parents, routines and barriers
+    ".phaser p 0\n.phaser q 1 parent p\n.thread a m\nm: halt\n",
+    ".phaser p 1 onadvance m\n.thread a m\nm: halt\n",
+    ".phaser p 1\n.phaser q 1 phase 3 onadvance m\n.thread a m\nm: halt\n",
+    ".barrier b 1\n.thread a m\nm: halt\n",
+    ".barrier b 0 action m\n.thread a m\nm: halt\n",
 ];
 
 /// Schedules that are none.
@@ -301,7 +376,10 @@ fn whole_traces(rt: HostRuntime) -> Result<(), Fail> {
 
 #[test]
 fn refused_inputs(rt: HostRuntime) -> Result<(), Fail> {
-    for input in REFUSED_TEXTS {
+    for (input, line) in FAULTY_TEXTS {
+        check(&rt, rt.alloc(), input, (None, None), (3, "", line))?;
+    }
+    for input in UNPLAYED_TEXTS {
         check(&rt, rt.alloc(), input, (None, None), (3, "", "refused\n"))?;
     }
     for schedule in REFUSED_SCHEDULES {
@@ -394,7 +472,7 @@ fn sixty_four_threads(rt: HostRuntime) -> Result<(), Fail> {
         alloc,
         input.as_str(),
         (None, None),
-        (3, "", "refused\n"),
+        (3, "", "refused asm 65 13\n"),
     )
 }
 
@@ -427,10 +505,14 @@ fn more_output_than_there_is_room_for(rt: HostRuntime) -> Result<(), Fail> {
 
 #[test]
 fn the_longest_input(rt: HostRuntime) -> Result<(), Fail> {
-    // a line of blanks is none of a program; one byte more isn't even read
-    let lengths = [(MOST_BYTES, 3, "refused\n"), (MOST_BYTES + 1, 5, "read\n")];
+    // its first byte can't stand in a program; one byte more isn't even read
+    let lengths = [
+        (MOST_BYTES, 3, "refused asm 1 1\n"),
+        (MOST_BYTES + 1, 5, "read\n"),
+    ];
     for (length, expected, line) in lengths {
-        let input = vec![in rt.alloc(); b' '; length]?;
+        let mut input = vec![in rt.alloc(); b' '; length]?;
+        input[..7].copy_from_slice(b"\x0b\n.run\n");
         let mut source = MemorySource::new(input.as_slice(), None);
         let mut output = MemorySink::new(rt.alloc(), 100, None)?;
         let mut errors = MemorySink::new(rt.alloc(), 100, None)?;

@@ -1,5 +1,5 @@
 use Rattle.std.proofs.Common.{arith}
-use Rattle.workbench.proofs.Digits.{digits_value-next, digits_value-next_few}
+use Rattle.assembler.proofs.Digits.{digits_value-next, digits_value-next_few}
 use Rattle.workbench.proofs.schedule.number_of.Goals as goal
 
 pub overflow_mul-value : goal.overflow_mul-value

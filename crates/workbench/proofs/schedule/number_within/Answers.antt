@@ -1,7 +1,7 @@
 use Rattle.std.proofs.Common.{take, subst, sym}
 use Rattle.std.specs.List.{AllPass}
 use Rattle.std.specs.Char.{is_ascii_digit}
-use Rattle.workbench.proofs.Digits.{AllPass-digits}
+use Rattle.assembler.proofs.Digits.{AllPass-digits}
 use Rattle.workbench.proofs.schedule.number_within.Goals as goal
 
 pub number_of-requires-clause-digits : goal.number_of-requires-clause-digits

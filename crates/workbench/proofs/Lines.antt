@@ -1,0 +1,18 @@
+-- Lines that are written piece by piece.
+use Rattle.std.proofs.Common.{◌≡◌, ◌++◌, ℕ, List, sym, subst}
+use Rattle.std.proofs.KnownBytes.{Appends-trans}
+use Rattle.std.specs.Prelude.{Option, Some, Result, Ok, Err, OnOk, codes}
+use Rattle.std.specs.Fmt.{decimal}
+use Rattle.std.specs.Io.KnownBytes.{Appends}
+use Rattle.workbench.specs.Fault.{text_line}
+
+-- the three pieces of the line of a text's fault, of which the last may fail
+pub text_line-pushed : {X E : Type 0} (last : Result X E) (a b c d : Option (List ℕ))
+    (line : ℕ) (kind : Option ℕ) (number : ℕ) → kind ≡ Some number
+    → Appends a b (codes "refused asm " ++ decimal line) → Appends b c (codes " " ++ decimal number)
+    → OnOk last (Appends c d (codes "\n")) → OnOk last (Appends a d (text_line line kind))
+text_line-pushed (Ok x) a b c d line kind number is first second third =
+    subst (λ k. Appends a d (text_line line k)) (sym is)
+    (Appends-trans a b d (codes "refused asm " ++ decimal line) _ first
+    (Appends-trans b c d (codes " " ++ decimal number) (codes "\n") second third))
+text_line-pushed (Err e) a b c d line kind number is first second third = third

@@ -1,0 +1,13 @@
+use Rattle.std.proofs.Common.{rules, tests, not, ◌==◌, length}
+use Rattle.std.proofs.lemmas.Iterator.Consumers.{count_from_yields_List, YieldsList-from_filter, YieldsList-at}
+use Rattle.std.proofs.lemmas.Iterator.Splits.{YieldsList-from_slice_split}
+use Rattle.assembler.specs.Words.{is_blank}
+use Rattle.workbench.proofs.run_line.count_words.Goals as goal
+
+pub returns : goal.returns
+returns c =
+    count_from_yields_List c.filter.result _ c.count.ensures.ran
+    (YieldsList-from_filter _ (λ piece. not (length piece == 0))
+    (YieldsList-at c.filter.ensures.source
+    (YieldsList-from_slice_split _ is_blank c.args.text.now c.split.ensures.rest c.split.ensures.done c.split.ensures.closure (λ x b q k. search (rules, tests))))
+    c.filter.ensures.closure (λ x b q k. search (rules, tests)))

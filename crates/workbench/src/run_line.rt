@@ -1,0 +1,66 @@
+ghost use Rattle.std.specs.Prelude.{◌≡◌, codes, length};
+ghost use Rattle.std.specs.List.{before_first, after_first, list_all};
+ghost use Rattle.std.specs.Str.{bytes_eq};
+ghost use Rattle.assembler.specs.Words.{is_line_end, words_in};
+ghost use Rattle.workbench.specs.RunLine.{is_run_line, program_part, schedule_part};
+
+use assembler::words::{before_comment, is_blank, length_before};
+
+fn count_words(text: &[u8]) -> usize
+    ensures { result ≡ length (words_in text.now) }
+{
+    text.split(|byte| is_blank(*byte))
+        .filter(|piece| !piece.is_empty())
+        .count()
+}
+
+/// Whether the text has no other word than `.run`.
+fn has_only_run(text: &[u8]) -> bool
+    ensures { result ≡ list_all (λ word. bytes_eq word (codes ".run")) (words_in text.now) }
+{
+    text.split(|byte| is_blank(*byte))
+        .filter(|piece| !piece.is_empty())
+        .all(|word| word == b".run".as_slice())
+}
+
+/// Whether `.run` is the line's only word.
+#[tactic(auto, using(crate::proofs::RunLine::are_run_by_count))]
+fn is_run_line(line: &[u8]) -> bool
+    ensures { result ≡ is_run_line line.now }
+{
+    let text = before_comment(line);
+    count_words(text) == 1 && has_only_run(text)
+}
+
+/// The first line, and what follows its LF.
+fn first_line(bytes: &[u8]) -> (&[u8], &[u8])
+    ensures line { result.0.now ≡ before_first is_line_end bytes.now }
+    ensures after { result.1.now ≡ after_first is_line_end bytes.now }
+{
+    let end = length_before(b'\n', bytes);
+    if end < bytes.len() {
+        (&bytes[..end], &bytes[end + 1..])
+    } else {
+        (bytes, &[])
+    }
+}
+
+/// A file's program text, and its schedule: what stands before the first line whose only word is `.run`, and what
+/// follows that line. Without such a line all is text, and the schedule is empty.
+pub fn split_at_run(bytes: &[u8]) -> (&[u8], &[u8])
+    ensures text { result.0.now ≡ program_part bytes.now }
+    ensures schedule { result.1.now ≡ schedule_part bytes.now }
+{
+    let mut rest = bytes;
+    while !rest.is_empty() {
+        let (line, after) = first_line(rest);
+        if is_run_line(line) {
+            return (&bytes[..bytes.len() - rest.len()], after);
+        }
+        rest = after;
+    }
+    (bytes, &[])
+}
+
+#[cfg(test)]
+mod tests;
