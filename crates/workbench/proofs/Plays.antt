@@ -15,7 +15,7 @@ use Rattle.thread_machine.specs.Execution.{Execution, execution, execution_by}
 use Rattle.workbench.specs.declared.schedule.Run.{Run}
 use Rattle.workbench.specs.Schedule.{choices_of}
 use Rattle.workbench.proofs.Traces.{flat_map-drop}
-use Rattle.workbench.specs.Trace.{Plays, event_text, lines_of, lines_by}
+use Rattle.workbench.specs.Trace.{AppendsPartOf, Plays, event_text, lines_of, lines_by}
 
 -- after a first choice, where the others go on from the world that it leaves
 goes_on_by : (refusal : Option StepFault) (world : World) (choice : Choice) (xs ys : List Choice)
@@ -166,15 +166,70 @@ Plays-played world after choice event step pc old new accepted both step_is pc_i
       answer = (λ yes. ap (λ refusal. (by refusal).refusal) accepted, λ none. refl);
     }
 
--- what is still to play completes the whole: whoever plays the rest has played it all
+-- nothing is a part of any text
+pub Part-nil : (known new : Option (List ℕ)) (text : List ℕ) → new ≡ known → AppendsPartOf known new text
+Part-nil known new text same =
+    ([], (text, (refl, subst (λ bytes. Appends known bytes []) (sym same) (Appends-nil known))))
+
+-- a part of a text's beginning is a part of the text
+pub Part-more : (old new : Option (List ℕ)) (text more : List ℕ)
+    → AppendsPartOf old new text → AppendsPartOf old new (text ++ more)
+Part-more old new text more (part, (rest, (is, appends))) =
+    (part, (rest ++ more, (ap (λ bytes. bytes ++ more) is ∙ append_assoc part rest more, appends)))
+
+-- a whole text, and a part of what follows it
+pub Part-after : (old now new : Option (List ℕ)) (text more : List ℕ)
+    → Appends old now text → AppendsPartOf now new more → AppendsPartOf old new (text ++ more)
+Part-after old now new text more whole (part, (rest, (is, appends))) = (
+  text ++ part,
+  (
+    rest,
+    (
+      ap (λ bytes. text ++ bytes) is ∙ sym (append_assoc text part rest),
+      Appends-trans old now new text part whole appends,
+    ),
+  ),
+)
+
+-- after choices that were all accepted, a part of the lines of others
+Part-append : (first middle : World) (xs ys : List Choice) (old now new : Option (List ℕ))
+    → Plays first middle xs true old now → AppendsPartOf now new (lines_of middle ys)
+    → AppendsPartOf old new (lines_of first (xs ++ ys))
+Part-append first middle xs ys old now new p q =
+    let on = goes_on xs first ys (p.answer.0 refl) in
+    subst (λ text. AppendsPartOf old new text) (sym on.0)
+    (Part-after old now new _ _ p.lines
+    (subst (λ (world : World). AppendsPartOf now new (lines_of world ys)) p.world q))
+
+-- by the refusal, if there is one
+part_by : (first : World) (xs ys : List Choice) (old new : Option (List ℕ)) (refusal : Option StepFault)
+    → (execution first xs).refusal ≡ refusal
+    → AppendsPartOf old new (lines_of first xs) → AppendsPartOf old new (lines_of first (xs ++ ys))
+part_by first xs ys old new None is p =
+    subst (λ text. AppendsPartOf old new text) (sym (goes_on xs first ys is).0) (Part-more old new _ _ p)
+part_by first xs ys old new (Some fault) is p =
+    subst (λ text. AppendsPartOf old new text) (sym (stops xs first ys fault is).0) p
+
+-- what is still to play completes the whole: whoever plays the rest has played it all, and a part of the rest's lines
+-- makes a part of all lines
 pub record Continues (first now : World) (whole rest : List Choice) (old known : Option (List ℕ)) : Type 0 where
   pub completed : (all : Bool) (last : World) (new : Option (List ℕ)) → Plays now last rest all known new
       → Plays first last whole all old new
+  pub partly : (new : Option (List ℕ)) → AppendsPartOf known new (lines_of now rest)
+      → AppendsPartOf old new (lines_of first whole)
 
 -- nothing is played yet
 pub Continues-refl : (world : World) (choices : List Choice) (known : Option (List ℕ))
     → Continues world world choices choices known known
-Continues-refl world choices known = record { completed = λ all last new plays. plays }
+Continues-refl world choices known = record { completed = λ all last new plays. plays; partly = λ new part. part }
+
+-- a part of the lines of what is played first
+pub Continues-part : (first now : World) (whole rest xs ys : List Choice) (old known new : Option (List ℕ))
+    → rest ≡ xs ++ ys → Continues first now whole rest old known
+    → AppendsPartOf known new (lines_of now xs) → AppendsPartOf old new (lines_of first whole)
+Continues-part first now whole rest xs ys old known new is on p =
+    on.partly new (subst (λ choices. AppendsPartOf known new (lines_of now choices)) (sym is)
+    (part_by now xs ys known new (execution now xs).refusal refl p))
 
 -- one part more
 pub Continues-next : (first now next : World) (whole rest xs ys : List Choice) (all : Bool)
@@ -185,6 +240,10 @@ Continues-next first now next whole rest xs ys all old known new is on p all_is 
       let p' = subst (λ b. Plays now next xs b known new) all_is p in
       on.completed later last end (subst (λ choices. Plays now last choices later known end) (sym is)
       (Plays-append now next last xs ys later known new end p' q));
+  partly = λ end q.
+      let p' = subst (λ b. Plays now next xs b known new) all_is p in
+      on.partly end (subst (λ choices. AppendsPartOf known end (lines_of now choices)) (sym is)
+      (Part-append now next xs ys known new end p' q));
 }
 
 -- a part with a refusal

@@ -1,7 +1,8 @@
 -- Why a program is refused, from the fault that is told.
-use Rattle.std.proofs.Common.{◌≡◌, inl, ℕ, List, refl, arith}
+use Rattle.std.proofs.Common.{◌≡◌, ◌≢◌, inl, ℕ, List, refl, arith}
 use Rattle.std.specs.Prelude.{Result, Err}
 use Rattle.row_code.specs.declared.image.Image.{Image}
+use Rattle.row_code.specs.declared.image_fault.ImageFault.{ImageFault}
 use Rattle.assembler.specs.declared.asm_fault.AsmFault.{AsmFault}
 use Rattle.assembler.specs.declared.asm_fault.AsmFaultKind.{AsmFaultKind}
 use Rattle.assembler.specs.declared.asm_fault.AsmFaultKind.TheVariants as kind
@@ -34,10 +35,12 @@ FailsAt-refused kind.Memory e read is fails = absurd (omega (arith, is))
 pub program-refused : (program schedule : List ℕ) (f : Fault)
     → ((e : AsmFault) → f ≡ fault.Asm e → FailsAt e.kind e (assembled program))
     → (f ≡ fault.Refused → StandsForUnplayed program)
+    → ((i : ImageFault) → f ≢ fault.Image i)
     → status_of f ≡ 3 → AreRefusedFor f program schedule
-program-refused program schedule fault.Refused asm unplayed is = inl (unplayed refl)
-program-refused program schedule (fault.Asm e) asm unplayed is =
+program-refused program schedule fault.Refused asm unplayed no_image is = inl (unplayed refl)
+program-refused program schedule (fault.Asm e) asm unplayed no_image is =
     FailsAt-refused e.kind e (assembled program) is (asm e refl)
-program-refused program schedule fault.Memory asm unplayed is = absurd (omega (arith, is))
-program-refused program schedule fault.Read asm unplayed is = absurd (omega (arith, is))
-program-refused program schedule fault.Write asm unplayed is = absurd (omega (arith, is))
+program-refused program schedule fault.Memory asm unplayed no_image is = absurd (omega (arith, is))
+program-refused program schedule fault.Read asm unplayed no_image is = absurd (omega (arith, is))
+program-refused program schedule fault.Write asm unplayed no_image is = absurd (omega (arith, is))
+program-refused program schedule (fault.Image i) asm unplayed no_image is = absurd (no_image i refl)

@@ -1,6 +1,6 @@
 -- What the program without words does with its input.
-use Rattle.std.specs.Prelude.{◌≡◌, ◌⊎◌, ℕ, Bool, List, map, Option, Some, None, Err, IsSome, IsTrue}
-use Rattle.std.specs.Io.KnownBytes.{Consumes, IsAtEnd, Appends}
+use Rattle.std.specs.Prelude.{◌≡◌, ◌⊎◌, ℕ, List, map, Option, Some, None, Err, IsSome}
+use Rattle.std.specs.Io.KnownBytes.{Appends}
 use Rattle.instruction_table.specs.declared.row.Row.{Row}
 use Rattle.packed_phaser.specs.declared.policy.Policy.{Policy}
 use Rattle.row_code.specs.declared.image.Image.{Image}
@@ -11,11 +11,11 @@ use Rattle.thread_machine.specs.Program.{IsProgram, first_world, new_phaser}
 use Rattle.workbench.specs.declared.fault.Fault.{Fault}
 use Rattle.workbench.specs.declared.fault.Fault.TheVariants as fault
 use Rattle.workbench.specs.declared.schedule.Run.{Run}
-use Rattle.workbench.specs.Fault.{line_of}
+use Rattle.workbench.specs.Input.{GivesAll}
 use Rattle.workbench.specs.Playable.{parts_of}
 use Rattle.workbench.specs.RunLine.{program_part, schedule_part}
 use Rattle.workbench.specs.Schedule.{finished_schedule, choices_of}
-use Rattle.workbench.specs.Trace.{trace_of}
+use Rattle.workbench.specs.Trace.{AppendsPartOf, trace_of}
 
 -- an image's rows, the first rows of its threads, and words for its phasers, each with its policy
 abbrev pub ArePartsOf : Image → List Row → List ℕ → List (ℕ × Policy) → Type 0
@@ -65,16 +65,19 @@ AreRefusedFor _ program schedule = ⊥
 abbrev pub HasTraced : Option (List ℕ) → Option (List ℕ) → Option (List ℕ) → Option (List ℕ) → Type 0
 HasTraced input_before input_after output_before output_after =
     (text : List ℕ) × ((trace : List ℕ)
-    × (Consumes input_before input_after text × IsAtEnd input_after × IsTraceOf text trace
+    × (GivesAll input_before input_after text × IsTraceOf text trace
     × Appends output_before output_after trace))
+
+-- nothing was written; or the input was read to its end, and a beginning of its trace was written
+abbrev pub HasTracedAtMost : Option (List ℕ) → Option (List ℕ) → Option (List ℕ) → Option (List ℕ)
+    → Type 0
+HasTracedAtMost input_before input_after output_before output_after =
+    (output_after ≡ output_before) ⊎ ((text : List ℕ) × ((trace : List ℕ)
+    × (GivesAll input_before input_after text × IsTraceOf text trace
+    × AppendsPartOf output_before output_after trace)))
 
 -- the input was read to its end, and is refused for this fault
 abbrev pub HasRefused : Fault → Option (List ℕ) → Option (List ℕ) → Type 0
 HasRefused f input_before input_after =
-    (text : List ℕ) × (Consumes input_before input_after text × IsAtEnd input_after
+    (text : List ℕ) × (GivesAll input_before input_after text
     × AreRefusedFor f (program_part text) (schedule_part text))
-
--- the line of a fault was written, unless the port failed
-abbrev pub HasTold : Fault → Bool → Option (List ℕ) → Option (List ℕ) → Type 0
-HasTold f has_failed errors_before errors_after =
-    IsTrue has_failed ⊎ Appends errors_before errors_after (line_of f)

@@ -1,8 +1,11 @@
 -- How the program tells why it gave up.
-use Rattle.std.specs.Prelude.{ℕ, List, ◌++◌, Option, Some, None, codes}
+use Rattle.std.specs.Prelude.{◌⊎◌, ℕ, Bool, IsTrue, List, ◌++◌, Option, Some, None, codes}
 use Rattle.std.specs.Fmt.{decimal}
+use Rattle.std.specs.Io.KnownBytes.{Appends}
 use Rattle.assembler.specs.declared.asm_fault.AsmFaultKind.{AsmFaultKind}
 use Rattle.assembler.specs.declared.asm_fault.AsmFaultKind.TheVariants as kind
+use Rattle.row_code.specs.declared.image_fault.ImageFault.{ImageFault}
+use Rattle.row_code.specs.declared.image_fault.ImageFault.TheVariants as image
 use Rattle.workbench.specs.declared.fault.Fault.{Fault}
 use Rattle.workbench.specs.declared.fault.Fault.TheVariants as fault
 
@@ -28,10 +31,16 @@ abbrev pub text_status : Option ℕ → ℕ
 text_status (Some number) = 3
 text_status None = 4
 
+-- the exit status of an image's fault: missing memory is none of the image
+abbrev pub image_status : ImageFault → ℕ
+image_status image.Memory = 4
+image_status _ = 3
+
 -- the exit status
 abbrev pub status_of : Fault → ℕ
 status_of fault.Refused = 3
 status_of (fault.Asm f) = text_status (number_of f.kind)
+status_of (fault.Image f) = image_status f
 status_of fault.Memory = 4
 status_of fault.Read = 5
 status_of fault.Write = 5
@@ -42,10 +51,30 @@ text_line line (Some number) =
     codes "refused asm " ++ (decimal line ++ (codes " " ++ (decimal number ++ codes "\n")))
 text_line line None = codes "memory\n"
 
+-- a line that ends in this number
+abbrev pub counted_line : List ℕ → ℕ → List ℕ
+counted_line word n = word ++ (decimal n ++ codes "\n")
+
+-- the line on standard error for an image's fault, with its place where it has one
+abbrev pub image_line : ImageFault → List ℕ
+image_line image.Short = codes "refused image 1\n"
+image_line image.Magic = codes "refused image 2\n"
+image_line image.Count = codes "refused image 3\n"
+image_line (image.Field at) = counted_line (codes "refused image 4 ") at
+image_line (image.Row n) = counted_line (codes "refused image 5 ") n
+image_line image.Extra = codes "refused image 6\n"
+image_line image.Memory = codes "memory\n"
+
 -- the line on standard error
 abbrev pub line_of : Fault → List ℕ
 line_of fault.Refused = codes "refused\n"
 line_of (fault.Asm f) = text_line f.line (number_of f.kind)
+line_of (fault.Image f) = image_line f
 line_of fault.Memory = codes "memory\n"
 line_of fault.Read = codes "read\n"
 line_of fault.Write = codes "write\n"
+
+-- the line of a fault was written, unless the port failed
+abbrev pub HasTold : Fault → Bool → Option (List ℕ) → Option (List ℕ) → Type 0
+HasTold f has_failed errors_before errors_after =
+    IsTrue has_failed ⊎ Appends errors_before errors_after (line_of f)

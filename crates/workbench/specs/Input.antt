@@ -1,7 +1,16 @@
 -- How much a source gives.
-use Rattle.std.specs.Prelude.{ℕ, ◌<◌, List, length, Option}
-use Rattle.std.specs.Io.KnownBytes.{Consumes}
+use Rattle.std.specs.Prelude.{ℕ, ◌<◌, ◌≤◌, List, length, Option}
+use Rattle.std.specs.Io.KnownBytes.{Consumes, IsAtEnd}
 
--- a source gave more bytes than this
-abbrev pub GivesMoreThan : ℕ → Option (List ℕ) → Option (List ℕ) → Type 0
-GivesMoreThan most before after = (bytes : List ℕ) × Consumes before after bytes × (most < length bytes)
+-- how many bytes an input may have
+abbrev pub most_bytes : ℕ
+most_bytes = 16777216
+
+-- a source gave more bytes than an input may have
+abbrev pub GivesTooMuch : Option (List ℕ) → Option (List ℕ) → Type 0
+GivesTooMuch before after =
+    (bytes : List ℕ) × Consumes before after bytes × (most_bytes < length bytes)
+
+-- a source gave this text, no longer than an input may be, and has nothing left
+abbrev pub GivesAll : Option (List ℕ) → Option (List ℕ) → List ℕ → Type 0
+GivesAll before after text = Consumes before after text × IsAtEnd after × (length text ≤ most_bytes)

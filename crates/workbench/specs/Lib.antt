@@ -1,7 +1,10 @@
+pub mod Asm
 pub mod Both
 pub mod Fault
 pub mod Input
+pub mod List
 pub mod Playable
+pub mod ProgramFile
 pub mod RunLine
 pub mod Schedule
 pub mod Trace

@@ -156,3 +156,8 @@ pub record Plays (before after : World) (choices : List Choice) (all : Bool) (ol
   pub lines : Appends old new (lines_of before choices)
   pub world : after ≡ (execution before choices).world
   pub answer : IsTrue all ↔ ((execution before choices).refusal ≡ None)
+
+-- a beginning of a text was written, perhaps nothing and perhaps all of it
+abbrev pub AppendsPartOf : Option (List ℕ) → Option (List ℕ) → List ℕ → Type 0
+AppendsPartOf old new text =
+    (part : List ℕ) × ((rest : List ℕ) × ((text ≡ part ++ rest) × Appends old new part))

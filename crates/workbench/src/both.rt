@@ -1,21 +1,23 @@
 ghost use Rattle.std.specs.Prelude.{◌≡◌, ◌≢◌, ◌⊎◌, List, ℕ, IsTrue, OnOk, IfOk, IfErr, None};
 ghost use Rattle.std.specs.Io.KnownBytes.{Appends};
 ghost use Rattle.assembler.specs.declared.asm_fault.AsmFault.{AsmFault};
+ghost use Rattle.row_code.specs.declared.image_fault.ImageFault.{ImageFault};
 ghost use Rattle.assembler.specs.Answers.{FailsAt};
 ghost use Rattle.assembler.specs.Passes.{assembled};
 ghost use Rattle.workbench.specs.declared.fault.Fault.{Fault};
-ghost use Rattle.workbench.specs.Both.{AreRefusedFor, Begins, HasRefused, HasTold, HasTraced, IsFaulty, IsFirstWorld, IsTraceOf, IsUnplayed, StandsForUnplayed};
-ghost use Rattle.workbench.specs.Fault.{status_of};
-ghost use Rattle.workbench.specs.Input.{GivesMoreThan};
+ghost use Rattle.workbench.specs.Both.{AreRefusedFor, Begins, HasRefused, HasTraced, HasTracedAtMost, IsFaulty, IsFirstWorld, IsTraceOf, IsUnplayed, StandsForUnplayed};
+ghost use Rattle.workbench.specs.Fault.{HasTold, status_of};
+ghost use Rattle.workbench.specs.Input.{GivesTooMuch};
 ghost use Rattle.workbench.specs.RunLine.{program_part, schedule_part};
 ghost use Rattle.workbench.specs.Schedule.{finished_schedule};
+ghost use Rattle.workbench.specs.Trace.{AppendsPartOf};
 
-use crate::fault::Fault;
-use crate::input::{MOST_BYTES, read_all};
+use crate::fault::{DONE, Fault};
+use crate::input::read_all;
 use crate::playable::parts_of;
 use crate::run_line::split_at_run;
 use crate::schedule::{Run, ScheduleFault, read_schedule};
-use crate::trace::{PlayFault, play};
+use crate::trace::play::{PlayFault, play};
 use assembler::assemble;
 use byte_ports::{Sink, Source};
 use row_code::Image;
@@ -25,13 +27,11 @@ use thread_machine::{Machine, is_program};
 /// How many effective steps a program may take.
 const MOST_STEPS: u32 = 1_000_000_000;
 
-/// The status for what went well.
-const DONE: u8 = 0;
-
 /// Reads a program text, a line `.run` and a schedule from `input`, plays the program under the schedule and writes the
 /// trace to `output`. Answers the exit status, 0 where all went well. For any other status one line stands on `errors`:
 /// `refused asm LINE KIND` (3) for a fault of the program's text, `refused` (3) where the program isn't played or the
-/// schedule has a fault, `memory` (4), or `read` or `write` (5). What `errors` makes of that line changes no status.
+/// schedule has a fault, `memory` (4), or `read` or `write` (5). What `errors` makes of that line changes no status. Nothing is
+/// written to `output` before the input is read and accepted.
 pub fn both_cmd<S: Source, K: Sink, E: Sink>(
     alloc: Global,
     input: &mut S,
@@ -46,10 +46,13 @@ pub fn both_cmd<S: Source, K: Sink, E: Sink>(
         × HasTold fault (E.has_failed errors.new) (E.written errors.old) (E.written errors.new)) }
     ensures told { ((result ≡ 0) × (E.written errors.new ≡ E.written errors.old))
         ⊎ ((fault : Fault) × ((result ≡ status_of fault)
-        × HasTold fault (E.has_failed errors.new) (E.written errors.old) (E.written errors.new))) }
+        × (HasTold fault (E.has_failed errors.new) (E.written errors.old) (E.written errors.new)
+        × (fault ≡ Fault.Read → K.written output.new ≡ K.written output.old)))) }
     ensures unchanged { result ≡ 3 → K.written output.new ≡ K.written output.old }
+    ensures memory { result ≡ 4 → HasTracedAtMost (S.left input.old) (S.left input.new)
+        (K.written output.old) (K.written output.new) }
     ensures port { result ≡ 5 → IsTrue (S.has_failed input.new)
-        ⊎ (GivesMoreThan MOST_BYTES (S.left input.old) (S.left input.new)
+        ⊎ (GivesTooMuch (S.left input.old) (S.left input.new)
         ⊎ IsTrue (K.has_failed output.new)) }
 {
     match both(alloc, input, output) {
@@ -69,8 +72,12 @@ fn both<S: Source, K: Sink>(alloc: Global, input: &mut S, output: &mut K) -> Res
         → HasRefused fault (S.left input.old) (S.left input.new)) }
     ensures unchanged { IfErr result (λ fault. status_of fault ≡ 3
         → K.written output.new ≡ K.written output.old) }
+    ensures unread { result ≡ Err Fault.Read → K.written output.new ≡ K.written output.old }
+    ensures memory { IfErr result (λ fault. status_of fault ≡ 4
+        → HasTracedAtMost (S.left input.old) (S.left input.new)
+        (K.written output.old) (K.written output.new)) }
     ensures read { result ≡ Err Fault.Read → IsTrue (S.has_failed input.new)
-        ⊎ GivesMoreThan MOST_BYTES (S.left input.old) (S.left input.new) }
+        ⊎ GivesTooMuch (S.left input.old) (S.left input.new) }
     ensures write { result ≡ Err Fault.Write → IsTrue (K.has_failed output.new) }
 {
     let text = read_all(alloc, input)?;
@@ -85,6 +92,10 @@ fn trace_text<K: Sink>(alloc: Global, text: &[u8], output: &mut K) -> Result<(),
         → AreRefusedFor fault (program_part text.now) (schedule_part text.now)) }
     ensures unchanged { IfErr result (λ fault. status_of fault ≡ 3
         → K.written output.new ≡ K.written output.old) }
+    ensures memory { IfErr result (λ fault. status_of fault ≡ 4
+        → (K.written output.new ≡ K.written output.old) ⊎ ((trace : List ℕ)
+        × (IsTraceOf text.now trace
+        × AppendsPartOf (K.written output.old) (K.written output.new) trace))) }
     ensures read { result ≢ Err Fault.Read }
     ensures write { result ≡ Err Fault.Write → IsTrue (K.has_failed output.new) }
 {
@@ -110,6 +121,7 @@ fn machine_of(alloc: Global, program: &[u8]) -> Result<Machine, Fault>
     ensures asm { (fault : AsmFault) → result ≡ Err (Fault.Asm fault)
         → FailsAt fault.kind fault (assembled program.now) }
     ensures refused { result ≡ Err Fault.Refused → StandsForUnplayed program.now }
+    ensures image { (fault : ImageFault) → result ≢ Err (Fault.Image fault) }
     ensures read { result ≢ Err Fault.Read }
     ensures write { result ≢ Err Fault.Write }
 {

@@ -1,19 +1,25 @@
 ghost use Rattle.std.specs.Prelude.{◌≡◌, ◌++◌, IsTrue, OnErr, OnOk};
 ghost use Rattle.std.specs.Fmt.{decimal};
 ghost use Rattle.std.specs.Io.KnownBytes.{Appends};
-ghost use Rattle.workbench.specs.Fault.{line_of, number_of, status_of, text_line};
+ghost use Rattle.workbench.specs.Fault.{counted_line, image_line, line_of, number_of, status_of, text_line};
 
 use assembler::{AsmFault, AsmFaultKind};
 use byte_ports::{Failed, Sink};
 use itoa::Buffer;
+use row_code::ImageFault;
+
+/// The exit status for what went well.
+pub const DONE: u8 = 0;
 
 /// Why a command gave up.
-#[derive(Clone, Copy, Debug, PartialEq, Eq)]
+#[derive(Clone, Copy)]
 pub enum Fault {
     /// The program isn't played, or the schedule is none.
     Refused,
     /// The program's text has this fault, or there was no memory for it.
     Asm(AsmFault),
+    /// The image has this fault, or there was no memory for it.
+    Image(ImageFault),
     /// Out of memory.
     Memory,
     /// The input failed, or is too long.
@@ -54,6 +60,16 @@ fn push_with_count<E: Sink>(errors: &mut E, word: &[u8], count: u64) -> Result<(
     errors.push(Buffer::new().format(count).as_bytes())
 }
 
+/// A line that ends in this number.
+fn push_counted_line<E: Sink>(errors: &mut E, word: &[u8], count: u64) -> Result<(), Failed>
+    ensures bytes { OnOk result (Appends (E.written errors.old) (E.written errors.new)
+        (counted_line word.now count)) }
+    ensures failed { OnErr result (IsTrue (E.has_failed errors.new)) }
+{
+    push_with_count(errors, word, count)?;
+    errors.push(b"\n")
+}
+
 /// The line of a text's fault at this line of the text, by the kind's number.
 fn push_text_line<E: Sink>(errors: &mut E, line: u64, number: Option<u8>) -> Result<(), Failed>
     ensures bytes { OnOk result (Appends (E.written errors.old) (E.written errors.new)
@@ -70,6 +86,27 @@ fn push_text_line<E: Sink>(errors: &mut E, line: u64, number: Option<u8>) -> Res
     }
 }
 
+/// The line of an image's fault, with its place where it has one.
+fn push_image_line<E: Sink>(errors: &mut E, fault: ImageFault) -> Result<(), Failed>
+    ensures bytes { OnOk result (Appends (E.written errors.old) (E.written errors.new)
+        (image_line fault)) }
+    ensures failed { OnErr result (IsTrue (E.has_failed errors.new)) }
+{
+    match fault {
+        ImageFault::Short => errors.push(b"refused image 1\n"),
+        ImageFault::Magic => errors.push(b"refused image 2\n"),
+        ImageFault::Count => errors.push(b"refused image 3\n"),
+        ImageFault::Field(at) => push_counted_line(errors, b"refused image 4 ", at as u64),
+        ImageFault::Row(number) => push_counted_line(
+            errors,
+            b"refused image 5 ",
+            u64::from(number),
+        ),
+        ImageFault::Extra => errors.push(b"refused image 6\n"),
+        ImageFault::Memory => errors.push(b"memory\n"),
+    }
+}
+
 impl Fault {
     /// The program's exit status.
     pub fn status(self) -> u8
@@ -78,7 +115,8 @@ impl Fault {
         match self {
             Fault::Refused => 3,
             Fault::Asm(fault) if number_of(fault.kind).is_some() => 3,
-            Fault::Asm(_) | Fault::Memory => 4,
+            Fault::Asm(_) | Fault::Image(ImageFault::Memory) | Fault::Memory => 4,
+            Fault::Image(_) => 3,
             Fault::Read | Fault::Write => 5,
         }
     }
@@ -92,6 +130,7 @@ impl Fault {
         match self {
             Fault::Refused => errors.push(b"refused\n"),
             Fault::Asm(fault) => push_text_line(errors, fault.line, number_of(fault.kind)),
+            Fault::Image(fault) => push_image_line(errors, fault),
             Fault::Memory => errors.push(b"memory\n"),
             Fault::Read => errors.push(b"read\n"),
             Fault::Write => errors.push(b"write\n"),

@@ -1,13 +1,13 @@
 ghost use Rattle.std.specs.Prelude.{◌≡◌, ◌≢◌, ◌⊎◌, ◌≤◌, IsTrue, IfOk, IfErr, length};
 ghost use Rattle.std.specs.Io.KnownBytes.{ReadConsumes, Consumes, IsAtEnd};
-ghost use Rattle.workbench.specs.Input.{GivesMoreThan};
+ghost use Rattle.workbench.specs.Input.{GivesTooMuch, most_bytes};
 
 use crate::fault::Fault;
 use byte_ports::Source;
 use std::alloc::Global;
 
-/// How many bytes a text may have.
-pub const MOST_BYTES: usize = 16_777_216;
+/// How many bytes an input may have.
+const MOST_BYTES: usize = 16_777_216;
 
 /// How many bytes are asked for at a time.
 const PIECE: usize = 4096;
@@ -23,12 +23,13 @@ fn pull<S: Source>(source: &mut S, piece: &mut [u8]) -> Result<usize, Fault>
     }
 }
 
-/// All that a source has left, `Read` where it fails or has more than `MOST_BYTES`.
+/// All that a source has left, `Read` where it fails or has more than 16,777,216 bytes.
 pub fn read_all<S: Source>(alloc: Global, source: &mut S) -> Result<Vec<u8>, Fault>
     ensures bytes { IfOk result (λ bytes. Consumes (S.left source.old) (S.left source.new) bytes.items) }
     ensures end { IfOk result (λ bytes. IsAtEnd (S.left source.new)) }
+    ensures few { IfOk result (λ bytes. length bytes.items ≤ most_bytes) }
     ensures read { result ≡ Err Fault.Read → IsTrue (S.has_failed source.new)
-        ⊎ GivesMoreThan MOST_BYTES (S.left source.old) (S.left source.new) }
+        ⊎ GivesTooMuch (S.left source.old) (S.left source.new) }
     ensures fault { IfErr result (λ fault. (fault ≡ Fault.Memory) ⊎ (fault ≡ Fault.Read)) }
 {
     let mut bytes = Vec::new(alloc);

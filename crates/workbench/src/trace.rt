@@ -2,7 +2,5 @@
 
 mod line;
 mod pieces;
-mod play;
+pub mod play;
 mod state;
-
-pub use play::{PlayFault, play};

@@ -127,10 +127,19 @@ mod tests {
             (What::Value(0), Mark::Tripped(9), b"7 t63 5 = 0 +b9\n"),
             (What::Throws(2), Mark::Broke(63), b"7 t63 5 throw 2 -b63\n"),
         ];
-        for (what, mark, expected) in cases {
+        for (what, mark, expected) in &cases {
             let mut line = Vec::new(rt.alloc());
-            event_line(&mut line, 7, CHOICE, 5, &Event { what, mark })?;
-            assert_eq!(rt; line.as_slice(), expected);
+            event_line(
+                &mut line,
+                7,
+                CHOICE,
+                5,
+                &Event {
+                    what: *what,
+                    mark: *mark,
+                },
+            )?;
+            assert!(rt; line.as_slice() == *expected);
         }
         Ok(())
     }

@@ -2,7 +2,7 @@ ghost use Rattle.std.specs.Prelude.{◌≡◌, ◌+◌, ◌∷◌, [], Some, Non
 ghost use Rattle.std.specs.Io.KnownBytes.{Appends};
 ghost use Rattle.thread_machine.specs.Scene.{thread_at};
 ghost use Rattle.workbench.specs.Schedule.{choices_of};
-ghost use Rattle.workbench.specs.Trace.{Plays, event_text, refusal_text, trace_of};
+ghost use Rattle.workbench.specs.Trace.{AppendsPartOf, Plays, event_text, lines_of, refusal_text, trace_of};
 
 use super::line::{event_line, refusal_line};
 use super::state::state_text;
@@ -54,6 +54,7 @@ fn push_event<W: Sink>(
     ensures line { OnOk result (Appends (W.written output.old) (W.written output.new)
         (event_text step choice pc event.now)) }
     ensures write { result ≡ Err PlayFault.Write → IsTrue (W.has_failed output.new) }
+    ensures memory { result ≡ Err PlayFault.Memory → W.written output.new ≡ W.written output.old }
 {
     line.clear();
     event_line(line, step, choice, pc, event)?;
@@ -72,6 +73,7 @@ fn push_refusal<W: Sink>(
     ensures line { OnOk result (Appends (W.written output.old) (W.written output.new)
         (refusal_text (machine.now.choices + 1) choice pc)) }
     ensures write { result ≡ Err PlayFault.Write → IsTrue (W.has_failed output.new) }
+    ensures memory { result ≡ Err PlayFault.Memory → W.written output.new ≡ W.written output.old }
 {
     line.clear();
     refusal_line(line, machine.choices() + 1, choice, pc)?;
@@ -89,6 +91,7 @@ fn play_choice<W: Sink>(
     ensures plays { IfOk result (λ accepted. Plays machine.old machine.new (choice ∷ []) accepted
         (W.written output.old) (W.written output.new)) }
     ensures write { result ≡ Err PlayFault.Write → IsTrue (W.has_failed output.new) }
+    ensures memory { result ≡ Err PlayFault.Memory → W.written output.new ≡ W.written output.old }
 {
     if usize::from(choice.thread) >= machine.thread_count() {
         push_refusal(machine, choice, None, line, output)?;
@@ -119,6 +122,9 @@ fn play_run<W: Sink>(
         Plays machine.old machine.new (replicate run.now.times run.now.choice) accepted
         (W.written output.old) (W.written output.new)) }
     ensures write { result ≡ Err PlayFault.Write → IsTrue (W.has_failed output.new) }
+    ensures memory { result ≡ Err PlayFault.Memory
+        → AppendsPartOf (W.written output.old) (W.written output.new)
+        (lines_of machine.old (replicate run.now.times run.now.choice)) }
 {
     let mut left = run.times;
     while left > 0 {
@@ -141,9 +147,16 @@ fn play_runs<W: Sink>(
         Plays machine.old machine.new (choices_of runs.now) accepted
         (W.written output.old) (W.written output.new)) }
     ensures write { result ≡ Err PlayFault.Write → IsTrue (W.has_failed output.new) }
+    ensures memory { result ≡ Err PlayFault.Memory
+        → AppendsPartOf (W.written output.old) (W.written output.new)
+        (lines_of machine.old (choices_of runs.now)) }
 {
     for run in runs {
-        if !play_run(machine, run, line, output)? {
+        let is_played = match play_run(machine, run, line, output) {
+            Ok(is_played) => is_played,
+            Err(fault) => return Err(fault),
+        };
+        if !is_played {
             return Ok(false);
         }
     }
@@ -162,9 +175,14 @@ pub fn play<W: Sink>(
     ensures trace { OnOk result (Appends (W.written output.old) (W.written output.new)
         (trace_of machine.old (choices_of runs.now))) }
     ensures write { result ≡ Err PlayFault.Write → IsTrue (W.has_failed output.new) }
+    ensures memory { result ≡ Err PlayFault.Memory
+        → AppendsPartOf (W.written output.old) (W.written output.new)
+        (trace_of machine.old (choices_of runs.now)) }
 {
     let mut line = Vec::new(alloc);
-    play_runs(machine, runs, &mut line, output)?;
+    if let Err(fault) = play_runs(machine, runs, &mut line, output) {
+        return Err(fault);
+    }
     let state = state_text(alloc, machine)?;
     output.push(state.as_slice())?;
     Ok(())

@@ -247,10 +247,10 @@ mod tests {
             (Status::Ended, b"ended"),
             (Status::Died(7), b"died:7"),
         ];
-        for (status, expected) in cases {
+        for (status, expected) in &cases {
             let mut text = Vec::new(rt.alloc());
-            add_status(&mut text, status)?;
-            assert_eq!(rt; text.as_slice(), expected);
+            add_status(&mut text, *status)?;
+            assert!(rt; text.as_slice() == *expected);
         }
         Ok(())
     }
@@ -264,8 +264,8 @@ mod tests {
             Entry::Advance(63),
             Entry::Action(0),
         ];
-        for entry in entries {
-            add_entry(&mut text, entry)?;
+        for entry in &entries {
+            add_entry(&mut text, *entry)?;
         }
         assert_eq!(rt; text.as_slice(), b" C5 H65535 A63 X0".as_slice());
         text.clear();

@@ -73,11 +73,11 @@ fn a_trace_has_the_lines_and_the_state(rt: HostRuntime) -> Result<(), Fail> {
             LIMIT,
         ),
     ];
-    for (runs, expected) in cases {
+    for (runs, expected) in &cases {
         let mut machine = meeting(&rt, rt.alloc())?;
         let mut sink = MemorySink::new(rt.alloc(), 1000, None)?;
-        assert_eq!(rt; play(rt.alloc(), &mut machine, runs, &mut sink), Ok(()));
-        assert_eq!(rt; sink.bytes(), expected);
+        assert!(rt; play(rt.alloc(), &mut machine, *runs, &mut sink).is_ok());
+        assert!(rt; sink.bytes() == *expected);
     }
     Ok(())
 }

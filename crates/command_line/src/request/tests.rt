@@ -1,0 +1,66 @@
+use super::*;
+use std::test::Fail;
+
+/// A command line after the program's name, its words parted by one space, and what it asks for.
+const REQUESTS: [(&str, Request); 4] = [
+    ("", Request::Both),
+    (
+        "asm a.txt b",
+        Request::Asm {
+            source: "a.txt",
+            image: "b",
+        },
+    ),
+    ("list -", Request::List { file: "-" }),
+    ("list -- --help", Request::List { file: "--help" }),
+];
+
+/// Command lines that ask for nothing, and the status of each.
+const REFUSED: [(&str, i32); 9] = [
+    ("asm", 2),
+    ("asm a", 2),
+    ("asm a b c", 2),
+    ("list", 2),
+    ("list a b", 2),
+    ("examples/stuck.txt", 2),
+    ("--nonsense", 2),
+    ("--help", 0),
+    ("--version", 0),
+];
+
+fn words_of(alloc: Global, line: &str) -> Result<Vec<String>, Fail> {
+    let mut words = Vec::new(alloc);
+    words.push(String::from_str(alloc, "vuthgal")?)?;
+    for word in line.split(' ') {
+        if !word.is_empty() {
+            words.push(String::from_str(alloc, word)?)?;
+        }
+    }
+    Ok(words)
+}
+
+#[test]
+fn command_lines_ask_for_commands(rt: HostRuntime) -> Result<(), Fail> {
+    for (line, expected) in &REQUESTS {
+        let words = words_of(rt.alloc(), *line)?;
+        let is_expected = match parse(rt.alloc(), words.as_slice()) {
+            Ok(answer) => answer == *expected,
+            Err(_) => false,
+        };
+        assert!(rt; is_expected, "{line}");
+    }
+    Ok(())
+}
+
+#[test]
+fn command_lines_that_ask_for_nothing(rt: HostRuntime) -> Result<(), Fail> {
+    for (line, status) in &REFUSED {
+        let words = words_of(rt.alloc(), *line)?;
+        let is_expected = match parse(rt.alloc(), words.as_slice()) {
+            Ok(_) => false,
+            Err(error) => error.exit_code() == *status,
+        };
+        assert!(rt; is_expected, "{line}");
+    }
+    Ok(())
+}

@@ -1,0 +1,92 @@
+//! The program: finds the command that its words ask for, opens the files, and hands them to the command.
+#![tactic(auto)]
+
+mod ending;
+mod files;
+mod words;
+
+use byte_ports::{ReadPort, Sink, WritePort};
+use command_line::request::Request;
+use ending::{flushed, told};
+use std::io::{BufWriter, IsTerminal};
+use std::process::ExitCode;
+use workbench::asm::asm_cmd;
+use workbench::both::both_cmd;
+use workbench::fault::Fault;
+use workbench::list::list_cmd;
+
+/// How many bytes are written at a time.
+const BUFFER: usize = 65_536;
+
+/// Plays what standard input holds.
+fn both(rt: &HostRuntime) -> u8 {
+    let mut errors = WritePort::new(rt.stderr());
+    if rt.stdin().is_terminal() {
+        let _ = errors.push(b"reading a program text from the terminal (--help tells more)\n");
+    }
+    let Ok(writer) = BufWriter::with_capacity(rt.alloc(), BUFFER, rt.stdout()) else {
+        return told(rt, Fault::Memory);
+    };
+    let mut output = WritePort::new(writer);
+    let mut input = ReadPort::new(rt.stdin());
+    let status = both_cmd(rt.alloc(), &mut input, &mut output, &mut errors);
+    flushed(rt, status, &mut output)
+}
+
+/// Writes the image of the text in one file to another.
+fn asm(rt: &HostRuntime, source: &str, image: &str) -> u8 {
+    let Ok(input) = files::read(rt, source) else {
+        return told(rt, Fault::Read);
+    };
+    let Ok(file) = files::write(rt, image) else {
+        return told(rt, Fault::Write);
+    };
+    let Ok(writer) = BufWriter::with_capacity(rt.alloc(), BUFFER, file) else {
+        return told(rt, Fault::Memory);
+    };
+    let mut output = WritePort::new(writer);
+    let mut errors = WritePort::new(rt.stderr());
+    let status = asm_cmd(
+        rt.alloc(),
+        &mut ReadPort::new(input),
+        &mut output,
+        &mut errors,
+    );
+    flushed(rt, status, &mut output)
+}
+
+/// Writes the canonical text of the program in a file.
+fn list(rt: &HostRuntime, file: &str) -> u8 {
+    let Ok(input) = files::read(rt, file) else {
+        return told(rt, Fault::Read);
+    };
+    let mut output = WritePort::new(rt.stdout());
+    let mut errors = WritePort::new(rt.stderr());
+    let status = list_cmd(
+        rt.alloc(),
+        &mut ReadPort::new(input),
+        &mut output,
+        &mut errors,
+    );
+    flushed(rt, status, &mut output)
+}
+
+/// Does what the words ask for.
+fn done(rt: &HostRuntime, request: Request) -> u8 {
+    match request {
+        Request::Both => both(rt),
+        Request::Asm { source, image } => asm(rt, source, image),
+        Request::List { file } => list(rt, file),
+    }
+}
+
+fn main(rt: HostRuntime) -> ExitCode {
+    let words = match words::given(&rt) {
+        Ok(words) => words,
+        Err(status) => return ExitCode::from(status),
+    };
+    ExitCode::from(match words::request(&rt, words.as_slice()) {
+        Ok(request) => done(&rt, request),
+        Err(status) => status,
+    })
+}

@@ -1,0 +1,26 @@
+-- A program in a file: an image, or a text.
+use Rattle.std.specs.Prelude.{◌≡◌, ◌⊎◌, ◌||◌, ◌==◌, ℕ, Bool, true, false, List, codes, Ok, Err}
+use Rattle.std.specs.List.{starts_with}
+use Rattle.assembler.specs.Meaning.{StandsFor}
+use Rattle.assembler.specs.Passes.{assembled}
+use Rattle.row_code.specs.Reading.{image_of}
+use Rattle.row_code.specs.declared.image.Image.{Image}
+use Rattle.workbench.specs.declared.fault.Fault.{Fault}
+use Rattle.workbench.specs.declared.fault.Fault.TheVariants as fault
+
+-- a file is an image where its first four bytes are those of one
+abbrev pub is_image_file : List ℕ → Bool
+is_image_file bytes =
+    starts_with ◌==◌ bytes (codes "PBW1") || starts_with ◌==◌ bytes (codes "PBW2")
+
+-- the image that a file is, or that the text in it stands for
+abbrev pub IsProgramFile : List ℕ → Image → Type 0
+IsProgramFile file image =
+    ((is_image_file file ≡ true) × (image_of file ≡ Ok image))
+    ⊎ ((is_image_file file ≡ false) × StandsFor file image)
+
+-- why a file is no program: the first fault of the image, or of the text
+abbrev pub IsNoProgramFor : Fault → List ℕ → Type 0
+IsNoProgramFor (fault.Image f) file = (is_image_file file ≡ true) × (image_of file ≡ Err f)
+IsNoProgramFor (fault.Asm f) file = (is_image_file file ≡ false) × (assembled file ≡ Err f)
+IsNoProgramFor _ file = ⊥
