@@ -1,5 +1,5 @@
-// Callers over any port, each with its proof: what a crate above can say of the bytes that it moves
-// and of the side that failed.
+//! Callers over any port, each with its proof: what a crate above can say of the bytes that it moves
+//! and of the side that failed.
 ghost use Rattle.std.specs.Prelude.{◌≡◌, ℕ, ◌↔◌, ◌++◌, List, length, IsTrue, IsErr, IfOk, OnOk};
 ghost use Rattle.std.specs.Io.KnownBytes.{Appends, Consumes};
 
@@ -7,13 +7,13 @@ use crate::failed::Failed;
 use crate::sink::Sink;
 use crate::source::Source;
 
-#[derive(Clone, Copy, Debug, PartialEq, Eq)]
+#[derive(Clone, Copy, PartialEq, Eq)]
 enum Fault {
     Read,
     Write,
 }
 
-// Writes one piece and then the other.
+/// Writes one piece and then the other.
 fn write_both<K: Sink>(sink: &mut K, first: &[u8], second: &[u8]) -> Result<(), Failed>
     ensures bytes { OnOk result
         (Appends (K.written sink.old) (K.written sink.new) (first.now ++ second.now)) }
@@ -23,7 +23,7 @@ fn write_both<K: Sink>(sink: &mut K, first: &[u8], second: &[u8]) -> Result<(), 
     sink.push(second)
 }
 
-// Copies one piece of the source, at most as much as the buffer holds, and answers its length.
+/// Copies one piece of the source, at most as much as the buffer holds, and answers its length.
 fn copy_piece<S: Source, K: Sink>(
     source: &mut S,
     sink: &mut K,
@@ -44,7 +44,7 @@ fn copy_piece<S: Source, K: Sink>(
     }
 }
 
-// Copies two pieces, one after the other.
+/// Copies two pieces, one after the other.
 fn copy_two_pieces<S: Source, K: Sink>(
     source: &mut S,
     sink: &mut K,
@@ -68,41 +68,54 @@ mod tests {
     use crate::memory_source::MemorySource;
     use crate::read_port::ReadPort;
     use crate::write_port::WritePort;
+    use std::alloc::{AllocError, Global};
     use std::io;
     use std::test::Fail;
 
+    /// The source's call that fails, the sink's, the fault, and the bytes that have moved.
+    const COPIES: [(Option<u32>, Option<u32>, Option<Fault>, &[u8]); 5] = [
+        (None, None, None, b"barrie"),
+        (Some(0), None, Some(Fault::Read), b""),
+        (Some(1), None, Some(Fault::Read), b"bar"),
+        (None, Some(0), Some(Fault::Write), b""),
+        (None, Some(1), Some(Fault::Write), b"bar"),
+    ];
+
+    /// Whether two pieces of `barrier` are copied with this fault, if any, and just these bytes.
+    fn copies(
+        alloc: Global,
+        read_fails: Option<u32>,
+        write_fails: Option<u32>,
+        fault: Option<Fault>,
+        bytes: &[u8],
+    ) -> Result<bool, AllocError> {
+        let mut source = MemorySource::new(b"barrier", read_fails);
+        let mut sink = MemorySink::new(alloc, 8, write_fails)?;
+        let mut buffer = [0; 3];
+        let met = copy_two_pieces(&mut source, &mut sink, &mut buffer).err();
+        Ok(met == fault && sink.bytes() == bytes)
+    }
+
     #[test]
     fn copies_over_memory(rt: HostRuntime) -> Result<(), Fail> {
-        let cases: [(Option<u32>, Option<u32>, Result<(), Fault>, &[u8]); 5] = [
-            (None, None, Ok(()), b"barrie"),
-            (Some(0), None, Err(Fault::Read), b""),
-            (Some(1), None, Err(Fault::Read), b"bar"),
-            (None, Some(0), Err(Fault::Write), b""),
-            (None, Some(1), Err(Fault::Write), b"bar"),
-        ];
-        for (read_fails, write_fails, answer, bytes) in cases {
-            let mut source = MemorySource::new(b"barrier", read_fails);
-            let mut sink = MemorySink::new(rt.alloc(), 8, write_fails)?;
-            let mut buffer = [0; 3];
-            let copied = copy_two_pieces(&mut source, &mut sink, &mut buffer);
-            assert_eq!(rt; copied, answer);
-            assert_eq!(rt; sink.bytes(), bytes);
+        for (read_fails, write_fails, fault, bytes) in &COPIES {
+            let copies = copies(rt.alloc(), *read_fails, *write_fails, *fault, *bytes)?;
+            assert!(rt; copies, "{read_fails:?}, {write_fails:?}");
         }
         Ok(())
     }
 
+    fn copies_and_ends<S: Source, K: Sink>(source: &mut S, sink: &mut K) -> bool {
+        let mut buffer = [0; 3];
+        copy_two_pieces(source, sink, &mut buffer).is_ok() && write_both(sink, b"-", b"end").is_ok()
+    }
+
     #[test]
-    fn copies_over_std(rt: HostRuntime) -> Result<(), Fail> {
+    fn copies_over_std(rt: HostRuntime) {
         let mut kept = Vec::new(rt.alloc());
         let mut source = ReadPort::new(io::Cursor::new(b"barrier".as_slice()));
         let mut sink = WritePort::new(&mut kept);
-        let mut buffer = [0; 3];
-        assert_eq!(rt;
-            copy_two_pieces(&mut source, &mut sink, &mut buffer),
-            Ok(())
-        );
-        assert_eq!(rt; write_both(&mut sink, b"-", b"end"), Ok(()));
-        assert_eq!(rt; kept.as_slice(), b"barrie-end".as_slice());
-        Ok(())
+        assert!(rt; copies_and_ends(&mut source, &mut sink));
+        assert!(rt; kept.as_slice() == b"barrie-end".as_slice());
     }
 }

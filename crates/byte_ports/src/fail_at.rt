@@ -1,4 +1,5 @@
-// The planned failure of a port in memory: the number of the call that fails, from 0 for the next.
+//! The planned failure of a port in memory: the number of the call that fails, from 0 for the
+//! next.
 ghost use Rattle.std.specs.Prelude.{◌≡◌};
 ghost use Rattle.byte_ports.specs.FailAt.{is_due, one_nearer};
 

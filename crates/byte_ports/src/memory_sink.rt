@@ -1,4 +1,5 @@
-ghost use Rattle.std.specs.Prelude.{◌≡◌, ◌≤◌, [], Some, true, false, IfOk, OnOk, OnErr, vec_len, vec_capacity};
+ghost use Rattle.std.specs.Prelude.{◌≡◌, ◌≤◌, [], Some, true, false, IfOk, OnOk, OnErr};
+ghost use Rattle.std.specs.Prelude.{vec_len, vec_capacity};
 ghost use Rattle.std.specs.Io.KnownBytes.{Appends};
 ghost use Rattle.byte_ports.specs.Port.{FailsForGood};
 ghost use Rattle.byte_ports.specs.FailAt.{one_nearer};
@@ -14,23 +15,23 @@ use std::marker::Model;
 /// fail.
 #[derive(Drop)]
 pub struct MemorySink {
-    taken: Vec<u8>,
-    limit: usize,
-    countdown: Option<u32>,
-    broken: bool,
+    written: Vec<u8>,
+    room: usize,
+    fail_at: Option<u32>,
+    failed: bool,
 }
 
 impl Model for MemorySink {
     ghost Value = { Store };
 
     ghost view = { λ s. record {
-      written = s.taken.items;
-      room = s.limit;
-      fail_at = s.countdown;
-      failed = s.broken;
+      written = s.written.items;
+      room = s.room;
+      fail_at = s.fail_at;
+      failed = s.failed;
     } };
 
-    ghost invariant = { λ s. (vec_len s.taken ≤ s.limit) × (s.limit ≤ vec_capacity s.taken) };
+    ghost invariant = { λ s. (vec_len s.written ≤ s.room) × (s.room ≤ vec_capacity s.written) };
 }
 
 impl MemorySink {
@@ -41,10 +42,10 @@ impl MemorySink {
             record { written = []; room = room; fail_at = fail_at; failed = false }) }
     {
         Ok(MemorySink {
-            taken: Vec::with_capacity(alloc, room)?,
-            limit: room,
-            countdown: fail_at,
-            broken: false,
+            written: Vec::with_capacity(alloc, room)?,
+            room,
+            fail_at,
+            failed: false,
         })
     }
 
@@ -52,7 +53,7 @@ impl MemorySink {
     pub fn bytes(&self) -> &[u8]
         ensures { result.now ≡ self.now.written }
     {
-        self.taken.as_slice()
+        self.written.as_slice()
     }
 }
 
@@ -72,13 +73,13 @@ impl Sink for MemorySink {
         ensures room { OnOk result (self.new.room ≡ self.old.room) }
         ensures err { OnErr result (self.new ≡ record self.old { failed = true }) }
     {
-        let is_full = self.limit - self.taken.len() < bytes.len();
-        if self.broken || is_next_call(self.countdown) || is_full {
-            self.broken = true;
+        let is_full = self.room - self.written.len() < bytes.len();
+        if self.failed || is_next_call(self.fail_at) || is_full {
+            self.failed = true;
             return Err(Failed);
         }
-        self.taken.extend_from_slice(bytes).unwrap();
-        self.countdown = after_a_call(self.countdown);
+        self.written.extend_from_slice(bytes).unwrap();
+        self.fail_at = after_a_call(self.fail_at);
         Ok(())
     }
 }

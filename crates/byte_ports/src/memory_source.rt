@@ -1,4 +1,5 @@
-ghost use Rattle.std.specs.Prelude.{◌≡◌, ◌≤◌, Some, true, false, IfOk, OnOk, OnErr, length, min, drop};
+ghost use Rattle.std.specs.Prelude.{◌≡◌, ◌≤◌, Some, true, false, IfOk, OnOk, OnErr};
+ghost use Rattle.std.specs.Prelude.{length, min, drop};
 ghost use Rattle.std.specs.Io.KnownBytes.{ReadConsumes};
 ghost use Rattle.byte_ports.specs.Port.{FailsForGood};
 ghost use Rattle.byte_ports.specs.FailAt.{one_nearer};
@@ -13,8 +14,8 @@ use std::marker::Model;
 #[derive(Drop)]
 pub struct MemorySource<'a> {
     rest: &'a [u8],
-    countdown: Option<u32>,
-    broken: bool,
+    fail_at: Option<u32>,
+    failed: bool,
 }
 
 impl<'a> Model for MemorySource<'a> {
@@ -22,8 +23,8 @@ impl<'a> Model for MemorySource<'a> {
 
     ghost view = { λ s. record {
       left = s.rest.now;
-      fail_at = s.countdown;
-      failed = s.broken;
+      fail_at = s.fail_at;
+      failed = s.failed;
     } };
 }
 
@@ -34,8 +35,8 @@ impl<'a> MemorySource<'a> {
     {
         MemorySource {
             rest: bytes,
-            countdown: fail_at,
-            broken: false,
+            fail_at,
+            failed: false,
         }
     }
 }
@@ -58,14 +59,14 @@ impl<'a> Source for MemorySource<'a> {
         ensures err { OnErr result (self.new ≡ record self.old { failed = true }) }
         ensures err_buffer { OnErr result (buffer.new ≡ buffer.old) }
     {
-        if self.broken || is_next_call(self.countdown) {
-            self.broken = true;
+        if self.failed || is_next_call(self.fail_at) {
+            self.failed = true;
             return Err(Failed);
         }
         let count = buffer.len().min(self.rest.len());
         buffer[..count].copy_from_slice(&self.rest[..count]);
         self.rest = &self.rest[count..];
-        self.countdown = after_a_call(self.countdown);
+        self.fail_at = after_a_call(self.fail_at);
         Ok(count)
     }
 }

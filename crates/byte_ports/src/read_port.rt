@@ -13,13 +13,13 @@ use std::marker::Model;
 #[derive(Drop)]
 pub struct ReadPort<R> {
     reader: R,
-    broken: bool,
+    failed: bool,
 }
 
 impl<R> Model for ReadPort<R> {
     ghost Value = { Port R };
 
-    ghost view = { λ p. record { inner = p.reader; failed = p.broken } };
+    ghost view = { λ p. record { inner = p.reader; failed = p.failed } };
 }
 
 impl<R: Read> ReadPort<R> {
@@ -28,7 +28,7 @@ impl<R: Read> ReadPort<R> {
     {
         ReadPort {
             reader,
-            broken: false,
+            failed: false,
         }
     }
 }
@@ -49,16 +49,16 @@ impl<R: Read> Source for ReadPort<R> {
         // Once it has failed, the reader is left alone.
         ensures idle { IsTrue self.old.failed → self.new ≡ self.old }
     {
-        if self.broken {
+        if self.failed {
             return Err(Failed);
         }
         let outcome = read_through_interruptions(&mut self.reader, buffer);
-        self.broken = outcome.is_err();
+        self.failed = outcome.is_err();
         outcome
     }
 }
 
-// One read, tried again where a signal interrupts it.
+/// One read, tried again where a signal interrupts it.
 fn read_through_interruptions<R: Read>(reader: &mut R, buffer: &mut [u8]) -> Result<usize, Failed>
     ensures bound { IfOk result (λ n. n ≤ length buffer.new) }
     ensures bytes { ReadConsumes (R.remaining reader.old) (R.remaining reader.new)

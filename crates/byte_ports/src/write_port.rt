@@ -17,13 +17,13 @@ use std::marker::Model;
 #[derive(Drop)]
 pub struct WritePort<W> {
     writer: W,
-    broken: bool,
+    failed: bool,
 }
 
 impl<W> Model for WritePort<W> {
     ghost Value = { Port W };
 
-    ghost view = { λ p. record { inner = p.writer; failed = p.broken } };
+    ghost view = { λ p. record { inner = p.writer; failed = p.failed } };
 }
 
 impl<W: Write> WritePort<W> {
@@ -32,13 +32,14 @@ impl<W: Write> WritePort<W> {
     {
         WritePort {
             writer,
-            broken: false,
+            failed: false,
         }
     }
 
     /// Flushes the writer, like `OutputStream.flush`, again where a signal interrupts it, up to
     /// `MOST_TRIES` times in all. A program calls it once, after its last `push`. A failure here is
-    /// one of writing: bytes that an earlier `push` took may not have gone out.
+    /// one of writing: bytes that an earlier `push` took may not have gone out. That it flushes at
+    /// all is only tested: the standard library's contracts don't tell a flush from none.
     pub fn finish(&mut self) -> Result<(), Failed>
         ensures failed { FailsForGood self.old.failed self.new.failed result }
         ensures bytes { Keeps (W.contents self.old.inner) (W.contents self.new.inner) }
@@ -46,11 +47,11 @@ impl<W: Write> WritePort<W> {
         // Once it has failed, the writer is left alone.
         ensures idle { IsTrue self.old.failed → self.new ≡ self.old }
     {
-        if self.broken {
+        if self.failed {
             return Err(Failed);
         }
         let outcome = flush_through_interruptions(&mut self.writer);
-        self.broken = outcome.is_err();
+        self.failed = outcome.is_err();
         outcome
     }
 }
@@ -68,15 +69,15 @@ impl<W: Write> Sink for WritePort<W> {
         // Once it has failed, the writer is left alone.
         ensures idle { IsTrue self.old.failed → self.new ≡ self.old }
     {
-        if self.broken || self.writer.write_all(bytes).is_err() {
-            self.broken = true;
+        if self.failed || self.writer.write_all(bytes).is_err() {
+            self.failed = true;
             return Err(Failed);
         }
         Ok(())
     }
 }
 
-// One flush, tried again where a signal interrupts it.
+/// One flush, tried again where a signal interrupts it.
 fn flush_through_interruptions<W: Write>(writer: &mut W) -> Result<(), Failed>
     ensures { Keeps (W.contents writer.old) (W.contents writer.new) }
 {

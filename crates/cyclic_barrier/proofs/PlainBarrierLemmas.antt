@@ -1,4 +1,4 @@
-use Rattle.std.proofs.Common.{◌≡◌, ℕ, ◌+◌, ◌<◌, ◌≤◌, zero, suc, Bool, true, false, not, cond, ◌==◌, refl, sym, ◌∙◌, ap, arith, inl, inr, List, [], ◌∷◌, ◌++◌, length, Option, Some, None, slice_get, option_map, filter, count_by, All, nat_le, length-append, zero-add}
+use Rattle.std.proofs.Common.{◌≡◌, ℕ, ◌+◌, ◌≤◌, zero, suc, Bool, true, false, not, cond, ◌==◌, refl, sym, ◌∙◌, ap, arith, inl, inr, List, [], ◌∷◌, ◌++◌, length, Option, Some, None, slice_get, option_map, filter, count_by, All, nat_le, length-append, zero-add}
 use Rattle.std.proofs.lemmas.Bool.{le-leb, lt-leb, cases_eq, eq-eqb, ne_eqb}
 use Rattle.std.proofs.lemmas.Bool.Decides.{nat_tests}
 use Rattle.std.proofs.lemmas.List.Elements.{All-head, All-tail, All-weaker}
@@ -7,7 +7,8 @@ use Rattle.cyclic_barrier.specs.declared.answer.WaitState.{WaitState}
 use Rattle.cyclic_barrier.specs.declared.answer.WaitState.TheVariants as state
 use Rattle.cyclic_barrier.specs.PlainBarrier as plain
 use Rattle.cyclic_barrier.specs.PlainBarrier.{PlainBarrier, Wait, End, state_after, state_of_wait, wait_of, state_of, is_unreleased, number_waiting, end_generation, reset}
-use Rattle.cyclic_barrier.specs.Barrier.{is_at, OneWaitEach, HasBegun}
+use Rattle.cyclic_barrier.specs.Waits.{is_at}
+use Rattle.cyclic_barrier.specs.Past.{OneWaitEach, HasBegun}
 
 -- what a wait's state becomes when the generation under way ends
 abbrev pub ended_by : End → WaitState → WaitState
@@ -56,10 +57,6 @@ begun_still waits ends end begun = All-weaker (HasBegun ends) (HasBegun (ends ++
 
 le_suc : (a b : ℕ) → nat_le a b ≡ nat_le (suc a) (suc b)
 le_suc a b = grind (arith, nat_tests)
-
--- the same barrier, whole
-abbrev pub reset_flag : PlainBarrier → PlainBarrier
-reset_flag p = record p { broken = false }
 
 -- a wait is unreleased where the test says so
 waiting_test :
@@ -138,11 +135,3 @@ one_each-others (wait ∷ waits) gone one =
       | true ↦ rest
       | false ↦ (wait_of-others waits gone wait.thread ∙ rw one.0 (sym (none_either (gone == wait.thread))), rest)
     ]
-
--- a reset where some thread waits is one of a barrier whose generation has just broken
-pub reset-waited : (p : PlainBarrier) → 0 < number_waiting p → reset p ≡ reset_flag (plain.break p)
-reset-waited p some = ap (λ b. reset_flag (cond b p (end_generation plain.broken p))) (ne_eqb 0 (number_waiting p) (λ e. omega arith))
-
--- a reset where no thread waits
-pub reset-idle : (p : PlainBarrier) → number_waiting p ≤ 0 → reset p ≡ reset_flag p
-reset-idle p none = ap (λ b. reset_flag (cond b p (end_generation plain.broken p))) (eq-eqb 0 (number_waiting p) (omega arith))

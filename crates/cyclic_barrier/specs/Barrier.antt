@@ -1,89 +1,26 @@
-use Rattle.std.specs.Prelude.{◌≡◌, ℕ, ◌+◌, ◌<◌, ◌≤◌, Bool, true, false, not, ◌||◌, ◌&&◌, ◌==◌, IsSome, Option, Some, None, All, List, [], ◌∷◌, length}
+use Rattle.std.specs.Prelude.{◌≡◌, ℕ, ◌+◌, ◌-◌, ◌<◌, ◌==◌, Bool, true, false, if◌then◌else◌, List, length, count_by, replicate, slice_set, IsSome, Option, Some, None, is_some}
 use Rattle.cyclic_barrier.specs.declared.answer.Entered.{Entered}
 use Rattle.cyclic_barrier.specs.declared.answer.Entered.TheVariants as entered
 use Rattle.cyclic_barrier.specs.declared.answer.WaitState.{WaitState}
 use Rattle.cyclic_barrier.specs.declared.answer.WaitState.TheVariants as state
-use Rattle.cyclic_barrier.specs.ThreadSet.{has}
-use Rattle.cyclic_barrier.specs.PlainBarrier.{PlainBarrier, Wait, End, wait_of, state_of, number_waiting}
+use Rattle.cyclic_barrier.specs.Waits.{wait_at, is_waiting, release}
 
--- what a barrier keeps. It forgets how earlier generations ended, and has three sets of threads:
--- those that wait, those that a trip released, and those that a breakage or a reset released
-pub record BarrierValue : Type 0 where
+-- a barrier as it now is: the thread that now runs the action, and for each of 64 threads what its
+-- wait here has come to, if it has one
+pub record BarrierState : Type 0 where
   pub parties : ℕ
   pub action : Bool
   pub broken : Bool
   pub runner : Option ℕ
-  pub number_waiting : ℕ
-  pub waiting : ℕ
-  pub released_tripped : ℕ
-  pub released_broken : ℕ
+  pub waits : List (Option WaitState)
 
--- what is true of the numbers of every barrier
-pub record IsSound (b : BarrierValue) : Type 0 where
-  pub below : b.number_waiting < b.parties
-  pub idle : b.broken ≡ true → b.number_waiting ≡ 0
-  pub full : IsSome b.runner → b.number_waiting + 1 ≡ b.parties
-  pub runs : IsSome b.runner → b.action ≡ true
-  pub whole : IsSome b.runner → b.broken ≡ false
-
--- no thread has two waits
-abbrev pub OneWaitEach : List Wait → Type 0
-OneWaitEach [] = Unit {0}
-OneWaitEach (wait ∷ waits) = (wait_of wait.thread waits ≡ None) × OneWaitEach waits
-
--- the wait is for a generation that has begun
-abbrev pub HasBegun : List End → Wait → Type 0
-HasBegun ends wait = wait.generation ≤ length ends
-
--- there is a wait, and it has come to this
-abbrev pub is_at : WaitState → Option WaitState → Bool
-is_at state.Waiting (Some state.Waiting) = true
-is_at state.Tripped (Some state.Tripped) = true
-is_at state.Broken (Some state.Broken) = true
-is_at _ _ = false
-
--- the threads of the set are those whose wait has come to this
-abbrev pub IsSetOf : ℕ → WaitState → PlainBarrier → Type 0
-IsSetOf bits s plain = (thread : ℕ) → has bits thread ≡ is_at s (state_of thread plain)
-
--- the value stands for the plain barrier
-pub record StandsFor (b : BarrierValue) (plain : PlainBarrier) : Type 0 where
-  pub parties : plain.parties ≡ b.parties
-  pub action : plain.action ≡ b.action
-  pub broken : plain.broken ≡ b.broken
-  pub runner : plain.runner ≡ b.runner
-  pub number_waiting : number_waiting plain ≡ b.number_waiting
-  pub waiting : IsSetOf b.waiting state.Waiting plain
-  pub released_tripped : IsSetOf b.released_tripped state.Tripped plain
-  pub released_broken : IsSetOf b.released_broken state.Broken plain
-  pub begun : All (HasBegun plain.ends) plain.waits
-  pub one_each : OneWaitEach plain.waits
-
--- there is a plain barrier that the value stands for
-abbrev pub HasPlain : BarrierValue → Type 0
-HasPlain b = (plain : PlainBarrier) × StandsFor b plain
-
--- what is true of every barrier
-abbrev pub IsBarrier : BarrierValue → Type 0
-IsBarrier b = IsSound b × HasPlain b
-
--- the value stands afterwards for what the call makes of each plain barrier that it stood for
-abbrev pub Becomes : (PlainBarrier → PlainBarrier) → BarrierValue → BarrierValue → Type 0
-Becomes call before after =
-    (plain : PlainBarrier) → StandsFor before plain → StandsFor after (call plain)
-
--- the answer is that of each plain barrier that the value stands for
-abbrev pub Answers : {A : Type 0} → (PlainBarrier → A) → BarrierValue → A → Type 0
-Answers call b answer = (plain : PlainBarrier) → StandsFor b plain → call plain ≡ answer
-
--- the thread waits and was not released
-abbrev pub is_waiting : ℕ → BarrierValue → Bool
-is_waiting thread b = has b.waiting thread
+-- how many threads wait, unreleased; the runner is not among them
+abbrev pub number_waiting : BarrierState → ℕ
+number_waiting b = count_by is_waiting b.waits
 
 -- the thread has a wait here, released or not
-abbrev pub has_wait : ℕ → BarrierValue → Bool
-has_wait thread b =
-    is_waiting thread b || (has b.released_tripped thread || has b.released_broken thread)
+abbrev pub has_wait : ℕ → BarrierState → Bool
+has_wait thread b = is_some (wait_at b.waits thread)
 
 -- the entry began a wait
 abbrev pub is_wait : Entered → Bool
@@ -95,16 +32,89 @@ abbrev pub runner_after : ℕ → Entered → Option ℕ → Option ℕ
 runner_after thread entered.Run earlier = Some thread
 runner_after thread _ earlier = earlier
 
--- the same threads have a wait
-abbrev pub KeepsWaits : BarrierValue → BarrierValue → Type 0
-KeepsWaits before after = (t : ℕ) → has_wait t after ≡ has_wait t before
+-- what is true of every barrier
+pub record IsBarrier (b : BarrierState) : Type 0 where
+  pub threads : length b.waits ≡ 64
+  pub below : number_waiting b < b.parties
+  pub idle : b.broken ≡ true → number_waiting b ≡ 0
+  pub full : IsSome b.runner → number_waiting b + 1 ≡ b.parties
+  pub runs : IsSome b.runner → b.action ≡ true
+  pub whole : IsSome b.runner → b.broken ≡ false
 
--- the same threads have a wait, and this one where the test says so
-abbrev pub AddsWaitIf : Bool → ℕ → BarrierValue → BarrierValue → Type 0
-AddsWaitIf test thread before after =
-    (t : ℕ) → has_wait t after ≡ (has_wait t before || (test && (thread == t)))
+-- a new barrier
+abbrev pub fresh : ℕ → Bool → BarrierState
+fresh parties action =
+    let waits = replicate 64 None in
+    record { parties = parties; action = action; broken = false; runner = None; waits = waits }
 
--- the same threads have a wait, without this one
-abbrev pub DropsWait : ℕ → BarrierValue → BarrierValue → Type 0
-DropsWait thread before after =
-    (t : ℕ) → has_wait t after ≡ (has_wait t before && not (thread == t))
+-- the barrier trips
+abbrev pub trip : BarrierState → BarrierState
+trip b = record b { waits = release state.Tripped b.waits }
+
+-- the barrier breaks
+abbrev pub break : BarrierState → BarrierState
+break b = record b { waits = release state.Broken b.waits; broken = true }
+
+-- what an entry leaves and answers
+pub record Entry : Type 0 where
+  pub barrier : BarrierState
+  pub answer : Entered
+
+-- the thread waits; the index counts down from parties - 1 to 1
+abbrev pub add_wait : ℕ → BarrierState → Entry
+add_wait thread b = record {
+  barrier = record b { waits = slice_set b.waits thread (Some state.Waiting) };
+  answer = entered.Wait (b.parties - 1 - number_waiting b);
+}
+
+-- the last arrival runs the action, or trips the barrier where there is none
+abbrev pub arrive_last : ℕ → BarrierState → Entry
+arrive_last thread b =
+    if b.action
+    then record { barrier = record b { runner = Some thread }; answer = entered.Run }
+    else record { barrier = trip b; answer = entered.Tripped }
+
+-- a thread arrives while no thread runs the action
+abbrev pub arrive : ℕ → Bool → Bool → BarrierState → Entry
+arrive thread interrupted no_wait b =
+    if b.broken then record { barrier = b; answer = entered.Broken }
+    else (if interrupted then record { barrier = break b; answer = entered.Interrupted }
+    else (if number_waiting b + 1 == b.parties then arrive_last thread b
+    else (if no_wait then record { barrier = break b; answer = entered.TimedOut }
+    else add_wait thread b)))
+
+-- the runner of an action is asked about first
+abbrev pub enter_beside : Option ℕ → ℕ → Bool → Bool → BarrierState → Entry
+enter_beside None thread interrupted no_wait b = arrive thread interrupted no_wait b
+enter_beside (Some runner) thread interrupted no_wait b =
+    record { barrier = b; answer = if runner == thread then entered.Own else entered.Busy }
+
+-- a thread calls await with a time; no_wait says that none is left. interrupted is its interrupted
+-- status
+abbrev pub enter_timed : ℕ → Bool → Bool → BarrierState → Entry
+enter_timed thread interrupted no_wait b = enter_beside b.runner thread interrupted no_wait b
+
+-- a thread calls await
+abbrev pub enter : ℕ → Bool → BarrierState → Entry
+enter thread interrupted b = enter_timed thread interrupted false b
+
+-- the action returned, or threw
+abbrev pub end_action : Bool → BarrierState → BarrierState
+end_action returned b =
+    let rested = record b { runner = None } in if returned then trip rested else break rested
+
+-- the thread's wait is over
+abbrev pub leave : ℕ → BarrierState → BarrierState
+leave thread b = record b { waits = slice_set b.waits thread None }
+
+-- the thread is interrupted while it waits
+abbrev pub interrupt : ℕ → BarrierState → BarrierState
+interrupt thread b = leave thread (break b)
+
+-- the thread's time is over while it waits
+abbrev pub expire : ℕ → BarrierState → BarrierState
+expire thread b = interrupt thread b
+
+-- the initial state again: who waits is released as by a breakage
+abbrev pub reset : BarrierState → BarrierState
+reset b = record b { waits = release state.Broken b.waits; broken = false }

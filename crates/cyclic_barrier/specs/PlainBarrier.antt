@@ -90,22 +90,28 @@ arrive_last thread b =
     else record { barrier = end_generation tripped b; answer = entered.Tripped }
 
 -- a thread arrives while no thread runs the action
-abbrev pub arrive : ℕ → Bool → PlainBarrier → Entry
-arrive thread interrupted b =
+abbrev pub arrive : ℕ → Bool → Bool → PlainBarrier → Entry
+arrive thread interrupted no_wait b =
     if b.broken then record { barrier = b; answer = entered.Broken }
     else (if interrupted then record { barrier = break b; answer = entered.Interrupted }
     else (if number_waiting b + 1 == b.parties then arrive_last thread b
-    else add_wait thread b))
+    else (if no_wait then record { barrier = break b; answer = entered.TimedOut }
+    else add_wait thread b)))
 
 -- the runner of an action is asked about first
-abbrev pub enter_beside : Option ℕ → ℕ → Bool → PlainBarrier → Entry
-enter_beside None thread interrupted b = arrive thread interrupted b
-enter_beside (Some runner) thread interrupted b =
+abbrev pub enter_beside : Option ℕ → ℕ → Bool → Bool → PlainBarrier → Entry
+enter_beside None thread interrupted no_wait b = arrive thread interrupted no_wait b
+enter_beside (Some runner) thread interrupted no_wait b =
     record { barrier = b; answer = if runner == thread then entered.Own else entered.Busy }
 
--- a thread calls await; interrupted is its interrupted status
+-- a thread calls await with a time; no_wait says that none is left. interrupted is its interrupted
+-- status
+abbrev pub enter_timed : ℕ → Bool → Bool → PlainBarrier → Entry
+enter_timed thread interrupted no_wait b = enter_beside b.runner thread interrupted no_wait b
+
+-- a thread calls await
 abbrev pub enter : ℕ → Bool → PlainBarrier → Entry
-enter thread interrupted b = enter_beside b.runner thread interrupted b
+enter thread interrupted b = enter_timed thread interrupted false b
 
 -- the action returned, or threw
 abbrev pub end_action : Bool → PlainBarrier → PlainBarrier
@@ -120,6 +126,10 @@ leave thread b = record b { waits = filter (λ wait. not (wait.thread == thread)
 -- the thread is interrupted while it waits
 abbrev pub interrupt : ℕ → PlainBarrier → PlainBarrier
 interrupt thread b = leave thread (break b)
+
+-- the thread's time is over while it waits
+abbrev pub expire : ℕ → PlainBarrier → PlainBarrier
+expire thread b = interrupt thread b
 
 -- the initial state again: a generation that some thread waits for ends as broken
 abbrev pub reset : PlainBarrier → PlainBarrier

@@ -11,6 +11,8 @@ pub enum Entered {
     Broken,
     /// It was interrupted and broke the barrier: `InterruptedException`.
     Interrupted,
+    /// It had no time to wait and broke the barrier: `TimeoutException`.
+    TimedOut,
     /// Another thread runs the action: come again once it is done.
     Busy,
     /// It runs the action itself: `IllegalStateException`.

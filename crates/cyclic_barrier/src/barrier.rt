@@ -1,9 +1,10 @@
-ghost use Rattle.std.specs.Prelude.{◌≡◌, ◌+◌, ◌<◌, ◌↔◌, true, false, IsSome, IfSome};
+ghost use Rattle.std.specs.Prelude.{◌≡◌, ◌<◌, ◌↔◌, IsSome, IfSome};
 
-use crate::thread_set::ThreadSet;
+use crate::waits::Waits;
 use std::marker::Model;
 
 mod entry;
+pub mod law;
 mod release;
 #[cfg(test)]
 mod tests;
@@ -17,59 +18,36 @@ pub struct Barrier {
     action: bool,
     broken: bool,
     runner: Option<u8>,
-    number_waiting: u16,
-    waiting: ThreadSet,
-    released_tripped: ThreadSet,
-    released_broken: ThreadSet,
+    waits: Waits,
 }
 
 impl Model for Barrier {
-    ghost use Rattle.cyclic_barrier.specs.Barrier.{BarrierValue, IsBarrier};
+    ghost use Rattle.cyclic_barrier.specs.Barrier.{BarrierState, IsBarrier};
 
-    ghost Value = { BarrierValue };
+    ghost Value = { BarrierState };
 
-    ghost view = { λ b. record {
-      parties = b.parties;
-      action = b.action;
-      broken = b.broken;
-      runner = b.runner;
-      number_waiting = b.number_waiting;
-      waiting = b.waiting.bits;
-      released_tripped = b.released_tripped.bits;
-      released_broken = b.released_broken.bits;
-    } };
+    ghost use Rattle.cyclic_barrier.specs.Fields.{state_of_fields};
 
-    ghost invariant = { λ b. IsBarrier (record {
-      parties = b.parties;
-      action = b.action;
-      broken = b.broken;
-      runner = b.runner;
-      number_waiting = b.number_waiting;
-      waiting = b.waiting.bits;
-      released_tripped = b.released_tripped.bits;
-      released_broken = b.released_broken.bits;
-    }) };
+    ghost view = { state_of_fields };
+
+    ghost invariant = { λ b. IsBarrier (state_of_fields b) };
 
     ghost inverse = { λ v. record {
       parties = v.parties;
       action = v.action;
       broken = v.broken;
       runner = v.runner;
-      number_waiting = v.number_waiting;
-      waiting = record { bits = v.waiting };
-      released_tripped = record { bits = v.released_tripped };
-      released_broken = record { bits = v.released_broken };
+      waits = v.waits;
     } };
 }
 
 impl Barrier {
-    ghost use Rattle.cyclic_barrier.specs.PlainBarrier.{fresh};
-    ghost use Rattle.cyclic_barrier.specs.Barrier.{StandsFor, HasPlain};
+    ghost use Rattle.cyclic_barrier.specs.Barrier.{fresh, number_waiting};
 
     /// A barrier of so many parties, with an action or without. There is none of 0 parties.
     pub fn new(parties: u16, action: bool) -> Option<Barrier>
         ensures some { IsSome result ↔ (0 < parties) }
-        ensures fresh { IfSome result (λ b. StandsFor b (fresh parties action)) }
+        ensures fresh { IfSome result (λ b. b ≡ fresh parties action) }
     {
         if parties == 0 {
             None
@@ -79,21 +57,23 @@ impl Barrier {
                 action,
                 broken: false,
                 runner: None,
-                number_waiting: 0,
-                waiting: ThreadSet::EMPTY,
-                released_tripped: ThreadSet::EMPTY,
-                released_broken: ThreadSet::EMPTY,
+                waits: Waits::none(),
             })
         }
     }
 
-    /// Java's `getParties`. The second clause says that every barrier stands for a plain one, so
-    /// that no contract of this crate is about nothing.
+    /// Java's `getParties`.
     pub fn parties(&self) -> u16
-        ensures parties { result ≡ self.now.parties }
-        ensures plain { HasPlain self.now }
+        ensures { result ≡ self.now.parties }
     {
         self.parties
+    }
+
+    /// Whether the last to arrive runs an action before the others go on.
+    pub fn has_action(&self) -> bool
+        ensures { result ≡ self.now.action }
+    {
+        self.action
     }
 
     /// Java's `isBroken`: whether it broke since it was made or last reset.
@@ -105,20 +85,15 @@ impl Barrier {
 
     /// The thread that runs the action, if one does. Then all the others wait.
     pub fn runner(&self) -> Option<u8>
-        ensures runner { result ≡ self.now.runner }
-        ensures action { IsSome result → self.now.action ≡ true }
-        ensures full { IsSome result → self.now.number_waiting + 1 ≡ self.now.parties }
-        ensures whole { IsSome result → self.now.broken ≡ false }
+        ensures { result ≡ self.now.runner }
     {
         self.runner
     }
 
     /// Java's `getNumberWaiting`: how many threads wait, unreleased. The runner is not among them.
     pub fn number_waiting(&self) -> u16
-        ensures count { result ≡ self.now.number_waiting }
-        ensures below { result < self.now.parties }
-        ensures broken { self.now.broken ≡ true → result ≡ 0 }
+        ensures { result ≡ number_waiting self.now }
     {
-        self.number_waiting
+        self.waits.count() as u16
     }
 }

@@ -1,4 +1,4 @@
-ghost use Rattle.std.specs.Prelude.{◌≡◌, ◌<◌};
+ghost use Rattle.std.specs.Prelude.{◌≡◌, ◌<◌, count_ones};
 ghost use Rattle.cyclic_barrier.specs.ThreadSet.{has, IsUnion, IsWith, IsWithout};
 
 /// A set of threads, which are numbers below 64: bit n is thread n.
@@ -42,5 +42,11 @@ impl ThreadSet {
         ThreadSet {
             bits: self.bits | other.bits,
         }
+    }
+
+    pub fn count(self) -> u32
+        ensures { result ≡ count_ones self.bits }
+    {
+        self.bits.count_ones()
     }
 }

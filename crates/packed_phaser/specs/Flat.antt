@@ -1,9 +1,11 @@
 -- A phaser with neither parent nor children, as plain counts, and what each call makes of it.
-use Rattle.std.specs.Prelude.{◌≡◌, ℕ, ℤ, pos, ◌+◌, ◌-◌, ◌^◌, ◌<◌, ◌≤◌, ◌==◌, nat_lt, if◌then◌else◌, Bool, true, false}
+use Rattle.std.specs.Prelude.{◌≡◌, ℕ, ℤ, pos, ◌+◌, ◌-◌, ◌^◌, ◌<◌, ◌≤◌, ◌==◌, nat_lt}
+use Rattle.std.specs.Prelude.{if◌then◌else◌, Bool, true, false}
 use Rattle.phase_number.specs.Phase.{next_phase, phase_view}
 
--- the number of the phase, whether the phaser is terminated, its registered parties, how many of them have arrived, and
--- whether it is turned: all needed parties have arrived, or the last one has left, and the phase hasn't ended yet
+-- the number of the phase, whether the phaser is terminated, its registered parties, how many of
+-- them have arrived, and whether it is turned: all needed parties have arrived, or the last one has
+-- left, and the phase hasn't ended yet
 pub record Flat : Type 0 where
   pub phase : ℕ
   pub ended : Bool
@@ -22,7 +24,13 @@ pub record IsFlat (f : Flat) : Type 0 where
 
 -- no arrival yet in this phase
 abbrev pub fresh : ℕ → ℕ → Flat
-fresh phase parties = record { phase = phase; ended = false; parties = parties; arrived = 0; turned = false }
+fresh phase parties = record {
+  phase = phase;
+  ended = false;
+  parties = parties;
+  arrived = 0;
+  turned = false;
+}
 
 -- what the phaser shows as its phase
 abbrev pub view_of : Flat → ℤ
@@ -36,8 +44,9 @@ unarrived_of f = f.parties - f.arrived
 abbrev pub is_empty : Flat → Bool
 is_empty f = if f.ended then false else (if f.turned then false else f.parties == 0)
 
--- what comes of a registration: the parties join in the phase of this number, it comes after termination and shows the
--- view, it has to wait for the phase's end, or there would be more than 65535 parties
+-- what comes of a registration: the parties join in the phase of this number, it comes after
+-- termination and shows the view, it has to wait for the phase's end, or there would be more than
+-- 65535 parties
 pub data Registration : Type 0 where
   Joins : Flat → ℤ → Registration
   JoinsLate : ℤ → Registration
@@ -53,8 +62,8 @@ register k f =
     else (if f.turned then MustWait
     else Joins (record f { parties = f.parties + k }) (pos f.phase))))
 
--- what comes of an arrival: it is counted and others are still to come, it is the last and turns the phaser, it comes
--- after termination and shows the view, or no party is left that could arrive
+-- what comes of an arrival: it is counted and others are still to come, it is the last and turns
+-- the phaser, it comes after termination and shows the view, or no party is left that could arrive
 pub data Arrival : Type 0 where
   Counts : Flat → Arrival
   Turns : Flat → Arrival
@@ -75,8 +84,13 @@ arrive leave f =
 
 -- the phase of a turned phaser ends, with termination where the test says so
 abbrev pub advance : Bool → Flat → Flat
-advance ends f =
-    record { phase = next_phase f.phase; ended = ends; parties = f.parties; arrived = if ends then f.parties else 0; turned = false }
+advance ends f = record {
+  phase = next_phase f.phase;
+  ended = ends;
+  parties = f.parties;
+  arrived = if ends then f.parties else 0;
+  turned = false;
+}
 
 -- a turned phaser without parties isn't turned any more
 abbrev pub vacate : Flat → Flat
@@ -88,4 +102,10 @@ renew phase f = fresh phase f.parties
 
 -- termination at once: the phase and the parties stay
 abbrev pub force : Flat → Flat
-force f = record { phase = f.phase; ended = true; parties = f.parties; arrived = f.parties; turned = false }
+force f = record {
+  phase = f.phase;
+  ended = true;
+  parties = f.parties;
+  arrived = f.parties;
+  turned = false;
+}

@@ -3,8 +3,8 @@ use Rattle.std.specs.Prelude.{ℕ, ◌-◌, ◌/◌, ◌%◌, ◌^◌, ◌<◌, 
 use Rattle.packed_phaser.specs.declared.word.Fields.{Fields}
 use Rattle.packed_phaser.specs.Flat.{Flat}
 
--- the fields of a word, from its lowest bit: 16 bits of parties that haven't arrived, 16 of parties, 31 of the phase, and
--- the bit of termination
+-- the fields of a word, from its lowest bit: 16 bits of parties that haven't arrived, 16 of
+-- parties, 31 of the phase, and the bit of termination
 unfoldable pub fields_of : ℕ → Fields
 fields_of word = record {
   unarrived = word % 2 ^ 16;
@@ -13,11 +13,13 @@ fields_of word = record {
   ended = word / 2 ^ 63 == 1;
 }
 
--- a word stands for a phaser unless more parties are still to arrive than there are; 1 of 0 marks an empty phaser
+-- a word stands for a phaser unless more parties are still to arrive than there are; 1 of 0 marks
+-- an empty phaser
 abbrev pub IsWord : ℕ → Type 0
 IsWord word = (word < 2 ^ 64) × ((fields_of word).unarrived ≤ max (fields_of word).parties 1)
 
--- the phaser that the fields tell: nobody to wait for means turned, or that all have arrived once it is terminated
+-- the phaser that the fields tell: nobody to wait for means turned, or that all have arrived once
+-- it is terminated
 abbrev pub record_of_fields : Fields → Flat
 record_of_fields fields = record {
   phase = fields.phase;

@@ -1,9 +1,10 @@
 //! One `java.util.concurrent.Phaser` without tiers, packed into 64 bits.
 //!
-//! The phase, the registered parties, those that haven't arrived and the termination of a phaser stand in one `Word`,
-//! and each call answers a new word: the flat phaser's rules on plain counts (`specs/Flat.antt`) are all that the
-//! answers promise, and which word stands for which counts is said once (`specs/Word.antt`). `Policy` is what
-//! `onAdvance` answers. No call takes memory, and a `Word` is copied as a number.
+//! The phase, the registered parties, those that haven't arrived and the termination of a phaser
+//! stand in one `Word`, and each call answers a new word: the flat phaser's rules on plain counts
+//! (`specs/Flat.antt`) are all that the answers promise, and which word stands for which counts is
+//! said once (`specs/Word.antt`). `Policy` is what `onAdvance` answers. No call takes memory, and a
+//! `Word` is copied as a number.
 #![tactic(auto)]
 
 mod law;

@@ -34,48 +34,54 @@ impl Policy {
 #[cfg(test)]
 mod tests {
     use super::*;
-    use std::test::Fail;
+
+    /// The number of `until`, a phase, and whether a phaser with parties terminates at its end.
+    const UNTIL: [(i32, i32, bool); 9] = [
+        (0, 0, true),
+        (1, 0, false),
+        (1, 1, true),
+        (7, 6, false),
+        (7, 7, true),
+        (7, 8, true),
+        (7, 2147483647, true),
+        (2147483647, 2147483646, false),
+        (2147483647, 2147483647, true),
+    ];
+
+    fn answers(policy: Policy, phase: i32, parties: u16, answer: Option<bool>) -> bool {
+        match Phase::new(phase) {
+            Some(phase) => policy.ends(phase, parties) == answer,
+            None => false,
+        }
+    }
+
+    /// Whether the policies that ask for no phase number answer as they do in every phase.
+    fn is_any_phase(phase: i32, parties: u16) -> bool {
+        answers(Policy::Default, phase, parties, Some(parties == 0))
+            && answers(Policy::Never, phase, parties, Some(false))
+            && answers(Policy::Routine, phase, parties, None)
+    }
+
+    fn is_until(last: i32, phase: i32, ends: bool) -> bool {
+        let until = Policy::Until(last);
+        answers(until, phase, 0, Some(true))
+            && answers(until, phase, 1, Some(ends))
+            && answers(until, phase, 65535, Some(ends))
+    }
 
     #[test]
-    fn each_policy_at_the_edges(rt: HostRuntime) -> Result<(), Fail> {
-        let phases = [0, 1, 6, 7, 8, 2147483647];
-        for phase in phases {
-            for parties in [0, 1, 65535] {
-                let at = Phase::new(phase).ok_or("a phase is 0 or more")?;
-                let default = Policy::Default.ends(at, parties);
-                assert_eq!(rt; default, Some(parties == 0), "default, {phase}, {parties}");
-                assert_eq!(rt;
-                    Policy::Never.ends(at, parties),
-                    Some(false),
-                    "never, {phase}"
-                );
-                assert_eq!(rt; Policy::Routine.ends(at, parties), None, "routine, {phase}");
+    fn policies_in_any_phase(rt: HostRuntime) {
+        for phase in &[0, 1, 6, 7, 8, 2147483647] {
+            for parties in &[0, 1, 65535] {
+                assert!(rt; is_any_phase(*phase, *parties), "{phase}, {parties}");
             }
         }
-        // the number of `until`, the phase, whether one party's phaser terminates then
-        let until = [
-            (0, 0, true),
-            (1, 0, false),
-            (1, 1, true),
-            (7, 6, false),
-            (7, 7, true),
-            (7, 8, true),
-            (7, 2147483647, true),
-            (2147483647, 2147483646, false),
-            (2147483647, 2147483647, true),
-        ];
-        for (last, phase, ends) in until {
-            let at = Phase::new(phase).ok_or("a phase is 0 or more")?;
-            for parties in [1, 65535] {
-                let answer = Policy::Until(last).ends(at, parties);
-                assert_eq!(rt; answer, Some(ends), "until {last}, {phase}, {parties}");
-            }
-            assert_eq!(rt;
-                Policy::Until(last).ends(at, 0),
-                Some(true),
-                "until {last}, {phase}, 0"
-            );
+    }
+
+    #[test]
+    fn until_a_phase(rt: HostRuntime) {
+        for (last, phase, ends) in &UNTIL {
+            assert!(rt; is_until(*last, *phase, *ends), "until {last}, {phase}");
         }
-        Ok(())
     }
 }

@@ -1,6 +1,7 @@
 ghost use Rattle.std.specs.Prelude.{◌≡◌, ℕ, ℤ, pos, ◌<◌, ◌≤◌, ◌^◌, max, true, false, IsTrue, ◌↔◌};
 ghost use Rattle.std.specs.Option.{SomeIff};
-ghost use Rattle.packed_phaser.specs.Flat.{Flat, fresh, view_of, unarrived_of, is_empty, register, arrive, advance, vacate, renew, force};
+ghost use Rattle.packed_phaser.specs.Flat.{Flat, fresh, view_of, unarrived_of, is_empty, register};
+ghost use Rattle.packed_phaser.specs.Flat.{arrive, advance, vacate, renew, force};
 ghost use Rattle.packed_phaser.specs.Word.{IsWord, fields_of, record_of};
 ghost use Rattle.packed_phaser.specs.Answer.{registration_of, arrival_of};
 
@@ -9,11 +10,12 @@ use std::marker::Model;
 
 /// A phaser without tiers in 64 bits.
 ///
-/// From the lowest bit: 16 bits of parties that haven't arrived yet, 16 of registered parties, 31 of the phase, and one
-/// that is set once the phaser is terminated. So an arrival takes one from the word, and 0 in the lowest field says that
-/// nobody is waited for: the phaser is turned, its phase is about to end. Parties 0 with unarrived 1 is a phaser that
-/// nobody has joined, which no arrival may turn; parties 0 with unarrived 0 one whose last party has left. After
-/// termination the lowest field means nothing.
+/// From the lowest bit: 16 bits of parties that haven't arrived yet, 16 of registered parties, 31
+/// of the phase, and one that is set once the phaser is terminated. So an arrival takes one from
+/// the word, and 0 in the lowest field says that nobody is waited for: the phaser is turned, its
+/// phase is about to end. Parties 0 with unarrived 1 is a phaser that nobody has joined, which no
+/// arrival may turn; parties 0 with unarrived 0 one whose last party has left. After termination
+/// the lowest field means nothing.
 ///
 /// Contracts see a word as its number. `record_of` in `specs/Word.antt` says which phaser that is.
 #[derive(Clone, Copy, Debug, PartialEq, Eq)]
@@ -44,7 +46,7 @@ struct Fields {
 }
 
 /// What a registration answers.
-#[derive(Clone, Copy, Debug, PartialEq, Eq)]
+#[derive(Clone, Copy)]
 pub enum Registered {
     /// The parties are registered; the number of the phase that they joined.
     At(Word, i32),
@@ -57,7 +59,7 @@ pub enum Registered {
 }
 
 /// What an arrival answers.
-#[derive(Clone, Copy, Debug, PartialEq, Eq)]
+#[derive(Clone, Copy)]
 pub enum Arrived {
     /// Other parties have yet to arrive.
     Counted(Word),
@@ -96,7 +98,7 @@ fn packed(fields: Fields) -> Word
     Word { bits }
 }
 
-/// The lowest field of a phaser nobody of which has arrived.
+/// The lowest field of a phaser where nobody has arrived.
 fn all_of(parties: u16) -> u16
     ensures { result ≡ max parties 1 }
 {
@@ -116,7 +118,8 @@ impl Word {
         })
     }
 
-    /// The word of these bits, `None` where they stand for no phaser: more parties to arrive than there are.
+    /// The word of these bits, `None` where they stand for no phaser: more parties to arrive than
+    /// there are.
     pub fn from_raw(bits: u64) -> Option<Word>
         ensures { SomeIff result (IsWord bits) bits }
     {
@@ -234,7 +237,8 @@ impl Word {
         Registered::At(packed(after), self.phase_view())
     }
 
-    /// `arrive`, or `arriveAndDeregister` where the party leaves. The word of `Turned` waits for `advance`.
+    /// `arrive`, or `arriveAndDeregister` where the party leaves. The word of `Turned` waits for
+    /// `advance`.
     pub fn arrive(self, leave: bool) -> Arrived
         ensures { arrival_of result ≡ arrive leave (record_of self) }
     {
@@ -261,8 +265,8 @@ impl Word {
         }
     }
 
-    /// Ends the phase of a turned phaser, and terminates the phaser where `ends` says so. Nobody is counted as still
-    /// to arrive in a word that this terminates.
+    /// Ends the phase of a turned phaser, and terminates the phaser where `ends` says so. Nobody is
+    /// counted as still to arrive in a word that this terminates.
     pub fn advance(self, ends: bool) -> Word
         requires { (record_of self).turned ≡ true }
         ensures record { record_of result ≡ advance ends (record_of self) }
@@ -277,7 +281,8 @@ impl Word {
         })
     }
 
-    /// Empties a turned phaser whose last party has left: nobody is registered, and no phase end is pending.
+    /// Empties a turned phaser whose last party has left: nobody is registered, and no phase end is
+    /// pending.
     pub fn vacate(self) -> Word
         requires turned { (record_of self).turned ≡ true }
         requires no_parties { (record_of self).parties ≡ 0 }

@@ -52,15 +52,16 @@ impl Phase {
         self.number as i32
     }
 
-    /// What `getPhase` answers once the phaser was terminated in this phase: the number less 2147483648.
+    /// What `getPhase` answers once the phaser was terminated in this phase: the number less
+    /// 2147483648.
     pub fn negative(self) -> i32
         ensures { result ≡ phase_view self true }
     {
         self.number() + i32::MIN
     }
 
-    /// The phase that a view tells, whether it is negative or not: Java's `getPhase() + Integer.MIN_VALUE`
-    /// for a terminated phaser.
+    /// The phase that a view tells, whether it is negative or not: Java's
+    /// `getPhase() + Integer.MIN_VALUE` for a terminated phaser.
     pub fn prevailing(view: i32) -> Phase
         ensures { phase_view result (is_ended_view view) ≡ view }
     {
@@ -78,29 +79,36 @@ impl Phase {
 #[cfg(test)]
 mod tests {
     use super::*;
-    use std::test::Fail;
+
+    /// A number, the number that follows, and the view after termination.
+    const PHASES: [(i32, i32, i32); 5] = [
+        (0, 1, -2147483648),
+        (1, 2, -2147483647),
+        (5, 6, -2147483643),
+        (2147483646, 2147483647, -2),
+        (2147483647, 0, -1),
+    ];
+
+    fn is_phase(number: i32, next: i32, negative: i32) -> bool {
+        match Phase::new(number) {
+            Some(phase) => {
+                phase.number() == number
+                    && phase.next().number() == next
+                    && phase.negative() == negative
+                    && Phase::prevailing(number) == phase
+                    && Phase::prevailing(negative) == phase
+            }
+            None => false,
+        }
+    }
 
     #[test]
-    fn phases_at_the_edges(rt: HostRuntime) -> Result<(), Fail> {
-        // number, the number that follows, the view after termination
-        let phases = [
-            (0, 1, -2147483648),
-            (1, 2, -2147483647),
-            (5, 6, -2147483643),
-            (2147483646, 2147483647, -2),
-            (2147483647, 0, -1),
-        ];
-        for (number, next, negative) in phases {
-            let phase = Phase::new(number).ok_or("a phase is 0 or more")?;
-            assert_eq!(rt; phase.number(), number);
-            assert_eq!(rt; phase.next().number(), next, "after {number}");
-            assert_eq!(rt; phase.negative(), negative, "of {number}");
-            assert_eq!(rt; Phase::prevailing(number), phase);
-            assert_eq!(rt; Phase::prevailing(negative), phase);
+    fn phases_at_the_edges(rt: HostRuntime) {
+        for (number, next, negative) in &PHASES {
+            assert!(rt; is_phase(*number, *next, *negative), "phase {number}");
         }
-        for number in [-1, -2147483647, -2147483648] {
-            assert_eq!(rt; Phase::new(number), None, "{number} is no phase");
+        for number in &[-1, -2147483647, -2147483648] {
+            assert!(rt; Phase::new(*number).is_none(), "{number} is no phase");
         }
-        Ok(())
     }
 }

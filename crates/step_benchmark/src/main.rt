@@ -1,4 +1,5 @@
-//! Plays 20,969,600 steps of a program of `ldi` and `parr` rows and prints how many were done: for a stopwatch.
+//! Plays 20,969,600 steps of a program of `ldi` and `parr` rows and prints how many were done: for
+//! a stopwatch.
 #![tactic(auto)]
 
 use instruction_table::{Reg, Row};
@@ -34,7 +35,8 @@ fn rows(alloc: Global) -> Result<Vec<Row>, AllocError> {
     Ok(rows)
 }
 
-/// Plays each thread's rows, one choice of each thread after another, and answers the effective steps.
+/// Plays each thread's rows, one choice of each thread after another, and answers the effective
+/// steps.
 fn steps_of_round(alloc: Global) -> Result<Option<u32>, AllocError> {
     let rows = rows(alloc)?;
     let mut threads = Vec::new(alloc);

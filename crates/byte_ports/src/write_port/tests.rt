@@ -1,10 +1,11 @@
 use super::*;
+use std::alloc::Global;
 use std::io;
 use std::io::{BufWriter, ErrorKind};
 use std::test::Fail;
 
-// A writer that takes two bytes a call at most. Its first calls are interrupted, and one call, a
-// write or a flush, may fail.
+/// A writer that takes two bytes a call at most. Its first calls are interrupted, and one call, a
+/// write or a flush, may fail.
 #[derive(Drop)]
 struct FakeWriter {
     kept: Vec<u8>,
@@ -15,6 +16,16 @@ struct FakeWriter {
 }
 
 impl FakeWriter {
+    fn new(alloc: Global, interruptions: u32, fails_at: Option<u32>) -> FakeWriter {
+        FakeWriter {
+            kept: Vec::new(alloc),
+            interruptions,
+            fails_at,
+            calls: 0,
+            flushes: 0,
+        }
+    }
+
     fn next_call(&mut self) -> io::Result<()> {
         let call = self.calls;
         self.calls = call.saturating_add(1);
@@ -25,6 +36,10 @@ impl FakeWriter {
             return Err(ErrorKind::BrokenPipe.into());
         }
         Ok(())
+    }
+
+    fn has_met(&self, bytes: &[u8], calls: u32, flushes: u32) -> bool {
+        self.kept.as_slice() == bytes && self.calls == calls && self.flushes == flushes
     }
 }
 
@@ -43,100 +58,78 @@ impl Write for FakeWriter {
     }
 }
 
-#[test]
-fn fails_with_its_writer(rt: HostRuntime) -> Result<(), Fail> {
-    // The writer's call that fails; the answers to a push of 3 bytes, of 2, and of none, and to two
-    // calls of `finish`; what was written; how often the writer was called; how often it flushed.
-    let (ok, err) = (Ok(()), Err(Failed));
-    let cases: [(Option<u32>, [Result<(), Failed>; 5], &[u8], u32, u32); 7] = [
-        (Some(0), [err, err, err, err, err], b"", 1, 0),
-        (Some(1), [err, err, err, err, err], b"ab", 2, 0),
-        (Some(2), [ok, err, err, err, err], b"abc", 3, 0),
-        (Some(3), [ok, ok, ok, err, err], b"abcde", 4, 0),
-        (Some(4), [ok, ok, ok, ok, err], b"abcde", 5, 1),
-        (Some(5), [ok, ok, ok, ok, ok], b"abcde", 5, 2),
-        (None, [ok, ok, ok, ok, ok], b"abcde", 5, 2),
+/// The writer's call that fails; how many of the calls of `succeeds` come before it; what was
+/// written; how often the writer was called; how often it flushed.
+const FAILING: [(Option<u32>, usize, &[u8], u32, u32); 7] = [
+    (Some(0), 0, b"", 1, 0),
+    (Some(1), 0, b"ab", 2, 0),
+    (Some(2), 1, b"abc", 3, 0),
+    (Some(3), 3, b"abcde", 4, 0),
+    (Some(4), 4, b"abcde", 5, 1),
+    (Some(5), 5, b"abcde", 5, 2),
+    (None, 5, b"abcde", 5, 2),
+];
+
+/// Pushes 3 bytes, 2, and none, and finishes twice: whether just so many of these calls succeed
+/// before the first that fails.
+fn succeeds<W: Write>(port: &mut WritePort<W>, succeeding: usize) -> bool {
+    let pushed = [
+        port.push(b"abc").is_ok(),
+        port.push(b"de").is_ok(),
+        port.push(b"").is_ok(),
     ];
-    for (fails_at, answers, bytes, calls, flushes) in cases {
-        let kept = Vec::new(rt.alloc());
-        let mut writer = FakeWriter {
-            kept,
-            interruptions: 0,
-            fails_at,
-            calls: 0,
-            flushes: 0,
-        };
-        let mut port = WritePort::new(&mut writer);
-        let given = [
-            port.push(b"abc"),
-            port.push(b"de"),
-            port.push(b""),
-            port.finish(),
-            port.finish(),
-        ];
-        assert_eq!(rt; given, answers, "{fails_at:?}");
-        assert_eq!(rt; writer.kept.as_slice(), bytes, "{fails_at:?}");
-        assert_eq!(rt; writer.calls, calls, "{fails_at:?}");
-        assert_eq!(rt; writer.flushes, flushes, "{fails_at:?}");
-    }
-    Ok(())
+    let finished = [port.finish().is_ok(), port.finish().is_ok()];
+    pushed == [0 < succeeding, 1 < succeeding, 2 < succeeding]
+        && finished == [3 < succeeding, 4 < succeeding]
 }
 
 #[test]
-fn tries_an_interrupted_flush_again(rt: HostRuntime) -> Result<(), Fail> {
-    // How many calls of the writer are interrupted, the answer, and the writer's calls.
-    let cases = [
-        (0, Ok(()), 1),
-        (999, Ok(()), 1000),
-        (1000, Err(Failed), 1000),
-    ];
-    for (interruptions, answer, calls) in cases {
-        let kept = Vec::new(rt.alloc());
-        let mut writer = FakeWriter {
-            kept,
-            interruptions,
-            fails_at: None,
-            calls: 0,
-            flushes: 0,
-        };
+fn fails_with_its_writer(rt: HostRuntime) {
+    for (fails_at, succeeding, bytes, calls, flushes) in &FAILING {
+        let mut writer = FakeWriter::new(rt.alloc(), 0, *fails_at);
         let mut port = WritePort::new(&mut writer);
-        assert_eq!(rt; port.finish(), answer, "{interruptions}");
-        assert_eq!(rt; writer.calls, calls, "{interruptions}");
+        assert!(rt; succeeds(&mut port, *succeeding), "{fails_at:?}");
+        assert!(rt; writer.has_met(*bytes, *calls, *flushes), "{fails_at:?}");
     }
-    Ok(())
+}
+
+/// How many calls of the writer are interrupted, whether the flush succeeds, and the writer's
+/// calls.
+const INTERRUPTED: [(u32, bool, u32); 3] = [(0, true, 1), (999, true, 1000), (1000, false, 1000)];
+
+#[test]
+fn tries_an_interrupted_flush_again(rt: HostRuntime) {
+    for (interruptions, succeeds, calls) in &INTERRUPTED {
+        let mut writer = FakeWriter::new(rt.alloc(), *interruptions, None);
+        let mut port = WritePort::new(&mut writer);
+        assert!(rt; port.finish().is_ok() == *succeeds, "{interruptions}");
+        assert!(rt; writer.calls == *calls, "{interruptions}");
+    }
 }
 
 #[test]
-fn tries_an_interrupted_write_again(rt: HostRuntime) -> Result<(), Fail> {
-    let kept = Vec::new(rt.alloc());
-    let mut writer = FakeWriter {
-        kept,
-        interruptions: 3,
-        fails_at: None,
-        calls: 0,
-        flushes: 0,
-    };
+fn tries_an_interrupted_write_again(rt: HostRuntime) {
+    let mut writer = FakeWriter::new(rt.alloc(), 3, None);
     let mut port = WritePort::new(&mut writer);
-    assert_eq!(rt; port.push(b"abc"), Ok(()));
-    assert_eq!(rt; writer.kept.as_slice(), b"abc".as_slice());
-    Ok(())
+    assert!(rt; port.push(b"abc").is_ok());
+    assert!(rt; writer.kept.as_slice() == b"abc".as_slice());
+}
+
+/// Whether a push succeeds, the `finish` behind it fails, and every later call too.
+fn fails_late<W: Write>(port: &mut WritePort<W>) -> bool {
+    let answers = [
+        port.push(b"abc").is_ok(),
+        port.finish().is_ok(),
+        port.push(b"de").is_ok(),
+        port.finish().is_ok(),
+    ];
+    answers == [true, false, false, false]
 }
 
 #[test]
 fn fails_late_behind_a_buffer(rt: HostRuntime) -> Result<(), Fail> {
-    let kept = Vec::new(rt.alloc());
-    let fails_at = Some(0);
-    let mut writer = FakeWriter {
-        kept,
-        interruptions: 0,
-        fails_at,
-        calls: 0,
-        flushes: 0,
-    };
+    let mut writer = FakeWriter::new(rt.alloc(), 0, Some(0));
     let mut port = WritePort::new(BufWriter::new(rt.alloc(), &mut writer)?);
-    assert_eq!(rt; port.push(b"abc"), Ok(()));
-    assert_eq!(rt; port.finish(), Err(Failed));
-    assert_eq!(rt; port.push(b"de"), Err(Failed));
-    assert_eq!(rt; port.finish(), Err(Failed));
+    assert!(rt; fails_late(&mut port));
     Ok(())
 }

@@ -1,8 +1,7 @@
-ghost use Rattle.std.specs.Prelude.{◌≡◌, ◌+◌, ◌<◌, true, false, IsSome, Some, None};
-ghost use Rattle.cyclic_barrier.specs.PlainBarrier.{enter, end_action};
-ghost use Rattle.cyclic_barrier.specs.PlainBarrier.{arrive, arrive_last, add_wait};
-ghost use Rattle.cyclic_barrier.specs.Barrier.{Becomes, Answers, KeepsWaits, AddsWaitIf};
-ghost use Rattle.cyclic_barrier.specs.Barrier.{has_wait, is_wait, runner_after};
+ghost use Rattle.std.specs.Prelude.{◌≡◌, ◌+◌, ◌<◌, false, IsSome, None};
+ghost use Rattle.cyclic_barrier.specs.Waits.{wait_at};
+ghost use Rattle.cyclic_barrier.specs.Barrier.{number_waiting, enter, enter_timed, end_action};
+ghost use Rattle.cyclic_barrier.specs.Barrier.{arrive, arrive_last, add_wait};
 
 use super::Barrier;
 use crate::answer::Entered;
@@ -14,25 +13,32 @@ impl Barrier {
     /// `Interrupted`.
     pub fn enter(&mut self, thread: u8, interrupted: bool) -> Entered
         requires thread { thread < 64 }
-        requires no_wait { has_wait thread self.old ≡ false }
-        ensures barrier { Becomes (λ b. (enter thread interrupted b).barrier) self.old self.new }
-        ensures answer { Answers (λ b. (enter thread interrupted b).answer) self.old result }
-        ensures waits { AddsWaitIf (is_wait result) thread self.old self.new }
-        ensures runner { self.new.runner ≡ runner_after thread result self.old.runner }
+        requires no_wait { wait_at self.old.waits thread ≡ None }
+        ensures barrier { self.new ≡ (enter thread interrupted self.old).barrier }
+        ensures answer { result ≡ (enter thread interrupted self.old).answer }
+    {
+        self.enter_timed(thread, interrupted, false)
+    }
+
+    /// Java's `await` with a time, up to where it would wait. The third argument says that no time
+    /// is left: then a thread that would wait breaks the barrier, and is told `TimedOut`.
+    pub fn enter_timed(&mut self, thread: u8, interrupted: bool, no_wait: bool) -> Entered
+        requires thread { thread < 64 }
+        requires no_wait { wait_at self.old.waits thread ≡ None }
+        ensures barrier { self.new ≡ (enter_timed thread interrupted no_wait self.old).barrier }
+        ensures answer { result ≡ (enter_timed thread interrupted no_wait self.old).answer }
     {
         match self.runner {
             Some(runner) if runner == thread => Entered::Own,
             Some(_) => Entered::Busy,
-            None => self.arrive(thread, interrupted),
+            None => self.arrive(thread, interrupted, no_wait),
         }
     }
 
     /// The runner's action is over: it returned, or it threw.
     pub fn end_action(&mut self, returned: bool)
         requires { IsSome self.old.runner }
-        ensures barrier { Becomes (end_action returned) self.old self.new }
-        ensures waits { KeepsWaits self.old self.new }
-        ensures runner { self.new.runner ≡ None }
+        ensures { self.new ≡ end_action returned self.old }
     {
         self.runner = None;
         if returned {
@@ -42,38 +48,36 @@ impl Barrier {
         }
     }
 
-    // While no thread runs the action.
-    fn arrive(&mut self, thread: u8, interrupted: bool) -> Entered
+    /// A thread arrives while no thread runs the action.
+    fn arrive(&mut self, thread: u8, interrupted: bool, no_wait: bool) -> Entered
         requires thread { thread < 64 }
-        requires no_wait { has_wait thread self.old ≡ false }
+        requires no_wait { wait_at self.old.waits thread ≡ None }
         requires no_runner { self.old.runner ≡ None }
-        ensures barrier { Becomes (λ b. (arrive thread interrupted b).barrier) self.old self.new }
-        ensures answer { Answers (λ b. (arrive thread interrupted b).answer) self.old result }
-        ensures waits { AddsWaitIf (is_wait result) thread self.old self.new }
-        ensures runner { self.new.runner ≡ runner_after thread result None }
+        ensures barrier { self.new ≡ (arrive thread interrupted no_wait self.old).barrier }
+        ensures answer { result ≡ (arrive thread interrupted no_wait self.old).answer }
     {
         if self.broken {
             Entered::Broken
         } else if interrupted {
             self.break_barrier();
             Entered::Interrupted
-        } else if self.number_waiting + 1 == self.parties {
+        } else if self.number_waiting() + 1 == self.parties {
             self.arrive_last(thread)
+        } else if no_wait {
+            self.break_barrier();
+            Entered::TimedOut
         } else {
             self.add_wait(thread)
         }
     }
 
-    // All the others wait.
+    /// All the others wait.
     fn arrive_last(&mut self, thread: u8) -> Entered
         requires no_runner { self.old.runner ≡ None }
         requires whole { self.old.broken ≡ false }
-        requires last { self.old.number_waiting + 1 ≡ self.old.parties }
-        ensures barrier { Becomes (λ b. (arrive_last thread b).barrier) self.old self.new }
-        ensures answer { Answers (λ b. (arrive_last thread b).answer) self.old result }
-        ensures waits { KeepsWaits self.old self.new }
-        ensures no_wait { is_wait result ≡ false }
-        ensures runner { self.new.runner ≡ runner_after thread result None }
+        requires last { number_waiting self.old + 1 ≡ self.old.parties }
+        ensures barrier { self.new ≡ (arrive_last thread self.old).barrier }
+        ensures answer { result ≡ (arrive_last thread self.old).answer }
     {
         if self.action {
             self.runner = Some(thread);
@@ -84,22 +88,18 @@ impl Barrier {
         }
     }
 
-    // More threads are to come.
+    /// More threads are to come.
     fn add_wait(&mut self, thread: u8) -> Entered
         requires thread { thread < 64 }
-        requires no_wait { has_wait thread self.old ≡ false }
+        requires no_wait { wait_at self.old.waits thread ≡ None }
         requires no_runner { self.old.runner ≡ None }
         requires whole { self.old.broken ≡ false }
-        requires early { self.old.number_waiting + 1 < self.old.parties }
-        ensures barrier { Becomes (λ b. (add_wait thread b).barrier) self.old self.new }
-        ensures answer { Answers (λ b. (add_wait thread b).answer) self.old result }
-        ensures waits { AddsWaitIf true thread self.old self.new }
-        ensures wait { is_wait result ≡ true }
-        ensures runner { self.new.runner ≡ runner_after thread result None }
+        requires early { number_waiting self.old + 1 < self.old.parties }
+        ensures barrier { self.new ≡ (add_wait thread self.old).barrier }
+        ensures answer { result ≡ (add_wait thread self.old).answer }
     {
-        let index = self.parties - 1 - self.number_waiting;
-        self.waiting = self.waiting.with(thread);
-        self.number_waiting += 1;
+        let index = self.parties - 1 - self.number_waiting();
+        self.waits.begin(thread);
         Entered::Wait(index)
     }
 }

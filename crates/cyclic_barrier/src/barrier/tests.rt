@@ -1,90 +1,150 @@
-ghost use Rattle.std.specs.Prelude.{◌≡◌, ◌<◌, true};
+ghost use Rattle.std.specs.Prelude.{◌≡◌, ◌≢◌, ◌<◌, true, Some, None};
+ghost use Rattle.cyclic_barrier.specs.declared.answer.WaitState.TheVariants.{Waiting};
+ghost use Rattle.cyclic_barrier.specs.Waits.{wait_at};
 
 use super::Barrier;
 use crate::answer::{Entered, WaitState};
 use std::process::Abort;
 
-impl Barrier {
-    ghost use Rattle.cyclic_barrier.specs.Barrier.{has_wait, is_waiting};
-
-    fn is_here(&self, thread: u8) -> bool
-        requires { thread < 64 }
-        ensures { result ≡ has_wait thread self.now }
-    {
-        self.waiting.contains(thread)
-            || (self.released_tripped.contains(thread) || self.released_broken.contains(thread))
-    }
-
-    fn waits(&self, thread: u8) -> bool
-        requires { thread < 64 }
-        ensures { result ≡ is_waiting thread self.now }
-    {
-        self.waiting.contains(thread)
-    }
-}
-
-#[derive(Clone, Copy, Debug)]
+/// A call with the thread that makes it and what it answers.
+#[derive(Clone, Copy)]
 enum Call {
-    Enter(u8),
-    EnterInterrupted(u8),
-    Return,
-    Throw,
-    Look(u8),
+    Enter(u8, Entered),
+    EnterInterrupted(u8, Entered),
+    EnterLate(u8, Entered),
+    EnterLateInterrupted(u8, Entered),
+    EndAction(bool),
+    Look(u8, WaitState),
     Leave(u8),
     Interrupt(u8),
+    Expire(u8),
     Reset,
 }
 
-#[derive(Clone, Copy, Debug, PartialEq, Eq)]
-enum Seen {
-    Entered(Entered),
-    State(WaitState),
-    Done,
-}
+/// A call, and then whether the barrier is broken and how many wait.
+type Row = (Call, bool, u16);
 
-/// Makes the call, once what it asks for is seen to hold.
-fn play(rt: &impl Abort, barrier: &mut Barrier, call: Call) -> Seen {
-    match call {
-        Call::Enter(thread) => Seen::Entered(enter(rt, barrier, thread, false)),
-        Call::EnterInterrupted(thread) => Seen::Entered(enter(rt, barrier, thread, true)),
-        Call::Return => end_action(rt, barrier, true),
-        Call::Throw => end_action(rt, barrier, false),
-        Call::Look(thread) => {
-            assert!(rt; thread < 64);
-            assert!(rt; barrier.is_here(thread));
-            Seen::State(barrier.look(thread))
-        }
-        Call::Leave(thread) => {
-            assert!(rt; thread < 64);
-            assert!(rt; barrier.is_here(thread) && !barrier.waits(thread));
-            barrier.leave(thread);
-            Seen::Done
-        }
-        Call::Interrupt(thread) => {
-            assert!(rt; thread < 64);
-            assert!(rt; barrier.waits(thread));
-            assert!(rt; barrier.runner().is_none());
-            barrier.interrupt(thread);
-            Seen::Done
-        }
-        Call::Reset => {
-            assert!(rt; barrier.runner().is_none());
-            barrier.reset();
-            Seen::Done
-        }
+impl Barrier {
+    fn has_no_wait(&self, thread: u8) -> bool
+        ensures { result ≡ true → (thread < 64) × (wait_at self.now.waits thread ≡ None) }
+    {
+        thread < 64 && self.waits.get(thread).is_none()
+    }
+
+    fn has_a_wait(&self, thread: u8) -> bool
+        ensures { result ≡ true → (thread < 64) × (wait_at self.now.waits thread ≢ None) }
+    {
+        thread < 64 && self.waits.get(thread).is_some()
+    }
+
+    fn was_released(&self, thread: u8) -> bool
+        ensures { result ≡ true → (thread < 64) × (wait_at self.now.waits thread ≢ Some Waiting) }
+    {
+        thread < 64
+            && match self.waits.get(thread) {
+                Some(WaitState::Tripped) | Some(WaitState::Broken) => true,
+                _ => false,
+            }
+    }
+
+    fn may_break(&self, thread: u8) -> bool
+        ensures { result ≡ true → (thread < 64)
+            × ((wait_at self.now.waits thread ≡ Some Waiting) × (self.now.runner ≡ None)) }
+    {
+        thread < 64
+            && match self.waits.get(thread) {
+                Some(WaitState::Waiting) => self.runner.is_none(),
+                _ => false,
+            }
     }
 }
 
-fn enter(rt: &impl Abort, barrier: &mut Barrier, thread: u8, interrupted: bool) -> Entered {
-    assert!(rt; thread < 64);
-    assert!(rt; !barrier.is_here(thread));
-    barrier.enter(thread, interrupted)
+fn enters(
+    barrier: &mut Barrier,
+    thread: u8,
+    interrupted: bool,
+    no_wait: bool,
+    answer: Entered,
+) -> bool {
+    barrier.has_no_wait(thread) && barrier.enter_timed(thread, interrupted, no_wait) == answer
 }
 
-fn end_action(rt: &impl Abort, barrier: &mut Barrier, returned: bool) -> Seen {
-    assert!(rt; barrier.runner().is_some());
+fn finds(barrier: &Barrier, thread: u8, state: WaitState) -> bool {
+    barrier.has_a_wait(thread) && barrier.look(thread) == state
+}
+
+fn ends_action(barrier: &mut Barrier, returned: bool) -> bool {
+    if barrier.runner().is_none() {
+        return false;
+    }
     barrier.end_action(returned);
-    Seen::Done
+    true
+}
+
+fn leaves(barrier: &mut Barrier, thread: u8) -> bool {
+    if !barrier.was_released(thread) {
+        return false;
+    }
+    barrier.leave(thread);
+    true
+}
+
+fn is_interrupted(barrier: &mut Barrier, thread: u8) -> bool {
+    if !barrier.may_break(thread) {
+        return false;
+    }
+    barrier.interrupt(thread);
+    true
+}
+
+fn expires(barrier: &mut Barrier, thread: u8) -> bool {
+    if !barrier.may_break(thread) {
+        return false;
+    }
+    barrier.expire(thread);
+    true
+}
+
+fn is_reset(barrier: &mut Barrier) -> bool {
+    if barrier.runner().is_some() {
+        return false;
+    }
+    barrier.reset();
+    true
+}
+
+/// Makes the call, where it may be made, and says whether it answers so.
+fn agrees(barrier: &mut Barrier, call: &Call) -> bool {
+    match *call {
+        Call::Enter(thread, answer) => {
+            barrier.has_no_wait(thread) && barrier.enter(thread, false) == answer
+        }
+        Call::EnterInterrupted(thread, answer) => {
+            barrier.has_no_wait(thread) && barrier.enter(thread, true) == answer
+        }
+        Call::EnterLate(thread, answer) => enters(barrier, thread, false, true, answer),
+        Call::EnterLateInterrupted(thread, answer) => enters(barrier, thread, true, true, answer),
+        Call::EndAction(returned) => ends_action(barrier, returned),
+        Call::Look(thread, state) => finds(barrier, thread, state),
+        Call::Leave(thread) => leaves(barrier, thread),
+        Call::Interrupt(thread) => is_interrupted(barrier, thread),
+        Call::Expire(thread) => expires(barrier, thread),
+        Call::Reset => is_reset(barrier),
+    }
+}
+
+/// The same, and undoes the call: a copy from before it is put back.
+fn agrees_and_goes_back(barrier: &mut Barrier, call: &Call) -> bool
+    ensures { barrier.new ≡ barrier.old }
+{
+    let saved = *barrier;
+    let answered = agrees(barrier, call);
+    *barrier = saved;
+    answered
+}
+
+fn is_at(barrier: &Barrier, broken: bool, waiting: u16) -> bool {
+    barrier.is_broken() == broken && barrier.number_waiting() == waiting
 }
 
 fn made(rt: &impl Abort, parties: u16, action: bool) -> Barrier {
@@ -94,174 +154,137 @@ fn made(rt: &impl Abort, parties: u16, action: bool) -> Barrier {
     }
 }
 
-/// A call, what it answers, and then whether the barrier is broken and how many wait.
-type Row = (Call, Seen, bool, u16);
-
-const WAITING: Seen = Seen::State(WaitState::Waiting);
-
-const TRIPPED: Seen = Seen::State(WaitState::Tripped);
-
-const BROKEN: Seen = Seen::State(WaitState::Broken);
-
-fn answers(answer: Entered) -> Seen {
-    Seen::Entered(answer)
-}
-
-/// Plays the calls in order at a new barrier.
+/// Makes the calls in order at a new barrier, each twice, once undone.
 fn check(rt: &impl Abort, parties: u16, action: bool, rows: &[Row]) {
     let mut barrier = made(rt, parties, action);
-    assert_eq!(rt; barrier.parties(), parties);
-    for (call, seen, broken, waiting) in rows {
-        let row = *call;
-        assert_eq!(rt; play(rt, &mut barrier, row), *seen, "{row:?}");
-        assert_eq!(rt; barrier.is_broken(), *broken, "{row:?}");
-        assert_eq!(rt; barrier.number_waiting(), *waiting, "{row:?}");
+    for (row, (call, broken, waiting)) in rows.iter().enumerate() {
+        let back = agrees_and_goes_back(&mut barrier, call);
+        let again = agrees(&mut barrier, call);
+        assert!(rt;
+            back && again && is_at(&barrier, *broken, *waiting),
+            "row {row}"
+        );
     }
 }
 
 #[test]
-fn no_parties(rt: HostRuntime) {
-    assert!(rt; Barrier::new(0, false).is_none());
-    assert!(rt; Barrier::new(0, true).is_none());
+fn parties_and_action(rt: HostRuntime) {
+    assert!(rt; Barrier::new(0, false).is_none() && Barrier::new(0, true).is_none());
+    let barrier = made(&rt, 65535, true);
+    assert!(rt; barrier.parties() == 65535 && barrier.has_action());
 }
 
 #[test]
 fn action_runs_before_the_others_go_on(rt: HostRuntime) {
     let rows = [
-        (Call::Enter(0), answers(Entered::Wait(2)), false, 1),
-        (Call::Enter(1), answers(Entered::Wait(1)), false, 2),
-        (Call::Enter(2), answers(Entered::Run), false, 2),
-        (Call::Look(0), WAITING, false, 2),
-        (Call::Enter(3), answers(Entered::Busy), false, 2),
-        (Call::EnterInterrupted(3), answers(Entered::Busy), false, 2),
-        (Call::Enter(2), answers(Entered::Own), false, 2),
-        (Call::Return, Seen::Done, false, 0),
-        (Call::Look(1), TRIPPED, false, 0),
-        (Call::Leave(1), Seen::Done, false, 0),
-        (Call::Look(0), TRIPPED, false, 0),
-        (Call::Leave(0), Seen::Done, false, 0),
+        (Call::Enter(0, Entered::Wait(2)), false, 1),
+        (Call::Enter(1, Entered::Wait(1)), false, 2),
+        (Call::Enter(2, Entered::Run), false, 2),
+        (Call::Look(0, WaitState::Waiting), false, 2),
+        (Call::Enter(3, Entered::Busy), false, 2),
+        (Call::EnterLateInterrupted(3, Entered::Busy), false, 2),
+        (Call::Enter(2, Entered::Own), false, 2),
+        (Call::EndAction(true), false, 0),
+        (Call::Look(1, WaitState::Tripped), false, 0),
+        (Call::Leave(1), false, 0),
+        (Call::Look(0, WaitState::Tripped), false, 0),
+        (Call::Leave(0), false, 0),
     ];
-    check(&rt, 3, true, rows.as_slice());
-}
-
-#[test]
-fn alone(rt: HostRuntime) {
-    check(
-        &rt,
-        1,
-        false,
-        [(Call::Enter(0), answers(Entered::Tripped), false, 0)].as_slice(),
-    );
-}
-
-#[test]
-fn interrupted_waiter_breaks_the_barrier(rt: HostRuntime) {
-    let rows = [
-        (Call::Enter(0), answers(Entered::Wait(2)), false, 1),
-        (Call::Enter(1), answers(Entered::Wait(1)), false, 2),
-        (Call::Interrupt(0), Seen::Done, true, 0),
-        (Call::Look(1), BROKEN, true, 0),
-        (Call::Leave(1), Seen::Done, true, 0),
-        (Call::Enter(2), answers(Entered::Broken), true, 0),
-        (Call::EnterInterrupted(2), answers(Entered::Broken), true, 0),
-        (Call::Reset, Seen::Done, false, 0),
-        (Call::Enter(3), answers(Entered::Wait(2)), false, 1),
-        (Call::Enter(4), answers(Entered::Wait(1)), false, 2),
-        (Call::Enter(2), answers(Entered::Tripped), false, 0),
-    ];
-    check(&rt, 3, false, rows.as_slice());
-}
-
-#[test]
-fn interrupted_arrival_breaks_the_barrier(rt: HostRuntime) {
-    let rows = [
-        (Call::Enter(0), answers(Entered::Wait(1)), false, 1),
-        (
-            Call::EnterInterrupted(1),
-            answers(Entered::Interrupted),
-            true,
-            0,
-        ),
-        (Call::Look(0), BROKEN, true, 0),
-    ];
-    check(&rt, 2, false, rows.as_slice());
-}
-
-#[test]
-fn reset_releases_as_broken(rt: HostRuntime) {
-    let rows = [
-        (Call::Enter(0), answers(Entered::Wait(1)), false, 1),
-        (Call::Reset, Seen::Done, false, 0),
-        (Call::Look(0), BROKEN, false, 0),
-        (Call::Leave(0), Seen::Done, false, 0),
-        (Call::Enter(0), answers(Entered::Wait(1)), false, 1),
-        (Call::Enter(1), answers(Entered::Tripped), false, 0),
-        (Call::Look(0), TRIPPED, false, 0),
-        (Call::Leave(0), Seen::Done, false, 0),
-    ];
-    check(&rt, 2, false, rows.as_slice());
+    check(&rt, 3, true, &rows);
 }
 
 #[test]
 fn action_that_throws_breaks_the_barrier(rt: HostRuntime) {
     let rows = [
-        (Call::Enter(0), answers(Entered::Wait(1)), false, 1),
-        (Call::Enter(1), answers(Entered::Run), false, 1),
-        (Call::Throw, Seen::Done, true, 0),
-        (Call::Look(0), BROKEN, true, 0),
-        (Call::Leave(0), Seen::Done, true, 0),
+        (Call::Enter(0, Entered::Wait(1)), false, 1),
+        (Call::EnterLate(1, Entered::Run), false, 1),
+        (Call::EndAction(false), true, 0),
+        (Call::Look(0, WaitState::Broken), true, 0),
+        (Call::Leave(0), true, 0),
     ];
-    check(&rt, 2, true, rows.as_slice());
+    check(&rt, 2, true, &rows);
+}
+
+#[test]
+fn interrupt_of_a_waiter_breaks_the_barrier(rt: HostRuntime) {
+    let rows = [
+        (Call::Enter(0, Entered::Wait(2)), false, 1),
+        (Call::Enter(1, Entered::Wait(1)), false, 2),
+        (Call::Interrupt(0), true, 0),
+        (Call::Look(1, WaitState::Broken), true, 0),
+        (Call::Leave(1), true, 0),
+        (Call::Enter(2, Entered::Broken), true, 0),
+        (Call::EnterInterrupted(2, Entered::Broken), true, 0),
+        (Call::Reset, false, 0),
+        (Call::Enter(3, Entered::Wait(2)), false, 1),
+        (Call::Enter(4, Entered::Wait(1)), false, 2),
+        (Call::Enter(2, Entered::Tripped), false, 0),
+    ];
+    check(&rt, 3, false, &rows);
+}
+
+#[test]
+fn wait_without_time_breaks_the_barrier(rt: HostRuntime) {
+    let rows = [
+        (Call::Enter(0, Entered::Wait(2)), false, 1),
+        (Call::EnterLate(1, Entered::TimedOut), true, 0),
+        (Call::Look(0, WaitState::Broken), true, 0),
+        (Call::Leave(0), true, 0),
+        (Call::EnterLate(1, Entered::Broken), true, 0),
+        (Call::EnterLateInterrupted(1, Entered::Broken), true, 0),
+        (Call::Reset, false, 0),
+        (Call::EnterLateInterrupted(1, Entered::Interrupted), true, 0),
+        (Call::Reset, false, 0),
+        (Call::Enter(0, Entered::Wait(2)), false, 1),
+        (Call::Enter(1, Entered::Wait(1)), false, 2),
+        (Call::EnterLate(2, Entered::Tripped), false, 0),
+        (Call::Leave(0), false, 0),
+        (Call::Enter(0, Entered::Wait(2)), false, 1),
+        (Call::Enter(3, Entered::Wait(1)), false, 2),
+        (Call::Expire(3), true, 0),
+        (Call::Look(0, WaitState::Broken), true, 0),
+        (Call::Look(1, WaitState::Tripped), true, 0),
+        (Call::Enter(3, Entered::Broken), true, 0),
+    ];
+    check(&rt, 3, false, &rows);
 }
 
 #[test]
 fn each_waiter_finds_its_own_generation(rt: HostRuntime) {
     let rows = [
-        (Call::Enter(0), answers(Entered::Wait(1)), false, 1),
-        (Call::Enter(1), answers(Entered::Tripped), false, 0),
-        (Call::Enter(2), answers(Entered::Wait(1)), false, 1),
-        (Call::Enter(3), answers(Entered::Tripped), false, 0),
-        (Call::Enter(4), answers(Entered::Wait(1)), false, 1),
-        (
-            Call::EnterInterrupted(5),
-            answers(Entered::Interrupted),
-            true,
-            0,
-        ),
-        (Call::Reset, Seen::Done, false, 0),
-        (Call::Enter(63), answers(Entered::Wait(1)), false, 1),
-        (Call::Reset, Seen::Done, false, 0),
-        (Call::Enter(6), answers(Entered::Wait(1)), false, 1),
-        (Call::Look(0), TRIPPED, false, 1),
-        (Call::Look(2), TRIPPED, false, 1),
-        (Call::Look(4), BROKEN, false, 1),
-        (Call::Look(63), BROKEN, false, 1),
-        (Call::Look(6), WAITING, false, 1),
-        (Call::Leave(4), Seen::Done, false, 1),
-        (Call::Enter(4), answers(Entered::Tripped), false, 0),
-        (Call::Look(63), BROKEN, false, 0),
-        (Call::Look(0), TRIPPED, false, 0),
+        (Call::Enter(0, Entered::Wait(1)), false, 1),
+        (Call::Enter(1, Entered::Tripped), false, 0),
+        (Call::Enter(2, Entered::Wait(1)), false, 1),
+        (Call::Enter(3, Entered::Tripped), false, 0),
+        (Call::Enter(4, Entered::Wait(1)), false, 1),
+        (Call::EnterInterrupted(5, Entered::Interrupted), true, 0),
+        (Call::Reset, false, 0),
+        (Call::Enter(63, Entered::Wait(1)), false, 1),
+        (Call::Reset, false, 0),
+        (Call::Enter(6, Entered::Wait(1)), false, 1),
+        (Call::Look(0, WaitState::Tripped), false, 1),
+        (Call::Look(2, WaitState::Tripped), false, 1),
+        (Call::Look(4, WaitState::Broken), false, 1),
+        (Call::Look(63, WaitState::Broken), false, 1),
+        (Call::Look(6, WaitState::Waiting), false, 1),
+        (Call::Leave(4), false, 1),
+        (Call::Enter(4, Entered::Tripped), false, 0),
+        (Call::Look(63, WaitState::Broken), false, 0),
+        (Call::Look(0, WaitState::Tripped), false, 0),
     ];
-    check(&rt, 2, false, rows.as_slice());
+    check(&rt, 2, false, &rows);
 }
 
 #[test]
 fn sixty_four_threads(rt: HostRuntime) {
     let mut barrier = made(&rt, 64, false);
     for thread in 0..63 {
-        let index = 63 - thread as u16;
-        assert_eq!(rt;
-            play(&rt, &mut barrier, Call::Enter(thread)),
-            answers(Entered::Wait(index))
-        );
+        let call = Call::Enter(thread, Entered::Wait(63 - thread as u16));
+        assert!(rt; agrees(&mut barrier, &call));
     }
-    assert_eq!(rt;
-        play(&rt, &mut barrier, Call::Enter(63)),
-        answers(Entered::Tripped)
-    );
+    assert!(rt; agrees(&mut barrier, &Call::Enter(63, Entered::Tripped)));
     for thread in 0..63 {
-        assert_eq!(rt; play(&rt, &mut barrier, Call::Look(thread)), TRIPPED);
-        assert_eq!(rt; play(&rt, &mut barrier, Call::Leave(thread)), Seen::Done);
+        assert!(rt; finds(&barrier, thread, WaitState::Tripped) && leaves(&mut barrier, thread));
     }
 }
 
@@ -269,18 +292,11 @@ fn sixty_four_threads(rt: HostRuntime) {
 fn more_parties_than_threads(rt: HostRuntime) {
     let mut barrier = made(&rt, 65535, true);
     for thread in 0..64 {
-        let index = 65534 - thread as u16;
-        assert_eq!(rt;
-            play(&rt, &mut barrier, Call::Enter(thread)),
-            answers(Entered::Wait(index))
-        );
+        let call = Call::Enter(thread, Entered::Wait(65534 - thread as u16));
+        assert!(rt; agrees(&mut barrier, &call));
     }
-    assert_eq!(rt; barrier.number_waiting(), 64);
-    let before = barrier;
-    assert_eq!(rt; play(&rt, &mut barrier, Call::Reset), Seen::Done);
+    assert!(rt; is_at(&barrier, false, 64) && is_reset(&mut barrier));
     for thread in 0..64 {
-        assert_eq!(rt; play(&rt, &mut barrier, Call::Look(thread)), BROKEN);
+        assert!(rt; finds(&barrier, thread, WaitState::Broken));
     }
-    let mut copy = before;
-    assert_eq!(rt; play(&rt, &mut copy, Call::Look(63)), WAITING);
 }

@@ -1,7 +1,7 @@
-ghost use Rattle.std.specs.Prelude.{◌≡◌, ◌<◌, true, false, ◌↔◌, Some, None};
+ghost use Rattle.std.specs.Prelude.{◌≡◌, ◌≢◌, ◌<◌, Some, None};
 ghost use Rattle.cyclic_barrier.specs.declared.answer.WaitState.TheVariants.{Waiting};
-ghost use Rattle.cyclic_barrier.specs.PlainBarrier.{state_of, leave, interrupt};
-ghost use Rattle.cyclic_barrier.specs.Barrier.{Becomes, Answers, DropsWait, has_wait, is_waiting};
+ghost use Rattle.cyclic_barrier.specs.Waits.{wait_at};
+ghost use Rattle.cyclic_barrier.specs.Barrier.{leave, interrupt, expire};
 
 use super::Barrier;
 use crate::answer::WaitState;
@@ -11,16 +11,12 @@ impl Barrier {
     /// What the thread's wait has come to.
     pub fn look(&self, thread: u8) -> WaitState
         requires thread { thread < 64 }
-        requires wait { has_wait thread self.now ≡ true }
-        ensures state { Answers (state_of thread) self.now (Some result) }
-        ensures waiting { (result ≡ Waiting) ↔ (is_waiting thread self.now ≡ true) }
+        requires wait { wait_at self.now.waits thread ≢ None }
+        ensures { Some result ≡ wait_at self.now.waits thread }
     {
-        if self.waiting.contains(thread) {
-            WaitState::Waiting
-        } else if self.released_tripped.contains(thread) {
-            WaitState::Tripped
-        } else {
-            WaitState::Broken
+        match self.waits.get(thread) {
+            Some(state) => state,
+            None => unreachable!(),
         }
     }
 
@@ -28,26 +24,32 @@ impl Barrier {
     /// nothing changes.
     pub fn leave(&mut self, thread: u8)
         requires thread { thread < 64 }
-        requires released { is_waiting thread self.old ≡ false }
-        ensures barrier { Becomes (leave thread) self.old self.new }
-        ensures waits { DropsWait thread self.old self.new }
-        ensures runner { self.new.runner ≡ self.old.runner }
+        requires released { wait_at self.old.waits thread ≢ Some Waiting }
+        ensures { self.new ≡ leave thread self.old }
     {
-        self.released_tripped = self.released_tripped.without(thread);
-        self.released_broken = self.released_broken.without(thread);
+        self.waits.end(thread);
     }
 
     /// A thread is interrupted while it waits: the barrier breaks, and the thread's wait is over,
     /// as after `leave`.
     pub fn interrupt(&mut self, thread: u8)
         requires thread { thread < 64 }
-        requires waiting { is_waiting thread self.old ≡ true }
+        requires waiting { wait_at self.old.waits thread ≡ Some Waiting }
         requires no_runner { self.old.runner ≡ None }
-        ensures barrier { Becomes (interrupt thread) self.old self.new }
-        ensures waits { DropsWait thread self.old self.new }
-        ensures runner { self.new.runner ≡ None }
+        ensures { self.new ≡ interrupt thread self.old }
     {
         self.break_barrier();
         self.leave(thread);
+    }
+
+    /// A thread's time is over while it waits (`TimeoutException`): the barrier breaks and the wait
+    /// is over, as by an interrupt.
+    pub fn expire(&mut self, thread: u8)
+        requires thread { thread < 64 }
+        requires waiting { wait_at self.old.waits thread ≡ Some Waiting }
+        requires no_runner { self.old.runner ≡ None }
+        ensures { self.new ≡ expire thread self.old }
+    {
+        self.interrupt(thread);
     }
 }

@@ -1,0 +1,136 @@
+-- What the calls change, for the crates above: who has a wait, who runs the action, and how many
+-- threads are listed.
+use Rattle.std.proofs.Common.{◌≡◌, ℕ, ◌+◌, ◌<◌, Bool, true, false, not, cond, ◌||◌, ◌&&◌, ◌==◌, refl, ◌∙◌, ap, List, length, Option, Some, None, is_some, length-set}
+use Rattle.std.proofs.lemmas.List.{length-map}
+use Rattle.cyclic_barrier.specs.declared.answer.Entered.TheVariants as entered
+use Rattle.cyclic_barrier.specs.declared.answer.WaitState.{WaitState}
+use Rattle.cyclic_barrier.specs.declared.answer.WaitState.TheVariants as state
+use Rattle.cyclic_barrier.specs.Waits.{wait_at, released, release}
+use Rattle.cyclic_barrier.specs.Barrier.{BarrierState, IsBarrier, Entry, number_waiting, has_wait, is_wait, runner_after, trip, break, add_wait, arrive, enter_beside, enter_timed, end_action, leave, interrupt, reset}
+use Rattle.cyclic_barrier.specs.WhoWaits.{TellsWhoWaits}
+use Rattle.cyclic_barrier.proofs.WaitsLemmas.{wait_at-release, wait_at-set, or_false}
+
+either : {A : Type 0} (P : A → Type 0) (test : Bool) {a b : A} → P a → P b → P (cond test a b)
+either P true p q = p
+either P false p q = q
+
+released_some : (s : WaitState) (wait : Option WaitState) → is_some (released s wait) ≡ is_some wait
+released_some s None = refl
+released_some s (Some state.Waiting) = refl
+released_some s (Some state.Tripped) = refl
+released_some s (Some state.Broken) = refl
+
+-- a release keeps all waits
+pub has_wait-release :
+    (s : WaitState) (b : BarrierState) (flag : Bool) (u : ℕ) →
+    has_wait u (record b { waits = release s b.waits; broken = flag }) ≡ has_wait u b
+has_wait-release s b flag u = ap is_some (wait_at-release s b.waits u) ∙ released_some s (wait_at b.waits u)
+
+added : (here : Bool) (wait : Option WaitState) → is_some (cond here (Some state.Waiting) wait) ≡ (is_some wait || here)
+added true None = refl
+added true (Some w) = refl
+added false None = refl
+added false (Some w) = refl
+
+taken : (here : Bool) (wait : Option WaitState) → is_some (cond here None wait) ≡ (is_some wait && not here)
+taken true None = refl
+taken true (Some w) = refl
+taken false None = refl
+taken false (Some w) = refl
+
+-- who has a wait after an entry: those of before, and the thread where the answer says so
+pub has_wait-enter :
+    (thread : ℕ) (interrupted no_wait : Bool) (b : BarrierState) (u : ℕ) → thread < length b.waits →
+    has_wait u (enter_timed thread interrupted no_wait b).barrier
+    ≡ (has_wait u b || (is_wait (enter_timed thread interrupted no_wait b).answer && (thread == u)))
+has_wait-enter thread interrupted no_wait b u there =
+    let P : Entry → Type 0 = λ e. has_wait u e.barrier ≡ (has_wait u b || (is_wait e.answer && (thread == u))) in
+    let arrived : P (arrive thread interrupted no_wait b) =
+    either P b.broken (or_false _)
+    (either P interrupted (has_wait-release state.Broken b true u ∙ or_false _)
+    (either P (number_waiting b + 1 == b.parties) (either P b.action (or_false _) (has_wait-release state.Tripped b b.broken u ∙ or_false _))
+    (either P no_wait (has_wait-release state.Broken b true u ∙ or_false _)
+    (ap is_some (wait_at-set b.waits thread u (Some state.Waiting) there) ∙ added (thread == u) (wait_at b.waits u))))) in
+    elim b.runner as (λ r. P (enter_beside r thread interrupted no_wait b)) [
+      | None ↦ arrived
+      | Some runner ↦ elim (runner == thread) as (λ x. has_wait u b ≡ (has_wait u b || (is_wait (cond x entered.Own entered.Busy) && (thread == u)))) [ true ↦ or_false _ | false ↦ or_false _ ]
+    ]
+
+record RunsAfter (thread : ℕ) (earlier : Option ℕ) (e : Entry) : Type 0 where
+  pub runner : e.barrier.runner ≡ runner_after thread e.answer earlier
+
+-- who runs the action after an entry
+pub runner-enter :
+    (thread : ℕ) (interrupted no_wait : Bool) (b : BarrierState) →
+    (enter_timed thread interrupted no_wait b).barrier.runner ≡ runner_after thread (enter_timed thread interrupted no_wait b).answer b.runner
+runner-enter thread interrupted no_wait b =
+    let P : Entry → Type 0 = λ e. RunsAfter thread b.runner e in
+    let told : Entry = record { barrier = b; answer = entered.Broken } in
+    let stopped : Entry = record { barrier = break b; answer = entered.Interrupted } in
+    let late : Entry = record { barrier = break b; answer = entered.TimedOut } in
+    let runs : Entry = record { barrier = record b { runner = Some thread }; answer = entered.Run } in
+    let trips : Entry = record { barrier = trip b; answer = entered.Tripped } in
+    let arrived : P (arrive thread interrupted no_wait b) =
+    either P b.broken {a = told} (record { runner = refl })
+    (either P interrupted {a = stopped} (record { runner = refl })
+    (either P (number_waiting b + 1 == b.parties) (either P b.action {a = runs} {b = trips} (record { runner = refl }) (record { runner = refl }))
+    (either P no_wait {a = late} {b = add_wait thread b} (record { runner = refl }) (record { runner = refl })))) in
+    let all : P (enter_timed thread interrupted no_wait b) = elim b.runner as (λ r. P (enter_beside r thread interrupted no_wait b)) [
+      | None ↦ arrived
+      | Some runner ↦ elim (runner == thread) as (λ x. P (record { barrier = b; answer = cond x entered.Own entered.Busy })) [ true ↦ record { runner = refl } | false ↦ record { runner = refl } ]
+    ] in
+    all.runner
+
+pub has_wait-leave :
+    (thread : ℕ) (b : BarrierState) (u : ℕ) → thread < length b.waits → has_wait u (leave thread b) ≡ (has_wait u b && not (thread == u))
+has_wait-leave thread b u there = ap is_some (wait_at-set b.waits thread u None there) ∙ taken (thread == u) (wait_at b.waits u)
+
+pub has_wait-interrupt :
+    (thread : ℕ) (b : BarrierState) (u : ℕ) → thread < length b.waits → has_wait u (interrupt thread b) ≡ (has_wait u b && not (thread == u))
+has_wait-interrupt thread b u there =
+    has_wait-leave thread (break b) u (rw (length-map b.waits (released state.Broken)) there)
+    ∙ ap (λ x. x && not (thread == u)) (has_wait-release state.Broken b true u)
+
+pub has_wait-end_action : (returned : Bool) (b : BarrierState) (u : ℕ) → has_wait u (end_action returned b) ≡ has_wait u b
+has_wait-end_action returned b u =
+    let rested : BarrierState = record b { runner = None } in
+    either (λ (after : BarrierState). has_wait u after ≡ has_wait u b) returned (has_wait-release state.Tripped rested b.broken u) (has_wait-release state.Broken rested true u)
+
+pub has_wait-reset : (b : BarrierState) (u : ℕ) → has_wait u (reset b) ≡ has_wait u b
+has_wait-reset b u = has_wait-release state.Broken b false u
+
+length-release : (s : WaitState) (waits : List (Option WaitState)) → length (release s waits) ≡ length waits
+length-release s waits = length-map waits (released s)
+
+-- as many threads as before are listed
+pub length-enter :
+    (thread : ℕ) (interrupted no_wait : Bool) (b : BarrierState) →
+    length (enter_timed thread interrupted no_wait b).barrier.waits ≡ length b.waits
+length-enter thread interrupted no_wait b =
+    let P : Entry → Type 0 = λ e. length e.barrier.waits ≡ length b.waits in
+    let arrived : P (arrive thread interrupted no_wait b) =
+    either P b.broken refl
+    (either P interrupted (length-release state.Broken b.waits)
+    (either P (number_waiting b + 1 == b.parties) (either P b.action refl (length-release state.Tripped b.waits))
+    (either P no_wait (length-release state.Broken b.waits) (length-set b.waits thread (Some state.Waiting))))) in
+    elim b.runner as (λ r. P (enter_beside r thread interrupted no_wait b)) [
+      | None ↦ arrived
+      | Some runner ↦ refl
+    ]
+
+pub length-end_action : (returned : Bool) (b : BarrierState) → length (end_action returned b).waits ≡ length b.waits
+length-end_action returned b =
+    either (λ (after : BarrierState). length after.waits ≡ length b.waits) returned (length-release state.Tripped b.waits) (length-release state.Broken b.waits)
+
+pub tells_who_waits : (b : BarrierState) → IsBarrier b → TellsWhoWaits b
+tells_who_waits b sound =
+    let long : length b.waits ≡ 64 = sound.threads in
+    record {
+      enter = λ thread u interrupted no_wait there. has_wait-enter thread interrupted no_wait b u (rw long there);
+      runner = λ thread interrupted no_wait. runner-enter thread interrupted no_wait b;
+      end_action = λ returned u. has_wait-end_action returned b u;
+      leave = λ thread u there. has_wait-leave thread b u (rw long there);
+      interrupt = λ thread u there. has_wait-interrupt thread b u (rw long there);
+      expire = λ thread u there. has_wait-interrupt thread b u (rw long there);
+      reset = λ u. has_wait-reset b u;
+    }

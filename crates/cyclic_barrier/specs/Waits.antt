@@ -1,0 +1,27 @@
+use Rattle.std.specs.Prelude.{ℕ, Bool, true, false, List, map, slice_index_or, Option, Some, None}
+use Rattle.cyclic_barrier.specs.declared.answer.WaitState.{WaitState}
+use Rattle.cyclic_barrier.specs.declared.answer.WaitState.TheVariants as state
+
+-- what the thread's wait has come to, if it has one
+abbrev pub wait_at : List (Option WaitState) → ℕ → Option WaitState
+wait_at waits thread = slice_index_or waits thread None
+
+-- there is a wait, and it has come to this
+abbrev pub is_at : WaitState → Option WaitState → Bool
+is_at state.Waiting (Some state.Waiting) = true
+is_at state.Tripped (Some state.Tripped) = true
+is_at state.Broken (Some state.Broken) = true
+is_at _ _ = false
+
+-- there is a wait, and it is unreleased
+abbrev pub is_waiting : Option WaitState → Bool
+is_waiting wait = is_at state.Waiting wait
+
+-- an unreleased wait comes to this; a released one keeps its outcome
+abbrev pub released : WaitState → Option WaitState → Option WaitState
+released outcome (Some state.Waiting) = Some outcome
+released outcome wait = wait
+
+-- all who wait are released
+abbrev pub release : WaitState → List (Option WaitState) → List (Option WaitState)
+release outcome waits = map (released outcome) waits

@@ -1,0 +1,33 @@
+ghost use Rattle.std.specs.Prelude.{◌≡◌, ℕ, Bool};
+ghost use Rattle.cyclic_barrier.specs.Barrier.{BarrierState, IsBarrier, fresh};
+ghost use Rattle.cyclic_barrier.specs.PlainBarrier as plain;
+ghost use Rattle.cyclic_barrier.specs.Past.{StandsFor, HasPast, FollowsPast};
+ghost use Rattle.cyclic_barrier.specs.WhoWaits.{TellsWhoWaits};
+
+use super::Barrier;
+
+/// What is true of every barrier, so that no caller has to keep it.
+pub fn each_barrier_is_sound(barrier: &Barrier)
+    ensures { IsBarrier barrier.now }
+{
+    // The invariant is known where a field is read.
+    let _parties = barrier.parties;
+}
+
+/// Some past leads to each barrier, and that without any generation to a new one.
+pub fn each_barrier_has_a_past()
+    ensures new { (parties : ℕ) → (action : Bool)
+        → StandsFor (fresh parties action) (plain.fresh parties action) }
+    ensures each { (b : BarrierState) → HasPast b }
+{}
+
+/// Each call at a barrier is that call at every past that leads to it: a waiter's outcome is the
+/// end of its own generation, and indices count down from parties - 1.
+pub fn calls_agree_with_the_past()
+    ensures { (b : BarrierState) → IsBarrier b → FollowsPast b }
+{}
+
+/// Who has a wait after each call, and who runs the action after an entry.
+pub fn calls_tell_who_waits()
+    ensures { (b : BarrierState) → IsBarrier b → TellsWhoWaits b }
+{}
