@@ -1,6 +1,6 @@
 //! How the program ends: what it tells, and with which status.
 
-ghost use Rattle.std.specs.Prelude.{◌≡◌, ◌==◌, ◌&&◌, false};
+ghost use Rattle.std.specs.Prelude.{◌≡◌, ◌==◌, ◌&&◌, not};
 
 use byte_ports::WritePort;
 use std::io::Write;
@@ -8,7 +8,7 @@ use workbench::fault::{DONE, Fault};
 
 /// Whether the last flush decides the status: it failed, and else all went well.
 fn is_lost_at_the_end(is_flushed: bool, status: u8) -> bool
-    ensures { result ≡ (is_flushed == false) && (status == 0) }
+    ensures { result ≡ (not is_flushed && (status == 0)) }
 {
     !is_flushed && status == DONE
 }
