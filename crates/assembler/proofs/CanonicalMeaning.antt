@@ -18,17 +18,16 @@ use Rattle.row_code.specs.Image.{IsImage}
 use Rattle.row_code.specs.Phasers.{IsPhaser}
 use Rattle.row_code.specs.RowFields.{IsRow}
 use Rattle.row_code.specs.Threads.{IsThread}
-use Rattle.assembler.specs.declared.statement.Line.{Line}
-use Rattle.assembler.specs.declared.statement.Statement.{Statement}
-use Rattle.assembler.specs.Words.{lines_of}
-use Rattle.assembler.specs.Symbols.{Name}
+use Rattle.line_reader.specs.declared.statement.Line.{Line}
+use Rattle.line_reader.specs.declared.statement.Statement.{Statement}
+use Rattle.line_reader.specs.Words.{lines_of}
+use Rattle.line_reader.specs.Symbols.{Name}
 use Rattle.assembler.specs.Statements.{adds, EachFollows}
-use Rattle.assembler.specs.Listing.{phaser_text, barrier_text, thread_text, row_text, canonical}
+use Rattle.listing.specs.Listing.{line_text, numbered, phaser_words, barrier_words, thread_words, row_words, lines_listed, canonical}
 use Rattle.assembler.specs.Meaning.{referent_or_0, is_known_or_none, is_policy_known, are_known, policy_of, phasers_in, barriers_in, threads_in, rows_in, image_of, SayInOrder, StandsFor}
-use Rattle.assembler.proofs.JoinedWords.{ended}
-use Rattle.assembler.proofs.CanonicalDirectives.{phaser_line, barrier_line, thread_line, phaser_ended, barrier_ended, thread_ended, number_said, policy_said, phaser_said, barrier_said, thread_said, phaser_says, barrier_says, thread_says}
-use Rattle.assembler.proofs.CanonicalRows.{row_line, row_said, row_ended, row_known, row_back, row_says}
-use Rattle.assembler.proofs.NumberedLines.{numbered, lines_from, SayEach, SayEach-append, numbered_ended, listed_ended, numbered_says, lines_of-texts, say_in_order, lines_from-flat_map, lines_from-list_all, numbered_all, numbered_none, numbered_back}
+use Rattle.assembler.proofs.CanonicalDirectives.{number_said, policy_said, phaser_said, barrier_said, thread_said, phaser_says, barrier_says, thread_says}
+use Rattle.assembler.proofs.CanonicalRows.{row_said, row_known, row_back, row_says}
+use Rattle.assembler.proofs.NumberedLines.{map_numbered, lines_from, SayEach, SayEach-append, numbered_says, lines_of-texts, say_in_order, lines_from-flat_map, lines_from-list_all, numbered_all, numbered_none, numbered_back}
 use Rattle.assembler.proofs.CanonicalOrder.{EachFollows-append, IsDirective, IsFree, free_first, free_behind, directives_follow, rows_follow}
 
 -- what the lines say
@@ -50,15 +49,20 @@ rows_said i = numbered row_numbered 0 i.rows
 abbrev all_said : Image → List (Statement Name)
 all_said i = phasers_said i ++ (barriers_said i ++ (threads_said i ++ rows_said i))
 
--- ---- the texts of the lines
+-- ---- the words of the lines
 
-abbrev line_numbered : ℕ → Row → List ℕ
-line_numbered n row = row_line row
+abbrev row_listed : ℕ → Row → List (List ℕ)
+row_listed n row = row_words row
 
-abbrev all_texts : Image → List (List ℕ)
-all_texts i =
-    numbered phaser_line 0 i.phasers ++ (numbered barrier_line 0 i.barriers
-    ++ (numbered thread_line 0 i.threads ++ numbered line_numbered 0 i.rows))
+abbrev all_lines : Image → List (List (List ℕ))
+all_lines i =
+    numbered phaser_words 0 i.phasers ++ (numbered barrier_words 0 i.barriers
+    ++ (numbered thread_words 0 i.threads ++ numbered row_listed 0 i.rows))
+
+all_listed : (i : Image) → lines_listed i ≡ all_lines i
+all_listed i =
+    ap (λ rows. numbered phaser_words 0 i.phasers ++ (numbered barrier_words 0 i.barriers ++ (numbered thread_words 0 i.threads ++ rows)))
+    (map_numbered row_words 0 i.rows)
 
 -- what is made of four lists
 four : {A B : Type 0} (f : A → List B) (a b c d : List A) →
@@ -67,23 +71,15 @@ four f a b c d =
     flat_map-append f a (b ++ (c ++ d))
     ∙ ap (λ rest. flat_map f a ++ rest) (flat_map-append f b (c ++ d) ∙ ap (λ rest. flat_map f b ++ rest) (flat_map-append f c d))
 
-canonical_ended : (i : Image) → canonical i ≡ flat_map ended (all_texts i)
-canonical_ended i =
-    (λ k. numbered_ended phaser_text phaser_line phaser_ended 0 i.phasers k
-    ++ (numbered_ended barrier_text barrier_line barrier_ended 0 i.barriers k
-    ++ (numbered_ended thread_text thread_line thread_ended 0 i.threads k ++ listed_ended row_text row_line row_ended 0 i.rows k)))
-    ∙ sym (four ended (numbered phaser_line 0 i.phasers) (numbered barrier_line 0 i.barriers) (numbered thread_line 0 i.threads)
-    (numbered line_numbered 0 i.rows))
-
-all_say : (i : Image) → IsImage i → SayEach (all_texts i) (all_said i)
+all_say : (i : Image) → IsImage i → SayEach (all_lines i) (all_said i)
 all_say i h =
-    let phasers = numbered_says IsPhaser 64 phaser_line phaser_said phaser_says 0 i.phasers (omega (arith, h.phasers.0))
+    let phasers = numbered_says IsPhaser 64 phaser_words phaser_said phaser_says 0 i.phasers (omega (arith, h.phasers.0))
     (recursion_from_All IsPhaser i.phasers h.phasers.1) in
-    let barriers = numbered_says IsBarrier 64 barrier_line barrier_said barrier_says 0 i.barriers (omega (arith, h.barriers.0))
+    let barriers = numbered_says IsBarrier 64 barrier_words barrier_said barrier_says 0 i.barriers (omega (arith, h.barriers.0))
     (recursion_from_All IsBarrier i.barriers h.barriers.1) in
-    let threads = numbered_says IsThread 64 thread_line thread_said thread_says 0 i.threads (omega (arith, h.threads.0))
+    let threads = numbered_says IsThread 64 thread_words thread_said thread_says 0 i.threads (omega (arith, h.threads.0))
     (recursion_from_All IsThread i.threads h.threads.1) in
-    let rows = numbered_says IsRow 65535 line_numbered row_numbered (λ n row small fits. row_says row fits) 0 i.rows
+    let rows = numbered_says IsRow 65535 row_listed row_numbered (λ n row small fits. row_says row fits) 0 i.rows
     (omega (arith, h.rows.0)) (recursion_from_All IsRow i.rows h.rows.1) in
     SayEach-append _ _ _ _ phasers (SayEach-append _ _ _ _ barriers (SayEach-append _ _ _ _ threads rows))
 
@@ -91,8 +87,9 @@ say_all : (i : Image) → IsImage i → SayInOrder 1 (lines_of (canonical i)) (l
 say_all i h =
     let says = all_say i h in
     subst (λ texts. SayInOrder 1 texts (lines_from 1 (all_said i)))
-    (sym (ap lines_of (canonical_ended i) ∙ lines_of-texts (all_texts i) (all_said i) says))
-    (say_in_order 1 (all_texts i) (all_said i) says)
+    (sym (ap (λ (lines : List (List (List ℕ))). lines_of (flat_map line_text lines)) (all_listed i)
+    ∙ lines_of-texts (all_lines i) (all_said i) says))
+    (say_in_order 1 (all_lines i) (all_said i) says)
 
 -- ---- their order
 

@@ -6,12 +6,13 @@ use Rattle.std.proofs.lemmas.Slice.Eq.{bytes_eq-Decides}
 use Rattle.instruction_table.specs.declared.row.Row.{Row}
 use Rattle.instruction_table.specs.declared.shape.OperandKind.{OperandKind}
 use Rattle.instruction_table.specs.declared.shape.OperandKind.TheVariants as kind
-use Rattle.assembler.specs.declared.statement.Line.{Line}
-use Rattle.assembler.specs.declared.statement.Statement.{Statement}
-use Rattle.assembler.specs.Symbols.{Name}
+use Rattle.line_reader.specs.declared.statement.Line.{Line}
+use Rattle.line_reader.specs.declared.statement.Statement.{Statement}
+use Rattle.line_reader.specs.Symbols.{Name}
 use Rattle.assembler.specs.Statements.{name_in, is_named, gives, adds, count, is_given, is_code, has_code, has_room, is_new, Follows, EachFollows}
 use Rattle.assembler.proofs.CanonicalRows.{row_said}
-use Rattle.assembler.proofs.NumberedLines.{numbered, lines_from}
+use Rattle.listing.specs.Listing.{numbered}
+use Rattle.assembler.proofs.NumberedLines.{lines_from}
 
 -- ---- lists of lines
 

@@ -1,5 +1,5 @@
 -- The lines of rows as words, and what they say.
-use Rattle.std.proofs.Common.{◌≡◌, ℕ, ◌+◌, ◌<◌, ◌≤◌, ℤ, pos, negsuc, ◌≤ℤ◌, ◌<ℤ◌, FitsSigned, w32, Bool, true, ◌&&◌, nat_lt, List, [], ◌∷◌, ◌++◌, length, Some, None, refl, sym, ap, ◌∙◌, arith, rules, append_assoc, codes, decimal, ltb-true}
+use Rattle.std.proofs.Common.{◌≡◌, ℕ, ◌+◌, ◌<◌, ◌≤◌, ℤ, pos, negsuc, ◌≤ℤ◌, ◌<ℤ◌, FitsSigned, w32, Bool, true, ◌&&◌, nat_lt, List, [], ◌∷◌, length, Some, None, refl, sym, ap, ◌∙◌, arith, rules, decimal, ltb-true}
 use Rattle.std.specs.Fmt.{signed_decimal}
 use Rattle.std.specs.List.{list_all}
 use Rattle.std.proofs.lemmas.Bool.{and_parts}
@@ -15,27 +15,19 @@ use Rattle.instruction_table.specs.Register.{number_of}
 use Rattle.instruction_table.specs.Table.{Entry, table, entry_named, entry_for}
 use Rattle.row_code.specs.RowFields.{fields_of, IsRow}
 use Rattle.row_code.specs.RowOperands.{register_at}
-use Rattle.assembler.specs.declared.reference.Reference.TheVariants.{Numbered}
-use Rattle.assembler.specs.declared.symbolic_row.Operand.{Operand}
-use Rattle.assembler.specs.declared.symbolic_row.Operand.TheVariants as operand
-use Rattle.assembler.specs.declared.symbolic_row.SymbolicRow.{SymbolicRow}
-use Rattle.assembler.specs.declared.statement.Line.{Line}
-use Rattle.assembler.specs.declared.statement.Statement.{Statement}
-use Rattle.assembler.specs.declared.statement.Statement.TheVariants as statement
-use Rattle.assembler.specs.Symbols.{Name, operands_in}
-use Rattle.assembler.specs.Spelling.{greatest_number, SpellsReference, SpellOperands, with_operands, Says}
+use Rattle.line_reader.specs.declared.reference.Reference.TheVariants.{Numbered}
+use Rattle.line_reader.specs.declared.symbolic_row.Operand.{Operand}
+use Rattle.line_reader.specs.declared.symbolic_row.Operand.TheVariants as operand
+use Rattle.line_reader.specs.declared.symbolic_row.SymbolicRow.{SymbolicRow}
+use Rattle.line_reader.specs.declared.statement.Line.{Line}
+use Rattle.line_reader.specs.declared.statement.Statement.{Statement}
+use Rattle.line_reader.specs.declared.statement.Statement.TheVariants as statement
+use Rattle.line_reader.specs.Symbols.{Name, operands_in}
+use Rattle.line_reader.specs.Spelling.{greatest_number, SpellsReference, SpellOperands, with_operands, Says}
 use Rattle.assembler.specs.Meaning.{is_operand_known, row_of}
-use Rattle.assembler.specs.Listing.{operands_text, row_text}
-use Rattle.assembler.proofs.JoinedWords.{is_plain, IsWord, AreWords, spaced, words_of-line, is_line, ended}
+use Rattle.listing.specs.Listing.{joined, operand_words, row_words}
+use Rattle.assembler.proofs.JoinedWords.{is_plain, IsWord, AreWords, words_of-line, is_line}
 use Rattle.assembler.proofs.Decimals.{decimal_digits, marked_word, decimal_spells, int_spells, int_word}
-
--- the words of operands of these kinds
-abbrev pub operand_words : List OperandKind → List ℕ → ℤ → List (List ℕ)
-operand_words [] registers imm = []
-operand_words (kind.Register ∷ kinds) [] imm = []
-operand_words (kind.Register ∷ kinds) (register ∷ registers) imm = (114 ∷ decimal register) ∷ operand_words kinds registers imm
-operand_words (kind.Number ∷ kinds) registers imm = signed_decimal imm ∷ operand_words kinds registers imm
-operand_words (_ ∷ kinds) registers imm = (35 ∷ signed_decimal imm) ∷ operand_words kinds registers imm
 
 -- the number of a row or an object
 abbrev pub number_in : ℤ → ℕ
@@ -99,15 +91,6 @@ object_spelled (negsuc n) h = absurd (omega (arith, ints, h.least))
 
 -- ---- all operands
 
-operands_spaced : (kinds : List OperandKind) (registers : List ℕ) (imm : ℤ) →
-    operands_text kinds registers imm ≡ spaced (operand_words kinds registers imm)
-operands_spaced [] registers imm = refl
-operands_spaced (kind.Register ∷ kinds) [] imm = refl
-operands_spaced (kind.Register ∷ kinds) (register ∷ registers) imm =
-    ap (λ rest. codes " r" ++ (decimal register ++ rest)) (operands_spaced kinds registers imm)
-operands_spaced (kind.Number ∷ kinds) registers imm = ap (λ rest. codes " " ++ (signed_decimal imm ++ rest)) (operands_spaced kinds registers imm)
-operands_spaced (_ ∷ kinds) registers imm = ap (λ rest. codes " #" ++ (signed_decimal imm ++ rest)) (operands_spaced kinds registers imm)
-
 operands_are : (kinds : List OperandKind) (registers : List ℕ) (imm : ℤ) → OperandsFit kinds registers imm →
     AreWords (operand_words kinds registers imm)
 operands_are [] registers imm h = tt
@@ -136,11 +119,9 @@ operands_spelled (_ ∷ kinds) registers imm h = ((refl, (tt, object_spelled imm
 
 -- ---- rows
 
-abbrev pub row_words : Row → List (List ℕ)
-row_words row = let f = fields_of row in operand_words (entry_for row).operands (f.a ∷ f.b ∷ f.c ∷ []) f.imm
-
-abbrev pub row_line : Row → List ℕ
-row_line row = (entry_for row).word ++ spaced (row_words row)
+-- the words of a row behind its first
+abbrev row_rest : Row → List (List ℕ)
+row_rest row = let f = fields_of row in operand_words (entry_for row).operands (f.a ∷ f.b ∷ f.c ∷ []) f.imm
 
 abbrev pub symbolic : Row → SymbolicRow Name
 symbolic row =
@@ -150,12 +131,6 @@ symbolic row =
 abbrev pub row_said : Row → Statement Name
 row_said row = statement.Row None (symbolic row)
 
-pub row_ended : (row : Row) → row_text row ≡ ended (row_line row)
-row_ended row =
-    let f = fields_of row in
-    ap (λ rest. (entry_for row).word ++ (rest ++ codes "\n")) (operands_spaced (entry_for row).operands (f.a ∷ f.b ∷ f.c ∷ []) f.imm)
-    ∙ sym (append_assoc (entry_for row).word (spaced (row_words row)) (codes "\n"))
-
 -- ---- the table
 
 -- tests that each entry passes
@@ -164,7 +139,7 @@ is_short_word word = nat_lt 0 (length word) && (nat_lt (length word) 13 && list_
 
 record IsEntry (e : Entry) : Type 0 where
   word : is_short_word e.word ≡ true
-  few : nat_lt (length e.operands) 4 ≡ true
+  few : nat_lt (length e.operands) 5 ≡ true
   found : entry_named table e.word ≡ Some e
 
 is_entry : (row : Row) → IsEntry (entry_for row)
@@ -217,7 +192,7 @@ row_fits : (row : Row) → IsRow row →
 row_fits Halt h = tt
 row_fits row h = search (operand_facts, h)
 
-pub row_says : (row : Row) → IsRow row → Says (row_line row) (row_said row)
+pub row_says : (row : Row) → IsRow row → Says (joined (row_words row)) (row_said row)
 row_says row h =
     let f = fields_of row in
     let e = entry_for row in
@@ -226,14 +201,14 @@ row_says row h =
     let word = entry_word e is in
     let fits = row_fits row h in
     let words = operands_are e.operands registers f.imm fits in
-    let few = ltb-true (length e.operands) 4 is.few in (
-      is_line e.word (row_words row) word words (omega (arith, few, operands_few e.operands registers f.imm)),
+    let few = ltb-true (length e.operands) 5 is.few in (
+      is_line e.word (row_rest row) word words (omega (arith, few, operands_few e.operands registers f.imm)),
       (
         e,
         e.word,
-        row_words row,
+        row_rest row,
         operands_said e.operands registers f.imm,
-        words_of-line e.word (row_words row) word words,
+        words_of-line e.word (row_rest row) word words,
         is.found,
         refl,
         operands_spelled e.operands registers f.imm fits,

@@ -9,9 +9,9 @@ use Rattle.std.proofs.lemmas.Bool.Decides.{nat_tests}
 use Rattle.std.proofs.lemmas.Fmt.{decimal_is_IsNumeral, length-decimal-le}
 use Rattle.std.proofs.lemmas.Int.{ints}
 use Rattle.std.proofs.lemmas.Str.Parse.{digit_from_value}
-use Rattle.assembler.specs.Names.{begins_name, goes_on_name, is_name}
-use Rattle.assembler.specs.Numbers.{is_negative, digits_in}
-use Rattle.assembler.specs.Spelling.{SpellsNumber, least_int, greatest_int}
+use Rattle.line_reader.specs.Names.{begins_name, goes_on_name, is_name}
+use Rattle.line_reader.specs.Numbers.{is_negative, digits_in}
+use Rattle.line_reader.specs.Spelling.{SpellsNumber, least_int, greatest_int}
 use Rattle.assembler.proofs.JoinedWords.{is_plain, IsWord}
 
 -- the digits of a number, at most ten

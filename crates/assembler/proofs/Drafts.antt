@@ -6,11 +6,12 @@ use Rattle.instruction_table.specs.declared.shape.OperandKind.{OperandKind}
 use Rattle.instruction_table.specs.declared.shape.OperandKind.TheVariants as kind
 use Rattle.assembler.specs.declared.draft.Counts.{Counts}
 use Rattle.assembler.specs.declared.draft.Place.{Place}
-use Rattle.assembler.specs.declared.statement.Line.{Line}
-use Rattle.assembler.specs.Symbols.{Name, Borrowed}
+use Rattle.line_reader.specs.declared.statement.Line.{Line}
+use Rattle.line_reader.specs.Symbols.{Name}
+use Rattle.line_reader.specs.Seen.{Borrowed}
 use Rattle.assembler.specs.Statements.{name_in, kind_named, is_kind, is_named, gives, gives_to, adds, count, is_given, is_new, number_named, is_code}
 use Rattle.assembler.specs.Draft.{counted, number_there, IsKept, named_with}
-use Rattle.assembler.proofs.Steps.{is_bytes, not_true}
+use Rattle.line_reader.proofs.Steps.{is_bytes, not_true}
 
 -- the number found, or else this one
 abbrev or_else : Option ℕ → Option ℕ → Option ℕ

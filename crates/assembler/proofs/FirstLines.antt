@@ -5,8 +5,8 @@ use Rattle.std.proofs.lemmas.Bool.Decides.{nat_tests}
 use Rattle.std.proofs.lemmas.List.{take_all, drop_all, length-drop}
 use Rattle.std.proofs.lemmas.List.Splits.{slice_split_first, slice_split_none, length-slice_split}
 use Rattle.std.proofs.lemmas.List.Sums.{fails_before_first}
-use Rattle.assembler.specs.Words.{is_line_end, without_empty_last, lines_of}
-use Rattle.assembler.proofs.Places.{position_some, position_within, position_none}
+use Rattle.line_reader.specs.Words.{is_line_end, without_empty_last, lines_of}
+use Rattle.line_reader.proofs.Places.{position_some, position_within, position_none}
 
 pub without_empty_end : (pieces : List (List ℕ)) → without_empty_last (pieces ++ ([] ∷ [])) ≡ pieces
 without_empty_end [] = refl

@@ -1,13 +1,11 @@
 -- The first pass, one line more.
-use Rattle.std.proofs.Common.{◌≡◌, ◌∙◌, ℕ, ◌+◌, ◌<◌, ◌≤◌, List, [], ◌∷◌, length, take, drop, Result, Ok, Err, sym, ap, arith}
+use Rattle.std.proofs.Common.{◌≡◌, ◌∙◌, ℕ, ◌+◌, ◌<◌, List, [], ◌∷◌, length, take, drop, Result, Ok, Err, sym, ap, arith}
 use Rattle.std.proofs.lemmas.List.{length-take, length-drop, drop-drop, take-take, drop-take}
-use Rattle.assembler.specs.declared.asm_fault.AsmFault.{AsmFault}
-use Rattle.assembler.specs.declared.asm_fault.AsmFaultKind.{AsmFaultKind}
-use Rattle.assembler.specs.declared.asm_fault.AsmFaultKind.TheVariants as fault
-use Rattle.assembler.specs.declared.statement.Line.{Line}
-use Rattle.assembler.specs.Symbols.{Name}
-use Rattle.assembler.specs.Answers.{FailsAt}
-use Rattle.assembler.specs.Reading.{◌>>=◌, line_behind}
+use Rattle.line_reader.specs.declared.asm_fault.AsmFault.{AsmFault}
+use Rattle.line_reader.specs.declared.statement.Line.{Line}
+use Rattle.line_reader.specs.Symbols.{Name}
+use Rattle.line_reader.specs.Reading.{◌>>=◌}
+use Rattle.assembler.specs.Reading.{line_behind}
 use Rattle.assembler.specs.Passes.{behind, lines_read}
 use Rattle.assembler.proofs.ReadLines.{lines_read-middle}
 
@@ -63,15 +61,3 @@ unfolding lines_read
 all_read texts k middle met none =
     lines_read-middle 1 k [] middle texts met
     ∙ ap (λ (ts : List (List ℕ)). lines_read (1 + length (take k texts)) middle ts) none
-
-pub all_counted : (texts : List (List ℕ)) (k : ℕ) → k ≤ length texts → drop k texts ≡ [] → k ≡ length texts
-all_counted texts k within none =
-    let long = ap length none in
-    let rest = length-drop k texts in
-    omega (arith, long, rest, within)
-
--- what fails goes on failing
-pub fails_then : {A B : Type 0} (kind : AsmFaultKind) (e : AsmFault) (r : Result A AsmFault)
-    (f : A → Result B AsmFault) → FailsAt kind e r → FailsAt kind e (r >>= f)
-fails_then fault.Memory e r f fails = tt
-fails_then _ e r f fails = ap (λ x. x >>= f) fails

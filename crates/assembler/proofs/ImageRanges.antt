@@ -10,11 +10,11 @@ use Rattle.row_code.specs.Phasers.{IsPhaser}
 use Rattle.row_code.specs.Barriers.{IsBarrier}
 use Rattle.row_code.specs.Threads.{IsThread}
 use Rattle.row_code.specs.Image.{IsImage}
-use Rattle.assembler.specs.declared.statement.Statement.{Statement}
-use Rattle.assembler.specs.declared.statement.Statement.TheVariants as statement
-use Rattle.assembler.specs.declared.statement.Line.{Line}
-use Rattle.assembler.specs.Words.{words_of}
-use Rattle.assembler.specs.Symbols.{Name}
+use Rattle.line_reader.specs.declared.statement.Statement.{Statement}
+use Rattle.line_reader.specs.declared.statement.Statement.TheVariants as statement
+use Rattle.line_reader.specs.declared.statement.Line.{Line}
+use Rattle.line_reader.specs.Words.{words_of}
+use Rattle.line_reader.specs.Symbols.{Name}
 use Rattle.assembler.specs.Statements.{adds, count, EachFollows}
 use Rattle.assembler.specs.Meaning.{SayInOrder, barriers_in, image_of, phasers_in, rows_in, threads_in}
 use Rattle.assembler.proofs.Counts.{AreFew, few_of_each}

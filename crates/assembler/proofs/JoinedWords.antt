@@ -1,13 +1,14 @@
 -- Lines of plain words with a space between each two.
-use Rattle.std.proofs.Common.{get_or, ◌≡◌, ℕ, ◌+◌, ◌*◌, ◌<◌, ◌≤◌, Bool, true, false, cond, not, ◌&&◌, nat_lt, ◌==◌, List, [], ◌∷◌, ◌++◌, length, take, refl, sym, ap, ◌∙◌, arith, append_assoc, append-nil, length-append, one-add}
+use Rattle.std.proofs.Common.{get_or, ◌≡◌, ℕ, ◌+◌, ◌*◌, ◌<◌, ◌≤◌, Bool, true, false, cond, not, ◌&&◌, nat_lt, ◌==◌, List, [], ◌∷◌, ◌++◌, length, take, refl, ap, ◌∙◌, arith, append_assoc, append-nil, length-append, one-add}
 use Rattle.std.specs.List.{slice_split, filter, list_all, position_or_len, before_first}
 use Rattle.std.proofs.lemmas.Bool.{and_from, and_parts}
 use Rattle.std.proofs.lemmas.Bool.Decides.{nat_tests}
 use Rattle.std.proofs.lemmas.List.Folds.{list_all-append}
 use Rattle.std.proofs.lemmas.List.Splits.{slice_split_none, slice_split_at}
 use Rattle.std.proofs.lemmas.List.Sums.{AllPass-from_list_all}
-use Rattle.assembler.specs.Words.{is_line_end, is_allowed, is_blank, begins_comment, words_in, words_of}
-use Rattle.assembler.specs.Spelling.{IsLine}
+use Rattle.line_reader.specs.Words.{is_line_end, is_allowed, is_blank, begins_comment, words_in, words_of}
+use Rattle.line_reader.specs.Spelling.{IsLine}
+use Rattle.listing.specs.Listing.{spaced}
 
 -- a byte that is no blank, ends nothing and begins no comment
 abbrev pub is_plain : ℕ → Bool
@@ -22,17 +23,6 @@ pub record IsWord (word : List ℕ) : Type 0 where
 abbrev pub AreWords : List (List ℕ) → Type 0
 AreWords [] = Unit {0}
 AreWords (word ∷ words) = IsWord word × AreWords words
-
--- words, each with a space before it
-abbrev pub spaced : List (List ℕ) → List ℕ
-spaced [] = []
-spaced (word ∷ words) = 32 ∷ (word ++ spaced words)
-
-pub spaced-append : (a b : List (List ℕ)) → spaced (a ++ b) ≡ spaced a ++ spaced b
-spaced-append [] b = refl
-spaced-append (word ∷ words) b =
-    ap (λ rest. 32 ∷ (word ++ rest)) (spaced-append words b)
-    ∙ ap (λ rest. 32 ∷ rest) (sym (append_assoc word (spaced words) (spaced b)))
 
 pub AreWords-append : (a b : List (List ℕ)) → AreWords a → AreWords b → AreWords (a ++ b)
 AreWords-append [] b h k = k

@@ -1,17 +1,8 @@
-pub mod Steps
-pub mod Places
-pub mod Digits
-pub mod Registers
-pub mod Labels
 pub mod Drafts
 pub mod FirstLines
-pub mod SpelledNumbers
-pub mod SpelledOperands
-pub mod SpelledDirectives
 pub mod SpelledLines
 pub mod ReadLines
 pub mod FirstPass
-pub mod ListedTexts
 pub mod JoinedWords
 pub mod Decimals
 pub mod CanonicalDirectives

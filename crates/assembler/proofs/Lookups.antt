@@ -1,5 +1,5 @@
 -- Look-ups one behind the other: what they give where all of them find something.
-use Rattle.std.proofs.Common.{◌≡◌, Bool, true, false, ◌&&◌, List, [], ◌∷◌, ◌++◌, Option, Some, None, cond, Result, Ok, Err, ap, subst}
+use Rattle.std.proofs.Common.{◌≡◌, Bool, true, false, ◌&&◌, List, [], ◌∷◌, ◌++◌, Option, Some, None, cond, Result, Ok, Err, ap, refl, subst}
 use Rattle.std.specs.Prelude.{IfOk, is_some}
 use Rattle.std.specs.List.{cons_option}
 
@@ -9,14 +9,21 @@ pub found_used : {A B : Type 0} (f : A → B) (known : Bool) (x found : A) → S
 found_used f true x found e = cc
 found_used f false x found e = absurd (cc)
 
--- three look-ups, each of which uses what the one before found
-pub three_found : {A : Type 0} (f g : A → A) (first second third : Bool) (x found next : A) (last : Option A) →
-    Some found ≡ cond third (Some x) None → Some next ≡ cond second (Some (g found)) None → last ≡ cond first (Some (f next)) None →
-    last ≡ cond (first && (second && (third && true))) (Some (f (g x))) None
-three_found f g true true true x found next last p q r = cc
-three_found f g false true true x found next last p q r = cc
-three_found f g first true false x found next last p q r = absurd (cc)
-three_found f g first false third x found next last p q r = absurd (cc)
+-- where nothing was found, nothing is made of it
+pub none_used : {A B : Type 0} (known : Bool) (x : A) (y : B) → None ≡ cond known (Some x) None → None ≡ cond known (Some y) None
+none_used true x y e = absurd (cc)
+none_used false x y e = refl
+
+-- four look-ups, each of which uses what the one before found
+pub four_found : {A : Type 0} (f g h : A → A) (first second third fourth : Bool) (x found next then : A) (last : Option A) →
+    Some found ≡ cond fourth (Some x) None → Some next ≡ cond third (Some (h found)) None →
+    Some then ≡ cond second (Some (g next)) None → last ≡ cond first (Some (f then)) None →
+    last ≡ cond (first && (second && (third && (fourth && true)))) (Some (f (g (h x)))) None
+four_found f g h true true true true x found next then last p q r s = cc
+four_found f g h false true true true x found next then last p q r s = cc
+four_found f g h first true true false x found next then last p q r s = absurd (cc)
+four_found f g h first true false fourth x found next then last p q r s = absurd (cc)
+four_found f g h first false third fourth x found next then last p q r s = absurd (cc)
 
 -- what was found stands behind the others
 pub found_behind : {A E : Type 0} (before after : List A) (known : Bool) (x : A) (found : Option A) (told : Result Bool E) →

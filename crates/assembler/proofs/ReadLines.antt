@@ -1,21 +1,22 @@
 -- Lines read one after the other, and a text with its image: what is read is said, and what is said is read.
-use Rattle.std.proofs.Common.{◌≡◌, inl, inr, ℕ, suc, ◌+◌, Bool, true, not, List, [], ◌∷◌, ◌++◌, length, take, drop, find, Option, Some, None, Result, Ok, Err, IsOk, IfOk, IfErr, max, ◌-◌, refl, sym, ap, subst, ◌∙◌, append_assoc, arith}
+use Rattle.std.proofs.Common.{◌≡◌, inl, inr, ℕ, suc, ◌+◌, Bool, true, not, List, [], ◌∷◌, ◌++◌, length, take, drop, find, Option, Some, None, Result, Ok, Err, IfOk, refl, sym, ap, subst, ◌∙◌, append_assoc, arith}
 use Rattle.std.specs.List.{list_all}
 use Rattle.std.proofs.lemmas.List.{append-nil, take-append-drop}
 use Rattle.row_code.specs.declared.image.Image.{Image}
-use Rattle.assembler.specs.declared.asm_fault.AsmFault.{AsmFault}
-use Rattle.assembler.specs.declared.asm_fault.AsmFaultKind.{AsmFaultKind}
-use Rattle.assembler.specs.declared.asm_fault.AsmFaultKind.TheVariants.{Memory}
-use Rattle.assembler.specs.declared.statement.Line.{Line}
-use Rattle.assembler.specs.declared.statement.Statement.{Statement}
-use Rattle.assembler.specs.Words.{lines_of}
-use Rattle.assembler.specs.Symbols.{Name}
+use Rattle.line_reader.specs.declared.asm_fault.AsmFault.{AsmFault}
+use Rattle.line_reader.specs.declared.asm_fault.AsmFaultKind.{AsmFaultKind}
+use Rattle.line_reader.specs.declared.asm_fault.AsmFaultKind.TheVariants.{Memory}
+use Rattle.line_reader.specs.declared.statement.Line.{Line}
+use Rattle.line_reader.specs.declared.statement.Statement.{Statement}
+use Rattle.line_reader.specs.Words.{lines_of}
+use Rattle.line_reader.specs.Symbols.{Name}
 use Rattle.assembler.specs.Statements.{EachFollows}
 use Rattle.assembler.specs.Meaning.{are_known, image_of, SayInOrder, StandsFor}
-use Rattle.assembler.specs.Reading.{◌>>=◌, line_behind}
+use Rattle.line_reader.specs.Reading.{◌>>=◌}
+use Rattle.assembler.specs.Reading.{line_behind}
 use Rattle.assembler.specs.Answers.{AnswersAt, FailsAt}
-use Rattle.assembler.specs.Passes.{behind, lines_read, first_unknown, looked_up, assembled, IsAtHand}
-use Rattle.assembler.proofs.Steps.{by_test, both_true}
+use Rattle.assembler.specs.Passes.{behind, lines_read, first_unknown, looked_up, assembled}
+use Rattle.line_reader.proofs.Steps.{by_test, both_true}
 use Rattle.assembler.proofs.SpelledLines.{LineSays, line_takes, line_again}
 
 abbrev done : {A : Type 0} → A → Result A AsmFault
@@ -160,16 +161,6 @@ lines_read-middle n k before middle texts e =
     lines_read-split n k before texts
     ∙ ap (λ (r : Result (List (Line Name)) AsmFault). r >>= (λ lines. lines_read (n + length (take k texts)) lines (drop k texts))) e
 
-first_is_ok : {A B : Type 0} (r : Result A AsmFault) (f : A → Result B AsmFault) (y : B) → (r >>= f) ≡ Ok y → IsOk r
-first_is_ok (Ok x) f y e = refl
-first_is_ok (Err d) f y e = absurd (cc)
-
--- where all lines were read, so were the first
-pub lines_read-take : (n k : ℕ) (before lines : List (Line Name)) (texts : List (List ℕ)) →
-    lines_read n before texts ≡ Ok lines → IsOk (lines_read n before (take k texts))
-lines_read-take n k before lines texts e =
-    first_is_ok (lines_read n before (take k texts)) _ lines (sym (lines_read-split n k before texts) ∙ e)
-
 -- ---- what is answered, memory aside
 
 pub answers_stand : (text : List ℕ) (answered : Result Image AsmFault) →
@@ -183,33 +174,26 @@ pub stands_answered : (text : List ℕ) (answered : Result Image AsmFault) →
 stands_answered text answered is i stands =
     subst (λ (read : Result Image AsmFault). AnswersAt (λ (j : Image). j) answered read) (stands_for-assembled text i stands) is
 
--- where all lines were read, the last one may be at hand
-pub last_at_hand : (text : List ℕ) (lines : List (Line Name)) (n : ℕ) → lines_read 1 [] (lines_of text) ≡ Ok lines →
-    n ≡ length (lines_of text) → IsAtHand text (max n 1)
-last_at_hand text lines n read all =
-    record {
-      first = omega arith;
-      last = omega (arith, all);
-      met = lines_read-take 1 (max n 1 - 1) [] lines (lines_of text) read;
-    }
+-- where all lines were read, what is answered is what their names give
+read_all : (text : List ℕ) (lines : List (Line Name)) → lines_read 1 [] (lines_of text) ≡ Ok lines →
+    assembled text ≡ looked_up lines (first_unknown lines)
+unfolding assembled
+read_all text lines e = ap (λ (r : Result (List (Line Name)) AsmFault). r >>= (λ ls. looked_up ls (first_unknown ls))) e
 
-pub fault_at_hand : (text : List ℕ) (answered : Result Image AsmFault) (last : ℕ) → IsAtHand text last →
-    IfErr answered (λ e. e.kind ≡ Memory → e.line ≡ last) →
-    IfErr answered (λ e. e.kind ≡ Memory → IsAtHand text e.line)
-fault_at_hand text (Ok i) last at is = tt
-fault_at_hand text (Err e) last at is = λ memory. subst (λ (n : ℕ). IsAtHand text n) (sym (is memory)) at
+pub looked_up_answered : (text : List ℕ) (lines : List (Line Name)) (answered : Result Image AsmFault) →
+    lines_read 1 [] (lines_of text) ≡ Ok lines → AnswersAt (λ i. i) answered (looked_up lines (first_unknown lines)) →
+    AnswersAt (λ i. i) answered (assembled text)
+looked_up_answered text lines answered e is =
+    subst (λ (read : Result Image AsmFault). AnswersAt (λ (i : Image). i) answered read) (sym (read_all text lines e)) is
 
--- where the text stands for an image, what is answered is that image or that memory was refused
-pub same_again : (i : Image) (answered : Result Image AsmFault) → AnswersAt (λ j. j) answered (Ok i) →
-    IfOk answered (λ again. again ≡ i)
-same_again i (Ok j) is = sym (ok_is i j is)
-same_again i (Err e) is = tt
+-- what fails goes on failing
+pub fails_then : {A B : Type 0} (kind : AsmFaultKind) (e : AsmFault) (r : Result A AsmFault)
+    (f : A → Result B AsmFault) → FailsAt kind e r → FailsAt kind e (r >>= f)
+fails_then Memory e r f fails = tt
+fails_then _ e r f fails = ap (λ x. x >>= f) fails
 
-no_fault : (i : Image) (kind : AsmFaultKind) (e : AsmFault) → FailsAt {Y = Image} kind e (Ok i) → kind ≡ Memory
-no_fault i Memory e is = refl
-no_fault i _ e is = absurd (cc)
-
-pub memory_alone : (i : Image) (answered : Result Image AsmFault) → AnswersAt (λ j. j) answered (Ok i) →
-    IfErr answered (λ e. e.kind ≡ Memory)
-memory_alone i (Ok j) is = tt
-memory_alone i (Err e) is = no_fault i e.kind e is
+pub fault_answered : (text : List ℕ) (e : AsmFault) → FailsAt e.kind e (lines_read 1 [] (lines_of text)) →
+    FailsAt e.kind e (assembled text)
+unfolding assembled
+fault_answered text e fails =
+    fails_then e.kind e (lines_read 1 [] (lines_of text)) (λ ls. looked_up ls (first_unknown ls)) fails

@@ -4,21 +4,22 @@ use Rattle.std.specs.List.{list_all}
 use Rattle.std.proofs.lemmas.Bool.{eqb-true, ltb-false, le-ltb}
 use Rattle.std.proofs.lemmas.List.{take_at, length-append}
 use Rattle.instruction_table.specs.Table.{Entry, table, entry_named}
-use Rattle.assembler.specs.declared.asm_fault.AsmFaultKind.TheVariants as fault
-use Rattle.assembler.specs.declared.symbolic_row.SymbolicRow.{SymbolicRow}
-use Rattle.assembler.specs.declared.statement.Line.{Line}
-use Rattle.assembler.specs.declared.statement.Statement.{Statement}
-use Rattle.assembler.specs.declared.statement.Statement.TheVariants as statement
-use Rattle.assembler.specs.Words.{is_allowed, words_of}
-use Rattle.assembler.specs.Names.{is_name}
-use Rattle.assembler.specs.Symbols.{Name}
-use Rattle.assembler.specs.Spelling.{SpellRow, SpellsLabel, Spell, IsLine, Says, SaysNothing}
+use Rattle.line_reader.specs.declared.asm_fault.AsmFaultKind.TheVariants as fault
+use Rattle.line_reader.specs.declared.symbolic_row.SymbolicRow.{SymbolicRow}
+use Rattle.line_reader.specs.declared.statement.Line.{Line}
+use Rattle.line_reader.specs.declared.statement.Statement.{Statement}
+use Rattle.line_reader.specs.declared.statement.Statement.TheVariants as statement
+use Rattle.line_reader.specs.Words.{is_allowed, words_of}
+use Rattle.line_reader.specs.Names.{is_name}
+use Rattle.line_reader.specs.Symbols.{Name}
+use Rattle.line_reader.specs.Spelling.{SpellRow, SpellsLabel, Spell, IsLine, Says, SaysNothing}
 use Rattle.assembler.specs.Statements.{name_in, is_code, has_code, is_new, has_room, Follows}
-use Rattle.assembler.specs.Reading.{name_at, row_at, is_directive, directive_at, is_label, before_last, directive_behind, row_behind, labelled_behind, statement_behind, words_behind, line_behind}
-use Rattle.assembler.proofs.Steps.{bound, ok_is, check_ok, by_test, passed, not_true, both_true, or_right, is_bytes}
-use Rattle.assembler.proofs.SpelledNumbers.{name_takes, name_again}
-use Rattle.assembler.proofs.SpelledOperands.{find_passes, row_takes, row_again}
-use Rattle.assembler.proofs.SpelledDirectives.{phaser_again, barrier_again, thread_again, cell_again, directive_takes}
+use Rattle.line_reader.specs.Reading.{name_at, row_at, is_directive, directive_at, is_label, before_last}
+use Rattle.assembler.specs.Reading.{directive_behind, row_behind, labelled_behind, statement_behind, words_behind, line_behind}
+use Rattle.line_reader.proofs.Steps.{bound, ok_is, check_ok, by_test, passed, not_true, both_true, or_right, is_bytes}
+use Rattle.line_reader.proofs.SpelledNumbers.{name_takes, name_again}
+use Rattle.line_reader.proofs.SpelledOperands.{find_passes, row_takes, row_again}
+use Rattle.line_reader.proofs.SpelledDirectives.{phaser_again, barrier_again, thread_again, cell_again, directive_takes}
 
 -- ---- labels
 

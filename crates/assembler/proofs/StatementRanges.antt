@@ -1,5 +1,5 @@
 -- What a statement adds to each list of an image is in its ranges.
-use Rattle.std.proofs.Common.{inl, inr, ℕ, zero, suc, ◌<◌, ◌≤◌, ℤ, pos, negsuc, FitsSigned, List, [], ◌∷◌, Option, Some, None, sym, subst, arith}
+use Rattle.std.proofs.Common.{inl, inr, ℕ, zero, suc, ◌<◌, ◌≤◌, ℤ, pos, negsuc, FitsSigned, List, [], ◌∷◌, Option, Some, None, codes, sym, subst, arith}
 use Rattle.std.specs.Prelude.{IfSome, option_map}
 use Rattle.std.specs.Int.{w32}
 use Rattle.std.specs.List.{AllByRecursion}
@@ -12,18 +12,18 @@ use Rattle.row_code.specs.Phasers.{IsCount, IsPolicy, IsPhaser}
 use Rattle.row_code.specs.Barriers.{IsBarrier}
 use Rattle.row_code.specs.Threads.{IsThread}
 use Rattle.row_code.proofs.RowLaws.{row_with_fits}
-use Rattle.assembler.specs.declared.reference.Reference.{Reference}
-use Rattle.assembler.specs.declared.reference.Reference.TheVariants.{Named, Numbered}
-use Rattle.assembler.specs.declared.symbolic_row.Operand.{Operand}
-use Rattle.assembler.specs.declared.symbolic_row.Operand.TheVariants as operand
-use Rattle.assembler.specs.declared.symbolic_row.SymbolicRow.{SymbolicRow}
-use Rattle.assembler.specs.declared.symbolic_phaser.SymbolicPolicy.{SymbolicPolicy}
-use Rattle.assembler.specs.declared.symbolic_phaser.SymbolicPolicy.TheVariants as policy
-use Rattle.assembler.specs.declared.statement.Statement.{Statement}
-use Rattle.assembler.specs.declared.statement.Statement.TheVariants as statement
-use Rattle.assembler.specs.declared.statement.Line.{Line}
-use Rattle.assembler.specs.Symbols.{Name}
-use Rattle.assembler.specs.Spelling.{Spell, SpellAction, SpellFirstPhase, SpellOperands, SpellParent, SpellPolicy, SpellRow, SpellsNumber, SpellsOperand, SpellsReference, greatest_int, greatest_number, least_int, operand_in}
+use Rattle.line_reader.specs.declared.reference.Reference.{Reference}
+use Rattle.line_reader.specs.declared.reference.Reference.TheVariants.{Named, Numbered}
+use Rattle.line_reader.specs.declared.symbolic_row.Operand.{Operand}
+use Rattle.line_reader.specs.declared.symbolic_row.Operand.TheVariants as operand
+use Rattle.line_reader.specs.declared.symbolic_row.SymbolicRow.{SymbolicRow}
+use Rattle.line_reader.specs.declared.symbolic_phaser.SymbolicPolicy.{SymbolicPolicy}
+use Rattle.line_reader.specs.declared.symbolic_phaser.SymbolicPolicy.TheVariants as policy
+use Rattle.line_reader.specs.declared.statement.Statement.{Statement}
+use Rattle.line_reader.specs.declared.statement.Statement.TheVariants as statement
+use Rattle.line_reader.specs.declared.statement.Line.{Line}
+use Rattle.line_reader.specs.Symbols.{Name}
+use Rattle.line_reader.specs.Spelling.{Spell, SpellFirstPhase, SpellOperands, SpellPolicy, SpellReference, SpellRow, SpellsNumber, SpellsOperand, SpellsReference, greatest_int, greatest_number, least_int, operand_in}
 use Rattle.assembler.specs.Statements.{count, most, number_named}
 use Rattle.assembler.specs.Meaning.{barriers_in, referent_or_0, number_or_0, operands_of, phasers_in, policy_of, row_of, rows_in, threads_in, with_operand}
 use Rattle.assembler.proofs.Counts.{AreFew, number_within, phaser_below}
@@ -106,10 +106,15 @@ no_operands all = record { number = record { sfits = omega (arith, ints) }; obje
 row_fits : (all : List (Line Name)) → AreFew all → (words : List (List ℕ)) (row : SymbolicRow Name) → SpellRow words row → IsRow (row_of all row)
 row_fits all few words row (entry, word, rest, operands, spelled, named, is, spell) =
     let each = each_fits all few entry.operands rest operands spell in
-    let third = one_more all (operand_in operands 2) (operands_of all []) (each 2) (no_operands all) in
-    let second = one_more all (operand_in operands 1) (operands_of all (operand_in operands 2 ∷ [])) (each 1) third in
-    let o = operands_of all (operand_in operands 0 ∷ operand_in operands 1 ∷ operand_in operands 2 ∷ []) in
-    let fit : AreInRange o = one_more all (operand_in operands 0) (operands_of all (operand_in operands 1 ∷ operand_in operands 2 ∷ [])) (each 0) second in
+    let first = operand_in operands 0 in
+    let second = operand_in operands 1 in
+    let third = operand_in operands 2 in
+    let fourth = operand_in operands 3 in
+    let fit_fourth = one_more all fourth (operands_of all []) (each 3) (no_operands all) in
+    let fit_third = one_more all third (operands_of all (fourth ∷ [])) (each 2) fit_fourth in
+    let fit_second = one_more all second (operands_of all (third ∷ fourth ∷ [])) (each 1) fit_third in
+    let o = operands_of all (first ∷ second ∷ third ∷ fourth ∷ []) in
+    let fit : AreInRange o = one_more all first (operands_of all (second ∷ third ∷ fourth ∷ [])) (each 0) fit_second in
     subst (λ (r : SymbolicRow Name). IsRow (row_of all r)) (sym is) (row_with_fits entry.opcode o fit.number fit.object)
 
 -- ---- statements
@@ -120,12 +125,12 @@ routine_fits all few words policy.Never h = tt
 routine_fits all few words (policy.Until phase) h = phase_fits h.0 phase h.2
 routine_fits all few words (policy.Routine row) h = number_fits all few kind.Target h.0 row h.2
 
-parent_option : (all : List (Line Name)) → AreFew all → (words : List (List ℕ)) (parent : Option (Reference Name)) → SpellParent words parent →
+parent_option : (all : List (Line Name)) → AreFew all → (words : List (List ℕ)) (parent : Option (Reference Name)) → SpellReference (codes "parent") 63 words parent →
     IfSome (option_map (referent_or_0 all kind.Phaser) parent) (λ n. n < 64)
 parent_option all few words None h = tt
 parent_option all few words (Some parent) h = parent_fits all few h.0 parent h.2
 
-action_option : (all : List (Line Name)) → AreFew all → (words : List (List ℕ)) (action : Option (Reference Name)) → SpellAction words action →
+action_option : (all : List (Line Name)) → AreFew all → (words : List (List ℕ)) (action : Option (Reference Name)) → SpellReference (codes "action") greatest_number words action →
     IfSome (option_map (referent_or_0 all kind.Target) action) (λ n. n < 65536)
 action_option all few words None h = tt
 action_option all few words (Some row) h = number_fits all few kind.Target h.0 row h.2

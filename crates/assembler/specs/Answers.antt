@@ -1,8 +1,8 @@
 -- What a call answers, held against what is read: memory can be missing in place of anything.
 use Rattle.std.specs.Prelude.{◌≡◌, Result, Ok, Err}
-use Rattle.assembler.specs.declared.asm_fault.AsmFault.{AsmFault}
-use Rattle.assembler.specs.declared.asm_fault.AsmFaultKind.{AsmFaultKind}
-use Rattle.assembler.specs.declared.asm_fault.AsmFaultKind.TheVariants as fault
+use Rattle.line_reader.specs.declared.asm_fault.AsmFault.{AsmFault}
+use Rattle.line_reader.specs.declared.asm_fault.AsmFaultKind.{AsmFaultKind}
+use Rattle.line_reader.specs.declared.asm_fault.AsmFaultKind.TheVariants as fault
 
 -- the fault that was answered is the one that is read
 abbrev pub FailsAs : {Y : Type 0} → AsmFaultKind → Result Y AsmFaultKind → Type 0
@@ -23,8 +23,3 @@ FailsAt _ e read = read ≡ Err e
 abbrev pub AnswersAt : {X Y : Type 0} → (X → Y) → Result X AsmFault → Result Y AsmFault → Type 0
 AnswersAt view (Ok x) read = read ≡ Ok (view x)
 AnswersAt view (Err e) read = FailsAt e.kind e read
-
--- what was answered where no memory is taken, with its names seen as bytes
-abbrev pub seen : {X Y : Type 0} → (X → Y) → Result X AsmFaultKind → Result Y AsmFaultKind
-seen view (Ok x) = Ok (view x)
-seen view (Err kind) = Err kind

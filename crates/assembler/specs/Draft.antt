@@ -1,13 +1,14 @@
--- What the assembler keeps of the lines read so far, beside the lines: the meaning of a text doesn't
--- need it.
+-- What the assembler keeps of the lines read so far, beside the lines. It carries the proof alone: no
+-- public contract and no theorem names it, and nobody has to believe it.
 use Rattle.std.specs.Prelude.{◌≡◌, ℕ, if◌then◌else◌, Bool, bytes_eq, List, Option, Some, None, is_some}
 use Rattle.indexmap.specs.IndexMap.{IndexMap, get}
 use Rattle.instruction_table.specs.declared.shape.OperandKind.{OperandKind}
 use Rattle.instruction_table.specs.declared.shape.OperandKind.TheVariants as kind
 use Rattle.assembler.specs.declared.draft.Counts.{Counts}
 use Rattle.assembler.specs.declared.draft.Place.{Place}
-use Rattle.assembler.specs.declared.statement.Line.{Line}
-use Rattle.assembler.specs.Symbols.{Name, Borrowed}
+use Rattle.line_reader.specs.declared.statement.Line.{Line}
+use Rattle.line_reader.specs.Symbols.{Name}
+use Rattle.line_reader.specs.Seen.{Borrowed}
 use Rattle.assembler.specs.Statements.{is_kind, count, is_given, number_named, has_code}
 
 -- how many things of a kind were counted

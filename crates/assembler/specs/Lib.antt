@@ -1,12 +1,6 @@
-pub mod Words
-pub mod Names
-pub mod Numbers
-pub mod Symbols
-pub mod Spelling
 pub mod Statements
 pub mod Meaning
 pub mod Reading
 pub mod Passes
 pub mod Answers
 pub mod Draft
-pub mod Listing

@@ -13,22 +13,22 @@ use Rattle.row_code.specs.declared.phasers.DeclaredPolicy.{DeclaredPolicy}
 use Rattle.row_code.specs.declared.phasers.DeclaredPolicy.TheVariants as declared
 use Rattle.row_code.specs.declared.threads.DeclaredThread.{DeclaredThread}
 use Rattle.row_code.specs.RowOperands.{row_with}
-use Rattle.assembler.specs.declared.reference.Reference.{Reference}
-use Rattle.assembler.specs.declared.reference.Reference.TheVariants.{Named, Numbered}
-use Rattle.assembler.specs.declared.symbolic_row.Operand.{Operand}
-use Rattle.assembler.specs.declared.symbolic_row.Operand.TheVariants as operand
-use Rattle.assembler.specs.declared.symbolic_row.SymbolicRow.{SymbolicRow}
-use Rattle.assembler.specs.declared.symbolic_phaser.SymbolicPolicy.{SymbolicPolicy}
-use Rattle.assembler.specs.declared.symbolic_phaser.SymbolicPolicy.TheVariants as policy
-use Rattle.assembler.specs.declared.symbolic_phaser.SymbolicPhaser.{SymbolicPhaser}
-use Rattle.assembler.specs.declared.symbolic_barrier.SymbolicBarrier.{SymbolicBarrier}
-use Rattle.assembler.specs.declared.symbolic_thread.SymbolicThread.{SymbolicThread}
-use Rattle.assembler.specs.declared.statement.Statement.{Statement}
-use Rattle.assembler.specs.declared.statement.Statement.TheVariants as statement
-use Rattle.assembler.specs.declared.statement.Line.{Line}
-use Rattle.assembler.specs.Words.{lines_of}
-use Rattle.assembler.specs.Symbols.{Name, operands_in}
-use Rattle.assembler.specs.Spelling.{Says, SaysNothing}
+use Rattle.line_reader.specs.declared.reference.Reference.{Reference}
+use Rattle.line_reader.specs.declared.reference.Reference.TheVariants.{Named, Numbered}
+use Rattle.line_reader.specs.declared.symbolic_row.Operand.{Operand}
+use Rattle.line_reader.specs.declared.symbolic_row.Operand.TheVariants as operand
+use Rattle.line_reader.specs.declared.symbolic_row.SymbolicRow.{SymbolicRow}
+use Rattle.line_reader.specs.declared.symbolic_phaser.SymbolicPolicy.{SymbolicPolicy}
+use Rattle.line_reader.specs.declared.symbolic_phaser.SymbolicPolicy.TheVariants as policy
+use Rattle.line_reader.specs.declared.symbolic_phaser.SymbolicPhaser.{SymbolicPhaser}
+use Rattle.line_reader.specs.declared.symbolic_barrier.SymbolicBarrier.{SymbolicBarrier}
+use Rattle.line_reader.specs.declared.symbolic_thread.SymbolicThread.{SymbolicThread}
+use Rattle.line_reader.specs.declared.statement.Statement.{Statement}
+use Rattle.line_reader.specs.declared.statement.Statement.TheVariants as statement
+use Rattle.line_reader.specs.declared.statement.Line.{Line}
+use Rattle.line_reader.specs.Words.{lines_of}
+use Rattle.line_reader.specs.Symbols.{Name, operands_in}
+use Rattle.line_reader.specs.Spelling.{Says, SaysNothing}
 use Rattle.assembler.specs.Statements.{number_named, EachFollows}
 
 -- the number of the row or the object of a kind that is referred to, where there is one

@@ -1,15 +1,16 @@
 -- The first fault of a text, or else its image: every line is read, and then every name is looked up.
-use Rattle.std.specs.Prelude.{ℕ, ◌+◌, ◌-◌, ◌≤◌, not, List, [], ◌∷◌, ◌++◌, length, max, take, find, Option, Some, None, Result, Ok, Err, IsOk}
+use Rattle.std.specs.Prelude.{ℕ, ◌+◌, not, List, [], ◌∷◌, ◌++◌, find, Option, Some, None, Result, Ok, Err}
 use Rattle.row_code.specs.declared.image.Image.{Image}
-use Rattle.assembler.specs.declared.asm_fault.AsmFault.{AsmFault}
-use Rattle.assembler.specs.declared.asm_fault.AsmFaultKind.{AsmFaultKind}
-use Rattle.assembler.specs.declared.asm_fault.AsmFaultKind.TheVariants as fault
-use Rattle.assembler.specs.declared.statement.Line.{Line}
-use Rattle.assembler.specs.declared.statement.Statement.{Statement}
-use Rattle.assembler.specs.Words.{lines_of}
-use Rattle.assembler.specs.Symbols.{Name}
+use Rattle.line_reader.specs.declared.asm_fault.AsmFault.{AsmFault}
+use Rattle.line_reader.specs.declared.asm_fault.AsmFaultKind.{AsmFaultKind}
+use Rattle.line_reader.specs.declared.asm_fault.AsmFaultKind.TheVariants as fault
+use Rattle.line_reader.specs.declared.statement.Line.{Line}
+use Rattle.line_reader.specs.declared.statement.Statement.{Statement}
+use Rattle.line_reader.specs.Words.{lines_of}
+use Rattle.line_reader.specs.Symbols.{Name}
 use Rattle.assembler.specs.Meaning.{are_known, image_of}
-use Rattle.assembler.specs.Reading.{◌>>=◌, line_behind}
+use Rattle.line_reader.specs.Reading.{◌>>=◌}
+use Rattle.assembler.specs.Reading.{line_behind}
 
 -- the lines before, and what the line of this number says behind them
 abbrev pub behind : List (Line Name) → ℕ → Result (Option (Statement Name)) AsmFaultKind →
@@ -40,10 +41,3 @@ unfoldable pub assembled : List ℕ → Result Image AsmFault
 assembled text = do
   lines ← lines_read 1 [] (lines_of text)
   looked_up lines (first_unknown lines)
-
--- what can be said of the line at hand when memory is refused: it is one of the lines, line 1 where
--- there is none, and no line before it has a fault of its own
-pub record IsAtHand (text : List ℕ) (line : ℕ) : Type 0 where
-  pub first : 1 ≤ line
-  pub last : line ≤ max 1 (length (lines_of text))
-  pub met : IsOk (lines_read 1 [] (take (line - 1) (lines_of text)))

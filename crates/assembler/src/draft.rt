@@ -1,15 +1,17 @@
 ghost use Rattle.std.specs.Prelude.{◌≡◌, ◌+◌, ◌<◌, ◌||◌, ◌++◌, ◌∷◌, [], IfOk, List, map, option_copied, option_map};
 ghost use Rattle.instruction_table.specs.declared.shape.OperandKind.{OperandKind};
-ghost use Rattle.assembler.specs.declared.statement.Line.{Line};
+ghost use Rattle.line_reader.specs.declared.statement.Line.{Line};
 ghost use Rattle.assembler.specs.Draft.{IsKept, counted, named_with, number_there, places};
 ghost use Rattle.assembler.specs.Meaning.{referent};
-ghost use Rattle.assembler.specs.Statements.{Follows, adds, has_code, has_room, is_code, is_given, is_kind, kind_named, most, name_in};
-ghost use Rattle.assembler.specs.Symbols.{Borrowed, Name, line_seen, name_seen, reference_seen, statement_seen};
+ghost use Rattle.assembler.specs.Statements.{Follows, adds, has_code, has_room, is_code, is_given, kind_named, most, name_in};
+ghost use Rattle.line_reader.specs.Symbols.{Name};
+ghost use Rattle.line_reader.specs.Seen.{Borrowed, line_seen, name_seen, reference_seen, statement_seen};
 
-use crate::reference::Reference;
-use crate::statement::{Line, Statement};
+use crate::name_hash::NameHash;
 use indexmap::IndexMap;
 use instruction_table::OperandKind;
+use line_reader::reference::Reference;
+use line_reader::statement::{Line, Statement};
 use std::alloc::{AllocError, Global};
 use std::marker::Model;
 
@@ -34,7 +36,7 @@ pub struct Counts {
 #[derive(Drop)]
 pub struct Draft<'a> {
     lines: Vec<Line<&'a [u8]>>,
-    names: IndexMap<&'a [u8], Place>,
+    names: IndexMap<&'a [u8], Place, NameHash>,
     counts: Counts,
     has_code: bool,
 }
@@ -158,10 +160,10 @@ fn place_behind(counts: &Counts, statement: &Statement<&[u8]>) -> Place
 
 /// The names with one more, where there is one.
 fn named_with<'a>(
-    names: IndexMap<&'a [u8], Place>,
+    names: IndexMap<&'a [u8], Place, NameHash>,
     name: Option<&'a [u8]>,
     place: Place,
-) -> Result<IndexMap<&'a [u8], Place>, AllocError>
+) -> Result<IndexMap<&'a [u8], Place, NameHash>, AllocError>
     ensures { IfOk result (λ with. (q : Borrowed) → places with q
         ≡ named_with (option_map name_seen name.entry) place (places names.entry) q) }
 {
@@ -185,19 +187,13 @@ fn with_last<'a>(
     Ok(lines)
 }
 
-fn is_kind(one: OperandKind, other: OperandKind) -> bool
-    ensures { result ≡ is_kind one other }
-{
-    one == other
-}
-
 /// The number of a place that is of this kind.
 fn number_there(kind: OperandKind, place: Option<&Place>) -> Option<u16>
     ensures { result ≡ number_there kind (option_copied place.entry) }
 {
     match place {
         Some(place) => {
-            if is_kind(kind, place.kind) {
+            if kind == place.kind {
                 Some(place.number)
             } else {
                 None
@@ -208,13 +204,13 @@ fn number_there(kind: OperandKind, place: Option<&Place>) -> Option<u16>
 }
 
 impl<'a> Draft<'a> {
-    /// Before the first line.
-    pub fn new(alloc: Global) -> Draft<'a>
+    /// Before the first line of the text that this hashes the names of.
+    pub fn new(alloc: Global, hash: NameHash) -> Draft<'a>
         ensures { result ≡ [] }
     {
         Draft {
             lines: Vec::new(alloc),
-            names: IndexMap::new(alloc),
+            names: IndexMap::with_hasher(alloc, hash),
             counts: Counts {
                 rows: 0,
                 phasers: 0,

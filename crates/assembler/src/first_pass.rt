@@ -1,13 +1,14 @@
-ghost use Rattle.std.specs.Prelude.{◌≡◌, [], ◌∷◌, ◌<◌, IfErr, IfOk, length};
+ghost use Rattle.std.specs.Prelude.{◌≡◌, [], ◌∷◌, ◌<◌, IfErr, length};
 ghost use Rattle.assembler.specs.Answers.{AnswersAt};
-ghost use Rattle.assembler.specs.Passes.{IsAtHand, behind, lines_read};
+ghost use Rattle.assembler.specs.Passes.{behind, lines_read};
 ghost use Rattle.assembler.specs.Reading.{line_behind};
-ghost use Rattle.assembler.specs.Words.{lines_of};
+ghost use Rattle.line_reader.specs.Words.{lines_of};
 
-use crate::asm_fault::{AsmFault, AsmFaultKind};
 use crate::draft::Draft;
+use crate::name_hash::NameHash;
 use crate::reading::line_behind;
-use crate::words::place_of;
+use line_reader::asm_fault::{AsmFault, AsmFaultKind};
+use line_reader::words::place_of;
 use std::alloc::Global;
 
 /// The first line of a text, and what follows its end.
@@ -49,10 +50,8 @@ fn line_read<'a>(
 /// Reads all lines of a text: what they say, and how many lines there are.
 pub fn lines_read(alloc: Global, text: &[u8]) -> Result<(Draft<'_>, u64), AsmFault>
     ensures read { AnswersAt (λ x. x.0) result (lines_read 1 [] (lines_of text.now)) }
-    ensures count { IfOk result (λ x. x.1 ≡ length (lines_of text.now)) }
-    ensures at_hand { IfErr result (λ e. IsAtHand text.now e.line) }
 {
-    let mut draft = Draft::new(alloc);
+    let mut draft = Draft::new(alloc, NameHash::new(text));
     let mut rest = text;
     let mut number = 0u64;
     while !rest.is_empty() {

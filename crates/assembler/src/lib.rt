@@ -5,44 +5,26 @@
 //! is read: its lines say, in order, what the image consists of, and a name is the number of the
 //! row or the object that it was given to. `disassemble` writes the canonical text of an image,
 //! which stands for that image and for no other: an image that is listed and assembled again is the
-//! same one. Both take time in proportion to the length of what they read.
+//! same one. Both take time in proportion to the length of what they read, `assemble` in
+//! expectation, whoever wrote the text: no choice of names makes it slow (`name_hash` says why).
 //!
 //! For a Java porter: a text is to an image what source is to a class file, with the compiler's
 //! first error message and a disassembler whose output compiles to the same bytes.
 #![tactic(auto)]
 
-// What the lines of a text consist of.
-mod name;
-mod number;
-pub mod words;
-
-// What a line says: a row or an object that it declares, with names where there may be names.
-mod reference;
-mod statement;
-mod symbolic_barrier;
-mod symbolic_phaser;
-mod symbolic_row;
-mod symbolic_thread;
-
 // How a line is read behind the lines before it.
-mod argument;
-mod directive;
 mod draft;
+pub mod name_hash;
 mod reading;
 
 // From a text to its image.
-pub mod asm_fault;
 pub mod assembling;
 mod first_pass;
 mod resolution;
 
-// From an image to its canonical text.
-pub mod listing;
-
 // What texts mean, and that what was listed is assembled again.
 pub mod meaning;
-pub mod round_trip;
 
-pub use asm_fault::{AsmFault, AsmFaultKind};
 pub use assembling::assemble;
+pub use line_reader::asm_fault::{AsmFault, AsmFaultKind};
 pub use listing::disassemble;

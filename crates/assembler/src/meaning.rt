@@ -1,9 +1,10 @@
 // What texts mean: laws over the definitions, each the contract of a function that does nothing.
-ghost use Rattle.std.specs.Prelude.{◌≡◌, ℕ, List};
+ghost use Rattle.std.specs.Prelude.{◌≡◌, ℕ, List, Ok};
 ghost use Rattle.row_code.specs.declared.image.Image.{Image};
 ghost use Rattle.row_code.specs.Image.{IsImage};
-ghost use Rattle.assembler.specs.Listing.{canonical};
+ghost use Rattle.listing.specs.Listing.{canonical};
 ghost use Rattle.assembler.specs.Meaning.{StandsFor};
+ghost use Rattle.assembler.specs.Passes.{assembled};
 
 /// No text stands for two images.
 pub fn one_image()
@@ -13,4 +14,9 @@ pub fn one_image()
 /// The canonical text of an image stands for it.
 pub fn canonical_means_image()
     ensures { (i : Image) → IsImage i → StandsFor (canonical i) i }
+{}
+
+/// What was listed is assembled again: the same image.
+pub fn canonical_is_assembled()
+    ensures { (i : Image) → IsImage i → assembled (canonical i) ≡ Ok i }
 {}

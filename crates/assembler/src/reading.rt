@@ -1,16 +1,19 @@
 ghost use Rattle.std.specs.Prelude.{◌≡◌, map, option_map};
-ghost use Rattle.assembler.specs.Answers.{Answers, seen};
-ghost use Rattle.assembler.specs.Reading.{before_last, directive_behind, is_label, labelled_behind, line_behind, row_behind, statement_behind, words_behind};
+ghost use Rattle.line_reader.specs.Seen.{seen};
+ghost use Rattle.assembler.specs.Answers.{Answers};
+ghost use Rattle.line_reader.specs.Reading.{before_last, is_label};
+ghost use Rattle.assembler.specs.Reading.{directive_behind, labelled_behind, line_behind, row_behind, statement_behind, words_behind};
 ghost use Rattle.assembler.specs.Statements.{is_new};
-ghost use Rattle.assembler.specs.Symbols.{name_seen, statement_seen};
+ghost use Rattle.line_reader.specs.Seen.{name_seen, statement_seen};
 
-use crate::asm_fault::AsmFaultKind;
-use crate::directive::{directive_at, is_directive};
 use crate::draft::{Draft, name_in};
-use crate::name::name_at;
-use crate::statement::Statement;
-use crate::symbolic_row::row_at;
-use crate::words::{are_allowed, words_of};
+use line_reader::asm_fault::AsmFaultKind;
+use line_reader::directive::{directive_at, is_directive};
+use line_reader::label::{before_last, is_label};
+use line_reader::name::name_at;
+use line_reader::statement::Statement;
+use line_reader::symbolic_row::row_at;
+use line_reader::words::{are_allowed, words_of};
 use std::alloc::Global;
 
 /// The most bytes that a line holds.
@@ -86,21 +89,6 @@ fn labelled_behind<'a>(
             row_behind(draft, Some(label), *word, operands)
         }
     }
-}
-
-/// Whether a word ends in a colon.
-#[tactic(auto, using(crate::proofs::Labels::label_by_last))]
-fn is_label(word: &[u8]) -> bool
-    ensures { result ≡ is_label word.now }
-{
-    !word.is_empty() && word[word.len() - 1] == b':'
-}
-
-/// What stands before a word's last byte.
-fn before_last(word: &[u8]) -> &[u8]
-    ensures { result.now ≡ before_last word.now }
-{
-    &word[..word.len().saturating_sub(1)]
 }
 
 /// Reads a line of one word or more behind the lines so far.

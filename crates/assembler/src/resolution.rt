@@ -1,14 +1,14 @@
 ghost use Rattle.std.specs.Prelude.{◌≡◌, map, IfErr};
 ghost use Rattle.row_code.specs.Image.{IsImage};
-ghost use Rattle.assembler.specs.declared.asm_fault.AsmFaultKind.TheVariants as fault;
+ghost use Rattle.line_reader.specs.declared.asm_fault.AsmFaultKind.TheVariants as fault;
 ghost use Rattle.assembler.specs.Answers.{AnswersAt};
 ghost use Rattle.assembler.specs.Meaning.{image_of};
 ghost use Rattle.assembler.specs.Passes.{first_unknown, looked_up};
-ghost use Rattle.assembler.specs.Symbols.{line_seen};
+ghost use Rattle.line_reader.specs.Seen.{line_seen};
 
-use crate::asm_fault::{AsmFault, AsmFaultKind};
 use crate::draft::Draft;
-use crate::statement::Line;
+use line_reader::asm_fault::{AsmFault, AsmFaultKind};
+use line_reader::statement::Line;
 use parts::Parts;
 use row_code::Image;
 use std::alloc::Global;

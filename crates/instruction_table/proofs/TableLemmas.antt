@@ -22,10 +22,10 @@ abbrev pub are_placed : ℕ → List Entry → Bool
 are_placed n [] = true
 are_placed n (e ∷ es) = (e.opcode == n) && are_placed (n + 1) es
 
--- a test over a whole table: no entry has more than three operands
+-- a test over a whole table: no entry has more than four operands
 abbrev pub are_short : List Entry → Bool
 are_short [] = true
-are_short (e ∷ es) = nat_lt (length e.operands) 4 && are_short es
+are_short (e ∷ es) = nat_lt (length e.operands) 5 && are_short es
 
 same_word : (word : List ℕ) → bytes_eq word word ≡ true
 same_word word = search rules
@@ -52,7 +52,7 @@ opcode-at (x ∷ xs) n zero d placed within = grind (arith, common_steps)
 opcode-at (x ∷ xs) n (suc j) d placed within = grind (arith, common_steps, opcode-at xs (n + 1) j d)
 
 short-at : (es : List Entry) (k : ℕ) (d : Entry) → are_short es ≡ true → k < length es →
-    length (slice_index_or es k d).operands ≤ 3
+    length (slice_index_or es k d).operands ≤ 4
 short-at [] k d short within = absurd (omega (arith, within))
 short-at (x ∷ xs) zero d short within = grind (arith, nat_tests, common_steps, short)
 short-at (x ∷ xs) (suc j) d short within = grind (arith, common_steps, short-at xs j d)
@@ -75,10 +75,10 @@ table_placed = refl
 table_short : are_short table ≡ true
 table_short = refl
 
--- an entry that a look-up finds has at most three operands
-pub named_is_short : (word : List ℕ) → IfSome (entry_named table word) (λ e. length e.operands ≤ 3)
+-- an entry that a look-up finds has at most four operands
+pub named_is_short : (word : List ℕ) → IfSome (entry_named table word) (λ e. length e.operands ≤ 4)
 named_is_short word =
-    found_is_entry (λ e. length e.operands ≤ 3) table word
+    found_is_entry (λ e. length e.operands ≤ 4) table word
     (λ k d within. short-at table k d table_short within)
 
 -- an entry that a look-up finds stands at the place of its opcode

@@ -1,6 +1,6 @@
-use Rattle.std.specs.Prelude.{ℕ}
+use Rattle.std.specs.Prelude.{ℕ, Bool, true, false}
 use Rattle.instruction_table.specs.declared.row.Row.{Row}
-use Rattle.instruction_table.specs.declared.row.Row.TheVariants.{Halt, Ldi, Mov, Add, Sub, Jmp, Beq, Bne, Blt, Call, Ret, Try, Endtry, Throw, Out, Lds, Sts, SelfNumber, Intr, Intrd, Preg, Pbulk, Parr, Pdereg, Paaa, Pawait, Pawaiti, Pforce, Pphase, Pparties, Parrived, Punarr, Pterm, Pparent, Proot, Cawait, Creset, Cbroken, Cwaiting, Cparties}
+use Rattle.instruction_table.specs.declared.row.Row.TheVariants.{Halt, Ldi, Mov, Add, Sub, Jmp, Beq, Bne, Blt, Call, Ret, Try, Endtry, Throw, Out, Lds, Sts, SelfNumber, Intr, Intrd, Preg, Pbulk, Parr, Pdereg, Paaa, Pawait, Pawaiti, Pforce, Pphase, Pparties, Parrived, Punarr, Pterm, Pparent, Proot, Cawait, Creset, Cbroken, Cwaiting, Cparties, Pawaitt, Cawaitt}
 
 -- the opcode of a row, whatever its operands
 abbrev pub opcode_of : Row → ℕ
@@ -44,3 +44,11 @@ opcode_of (Creset _) = 36
 opcode_of (Cbroken _ _) = 37
 opcode_of (Cwaiting _ _) = 38
 opcode_of (Cparties _ _) = 39
+opcode_of (Pawaitt _ _ _ _) = 40
+opcode_of (Cawaitt _ _ _) = 41
+
+-- whether a row waits no longer than a timeout
+abbrev pub is_timed_row : Row → Bool
+is_timed_row (Pawaitt _ _ _ _) = true
+is_timed_row (Cawaitt _ _ _) = true
+is_timed_row _ = false

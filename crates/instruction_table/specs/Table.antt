@@ -59,6 +59,8 @@ table =
     entry 37 (codes "cbroken") (Register ∷ Barrier ∷ []) ∷
     entry 38 (codes "cwaiting") (Register ∷ Barrier ∷ []) ∷
     entry 39 (codes "cparties") (Register ∷ Barrier ∷ []) ∷
+    entry 40 (codes "pawaitt") (Register ∷ Phaser ∷ Register ∷ Register ∷ []) ∷
+    entry 41 (codes "cawaitt") (Register ∷ Barrier ∷ Register ∷ []) ∷
     []
 
 -- the entry that a shape stands for

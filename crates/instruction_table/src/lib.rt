@@ -4,7 +4,7 @@
 //! A program is a list of rows. One table gives each kind of row its opcode, its word in a
 //! program's text and the kinds of its operands, and everything here is derived from it: a word
 //! names at most one kind of row, an opcode is a place in the table, and a row finds its own entry
-//! by its word. Eight kinds of row only load, copy, add and subtract registers, or jump: `local` is
+//! by its opcode. Eight kinds of row only load, copy, add and subtract registers, or jump: `local` is
 //! their whole effect, for all registers, and sums and differences wrap as Java's `int` does. All
 //! values here are plain: no call takes memory or touches anything but its arguments.
 #![tactic(auto)]
@@ -28,6 +28,6 @@ pub use local_effect::Local;
 pub use local_rows::{is_local, local};
 pub use register::Reg;
 pub use registers::Regs;
-pub use row::{Row, opcode};
+pub use row::{Row, is_timed, opcode};
 pub use shape::{OperandKind, Shape};
 pub use table::{mnemonic, row_shape, shape_of};

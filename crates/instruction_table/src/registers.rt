@@ -61,17 +61,18 @@ mod tests {
         Reg::R7,
     ];
 
+    fn holds_alone(written: Reg, read: Reg) -> bool {
+        let mut registers = Regs::new();
+        registers.set(written, i32::MIN);
+        registers.get(read) == if read == written { i32::MIN } else { 0 }
+    }
+
     #[test]
     fn each_register_is_its_own(rt: HostRuntime) {
-        for written in ALL {
-            let mut registers = Regs::new();
-            registers.set(written, i32::MIN);
-            for read in ALL {
-                let expected = if read == written { i32::MIN } else { 0 };
-                assert_eq!(rt; registers.get(read), expected, "{read:?} after {written:?}");
+        for written in &ALL {
+            for read in &ALL {
+                assert!(rt; holds_alone(*written, *read), "{read:?} after {written:?}");
             }
-            registers.set(written, 7);
-            assert_eq!(rt; registers.get(written), 7, "{written:?} again");
         }
     }
 }

@@ -1,5 +1,5 @@
 ghost use Rattle.std.specs.Prelude.{◌≡◌, ◌<◌, length};
-ghost use Rattle.instruction_table.specs.Row.{opcode_of};
+ghost use Rattle.instruction_table.specs.Row.{opcode_of, is_timed_row};
 ghost use Rattle.instruction_table.specs.Table.{table};
 
 use crate::register::Reg;
@@ -15,83 +15,205 @@ pub enum Row {
     /// Ends the thread.
     Halt,
     /// Loads a number.
-    Ldi { into: Reg, value: i32 },
+    Ldi {
+        into: Reg,
+        value: i32,
+    },
     /// Copies a register.
-    Mov { into: Reg, from: Reg },
+    Mov {
+        into: Reg,
+        from: Reg,
+    },
     /// Adds two registers, wrapping.
-    Add { into: Reg, left: Reg, right: Reg },
+    Add {
+        into: Reg,
+        left: Reg,
+        right: Reg,
+    },
     /// Subtracts the right register from the left one, wrapping.
-    Sub { into: Reg, left: Reg, right: Reg },
+    Sub {
+        into: Reg,
+        left: Reg,
+        right: Reg,
+    },
     /// Jumps.
-    Jmp { target: u16 },
+    Jmp {
+        target: u16,
+    },
     /// Jumps if the two registers are equal.
-    Beq { left: Reg, right: Reg, target: u16 },
+    Beq {
+        left: Reg,
+        right: Reg,
+        target: u16,
+    },
     /// Jumps if the two registers differ.
-    Bne { left: Reg, right: Reg, target: u16 },
+    Bne {
+        left: Reg,
+        right: Reg,
+        target: u16,
+    },
     /// Jumps if the left register is less than the right one, both signed.
-    Blt { left: Reg, right: Reg, target: u16 },
+    Blt {
+        left: Reg,
+        right: Reg,
+        target: u16,
+    },
     /// Calls a subroutine.
-    Call { target: u16 },
+    Call {
+        target: u16,
+    },
     /// Returns from a subroutine, a phaser's advance routine or a barrier's action.
     Ret,
     /// Puts a handler for exceptions on the stack.
-    Try { handler: u16 },
+    Try {
+        handler: u16,
+    },
     /// Takes the topmost handler off the stack.
     Endtry,
     /// Throws the number in a register as an exception.
-    Throw { code: Reg },
+    Throw {
+        code: Reg,
+    },
     /// Appends a number to the thread's output.
-    Out { value: Reg },
+    Out {
+        value: Reg,
+    },
     /// Loads a shared cell.
-    Lds { into: Reg, cell: u16 },
+    Lds {
+        into: Reg,
+        cell: u16,
+    },
     /// Stores a register into a shared cell.
-    Sts { from: Reg, cell: u16 },
+    Sts {
+        from: Reg,
+        cell: u16,
+    },
     /// Loads the thread's own number: the row `self`, whose name is no name for a variant.
-    SelfNumber { into: Reg },
+    SelfNumber {
+        into: Reg,
+    },
     /// Interrupts a thread.
-    Intr { thread: u16 },
+    Intr {
+        thread: u16,
+    },
     /// Loads the thread's own interrupted status, 0 or 1, and clears it.
-    Intrd { into: Reg },
+    Intrd {
+        into: Reg,
+    },
     /// Phaser's `register`.
-    Preg { into: Reg, phaser: u16 },
+    Preg {
+        into: Reg,
+        phaser: u16,
+    },
     /// `bulkRegister`, with the count in a register.
-    Pbulk { into: Reg, phaser: u16, count: Reg },
+    Pbulk {
+        into: Reg,
+        phaser: u16,
+        count: Reg,
+    },
     /// `arrive`.
-    Parr { into: Reg, phaser: u16 },
+    Parr {
+        into: Reg,
+        phaser: u16,
+    },
     /// `arriveAndDeregister`.
-    Pdereg { into: Reg, phaser: u16 },
+    Pdereg {
+        into: Reg,
+        phaser: u16,
+    },
     /// `arriveAndAwaitAdvance`.
-    Paaa { into: Reg, phaser: u16 },
+    Paaa {
+        into: Reg,
+        phaser: u16,
+    },
     /// `awaitAdvance`, with the phase in a register.
-    Pawait { into: Reg, phaser: u16, phase: Reg },
+    Pawait {
+        into: Reg,
+        phaser: u16,
+        phase: Reg,
+    },
     /// `awaitAdvanceInterruptibly`, with the phase in a register.
-    Pawaiti { into: Reg, phaser: u16, phase: Reg },
+    Pawaiti {
+        into: Reg,
+        phaser: u16,
+        phase: Reg,
+    },
     /// `forceTermination`.
-    Pforce { phaser: u16 },
+    Pforce {
+        phaser: u16,
+    },
     /// `getPhase`.
-    Pphase { into: Reg, phaser: u16 },
+    Pphase {
+        into: Reg,
+        phaser: u16,
+    },
     /// `getRegisteredParties`.
-    Pparties { into: Reg, phaser: u16 },
+    Pparties {
+        into: Reg,
+        phaser: u16,
+    },
     /// `getArrivedParties`.
-    Parrived { into: Reg, phaser: u16 },
+    Parrived {
+        into: Reg,
+        phaser: u16,
+    },
     /// `getUnarrivedParties`.
-    Punarr { into: Reg, phaser: u16 },
+    Punarr {
+        into: Reg,
+        phaser: u16,
+    },
     /// `isTerminated`, as 1 or 0.
-    Pterm { into: Reg, phaser: u16 },
+    Pterm {
+        into: Reg,
+        phaser: u16,
+    },
     /// `getParent`, as the parent's number, or -1 where there is none.
-    Pparent { into: Reg, phaser: u16 },
+    Pparent {
+        into: Reg,
+        phaser: u16,
+    },
     /// `getRoot`, as the root's number.
-    Proot { into: Reg, phaser: u16 },
+    Proot {
+        into: Reg,
+        phaser: u16,
+    },
     /// CyclicBarrier's `await`.
-    Cawait { into: Reg, barrier: u16 },
+    Cawait {
+        into: Reg,
+        barrier: u16,
+    },
     /// `reset`.
-    Creset { barrier: u16 },
+    Creset {
+        barrier: u16,
+    },
     /// `isBroken`, as 1 or 0.
-    Cbroken { into: Reg, barrier: u16 },
+    Cbroken {
+        into: Reg,
+        barrier: u16,
+    },
     /// `getNumberWaiting`.
-    Cwaiting { into: Reg, barrier: u16 },
+    Cwaiting {
+        into: Reg,
+        barrier: u16,
+    },
     /// `getParties`.
-    Cparties { into: Reg, barrier: u16 },
+    Cparties {
+        into: Reg,
+        barrier: u16,
+    },
+    /// Phaser's `awaitAdvanceInterruptibly` with a timeout: the phase and the timeout in registers.
+    Pawaitt {
+        into: Reg,
+        phaser: u16,
+        phase: Reg,
+        timeout: Reg,
+    },
+    /// CyclicBarrier's `await` with a timeout in a register.
+    Cawaitt {
+        into: Reg,
+        barrier: u16,
+        timeout: Reg,
+    },
 }
 
 /// The number of the row's kind, by which programs are encoded.
@@ -140,5 +262,14 @@ pub fn opcode(row: Row) -> u8
         Row::Cbroken { .. } => 37,
         Row::Cwaiting { .. } => 38,
         Row::Cparties { .. } => 39,
+        Row::Pawaitt { .. } => 40,
+        Row::Cawaitt { .. } => 41,
     }
+}
+
+/// Whether the row waits no longer than a timeout: the rows of opcodes 40 and 41.
+pub fn is_timed(row: Row) -> bool
+    ensures { result ≡ is_timed_row row }
+{
+    matches!(row, Row::Pawaitt { .. } | Row::Cawaitt { .. })
 }

@@ -24,6 +24,6 @@ pub struct Shape {
     pub opcode: u8,
     /// The word that begins the row in a program's text.
     pub word: &'static str,
-    /// The kinds of the operands, in the order of the text: at most three.
+    /// The kinds of the operands, in the order of the text: at most four.
     pub operands: &'static [OperandKind],
 }

@@ -10,7 +10,7 @@ use crate::shape::{OperandKind, Shape};
 type Listed = (u8, &'static str, &'static [OperandKind]);
 
 /// The instruction table: an entry for each kind of row, at the place of its opcode.
-const TABLE: [Listed; 40] = [
+const TABLE: [Listed; 42] = [
     (0, "halt", &[]),
     (1, "ldi", &[Register, Number]),
     (2, "mov", &[Register, Register]),
@@ -51,6 +51,8 @@ const TABLE: [Listed; 40] = [
     (37, "cbroken", &[Register, Barrier]),
     (38, "cwaiting", &[Register, Barrier]),
     (39, "cparties", &[Register, Barrier]),
+    (40, "pawaitt", &[Register, Phaser, Register, Register]),
+    (41, "cawaitt", &[Register, Barrier, Register]),
 ];
 
 fn shape_listed(listed: Listed) -> Shape
@@ -91,7 +93,7 @@ pub fn shape_of(word: &[u8]) -> Option<Shape>
     // No other kind of row has the word, and the opcode leads back to the entry.
     ensures only { IfSome result (λ s. All (λ e. e.word ≡ word.now → e ≡ entry_of s) table) }
     ensures place { IfSome result (λ s. slice_index_or table s.opcode no_entry ≡ entry_of s) }
-    ensures short { IfSome result (λ s. length s.operands.now ≤ 3) }
+    ensures short { IfSome result (λ s. length s.operands.now ≤ 4) }
 {
     shape_in(&TABLE, word)
 }

@@ -1,5 +1,5 @@
 -- An entry that is read is spelled by its bytes, and what an entry's bytes say is that entry.
-use Rattle.std.proofs.Common.{◌≡◌, ℕ, zero, suc, ◌+◌, ◌<◌, ℤ, pos, negsuc, FitsSigned, Bool, true, false, cond, ltb, eqb, List, [], ◌∷◌, ◌++◌, length, get_or, bytes_eq, Option, Some, None, IfSome, Result, Ok, Err, refl, sym, ap, subst, ◌∙◌, arith}
+use Rattle.std.proofs.Common.{◌≡◌, ℕ, zero, suc, ◌+◌, ◌<◌, ℤ, pos, negsuc, FitsSigned, Bool, true, false, not, ◌||◌, cond, ltb, eqb, List, [], ◌∷◌, ◌++◌, length, get_or, bytes_eq, Option, Some, None, IfSome, Result, Ok, Err, refl, sym, ap, subst, ◌∙◌, arith}
 use Rattle.std.specs.Int.{w32}
 use Rattle.std.proofs.lemmas.Int.{ints}
 use Rattle.std.proofs.lemmas.Bool.{eqb-true, ltb-true}
@@ -7,6 +7,7 @@ use Rattle.std.proofs.lemmas.Slice.Eq.{bytes_eq-Decides}
 use Rattle.std.proofs.lemmas.Bool.Decides.{nat_tests}
 use Rattle.std.proofs.lemmas.Grind.{common_steps}
 use Rattle.instruction_table.specs.declared.row.Row.{Row}
+use Rattle.instruction_table.specs.Row.{is_timed_row}
 use Rattle.row_code.specs.declared.image_fault.ImageFault.{ImageFault}
 use Rattle.row_code.specs.declared.image_fault.ImageFault.TheVariants as fault
 use Rattle.row_code.specs.declared.phasers.DeclaredPolicy.{DeclaredPolicy}
@@ -21,7 +22,8 @@ use Rattle.row_code.specs.RowOperands.{row_in, row_with, operands_at}
 use Rattle.row_code.specs.Phasers.{IsCount, IsPolicy, IsPhaser, parent_byte, kind_byte, argument, phaser_bytes}
 use Rattle.row_code.specs.Barriers.{IsBarrier, action_flag, action_row, barrier_bytes}
 use Rattle.row_code.specs.Threads.{IsThread, thread_bytes}
-use Rattle.row_code.specs.Reading.{◌>>=◌, u16_at, i32_at, target_at, phase_at, zero_at, parent_at, kind_at, policy_at, phaser_at, action_at, barrier_at, thread_at, row_at, row_or}
+use Rattle.row_code.specs.Answers.{◌>>=◌}
+use Rattle.row_code.specs.Reading.{u16_at, i32_at, target_at, phase_at, zero_at, parent_at, kind_at, policy_at, phaser_at, action_at, barrier_at, thread_at, row_at, row_or}
 use Rattle.row_code.proofs.RowLaws.{i32_back, row_in_its_bytes}
 use Rattle.row_code.proofs.Cells.{IsBytes, u16_cells, u16_back, i32_cells, of_four, of_eight, of_twelve}
 
@@ -143,9 +145,15 @@ row_fits : (action : Option ℕ) → IfSome action (λ row. row < 65536) → Fit
 row_fits None h = small 0 (omega arith)
 row_fits (Some row) h = small row h
 
-row_or_takes : (n : ℕ) (found : Option Row) (row : Row) → row_or n found ≡ Ok row → found ≡ Some row
-row_or_takes n (Some r) row e = cc
-row_or_takes n None row e = absurd (cc)
+-- a row may stand in an image whose magic says whether there is one with a timeout
+abbrev pub MayStand : Bool → Row → Type 0
+MayStand timed row = (timed || not (is_timed_row row)) ≡ true
+
+row_or_takes : (timed : Bool) (n : ℕ) (found : Option Row) (row : Row) → row_or timed n found ≡ Ok row → (found ≡ Some row) × MayStand timed row
+row_or_takes timed n (Some r) row e =
+    let g = guard_ok (timed || not (is_timed_row r)) (fault.Row n) r row e in
+    (ap Some g.1, subst (MayStand timed) g.1 g.0)
+row_or_takes timed n None row e = absurd (cc)
 
 row_in_takes : (bytes : List ℕ) (row : Row) → row_in bytes ≡ Some row → bytes ≡ bytes_of row
 row_in_takes bytes row e =
@@ -254,10 +262,15 @@ thread_takes at bytes t fits size e =
     ∙ ap i32_bytes (sym (target_takes at (i32_at bytes 0) row.0 row.1)) in
     subst (λ (q : DeclaredThread). bytes ≡ thread_bytes q) (ok_is (made row.0) t row.2) whole
 
-pub row_again : (n : ℕ) (row : Row) → IsRow row → row_at n (bytes_of row) ≡ Ok row
+pub row_again : (timed : Bool) (n : ℕ) (row : Row) → IsRow row × MayStand timed row → row_at timed n (bytes_of row) ≡ Ok row
 unfolding row_at
-row_again n row h = ap (row_or n) (row_in_its_bytes (bytes_of row) row h refl)
+row_again timed n row h =
+    ap (row_or timed n) (row_in_its_bytes (bytes_of row) row h.0 refl) ∙ ap (λ b. cond b (Ok row) (Err (fault.Row n))) h.1
 
-pub row_takes : (n : ℕ) (bytes : List ℕ) (row : Row) → IsBytes bytes → length bytes ≡ 8 → row_at n bytes ≡ Ok row → bytes ≡ bytes_of row
+pub row_takes : (timed : Bool) (n : ℕ) (bytes : List ℕ) (row : Row) → IsBytes bytes → length bytes ≡ 8 → row_at timed n bytes ≡ Ok row → bytes ≡ bytes_of row
 unfolding row_at
-row_takes n bytes row fits size e = row_in_takes bytes row (row_or_takes n (row_in bytes) row e)
+row_takes timed n bytes row fits size e = row_in_takes bytes row (row_or_takes timed n (row_in bytes) row e).0
+
+pub row_may_stand : (timed : Bool) (n : ℕ) (bytes : List ℕ) (row : Row) → row_at timed n bytes ≡ Ok row → MayStand timed row
+unfolding row_at
+row_may_stand timed n bytes row e = (row_or_takes timed n (row_in bytes) row e).1

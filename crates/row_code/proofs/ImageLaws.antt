@@ -1,6 +1,9 @@
 -- An image that is read is spelled by its file, and what an image's file says is that image.
-use Rattle.std.proofs.Common.{◌≡◌, ℕ, ◌+◌, ◌*◌, ◌≤◌, Bool, true, false, cond, not, ltb, List, [], ◌∷◌, ◌++◌, length, get_or, take, drop, bytes_eq, Result, Ok, Err, IfOk, refl, sym, ap, subst, ◌∙◌, arith}
-use Rattle.std.specs.List.{flat_map}
+use Rattle.std.proofs.Common.{◌≡◌, ℕ, ◌+◌, ◌*◌, ◌<◌, ◌≤◌, Bool, true, false, cond, not, ◌||◌, ◌&&◌, All, ltb, List, [], ◌∷◌, ◌++◌, length, get_or, take, drop, bytes_eq, Result, Ok, Err, IfOk, refl, sym, ap, subst, ◌∙◌, arith}
+use Rattle.std.specs.List.{flat_map, AllByRecursion}
+use Rattle.std.proofs.lemmas.List.Folds.{list_any_at}
+use Rattle.instruction_table.specs.declared.row.Row.{Row}
+use Rattle.instruction_table.specs.Row.{is_timed_row}
 use Rattle.std.proofs.lemmas.Bool.{ltb-false, le-ltb}
 use Rattle.std.proofs.lemmas.Slice.Eq.{bytes_eq-Decides}
 use Rattle.std.proofs.lemmas.List.{append-nil, drop_at, drop_all, drop-drop, take-append-drop, length-drop, length-append}
@@ -14,11 +17,22 @@ use Rattle.row_code.specs.RowBytes.{bytes_of}
 use Rattle.row_code.specs.Phasers.{IsPhaser, phaser_bytes}
 use Rattle.row_code.specs.Barriers.{IsBarrier, barrier_bytes}
 use Rattle.row_code.specs.Threads.{IsThread, thread_bytes}
+use Rattle.row_code.specs.Rows.{has_timed_row}
+use Rattle.row_code.specs.Answers.{◌>>=◌, Answers}
 use Rattle.row_code.specs.Image.{IsImage, magic, counts_of, count_bytes, image_bytes}
-use Rattle.row_code.specs.Reading.{Answers, row_at, phaser_entry, barrier_entry, thread_entry, entries, counts_in, is_too_many, counts_at, barriers_start, threads_start, rows_start, file_end, image_of}
+use Rattle.row_code.specs.Reading.{is_memory, is_magic, says_timed, row_at, version_at, rows_at, phaser_entry, barrier_entry, thread_entry, entries, counts_in, is_too_many, counts_at, barriers_start, threads_start, rows_start, file_end, lists_at, image_of}
 use Rattle.row_code.proofs.Cells.{IsBytes, IsBytes-drop, u16_cells, u16_back, front_four, front_twelve}
-use Rattle.row_code.proofs.EntryLaws.{bind_ok, ok_is, phaser_again, phaser_takes, barrier_again, barrier_takes, thread_again, thread_takes, row_again, row_takes}
-use Rattle.row_code.proofs.ListLaws.{IsFormat, entries_take, entries_again, length-entries}
+use Rattle.row_code.proofs.EntryLaws.{bind_ok, ok_is, phaser_again, phaser_takes, barrier_again, barrier_takes, thread_again, thread_takes, MayStand, row_again, row_takes, row_may_stand}
+use Rattle.row_code.proofs.ListLaws.{IsFormat, entries_take, entries_have, entries_again, length-entries}
+
+-- a test that did not end the reading
+passed : {A : Type 0} (b : Bool) (f : ImageFault) (read : Result A ImageFault) (x : A) → cond b (Err f) read ≡ Ok x → (b ≡ false) × (read ≡ Ok x)
+passed true f read x e = absurd (cc)
+passed false f read x e = (refl, e)
+
+not_false : (b : Bool) → not b ≡ false → b ≡ true
+not_false true e = refl
+not_false false e = absurd (cc)
 
 phaser_format : (start : ℕ) → IsFormat 12 phaser_bytes IsPhaser (phaser_entry start)
 phaser_format start = record {
@@ -41,49 +55,110 @@ thread_format start = record {
   again = λ k t. thread_again (start + 4 * k) t;
 }
 
-row_format : IsFormat 8 bytes_of IsRow row_at
-row_format = record { len = λ row. refl; takes = row_takes; again = row_again }
+row_format : (timed : Bool) → IsFormat 8 bytes_of (λ row. IsRow row × MayStand timed row) (row_at timed)
+row_format timed = record { len = λ row. refl; takes = row_takes timed; again = row_again timed }
+
+-- ---- the rows and the magic
+
+or_true : (b : Bool) → (b || true) ≡ true
+or_true true = refl
+or_true false = refl
+
+none_timed : (row : Row) → MayStand false row → is_timed_row row ≡ false
+none_timed row may = by_test (is_timed_row row) may
+  where
+    by_test : (b : Bool) → not b ≡ true → b ≡ false
+    by_test true e = absurd (cc)
+    by_test false e = refl
+
+none_in : (rs : List Row) → AllByRecursion (MayStand false) rs → has_timed_row rs ≡ false
+none_in [] all = refl
+none_in (r ∷ rs) all = rw (none_timed r all.0) (none_in rs all.1)
+
+version_is : (t : Bool) (rs : List Row) → AllByRecursion (MayStand t) rs → (t && not (has_timed_row rs)) ≡ false → has_timed_row rs ≡ t
+version_is true rs all e = not_false (has_timed_row rs) e
+version_is false rs all e = none_in rs all
+
+-- the rows that are read are those that the magic speaks of
+rows_take : (timed : Bool) (count : ℕ) (bytes : List ℕ) (rows : List Row) → rows_at timed count bytes ≡ Ok rows →
+    (entries 8 (row_at timed) 0 count bytes ≡ Ok rows) × (has_timed_row rows ≡ timed)
+unfolding rows_at
+rows_take timed count bytes rows e =
+    let a = bind_ok (entries 8 (row_at timed) 0 count bytes) (version_at timed) rows e in
+    let b = passed (timed && not (has_timed_row a.0)) fault.Version (Ok a.0) rows a.2 in
+    let is : a.0 ≡ rows = ok_is a.0 rows b.1 in
+    let all : AllByRecursion (MayStand timed) a.0 = entries_have 8 (MayStand timed) (row_at timed) (row_may_stand timed) 0 count bytes a.0 a.1 in
+    subst (λ (rs : List Row). (entries 8 (row_at timed) 0 count bytes ≡ Ok rs) × (has_timed_row rs ≡ timed)) is (a.1, version_is timed a.0 all b.0)
+
+-- and back
+may_stand : (rows : List Row) (k : ℕ) (d : Row) → k < length rows → MayStand (has_timed_row rows) (get_or rows k d)
+may_stand rows k d within = by_test (is_timed_row (get_or rows k d)) refl
+  where
+    by_test : (b : Bool) → is_timed_row (get_or rows k d) ≡ b → (has_timed_row rows || not (is_timed_row (get_or rows k d))) ≡ true
+    by_test true is = ap (λ b. b || not (is_timed_row (get_or rows k d))) (list_any_at is_timed_row rows k d within is)
+    by_test false is = ap (λ b. has_timed_row rows || not b) is ∙ or_true (has_timed_row rows)
+
+version_again : (rows : List Row) → version_at (has_timed_row rows) rows ≡ Ok rows
+version_again rows = by_test (has_timed_row rows)
+  where
+    by_test : (b : Bool) → cond (b && not b) (Err fault.Version) (Ok rows) ≡ Ok rows
+    by_test true = refl
+    by_test false = refl
+
+rows_again : (rows : List Row) → All IsRow rows → rows_at (has_timed_row rows) (length rows) (flat_map bytes_of rows) ≡ Ok rows
+unfolding rows_at
+rows_again rows fits =
+    let timed = has_timed_row rows in
+    let all : All (λ row. IsRow row × MayStand timed row) rows = λ k d within. (fits k d within, may_stand rows k d within) in
+    let read : entries 8 (row_at timed) 0 (length rows) (flat_map bytes_of rows ++ []) ≡ Ok rows =
+    entries_again 8 bytes_of (λ row. IsRow row × MayStand timed row) (row_at timed) (row_format timed) 0 rows [] all in
+    ap (λ (bytes : List ℕ). entries 8 (row_at timed) 0 (length rows) bytes >>= version_at timed) (sym (append-nil (flat_map bytes_of rows)))
+    ∙ ap (λ (r : Result (List Row) ImageFault). r >>= version_at timed) read ∙ version_again rows
 
 -- ---- the head
 
--- a test that did not end the reading
-passed : {A : Type 0} (b : Bool) (f : ImageFault) (read : Result A ImageFault) (x : A) → cond b (Err f) read ≡ Ok x → (b ≡ false) × (read ≡ Ok x)
-passed true f read x e = absurd (cc)
-passed false f read x e = (refl, e)
-
 pub record IsHead (bytes : List ℕ) (c : Counts) : Type 0 where
   pub long : 12 ≤ length bytes
-  pub is_magic : take 4 bytes ≡ magic
+  pub magic_is : take 4 bytes ≡ magic (says_timed bytes)
   pub counts : counts_in bytes ≡ c
   pub size : length bytes ≡ file_end c
 
-not_false : (b : Bool) → not b ≡ false → b ≡ true
-not_false true e = refl
-not_false false e = absurd (cc)
+-- the first four bytes are the magic that says what they say
+magic_said : (bytes : List ℕ) → is_magic (take 4 bytes) ≡ true → take 4 bytes ≡ magic (says_timed bytes)
+magic_said bytes e = by_test (says_timed bytes) refl
+  where
+    left : (a b : Bool) → (a || b) ≡ true → b ≡ false → a ≡ true
+    left true b e off = refl
+    left false b e off = absurd (cc)
+
+    by_test : (b : Bool) → says_timed bytes ≡ b → take 4 bytes ≡ magic (says_timed bytes)
+    by_test true is = (bytes_eq-Decides (take 4 bytes) (magic true)).0 is ∙ ap magic (sym is)
+    by_test false is =
+        (bytes_eq-Decides (take 4 bytes) (magic false)).0 (left (bytes_eq (take 4 bytes) (magic false)) (says_timed bytes) e is) ∙ ap magic (sym is)
 
 head_takes : (bytes : List ℕ) (c : Counts) → counts_at bytes ≡ Ok c → IsHead bytes c
 unfolding counts_at
 head_takes bytes c e =
     let n = counts_in bytes in
     let a = passed (ltb (length bytes) 12) fault.Short _ c e in
-    let b = passed (not (bytes_eq (take 4 bytes) magic)) fault.Magic _ c a.1 in
+    let b = passed (not (is_magic (take 4 bytes))) fault.Magic _ c a.1 in
     let d = passed (is_too_many n) fault.Count _ c b.1 in
     let f = passed (ltb (length bytes) (file_end n)) fault.Short _ c d.1 in
     let g = passed (ltb (file_end n) (length bytes)) fault.Extra (Ok n) c f.1 in
     let is : n ≡ c = ok_is n c g.1 in
     record {
       long = ltb-false _ _ a.0;
-      is_magic = (bytes_eq-Decides (take 4 bytes) magic).0 (not_false _ b.0);
+      magic_is = magic_said bytes (not_false _ b.0);
       counts = is;
       size = subst (λ (m : Counts). length bytes ≡ file_end m) is (omega (arith, ltb-false _ _ f.0, ltb-false _ _ g.0));
     }
 
 -- the first twelve bytes are the magic and the counts
-head_spelled : (bytes : List ℕ) (c : Counts) → IsBytes bytes → IsHead bytes c → take 12 bytes ≡ magic ++ count_bytes c
+head_spelled : (bytes : List ℕ) (c : Counts) → IsBytes bytes → IsHead bytes c → take 12 bytes ≡ magic (says_timed bytes) ++ count_bytes c
 head_spelled bytes c fits h =
     let b : ℕ → ℕ = λ i. get_or bytes i 0 in
     let join : List ℕ → List ℕ → List ℕ → List ℕ → List ℕ → List ℕ = λ m p q t r. m ++ (p ++ (q ++ (t ++ r))) in
-    let first : b 0 ∷ b 1 ∷ b 2 ∷ b 3 ∷ [] ≡ magic = sym (front_four bytes (omega (arith, h.long))) ∙ h.is_magic in
+    let first : b 0 ∷ b 1 ∷ b 2 ∷ b 3 ∷ [] ≡ magic (says_timed bytes) = sym (front_four bytes (omega (arith, h.long))) ∙ h.magic_is in
     let phasers : b 4 ∷ b 5 ∷ [] ≡ u16_bytes c.phasers = sym (u16_cells (b 4) (b 5) (fits 4) (fits 5)) ∙ ap (λ (n : Counts). u16_bytes n.phasers) h.counts in
     let barriers : b 6 ∷ b 7 ∷ [] ≡ u16_bytes c.barriers = sym (u16_cells (b 6) (b 7) (fits 6) (fits 7)) ∙ ap (λ (n : Counts). u16_bytes n.barriers) h.counts in
     let threads : b 8 ∷ b 9 ∷ [] ≡ u16_bytes c.threads = sym (u16_cells (b 8) (b 9) (fits 8) (fits 9)) ∙ ap (λ (n : Counts). u16_bytes n.threads) h.counts in
@@ -99,7 +174,7 @@ list_takes size spell Fits read format n start bytes es fits long e =
     (taken.0 ∙ ap (λ (r : List ℕ). flat_map spell es ++ r) (drop-drop (size * n) start bytes), taken.1)
 
 pub image_takes : (bytes : List ℕ) (i : Image) → IsBytes bytes → image_of bytes ≡ Ok i → bytes ≡ image_bytes i
-unfolding image_of
+unfolding image_of lists_at
 image_takes bytes i fits e =
     let a = bind_ok (counts_at bytes) _ i e in
     let c = a.0 in
@@ -107,19 +182,21 @@ image_takes bytes i fits e =
     let p = bind_ok (entries 12 (phaser_entry 12) 0 c.phasers (drop 12 bytes)) _ i a.2 in
     let b = bind_ok (entries 8 (barrier_entry (barriers_start c)) 0 c.barriers (drop (barriers_start c) bytes)) _ i p.2 in
     let t = bind_ok (entries 4 (thread_entry (threads_start c)) 0 c.threads (drop (threads_start c) bytes)) _ i b.2 in
-    let r = bind_ok (entries 8 row_at 0 c.rows (drop (rows_start c) bytes)) _ i t.2 in
+    let timed = says_timed bytes in
+    let r = bind_ok (rows_at timed c.rows (drop (rows_start c) bytes)) _ i t.2 in
+    let version = rows_take timed c.rows (drop (rows_start c) bytes) r.0 r.1 in
     let phasers = list_takes 12 phaser_bytes IsPhaser (phaser_entry 12) (phaser_format 12) c.phasers 12 bytes p.0 fits (omega (arith, head.size)) p.1 in
     let barriers = list_takes 8 barrier_bytes IsBarrier (barrier_entry (barriers_start c)) (barrier_format (barriers_start c)) c.barriers (barriers_start c) bytes b.0 fits (omega (arith, head.size)) b.1 in
     let threads = list_takes 4 thread_bytes IsThread (thread_entry (threads_start c)) (thread_format (threads_start c)) c.threads (threads_start c) bytes t.0 fits (omega (arith, head.size)) t.1 in
-    let rows = list_takes 8 bytes_of IsRow row_at row_format c.rows (rows_start c) bytes r.0 fits (omega (arith, head.size)) r.1 in
+    let rows = list_takes 8 bytes_of (λ row. IsRow row × MayStand timed row) (row_at timed) (row_format timed) c.rows (rows_start c) bytes r.0 fits (omega (arith, head.size)) version.0 in
     let end : drop (file_end c) bytes ≡ [] = drop_all (file_end c) bytes (omega (arith, head.size)) in
     let counts : c ≡ record { phasers = length p.0; barriers = length b.0; threads = length t.0; rows = length r.0 } =
     (λ k. record { phasers = sym phasers.1 k; barriers = sym barriers.1 k; threads = sym threads.1 k; rows = sym rows.1 k }) in
     let made : Image = record { phasers = p.0; barriers = b.0; threads = t.0; rows = r.0 } in
     let whole : bytes ≡ image_bytes made =
     sym (take-append-drop 12 bytes)
-    ∙ ap (λ (x : List ℕ). x ++ drop 12 bytes) (head_spelled bytes c fits head ∙ ap (λ n. magic ++ count_bytes n) counts)
-    ∙ ap (λ (x : List ℕ). (magic ++ count_bytes (counts_of made)) ++ x)
+    ∙ ap (λ (x : List ℕ). x ++ drop 12 bytes) (head_spelled bytes c fits head ∙ (λ k. magic (sym version.1 k) ++ count_bytes (counts k)))
+    ∙ ap (λ (x : List ℕ). (magic (has_timed_row r.0) ++ count_bytes (counts_of made)) ++ x)
     (phasers.0 ∙ ap (λ (x : List ℕ). flat_map phaser_bytes p.0 ++ x)
     (barriers.0 ∙ ap (λ (x : List ℕ). flat_map barrier_bytes b.0 ++ x)
     (threads.0 ∙ ap (λ (x : List ℕ). flat_map thread_bytes t.0 ++ x)
@@ -128,24 +205,24 @@ image_takes bytes i fits e =
 
 -- ---- and back
 
-head_again : (bytes : List ℕ) (c : Counts) → 12 ≤ length bytes → bytes_eq (take 4 bytes) magic ≡ true → counts_in bytes ≡ c →
+head_again : (bytes : List ℕ) (c : Counts) → 12 ≤ length bytes → is_magic (take 4 bytes) ≡ true → counts_in bytes ≡ c →
     is_too_many c ≡ false → length bytes ≡ file_end c → counts_at bytes ≡ Ok c
 unfolding counts_at
-head_again bytes c long is_magic counts few size =
+head_again bytes c long begins counts few size =
     let n = counts_in bytes in
     let ends : file_end n ≡ file_end c = ap file_end counts in
     let not_short : ltb (length bytes) 12 ≡ false = le-ltb _ _ long in
     let few_counted : is_too_many n ≡ false = ap is_too_many counts ∙ few in
     let enough : ltb (length bytes) (file_end n) ≡ false = le-ltb _ _ (omega (arith, size, ends)) in
     let no_more : ltb (file_end n) (length bytes) ≡ false = le-ltb _ _ (omega (arith, size, ends)) in
-    rw (not_short, is_magic, few_counted, enough, no_more) (ap (λ (m : Counts). Ok m) counts)
+    rw (not_short, begins, few_counted, enough, no_more) (ap (λ (m : Counts). Ok m) counts)
 
 parts_again : (bytes : List ℕ) (i : Image) (c : Counts) → counts_at bytes ≡ Ok c →
     entries 12 (phaser_entry 12) 0 c.phasers (drop 12 bytes) ≡ Ok i.phasers →
     entries 8 (barrier_entry (barriers_start c)) 0 c.barriers (drop (barriers_start c) bytes) ≡ Ok i.barriers →
     entries 4 (thread_entry (threads_start c)) 0 c.threads (drop (threads_start c) bytes) ≡ Ok i.threads →
-    entries 8 row_at 0 c.rows (drop (rows_start c) bytes) ≡ Ok i.rows → image_of bytes ≡ Ok i
-unfolding image_of
+    rows_at (says_timed bytes) c.rows (drop (rows_start c) bytes) ≡ Ok i.rows → image_of bytes ≡ Ok i
+unfolding image_of lists_at
 parts_again bytes i c e0 e1 e2 e3 e4 = rw (e0, e1, e2, e3, e4) refl
 
 few_enough : (c : Counts) → c.phasers ≤ 64 → c.barriers ≤ 64 → c.threads ≤ 64 → is_too_many c ≡ false
@@ -162,10 +239,53 @@ behind size spell len start bytes es rest e =
     sym (drop-drop (size * length es) start bytes) ∙ ap (drop (size * length es)) e
     ∙ drop_at (flat_map spell es) rest (size * length es) (length-entries size spell len es)
 
+-- counts of two bytes each
+record AreSmall (c : Counts) : Type 0 where
+  phasers : c.phasers < 65536
+  barriers : c.barriers < 65536
+  threads : c.threads < 65536
+  rows : c.rows < 65536
+
+-- what bytes begin with, read again
+record IsHeadOf (timed : Bool) (c : Counts) (bytes : List ℕ) (rest : List ℕ) : Type 0 where
+  begins : is_magic (take 4 bytes) ≡ true
+  said : says_timed bytes ≡ timed
+  counts : counts_in bytes ≡ c
+  lists : drop 12 bytes ≡ rest
+
+length-head : (timed : Bool) (c : Counts) → length (magic timed ++ count_bytes c) ≡ 12
+length-head true c = refl
+length-head false c = refl
+
+head_back : (timed : Bool) (c : Counts) (rest : List ℕ) → AreSmall c → IsHeadOf timed c ((magic timed ++ count_bytes c) ++ rest) rest
+head_back true c rest small = record {
+  begins = refl;
+  said = refl;
+  counts = (λ k. record {
+    phasers = u16_back c.phasers small.phasers k;
+    barriers = u16_back c.barriers small.barriers k;
+    threads = u16_back c.threads small.threads k;
+    rows = u16_back c.rows small.rows k;
+  });
+  lists = refl;
+}
+head_back false c rest small = record {
+  begins = refl;
+  said = refl;
+  counts = (λ k. record {
+    phasers = u16_back c.phasers small.phasers k;
+    barriers = u16_back c.barriers small.barriers k;
+    threads = u16_back c.threads small.threads k;
+    rows = u16_back c.rows small.rows k;
+  });
+  lists = refl;
+}
+
 pub image_again : (i : Image) → IsImage i → image_of (image_bytes i) ≡ Ok i
 image_again i h =
     let bytes = image_bytes i in
     let c = counts_of i in
+    let timed = has_timed_row i.rows in
     let ps = flat_map phaser_bytes i.phasers in
     let bs = flat_map barrier_bytes i.barriers in
     let ts = flat_map thread_bytes i.threads in
@@ -173,6 +293,8 @@ image_again i h =
     let size : length bytes ≡ file_end c =
     omega (
       arith,
+      length-append (magic timed ++ count_bytes c) (ps ++ (bs ++ (ts ++ rs))),
+      length-head timed c,
       length-append ps (bs ++ (ts ++ rs)),
       length-append bs (ts ++ rs),
       length-append ts rs,
@@ -181,29 +303,36 @@ image_again i h =
       length-entries 4 thread_bytes (λ t. refl) i.threads,
       length-entries 8 bytes_of (λ r. refl) i.rows,
     ) in
-    let counts : counts_in bytes ≡ c =
-    (λ k. record {
-      phasers = u16_back (length i.phasers) (omega (arith, h.phasers.0)) k;
-      barriers = u16_back (length i.barriers) (omega (arith, h.barriers.0)) k;
-      threads = u16_back (length i.threads) (omega (arith, h.threads.0)) k;
-      rows = u16_back (length i.rows) (omega (arith, h.rows.0)) k;
-    }) in
-    let e0 = head_again bytes c (omega (arith, size)) refl counts (few_enough c h.phasers.0 h.barriers.0 h.threads.0) size in
-    let d1 : drop 12 bytes ≡ ps ++ (bs ++ (ts ++ rs)) = refl in
+    let small : AreSmall c = record {
+      phasers = omega (arith, h.phasers.0);
+      barriers = omega (arith, h.barriers.0);
+      threads = omega (arith, h.threads.0);
+      rows = omega (arith, h.rows.0);
+    } in
+    let head : IsHeadOf timed c bytes (ps ++ (bs ++ (ts ++ rs))) = head_back timed c (ps ++ (bs ++ (ts ++ rs))) small in
+    let said : says_timed bytes ≡ timed = head.said in
+    let e0 = head_again bytes c (omega (arith, size)) head.begins head.counts (few_enough c h.phasers.0 h.barriers.0 h.threads.0) size in
+    let d1 : drop 12 bytes ≡ ps ++ (bs ++ (ts ++ rs)) = head.lists in
     let d2 = behind 12 phaser_bytes (λ p. refl) 12 bytes i.phasers (bs ++ (ts ++ rs)) d1 in
     let d3 = behind 8 barrier_bytes (λ b. refl) (barriers_start c) bytes i.barriers (ts ++ rs) d2 in
     let d4 = behind 4 thread_bytes (λ t. refl) (threads_start c) bytes i.threads rs d3 in
     let e1 = entries_again 12 phaser_bytes IsPhaser (phaser_entry 12) (phaser_format 12) 0 i.phasers (bs ++ (ts ++ rs)) h.phasers.1 in
     let e2 = entries_again 8 barrier_bytes IsBarrier (barrier_entry (barriers_start c)) (barrier_format (barriers_start c)) 0 i.barriers (ts ++ rs) h.barriers.1 in
     let e3 = entries_again 4 thread_bytes IsThread (thread_entry (threads_start c)) (thread_format (threads_start c)) 0 i.threads rs h.threads.1 in
-    let e4 = entries_again 8 bytes_of IsRow row_at row_format 0 i.rows [] h.rows.1 in
-    parts_again bytes i c e0 e1
+    let e4 : rows_at (says_timed bytes) c.rows rs ≡ Ok i.rows = ap (λ (t : Bool). rows_at t c.rows rs) said ∙ rows_again i.rows h.rows.1 in
+    parts_again bytes i c e0 (ap (entries 12 (phaser_entry 12) 0 c.phasers) d1 ∙ e1)
     (ap (entries 8 (barrier_entry (barriers_start c)) 0 c.barriers) d2 ∙ e2)
     (ap (entries 4 (thread_entry (threads_start c)) 0 c.threads) d3 ∙ e3)
-    (ap (entries 8 row_at 0 c.rows) (d4 ∙ sym (append-nil rs)) ∙ e4)
+    (ap (rows_at (says_timed bytes) c.rows) d4 ∙ e4)
 
 -- an image that was answered is the one that the bytes spell
-pub is_found : (bytes : List ℕ) (r : Result Image ImageFault) → IsBytes bytes → IfOk r (λ i. IsImage i) → Answers (λ read. read) r (image_of bytes) →
+pub is_found : (bytes : List ℕ) (r : Result Image ImageFault) → IsBytes bytes → IfOk r (λ i. IsImage i) → Answers is_memory (λ read. read) r (image_of bytes) →
     IfOk r (λ i. IsImage i × (bytes ≡ image_bytes i))
 is_found bytes (Ok i) fits within given = (within, image_takes bytes i fits given)
 is_found bytes (Err e) fits within given = tt
+
+-- what was answered of an image's bytes is that image
+pub is_only : (bytes : List ℕ) (r : Result Image ImageFault) → Answers is_memory (λ read. read) r (image_of bytes) →
+    (i : Image) → IsImage i → bytes ≡ image_bytes i → Answers is_memory (λ read. read) r (Ok i)
+is_only bytes r given i fits spelled =
+    subst (Answers is_memory (λ read. read) r) (ap image_of spelled ∙ image_again i fits) given

@@ -4,7 +4,8 @@ use Rattle.std.specs.List.{flat_map, AllByRecursion}
 use Rattle.std.proofs.lemmas.List.{take_at, drop_at, take-append-drop, drop-drop, length-take, length-drop, length-append}
 use Rattle.std.proofs.lemmas.List.Elements.{recursion_from_All}
 use Rattle.row_code.specs.declared.image_fault.ImageFault.{ImageFault}
-use Rattle.row_code.specs.Reading.{◌>>=◌, entries}
+use Rattle.row_code.specs.Answers.{◌>>=◌}
+use Rattle.row_code.specs.Reading.{entries}
 use Rattle.row_code.proofs.Cells.{IsBytes, IsBytes-drop, IsBytes-take}
 use Rattle.row_code.proofs.EntryLaws.{bind_ok, ok_is}
 
@@ -35,6 +36,19 @@ entries_take {E} size spell Fits read format k (suc n) bytes es fits long e =
     sym (take-append-drop size bytes) ∙ ap (λ (r : List ℕ). r ++ drop size bytes) first ∙ ap (λ (r : List ℕ). spell a.0 ++ r) back
     ∙ sym (append_assoc (spell a.0) (flat_map spell b.0) (drop (size * suc n) bytes)) in
     subst (λ (all : List E). (bytes ≡ flat_map spell all ++ drop (size * suc n) bytes) × (length all ≡ suc n)) (ok_is (a.0 ∷ b.0) es b.2) (whole, ap suc others.1)
+
+-- what each entry that is read has, all that are read have
+pub entries_have : {E : Type 0} (size : ℕ) (Has : E → Type 0) (read : ℕ → List ℕ → Result E ImageFault) → ((k : ℕ) (bytes : List ℕ) (e : E) → read k bytes ≡ Ok e → Has e) →
+    (k n : ℕ) (bytes : List ℕ) (es : List E) → entries size read k n bytes ≡ Ok es → AllByRecursion Has es
+unfolding entries
+entries_have {E} size Has read each k zero bytes es e =
+    let nil : List E = [] in
+    subst (AllByRecursion Has) (ok_is nil es e) tt
+entries_have size Has read each k (suc n) bytes es e =
+    let a = bind_ok (read k (take size bytes)) (λ first. entries size read (k + 1) n (drop size bytes) >>= λ others. Ok (first ∷ others)) es e in
+    let b = bind_ok (entries size read (k + 1) n (drop size bytes)) (λ others. Ok (a.0 ∷ others)) es a.2 in
+    subst (AllByRecursion Has) (ok_is (a.0 ∷ b.0) es b.2)
+    (each k (take size bytes) a.0 a.1, entries_have size Has read each (k + 1) n (drop size bytes) b.0 b.1)
 
 again_by : {E : Type 0} (size : ℕ) (spell : E → List ℕ) (Fits : E → Type 0) (read : ℕ → List ℕ → Result E ImageFault) → IsFormat size spell Fits read →
     (k : ℕ) (es : List E) (rest : List ℕ) → AllByRecursion Fits es → entries size read k (length es) (flat_map spell es ++ rest) ≡ Ok es

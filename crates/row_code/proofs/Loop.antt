@@ -1,9 +1,9 @@
 -- Reading entries one after the other, as a loop does.
-use Rattle.std.proofs.Common.{◌≡◌, ℕ, suc, ◌-◌, ◌+◌, ◌≤◌, ◌<◌, List, [], ◌∷◌, ◌++◌, take, drop, Result, Ok, Err, refl, sym, ap, ◌∙◌, append_assoc, arith}
+use Rattle.std.proofs.Common.{◌≡◌, Bool, true, false, ℕ, suc, ◌-◌, ◌+◌, ◌≤◌, ◌<◌, List, [], ◌∷◌, ◌++◌, take, drop, Result, Ok, Err, refl, sym, ap, ◌∙◌, append_assoc, arith}
 use Rattle.std.proofs.lemmas.List.{append-nil}
 use Rattle.row_code.specs.declared.image_fault.ImageFault.{ImageFault}
-use Rattle.row_code.specs.declared.image_fault.ImageFault.TheVariants as fault
-use Rattle.row_code.specs.Reading.{◌>>=◌, FailsAs, entries}
+use Rattle.row_code.specs.Answers.{◌>>=◌, FailsUnless, FailsAs}
+use Rattle.row_code.specs.Reading.{entries}
 
 -- what was read before, and what is still read
 abbrev pub with_front : {E : Type 0} → List E → Result (List E) ImageFault → Result (List E) ImageFault
@@ -46,22 +46,18 @@ is_done size read front count i bytes total le so_far =
     sym so_far ∙ one
 
 -- what is read fails as the fault that was found
-pub fails : {Y : Type 0} (f : ImageFault) (read : Result Y ImageFault) → read ≡ Err f → FailsAs f read
-fails fault.Memory read e = tt
-fails fault.Short read e = e
-fails fault.Magic read e = e
-fails fault.Count read e = e
-fails (fault.Field at) read e = e
-fails (fault.Row n) read e = e
-fails fault.Extra read e = e
+pub fails : {Y E : Type 0} (is_memory : E → Bool) (f : E) (read : Result Y E) → read ≡ Err f → FailsAs is_memory f read
+fails is_memory f read e = by_test (is_memory f)
+  where
+    by_test : (b : Bool) → FailsUnless b f read
+    by_test true = tt
+    by_test false = e
 
 -- the whole fails as its part does
-pub fails_through : {Y Z : Type 0} (f : ImageFault) (part : Result Y ImageFault) (whole : Result Z ImageFault) →
-    (part ≡ Err f → whole ≡ Err f) → FailsAs f part → FailsAs f whole
-fails_through fault.Memory part whole through e = tt
-fails_through fault.Short part whole through e = through e
-fails_through fault.Magic part whole through e = through e
-fails_through fault.Count part whole through e = through e
-fails_through (fault.Field at) part whole through e = through e
-fails_through (fault.Row n) part whole through e = through e
-fails_through fault.Extra part whole through e = through e
+pub fails_through : {Y Z E : Type 0} (is_memory : E → Bool) (f : E) (part : Result Y E) (whole : Result Z E) →
+    (part ≡ Err f → whole ≡ Err f) → FailsAs is_memory f part → FailsAs is_memory f whole
+fails_through is_memory f part whole through e = by_test (is_memory f) e
+  where
+    by_test : (b : Bool) → FailsUnless b f part → FailsUnless b f whole
+    by_test true e = tt
+    by_test false e = through e

@@ -8,7 +8,7 @@ use Rattle.std.proofs.lemmas.Bool.Decides.{nat_tests}
 use Rattle.instruction_table.specs.declared.register.Reg.{Reg}
 use Rattle.instruction_table.specs.declared.register.Reg.TheVariants.{R0, R1, R2, R3, R4, R5, R6, R7}
 use Rattle.instruction_table.specs.declared.row.Row.{Row}
-use Rattle.instruction_table.specs.declared.row.Row.TheVariants.{Halt, Ldi, Mov, Add, Sub, Jmp, Beq, Bne, Blt, Call, Ret, Try, Endtry, Throw, Out, Lds, Sts, SelfNumber, Intr, Intrd, Preg, Pbulk, Parr, Pdereg, Paaa, Pawait, Pawaiti, Pforce, Pphase, Pparties, Parrived, Punarr, Pterm, Pparent, Proot, Cawait, Creset, Cbroken, Cwaiting, Cparties}
+use Rattle.instruction_table.specs.declared.row.Row.TheVariants.{Halt, Ldi, Mov, Add, Sub, Jmp, Beq, Bne, Blt, Call, Ret, Try, Endtry, Throw, Out, Lds, Sts, SelfNumber, Intr, Intrd, Preg, Pbulk, Parr, Pdereg, Paaa, Pawait, Pawaiti, Pforce, Pphase, Pparties, Parrived, Punarr, Pterm, Pparent, Proot, Cawait, Creset, Cbroken, Cwaiting, Cparties, Pawaitt, Cawaitt}
 use Rattle.instruction_table.specs.Register.{number_of}
 use Rattle.instruction_table.specs.Row.{opcode_of}
 use Rattle.row_code.specs.Number.{i32_bytes, i32_of}
@@ -75,6 +75,8 @@ imm_fits (Creset barrier) h = small_fits barrier h
 imm_fits (Cbroken into barrier) h = small_fits barrier h
 imm_fits (Cwaiting into barrier) h = small_fits barrier h
 imm_fits (Cparties into barrier) h = small_fits barrier h
+imm_fits (Pawaitt into phaser phase timeout) h = small_fits phaser h
+imm_fits (Cawaitt into barrier timeout) h = small_fits barrier h
 
 -- a row's own fields lead back to it
 likely_back : (row : Row) → IsRow row → row_with (opcode_of row) (operands_at (fields_of row)) ≡ row
@@ -118,6 +120,8 @@ likely_back (Creset barrier) h = rw (object_back barrier h) refl
 likely_back (Cbroken into barrier) h = rw (register_back into, object_back barrier h) refl
 likely_back (Cwaiting into barrier) h = rw (register_back into, object_back barrier h) refl
 likely_back (Cparties into barrier) h = rw (register_back into, object_back barrier h) refl
+likely_back (Pawaitt into phaser phase timeout) h = rw (register_back into, register_back phase, register_back timeout, object_back phaser h) refl
+likely_back (Cawaitt into barrier timeout) h = rw (register_back into, register_back timeout, object_back barrier h) refl
 
 unsigned_below : (z : ℤ) → FitsSigned w32 z → cast_unsigned w32 z < 2 ^ 32
 unsigned_below (pos n) h = omega (arith, ints, h.sfits)
@@ -151,7 +155,7 @@ when_not row taken bytes e other =
     subst (λ (r : Row). None ≡ cond (bytes_eq (bytes_of r) bytes) (Some r) None) e
     (ap (λ b. cond b (Some row) None) (sym other))
 
-row_in_bytes_of : (row : Row) → IsRow row → row_in (bytes_of row) ≡ Some row
+pub row_in_bytes_of : (row : Row) → IsRow row → row_in (bytes_of row) ≡ Some row
 row_in_bytes_of row fits =
     sym (when_spelled row (row_with (opcode_of row) (operands_at (fields_at (bytes_of row)))) (bytes_of row)
     (sym (row_back row fits)) (same_bytes (bytes_of row)))

@@ -1,6 +1,7 @@
 -- Which image bytes are, or else the first fault in the order in which they are checked.
-use Rattle.std.specs.Prelude.{◌≡◌, ℕ, zero, suc, ◌+◌, ◌*◌, ◌==◌, ◌||◌, not, nat_lt, ℤ, pos, negsuc, Bool, List, [], ◌∷◌, length, take, drop, slice_index, bytes_eq, Option, Some, None, Result, Ok, Err, if◌then◌else◌}
+use Rattle.std.specs.Prelude.{ℕ, zero, suc, ◌+◌, ◌*◌, ◌==◌, ◌||◌, ◌&&◌, not, nat_lt, ℤ, pos, negsuc, Bool, true, false, List, [], ◌∷◌, length, take, drop, slice_index, bytes_eq, Option, Some, None, Result, Ok, Err, if◌then◌else◌}
 use Rattle.instruction_table.specs.declared.row.Row.{Row}
+use Rattle.instruction_table.specs.Row.{is_timed_row}
 use Rattle.row_code.specs.declared.barriers.DeclaredBarrier.{DeclaredBarrier}
 use Rattle.row_code.specs.declared.image.Counts.{Counts}
 use Rattle.row_code.specs.declared.image.Image.{Image}
@@ -13,28 +14,13 @@ use Rattle.row_code.specs.declared.threads.DeclaredThread.{DeclaredThread}
 use Rattle.row_code.specs.Number.{u16_of, i32_of}
 use Rattle.row_code.specs.RowOperands.{row_in}
 use Rattle.row_code.specs.Image.{magic}
+use Rattle.row_code.specs.Rows.{has_timed_row}
+use Rattle.row_code.specs.Answers.{◌>>=◌}
 
--- what is read next, where nothing failed before it
-infixl 10 ◌>>=◌
-abbrev pub ◌>>=◌ : {A B : Type 0} → Result A ImageFault → (A → Result B ImageFault) → Result B ImageFault
-(Ok x) >>= f = f x
-(Err e) >>= f = Err e
-
--- a fault that was answered is the one that is read; memory can be missing in place of anything
-abbrev pub FailsAs : {Y : Type 0} → ImageFault → Result Y ImageFault → Type 0
-FailsAs fault.Memory read = Unit {0}
-FailsAs fault.Short read = read ≡ Err fault.Short
-FailsAs fault.Magic read = read ≡ Err fault.Magic
-FailsAs fault.Count read = read ≡ Err fault.Count
-FailsAs (fault.Field at) read = read ≡ Err (fault.Field at)
-FailsAs (fault.Row n) read = read ≡ Err (fault.Row n)
-FailsAs fault.Extra read = read ≡ Err fault.Extra
-
--- what was answered, seen by view, is what is read, unless memory was refused
-abbrev pub Answers : {X Y : Type 0} → (X → Y) → Result X ImageFault → Result Y ImageFault →
-    Type 0
-Answers view (Ok x) read = read ≡ Ok (view x)
-Answers view (Err e) read = FailsAs e read
+-- whether a fault is want of memory, which can stand in place of any answer
+abbrev pub is_memory : ImageFault → Bool
+is_memory fault.Memory = true
+is_memory _ = false
 
 -- the number in the two bytes, or the `int` in the four bytes, from a place on
 abbrev pub u16_at : List ℕ → ℕ → ℕ
@@ -105,14 +91,15 @@ thread_at at bytes = do
   row ← target_at at (i32_at bytes 0)
   Ok (record { first_row = row })
 
--- the row that was found, or the fault of the row with this number
-abbrev pub row_or : ℕ → Option Row → Result Row ImageFault
-row_or n (Some row) = Ok row
-row_or n None = Err (fault.Row n)
+-- the row that was found, where the image may have it: timed says whether it may have one with a
+-- timeout; else the fault of the row with this number
+abbrev pub row_or : Bool → ℕ → Option Row → Result Row ImageFault
+row_or timed n (Some row) = if timed || not (is_timed_row row) then Ok row else Err (fault.Row n)
+row_or timed n None = Err (fault.Row n)
 
 -- the row with this number in 8 bytes
-unfoldable pub row_at : ℕ → List ℕ → Result Row ImageFault
-row_at n bytes = row_or n (row_in bytes)
+unfoldable pub row_at : Bool → ℕ → List ℕ → Result Row ImageFault
+row_at timed n bytes = row_or timed n (row_in bytes)
 
 -- as many entries of a size as there are, numbered from k, one after the other
 unfoldable pub entries : {E : Type 0} → ℕ → (ℕ → List ℕ → Result E ImageFault) →
@@ -136,6 +123,13 @@ rows_start c = threads_start c + 4 * c.threads
 abbrev pub file_end : Counts → ℕ
 file_end c = rows_start c + 8 * c.rows
 
+-- whether the file begins with a magic, and whether it is that of an image with timed rows
+abbrev pub is_magic : List ℕ → Bool
+is_magic four = bytes_eq four (magic false) || bytes_eq four (magic true)
+
+abbrev pub says_timed : List ℕ → Bool
+says_timed bytes = bytes_eq (take 4 bytes) (magic true)
+
 -- the four counts behind the magic
 abbrev pub counts_in : List ℕ → Counts
 counts_in bytes = record {
@@ -153,7 +147,7 @@ is_too_many c = nat_lt 64 c.phasers || nat_lt 64 c.barriers || nat_lt 64 c.threa
 unfoldable pub counts_at : List ℕ → Result Counts ImageFault
 counts_at bytes =
     if nat_lt (length bytes) 12 then Err fault.Short
-    else (if not (bytes_eq (take 4 bytes) magic) then Err fault.Magic
+    else (if not (is_magic (take 4 bytes)) then Err fault.Magic
     else (if is_too_many (counts_in bytes) then Err fault.Count
     else (if nat_lt (length bytes) (file_end (counts_in bytes)) then Err fault.Short
     else (if nat_lt (file_end (counts_in bytes)) (length bytes) then Err fault.Extra
@@ -169,12 +163,23 @@ barrier_entry start k bytes = barrier_at (start + 8 * k) bytes
 abbrev pub thread_entry : ℕ → ℕ → List ℕ → Result DeclaredThread ImageFault
 thread_entry start k bytes = thread_at (start + 4 * k) bytes
 
--- all of the bytes
-unfoldable pub image_of : List ℕ → Result Image ImageFault
-image_of bytes = do
-  c ← counts_at bytes
+-- rows of an image that says whether one of them has a timeout: where it says so, one has
+abbrev pub version_at : Bool → List Row → Result (List Row) ImageFault
+version_at timed rows = if timed && not (has_timed_row rows) then Err fault.Version else Ok rows
+
+-- the rows, as many as there are
+unfoldable pub rows_at : Bool → ℕ → List ℕ → Result (List Row) ImageFault
+rows_at timed count bytes = entries 8 (row_at timed) 0 count bytes >>= version_at timed
+
+-- the lists behind the counts
+unfoldable pub lists_at : Counts → List ℕ → Result Image ImageFault
+lists_at c bytes = do
   phasers ← entries 12 (phaser_entry 12) 0 c.phasers (drop 12 bytes)
   barriers ← entries 8 (barrier_entry (barriers_start c)) 0 c.barriers (drop (barriers_start c) bytes)
   threads ← entries 4 (thread_entry (threads_start c)) 0 c.threads (drop (threads_start c) bytes)
-  rows ← entries 8 row_at 0 c.rows (drop (rows_start c) bytes)
+  rows ← rows_at (says_timed bytes) c.rows (drop (rows_start c) bytes)
   Ok (record { phasers = phasers; barriers = barriers; threads = threads; rows = rows })
+
+-- all of the bytes
+unfoldable pub image_of : List ℕ → Result Image ImageFault
+image_of bytes = counts_at bytes >>= (λ c. lists_at c bytes)

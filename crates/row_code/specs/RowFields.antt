@@ -2,7 +2,7 @@
 use Rattle.std.specs.Prelude.{ℕ, ℤ, pos, ◌<ℤ◌, FitsSigned}
 use Rattle.std.specs.Int.{w32}
 use Rattle.instruction_table.specs.declared.row.Row.{Row}
-use Rattle.instruction_table.specs.declared.row.Row.TheVariants.{Halt, Ldi, Mov, Add, Sub, Jmp, Beq, Bne, Blt, Call, Ret, Try, Endtry, Throw, Out, Lds, Sts, SelfNumber, Intr, Intrd, Preg, Pbulk, Parr, Pdereg, Paaa, Pawait, Pawaiti, Pforce, Pphase, Pparties, Parrived, Punarr, Pterm, Pparent, Proot, Cawait, Creset, Cbroken, Cwaiting, Cparties}
+use Rattle.instruction_table.specs.declared.row.Row.TheVariants.{Halt, Ldi, Mov, Add, Sub, Jmp, Beq, Bne, Blt, Call, Ret, Try, Endtry, Throw, Out, Lds, Sts, SelfNumber, Intr, Intrd, Preg, Pbulk, Parr, Pdereg, Paaa, Pawait, Pawaiti, Pforce, Pphase, Pparties, Parrived, Punarr, Pterm, Pparent, Proot, Cawait, Creset, Cbroken, Cwaiting, Cparties, Pawaitt, Cawaitt}
 use Rattle.instruction_table.specs.Register.{number_of}
 use Rattle.row_code.specs.declared.fields.Fields.{Fields}
 
@@ -53,6 +53,9 @@ fields_of (Creset barrier) = filled 0 0 0 (pos barrier)
 fields_of (Cbroken into barrier) = filled (number_of into) 0 0 (pos barrier)
 fields_of (Cwaiting into barrier) = filled (number_of into) 0 0 (pos barrier)
 fields_of (Cparties into barrier) = filled (number_of into) 0 0 (pos barrier)
+fields_of (Pawaitt into phaser phase timeout) =
+    filled (number_of into) (number_of phase) (number_of timeout) (pos phaser)
+fields_of (Cawaitt into barrier timeout) = filled (number_of into) (number_of timeout) 0 (pos barrier)
 
 -- an operand of a row that is no register fits its kind: a number is an `int`, and a target or an
 -- object's number is at most 65535

@@ -5,7 +5,7 @@ use Rattle.std.specs.Prelude.{ℕ, nat_lt, ℤ, pos, negsuc, List, [], ◌∷◌
 use Rattle.instruction_table.specs.declared.register.Reg.{Reg}
 use Rattle.instruction_table.specs.declared.register.Reg.TheVariants.{R0, R1, R2, R3, R4, R5, R6, R7}
 use Rattle.instruction_table.specs.declared.row.Row.{Row}
-use Rattle.instruction_table.specs.declared.row.Row.TheVariants.{Halt, Ldi, Mov, Add, Sub, Jmp, Beq, Bne, Blt, Call, Ret, Try, Endtry, Throw, Out, Lds, Sts, SelfNumber, Intr, Intrd, Preg, Pbulk, Parr, Pdereg, Paaa, Pawait, Pawaiti, Pforce, Pphase, Pparties, Parrived, Punarr, Pterm, Pparent, Proot, Cawait, Creset, Cbroken, Cwaiting, Cparties}
+use Rattle.instruction_table.specs.declared.row.Row.TheVariants.{Halt, Ldi, Mov, Add, Sub, Jmp, Beq, Bne, Blt, Call, Ret, Try, Endtry, Throw, Out, Lds, Sts, SelfNumber, Intr, Intrd, Preg, Pbulk, Parr, Pdereg, Paaa, Pawait, Pawaiti, Pforce, Pphase, Pparties, Parrived, Punarr, Pterm, Pparent, Proot, Cawait, Creset, Cbroken, Cwaiting, Cparties, Pawaitt, Cawaitt}
 use Rattle.row_code.specs.RowBytes.{bytes_of, fields_at}
 use Rattle.row_code.specs.declared.fields.Fields.{Fields}
 use Rattle.row_code.specs.declared.operands.Operands.{Operands}
@@ -72,6 +72,8 @@ rows_with o =
     Cbroken o.a o.object ∷
     Cwaiting o.a o.object ∷
     Cparties o.a o.object ∷
+    Pawaitt o.a o.object o.b o.c ∷
+    Cawaitt o.a o.object o.b ∷
     []
 
 -- the row of an opcode with these operands, `halt` where there is no such opcode

@@ -1,5 +1,5 @@
 ghost use Rattle.std.specs.Prelude.{◌≡◌};
-ghost use Rattle.row_code.specs.RowFields.{filled, fields_of, IsRow};
+ghost use Rattle.row_code.specs.RowFields.{fields_of, IsRow};
 
 use instruction_table::Row;
 
@@ -12,81 +12,188 @@ pub struct Fields {
     pub imm: i32,
 }
 
-fn filled(a: u8, b: u8, c: u8, imm: i32) -> Fields
-    ensures { result ≡ filled a b c imm }
-{
-    Fields { a, b, c, imm }
-}
-
 /// Puts a row's operands into their fields.
 pub fn fields_of(row: Row) -> Fields
     ensures fields { result ≡ fields_of row }
     ensures fits { IsRow row }
 {
     match row {
-        Row::Halt => filled(0, 0, 0, 0),
-        Row::Ldi { into, value } => filled(into.number(), 0, 0, value),
-        Row::Mov { into, from } => filled(into.number(), from.number(), 0, 0),
-        Row::Add { into, left, right } => filled(into.number(), left.number(), right.number(), 0),
-        Row::Sub { into, left, right } => filled(into.number(), left.number(), right.number(), 0),
-        Row::Jmp { target } => filled(0, 0, 0, i32::from(target)),
+        Row::Halt | Row::Ret | Row::Endtry => Fields {
+            a: 0,
+            b: 0,
+            c: 0,
+            imm: 0,
+        },
+        Row::Ldi { into: a, value } => Fields {
+            a: a.number(),
+            b: 0,
+            c: 0,
+            imm: value,
+        },
+        Row::Throw { code: a }
+        | Row::Out { value: a }
+        | Row::SelfNumber { into: a }
+        | Row::Intrd { into: a } => Fields {
+            a: a.number(),
+            b: 0,
+            c: 0,
+            imm: 0,
+        },
+        Row::Mov { into: a, from: b } => Fields {
+            a: a.number(),
+            b: b.number(),
+            c: 0,
+            imm: 0,
+        },
+        Row::Add {
+            into: a,
+            left: b,
+            right: c,
+        }
+        | Row::Sub {
+            into: a,
+            left: b,
+            right: c,
+        } => Fields {
+            a: a.number(),
+            b: b.number(),
+            c: c.number(),
+            imm: 0,
+        },
+        Row::Jmp { target: object }
+        | Row::Call { target: object }
+        | Row::Try { handler: object }
+        | Row::Intr { thread: object }
+        | Row::Pforce { phaser: object }
+        | Row::Creset { barrier: object } => Fields {
+            a: 0,
+            b: 0,
+            c: 0,
+            imm: i32::from(object),
+        },
+        Row::Lds {
+            into: a,
+            cell: object,
+        }
+        | Row::Sts {
+            from: a,
+            cell: object,
+        }
+        | Row::Preg {
+            into: a,
+            phaser: object,
+        }
+        | Row::Parr {
+            into: a,
+            phaser: object,
+        }
+        | Row::Pdereg {
+            into: a,
+            phaser: object,
+        }
+        | Row::Paaa {
+            into: a,
+            phaser: object,
+        }
+        | Row::Pphase {
+            into: a,
+            phaser: object,
+        }
+        | Row::Pparties {
+            into: a,
+            phaser: object,
+        }
+        | Row::Parrived {
+            into: a,
+            phaser: object,
+        }
+        | Row::Punarr {
+            into: a,
+            phaser: object,
+        }
+        | Row::Pterm {
+            into: a,
+            phaser: object,
+        }
+        | Row::Pparent {
+            into: a,
+            phaser: object,
+        }
+        | Row::Proot {
+            into: a,
+            phaser: object,
+        }
+        | Row::Cawait {
+            into: a,
+            barrier: object,
+        }
+        | Row::Cbroken {
+            into: a,
+            barrier: object,
+        }
+        | Row::Cwaiting {
+            into: a,
+            barrier: object,
+        }
+        | Row::Cparties {
+            into: a,
+            barrier: object,
+        } => Fields {
+            a: a.number(),
+            b: 0,
+            c: 0,
+            imm: i32::from(object),
+        },
         Row::Beq {
-            left,
-            right,
-            target,
-        } => filled(left.number(), right.number(), 0, i32::from(target)),
-        Row::Bne {
-            left,
-            right,
-            target,
-        } => filled(left.number(), right.number(), 0, i32::from(target)),
-        Row::Blt {
-            left,
-            right,
-            target,
-        } => filled(left.number(), right.number(), 0, i32::from(target)),
-        Row::Call { target } => filled(0, 0, 0, i32::from(target)),
-        Row::Ret => filled(0, 0, 0, 0),
-        Row::Try { handler } => filled(0, 0, 0, i32::from(handler)),
-        Row::Endtry => filled(0, 0, 0, 0),
-        Row::Throw { code } => filled(code.number(), 0, 0, 0),
-        Row::Out { value } => filled(value.number(), 0, 0, 0),
-        Row::Lds { into, cell } => filled(into.number(), 0, 0, i32::from(cell)),
-        Row::Sts { from, cell } => filled(from.number(), 0, 0, i32::from(cell)),
-        Row::SelfNumber { into } => filled(into.number(), 0, 0, 0),
-        Row::Intr { thread } => filled(0, 0, 0, i32::from(thread)),
-        Row::Intrd { into } => filled(into.number(), 0, 0, 0),
-        Row::Preg { into, phaser } => filled(into.number(), 0, 0, i32::from(phaser)),
-        Row::Pbulk {
+            left: a,
+            right: b,
+            target: object,
+        }
+        | Row::Bne {
+            left: a,
+            right: b,
+            target: object,
+        }
+        | Row::Blt {
+            left: a,
+            right: b,
+            target: object,
+        }
+        | Row::Pbulk {
+            into: a,
+            count: b,
+            phaser: object,
+        }
+        | Row::Pawait {
+            into: a,
+            phase: b,
+            phaser: object,
+        }
+        | Row::Pawaiti {
+            into: a,
+            phase: b,
+            phaser: object,
+        }
+        | Row::Cawaitt {
+            into: a,
+            timeout: b,
+            barrier: object,
+        } => Fields {
+            a: a.number(),
+            b: b.number(),
+            c: 0,
+            imm: i32::from(object),
+        },
+        Row::Pawaitt {
             into,
-            phaser,
-            count,
-        } => filled(into.number(), count.number(), 0, i32::from(phaser)),
-        Row::Parr { into, phaser } => filled(into.number(), 0, 0, i32::from(phaser)),
-        Row::Pdereg { into, phaser } => filled(into.number(), 0, 0, i32::from(phaser)),
-        Row::Paaa { into, phaser } => filled(into.number(), 0, 0, i32::from(phaser)),
-        Row::Pawait {
-            into,
-            phaser,
             phase,
-        } => filled(into.number(), phase.number(), 0, i32::from(phaser)),
-        Row::Pawaiti {
-            into,
+            timeout,
             phaser,
-            phase,
-        } => filled(into.number(), phase.number(), 0, i32::from(phaser)),
-        Row::Pforce { phaser } => filled(0, 0, 0, i32::from(phaser)),
-        Row::Pphase { into, phaser } => filled(into.number(), 0, 0, i32::from(phaser)),
-        Row::Pparties { into, phaser } => filled(into.number(), 0, 0, i32::from(phaser)),
-        Row::Parrived { into, phaser } => filled(into.number(), 0, 0, i32::from(phaser)),
-        Row::Punarr { into, phaser } => filled(into.number(), 0, 0, i32::from(phaser)),
-        Row::Pterm { into, phaser } => filled(into.number(), 0, 0, i32::from(phaser)),
-        Row::Pparent { into, phaser } => filled(into.number(), 0, 0, i32::from(phaser)),
-        Row::Proot { into, phaser } => filled(into.number(), 0, 0, i32::from(phaser)),
-        Row::Cawait { into, barrier } => filled(into.number(), 0, 0, i32::from(barrier)),
-        Row::Creset { barrier } => filled(0, 0, 0, i32::from(barrier)),
-        Row::Cbroken { into, barrier } => filled(into.number(), 0, 0, i32::from(barrier)),
-        Row::Cwaiting { into, barrier } => filled(into.number(), 0, 0, i32::from(barrier)),
-        Row::Cparties { into, barrier } => filled(into.number(), 0, 0, i32::from(barrier)),
+        } => Fields {
+            a: into.number(),
+            b: phase.number(),
+            c: timeout.number(),
+            imm: i32::from(phaser),
+        },
     }
 }

@@ -21,5 +21,8 @@ pub struct Counts {
     pub rows: u16,
 }
 
-/// The first four bytes of every image.
+/// The first four bytes of every image without rows that have a timeout.
 pub const MAGIC: [u8; 4] = *b"PBW1";
+
+/// The first four bytes of every image with such a row.
+pub const TIMED_MAGIC: [u8; 4] = *b"PBW2";

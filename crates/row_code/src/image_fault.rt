@@ -14,12 +14,15 @@ pub enum ImageFault {
     Count,
     /// A field holds what it can't: the place of its first byte in the file, from 0.
     Field(usize),
-    /// The bytes of a row spell none: the row's number.
+    /// The bytes of a row spell none, or one with a timeout behind the magic of images without: the
+    /// row's number.
     Row(u16),
     /// Bytes follow after the last row.
     Extra,
     /// Memory was refused.
     Memory,
+    /// The magic is that of images with timed rows, and no row is one.
+    Version,
 }
 
 impl From<AllocError> for ImageFault {

@@ -45,7 +45,7 @@ pub use image::Image;
 pub use image_fault::ImageFault;
 pub use operands::{Operands, row_with};
 pub use phasers::{DeclaredPhaser, DeclaredPolicy, Phasers};
-pub use reading::read_image;
+pub use reading::{is_image_file, read_image};
 pub use row_bytes::{decode, encode};
 pub use rows::Rows;
 pub use threads::{DeclaredThread, Threads};

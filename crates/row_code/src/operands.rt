@@ -188,6 +188,34 @@ fn barrier_row(opcode: u8, operands: Operands) -> Row
     }
 }
 
+fn timed_row(opcode: u8, operands: Operands) -> Row
+    requires low { 40 ≤ opcode }
+    requires high { opcode < 42 }
+    ensures row { result ≡ row_with opcode operands }
+    ensures fits { IsRow result }
+{
+    let Operands {
+        a: into,
+        b,
+        c,
+        object,
+        ..
+    } = operands;
+    match opcode {
+        40 => Row::Pawaitt {
+            into,
+            phaser: object,
+            phase: b,
+            timeout: c,
+        },
+        _ => Row::Cawaitt {
+            into,
+            barrier: object,
+            timeout: b,
+        },
+    }
+}
+
 /// The row with this opcode and these operands; `halt` where there is no such opcode.
 pub fn row_with(opcode: u8, operands: Operands) -> Row
     ensures row { result ≡ row_with opcode operands }
@@ -198,6 +226,7 @@ pub fn row_with(opcode: u8, operands: Operands) -> Row
         9..=19 => thread_row(opcode, operands),
         20..=34 => phaser_row(opcode, operands),
         35..=39 => barrier_row(opcode, operands),
+        40..=41 => timed_row(opcode, operands),
         _ => Row::Halt,
     }
 }

@@ -1,6 +1,7 @@
 ghost use Rattle.std.specs.Prelude.{◌≡◌, ◌+◌, ◌*◌, ◌^◌, ◌<◌, ◌≤◌, length, IfOk};
 ghost use Rattle.row_code.specs.Barriers.{AreBarriers};
-ghost use Rattle.row_code.specs.Reading.{Answers, action_at, barrier_at, barrier_entry, entries};
+ghost use Rattle.row_code.specs.Answers.{Answers};
+ghost use Rattle.row_code.specs.Reading.{is_memory, action_at, barrier_at, barrier_entry, entries};
 
 use crate::barriers::{Barriers, DeclaredBarrier};
 use crate::image_fault::ImageFault;
@@ -41,7 +42,7 @@ fn entries_at(
 ) -> Result<Vec<DeclaredBarrier>, ImageFault>
     requires size { 8 * count ≤ length bytes.now }
     requires place { start + 8 * count < 2 ^ 64 }
-    ensures read { Answers (λ v. v.items) result
+    ensures read { Answers is_memory (λ v. v.items) result
         (entries 8 (barrier_entry start) 0 count bytes.now) }
     ensures count { IfOk result (λ v. length v.items ≡ count) }
 {
@@ -65,7 +66,7 @@ pub fn read_barriers(
     requires limit { count ≤ 64 }
     requires size { 8 * count ≤ length bytes.now }
     requires place { start + 8 * count < 2 ^ 64 }
-    ensures read { Answers (λ b. b) result (entries 8 (barrier_entry start) 0 count bytes.now) }
+    ensures read { Answers is_memory (λ b. b) result (entries 8 (barrier_entry start) 0 count bytes.now) }
     ensures fits { IfOk result (λ b. AreBarriers b) }
 {
     let barriers = entries_at(alloc, count, start, bytes)?;

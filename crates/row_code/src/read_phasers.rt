@@ -1,6 +1,7 @@
 ghost use Rattle.std.specs.Prelude.{◌≡◌, ◌+◌, ◌*◌, ◌^◌, ◌<◌, ◌≤◌, length, IfOk, IfSome, All};
 ghost use Rattle.row_code.specs.Phasers.{IsPolicy, IsPhaser, ArePhasers};
-ghost use Rattle.row_code.specs.Reading.{Answers, parent_at, kind_at, policy_at, phaser_at, phaser_entry, entries};
+ghost use Rattle.row_code.specs.Answers.{Answers};
+ghost use Rattle.row_code.specs.Reading.{is_memory, parent_at, kind_at, policy_at, phaser_at, phaser_entry, entries};
 
 use crate::image_fault::ImageFault;
 use crate::phasers::{DeclaredPhaser, DeclaredPolicy, Phasers};
@@ -74,7 +75,7 @@ fn entries_at(
 ) -> Result<Vec<DeclaredPhaser>, ImageFault>
     requires size { 12 * count ≤ length bytes.now }
     requires place { start + 12 * count < 2 ^ 64 }
-    ensures read { Answers (λ v. v.items) result
+    ensures read { Answers is_memory (λ v. v.items) result
         (entries 12 (phaser_entry start) 0 count bytes.now) }
     ensures count { IfOk result (λ v. length v.items ≡ count) }
     ensures fits { IfOk result (λ v. All IsPhaser v.items) }
@@ -99,7 +100,7 @@ pub fn read_phasers(
     requires limit { count ≤ 64 }
     requires size { 12 * count ≤ length bytes.now }
     requires place { start + 12 * count < 2 ^ 64 }
-    ensures read { Answers (λ p. p) result (entries 12 (phaser_entry start) 0 count bytes.now) }
+    ensures read { Answers is_memory (λ p. p) result (entries 12 (phaser_entry start) 0 count bytes.now) }
     ensures fits { IfOk result (λ p. ArePhasers p) }
 {
     let phasers = entries_at(alloc, count, start, bytes)?;

@@ -1,6 +1,7 @@
 ghost use Rattle.std.specs.Prelude.{◌≡◌, ◌+◌, ◌*◌, ◌^◌, ◌<◌, ◌≤◌, length, IfOk};
 ghost use Rattle.row_code.specs.Threads.{AreThreads};
-ghost use Rattle.row_code.specs.Reading.{Answers, thread_at, thread_entry, entries};
+ghost use Rattle.row_code.specs.Answers.{Answers};
+ghost use Rattle.row_code.specs.Reading.{is_memory, thread_at, thread_entry, entries};
 
 use crate::image_fault::ImageFault;
 use crate::read_fields::{i32_at, target_at};
@@ -24,7 +25,7 @@ fn entries_at(
 ) -> Result<Vec<DeclaredThread>, ImageFault>
     requires size { 4 * count ≤ length bytes.now }
     requires place { start + 4 * count < 2 ^ 64 }
-    ensures read { Answers (λ v. v.items) result
+    ensures read { Answers is_memory (λ v. v.items) result
         (entries 4 (thread_entry start) 0 count bytes.now) }
     ensures count { IfOk result (λ v. length v.items ≡ count) }
 {
@@ -48,7 +49,7 @@ pub fn read_threads(
     requires limit { count ≤ 64 }
     requires size { 4 * count ≤ length bytes.now }
     requires place { start + 4 * count < 2 ^ 64 }
-    ensures read { Answers (λ t. t) result (entries 4 (thread_entry start) 0 count bytes.now) }
+    ensures read { Answers is_memory (λ t. t) result (entries 4 (thread_entry start) 0 count bytes.now) }
     ensures fits { IfOk result (λ t. AreThreads t) }
 {
     let threads = entries_at(alloc, count, start, bytes)?;

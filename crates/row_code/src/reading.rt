@@ -1,9 +1,10 @@
-ghost use Rattle.std.specs.Prelude.{◌≡◌, ◌≤◌, ◌<◌, ◌^◌, length, drop, Ok, IfOk};
+ghost use Rattle.std.specs.Prelude.{◌≡◌, ◌≤◌, ◌<◌, ◌^◌, length, drop, Ok, IfOk, take};
 ghost use Rattle.row_code.specs.declared.image.Image.{Image};
 ghost use Rattle.row_code.specs.Image.{IsImage, image_bytes};
-ghost use Rattle.row_code.specs.Reading.{Answers, counts_in, counts_at, is_too_many, barriers_start, threads_start, rows_start, file_end, image_of};
+ghost use Rattle.row_code.specs.Answers.{Answers};
+ghost use Rattle.row_code.specs.Reading.{is_memory, is_magic, says_timed, counts_in, counts_at, is_too_many, barriers_start, threads_start, rows_start, file_end, lists_at, image_of};
 
-use crate::image::{Counts, Image, MAGIC};
+use crate::image::{Counts, Image, MAGIC, TIMED_MAGIC};
 use crate::image_fault::ImageFault;
 use crate::read_barriers::read_barriers;
 use crate::read_fields::u16_at;
@@ -49,10 +50,30 @@ fn rows_start(counts: Counts) -> usize
 }
 
 /// How many bytes an image with these counts has.
-pub fn file_end(counts: Counts) -> usize
+fn file_end(counts: Counts) -> usize
     ensures { result ≡ file_end counts }
 {
     rows_start(counts) + 8 * usize::from(counts.rows)
+}
+
+fn is_magic(four: &[u8]) -> bool
+    ensures { result ≡ is_magic four.now }
+{
+    four == MAGIC.as_slice() || four == TIMED_MAGIC.as_slice()
+}
+
+/// Whether a file begins as an image does: it is one then, or a faulty one, and no text.
+pub fn is_image_file(file: &[u8]) -> bool
+    ensures { result ≡ is_magic (take 4 file.now) }
+{
+    is_magic(&file[..file.len().min(4)])
+}
+
+fn says_timed(bytes: &[u8]) -> bool
+    requires { 4 ≤ length bytes.now }
+    ensures { result ≡ says_timed bytes.now }
+{
+    &bytes[..4] == TIMED_MAGIC.as_slice()
 }
 
 #[tactic(auto, unfolding(crate::specs::Reading::counts_at))]
@@ -66,7 +87,7 @@ fn counts_at(bytes: &[u8]) -> Result<Counts, ImageFault>
     if bytes.len() < 12 {
         return Err(ImageFault::Short);
     }
-    if &bytes[..4] != MAGIC.as_slice() {
+    if !is_magic(&bytes[..4]) {
         return Err(ImageFault::Magic);
     }
     let counts = counts_in(bytes);
@@ -89,19 +110,23 @@ fn bytes_from(bytes: &[u8], start: usize) -> &[u8]
     &bytes[start..]
 }
 
-#[tactic(auto, unfolding(crate::specs::Reading::image_of))]
-fn image_of(alloc: Global, bytes: &[u8]) -> Result<Image, ImageFault>
-    ensures read { Answers (λ i. i) result (image_of bytes.now) }
+#[tactic(auto, unfolding(crate::specs::Reading::lists_at))]
+fn lists_at(alloc: Global, counts: Counts, bytes: &[u8]) -> Result<Image, ImageFault>
+    requires size { length bytes.now ≡ file_end counts }
+    requires phasers { counts.phasers ≤ 64 }
+    requires barriers { counts.barriers ≤ 64 }
+    requires threads { counts.threads ≤ 64 }
+    ensures read { Answers is_memory (λ i. i) result (lists_at counts bytes.now) }
     ensures fits { IfOk result (λ i. IsImage i) }
 {
-    let counts = counts_at(bytes)?;
     let phasers = read_phasers(alloc, counts.phasers, 12, bytes_from(bytes, 12))?;
     let start = barriers_start(counts);
     let barriers = read_barriers(alloc, counts.barriers, start, bytes_from(bytes, start))?;
     let start = threads_start(counts);
     let threads = read_threads(alloc, counts.threads, start, bytes_from(bytes, start))?;
     let start = rows_start(counts);
-    let rows = read_rows(alloc, counts.rows, bytes_from(bytes, start))?;
+    let timed = says_timed(bytes);
+    let rows = read_rows(alloc, timed, counts.rows, bytes_from(bytes, start))?;
     Ok(Image {
         phasers,
         barriers,
@@ -112,19 +137,22 @@ fn image_of(alloc: Global, bytes: &[u8]) -> Result<Image, ImageFault>
 
 /// The image that the bytes spell, all of the bytes. The faults are looked for in this order: too
 /// few bytes for the counts, another magic, a count above its limit, fewer bytes than the counts
-/// ask for, more bytes, then the fields and then the rows, from the left.
+/// ask for, more bytes, then the fields and then the rows, from the left; and last that an image whose
+/// magic speaks of timed rows has one.
+#[tactic(auto, unfolding(crate::specs::Reading::image_of))]
 pub fn read_image(alloc: Global, bytes: &[u8]) -> Result<Image, ImageFault>
     // What is read is spelled so.
     ensures found { IfOk result (λ i. IsImage i × (bytes.now ≡ image_bytes i)) }
 
     // What is spelled so is read, unless memory is refused.
     ensures only { (i : Image) → IsImage i → bytes.now ≡ image_bytes i →
-        Answers (λ read. read) result (Ok i) }
+        Answers is_memory (λ read. read) result (Ok i) }
 
     // Which fault it is.
-    ensures exact { Answers (λ read. read) result (image_of bytes.now) }
+    ensures exact { Answers is_memory (λ read. read) result (image_of bytes.now) }
 {
-    image_of(alloc, bytes)
+    let counts = counts_at(bytes)?;
+    lists_at(alloc, counts, bytes)
 }
 
 #[cfg(test)]

@@ -37,10 +37,15 @@ fn fields_at(bytes: [u8; 8]) -> Fields
     Fields { a, b, c, imm }
 }
 
-/// `decode`, with the row that it takes the bytes for.
-pub fn row_in(bytes: [u8; 8]) -> Option<Row>
-    ensures taken { result ≡ row_in bytes }
+/// The row that the bytes spell, if they spell one: `None` where a field that the row doesn't use
+/// isn't 0, or an operand is none of its kind.
+pub fn decode(bytes: [u8; 8]) -> Option<Row>
+    // A row is the one with these bytes, and where there is such a row it is found.
     ensures found { IfSome result (λ row. IsRow row × (bytes_of row ≡ bytes)) }
+    ensures only { (row : Row) → IsRow row → bytes_of row ≡ bytes → result ≡ Some row }
+
+    // How it is found.
+    ensures taken { result ≡ row_in bytes }
 {
     let row = row_with(bytes[0], operands_at(fields_at(bytes)));
     if encode(row) == bytes {
@@ -48,16 +53,6 @@ pub fn row_in(bytes: [u8; 8]) -> Option<Row>
     } else {
         None
     }
-}
-
-/// The row that the bytes spell, if they spell one: `None` where a field that the row doesn't use
-/// isn't 0, or an operand is none of its kind.
-pub fn decode(bytes: [u8; 8]) -> Option<Row>
-    // A row is the one with these bytes, and where there is such a row it is found.
-    ensures found { IfSome result (λ row. IsRow row × (bytes_of row ≡ bytes)) }
-    ensures only { (row : Row) → IsRow row → bytes_of row ≡ bytes → result ≡ Some row }
-{
-    row_in(bytes)
 }
 
 #[cfg(test)]

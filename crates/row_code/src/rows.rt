@@ -1,10 +1,10 @@
 ghost use Rattle.std.specs.Prelude.{◌≡◌, ◌≤◌, ◌↔◌, length, All, IsOk, IfOk, IfErr, OnOk, List};
 ghost use Rattle.instruction_table.specs.declared.row.Row.{Row};
 ghost use Rattle.row_code.specs.RowFields.{IsRow};
-ghost use Rattle.row_code.specs.Rows.{AreRows};
+ghost use Rattle.row_code.specs.Rows.{AreRows, has_timed_row};
 
-use crate::row_bytes::encode;
-use instruction_table::Row;
+use crate::fields::fields_of;
+use instruction_table::{Row, is_timed};
 use std::marker::Model;
 
 /// The most rows that an image has: its count of them is a number of two bytes.
@@ -24,11 +24,12 @@ impl Model for Rows {
     ghost invariant = { λ r. AreRows r.entries.items };
 }
 
+// Every row in memory is in its ranges, which only the proof needs to know.
 fn each_fits(rows: &[Row])
     ensures { All IsRow rows.now }
 {
     for row in rows {
-        encode(*row);
+        fields_of(*row);
     }
 }
 
@@ -45,6 +46,13 @@ impl Rows {
         }
         each_fits(&rows);
         Ok(Rows { entries: rows })
+    }
+
+    /// Whether one of the rows has a timeout.
+    pub fn has_timed(&self) -> bool
+        ensures { result ≡ has_timed_row self.now }
+    {
+        self.entries.iter().any(|row| is_timed(*row))
     }
 
     pub fn as_slice(&self) -> &[Row]

@@ -6,10 +6,10 @@ ghost use Rattle.row_code.specs.Phasers.{parent_byte, kind_byte, argument, phase
 ghost use Rattle.row_code.specs.Barriers.{barrier_bytes};
 ghost use Rattle.row_code.specs.Threads.{thread_bytes};
 ghost use Rattle.row_code.specs.RowBytes.{bytes_of};
-ghost use Rattle.row_code.specs.Image.{IsImage, magic, counts_of, count_bytes, image_bytes};
+ghost use Rattle.row_code.specs.Image.{IsImage, magic, counts_of, count_bytes, list_bytes, image_bytes};
 
 use crate::barriers::DeclaredBarrier;
-use crate::image::{Counts, Image, MAGIC};
+use crate::image::{Counts, Image, MAGIC, TIMED_MAGIC};
 use crate::phasers::{DeclaredPhaser, DeclaredPolicy};
 use crate::row_bytes::encode;
 use crate::threads::DeclaredThread;
@@ -18,7 +18,7 @@ use byte_ports::Sink;
 use instruction_table::Row;
 
 /// How many of each the image has, which is within its limits.
-pub fn counts_of(image: &Image) -> Counts
+fn counts_of(image: &Image) -> Counts
     ensures counts { result ≡ counts_of image.now }
     ensures fits { IsImage image.now }
 {
@@ -30,10 +30,10 @@ pub fn counts_of(image: &Image) -> Counts
     }
 }
 
-fn head_bytes(counts: Counts) -> [u8; 12]
-    ensures { result ≡ magic ++ count_bytes counts }
+fn head_bytes(timed: bool, counts: Counts) -> [u8; 12]
+    ensures { result ≡ magic timed ++ count_bytes counts }
 {
-    let [m0, m1, m2, m3] = MAGIC;
+    let [m0, m1, m2, m3] = if timed { TIMED_MAGIC } else { MAGIC };
     let [p0, p1] = counts.phasers.to_le_bytes();
     let [b0, b1] = counts.barriers.to_le_bytes();
     let [t0, t1] = counts.threads.to_le_bytes();
@@ -139,6 +139,18 @@ fn write_rows<W: Sink>(sink: &mut W, rows: &[Row]) -> Result<(), WriteFault>
     Ok(())
 }
 
+fn write_lists<W: Sink>(sink: &mut W, image: &Image) -> Result<(), WriteFault>
+    requires { W.has_failed sink.old ≡ false }
+    ensures bytes { OnOk result
+        (Appends (W.written sink.old) (W.written sink.new) (list_bytes image.now)) }
+    ensures failed { IsErr result ↔ IsTrue (W.has_failed sink.new) }
+{
+    write_phasers(sink, image.phasers.as_slice())?;
+    write_barriers(sink, image.barriers.as_slice())?;
+    write_threads(sink, image.threads.as_slice())?;
+    write_rows(sink, image.rows.as_slice())
+}
+
 /// Writes the image's bytes: first the counts, then one entry or row at a time. How much of them
 /// went out where the sink failed is left open.
 pub fn write_image<W: Sink>(image: &Image, sink: &mut W) -> Result<(), WriteFault>
@@ -146,10 +158,6 @@ pub fn write_image<W: Sink>(image: &Image, sink: &mut W) -> Result<(), WriteFaul
         (Appends (W.written sink.old) (W.written sink.new) (image_bytes image.now)) }
     ensures failed { FailsForGood (W.has_failed sink.old) (W.has_failed sink.new) result }
 {
-    sink.push(&head_bytes(counts_of(image)))?;
-    write_phasers(sink, image.phasers.as_slice())?;
-    write_barriers(sink, image.barriers.as_slice())?;
-    write_threads(sink, image.threads.as_slice())?;
-    write_rows(sink, image.rows.as_slice())?;
-    Ok(())
+    sink.push(&head_bytes(image.rows.has_timed(), counts_of(image)))?;
+    write_lists(sink, image)
 }

@@ -53,7 +53,11 @@ fn steps_of_round(alloc: Global) -> Result<Option<u32>, AllocError> {
     let mut machine = Machine::of_parts(alloc, rows, threads, phasers, 1_000_000_000)?;
     for _ in 0..ROWS {
         for thread in 0..THREADS {
-            if machine.step(Choice { thread }).is_err() {
+            let choice = Choice {
+                thread,
+                expiry: false,
+            };
+            if machine.step(choice).is_err() {
                 return Ok(None);
             }
         }

@@ -3,6 +3,7 @@ use Rattle.std.specs.Prelude.{ℕ, Bool, true, false, not, ◌&&◌, List, slice
 use Rattle.std.specs.List.{list_any, list_all}
 use Rattle.instruction_table.specs.declared.row.Row.{Row}
 use Rattle.instruction_table.specs.declared.row.Row.TheVariants.{Halt}
+use Rattle.thread_machine.specs.declared.choice.Choice.{Choice}
 use Rattle.thread_machine.specs.declared.status.Status.{Status}
 use Rattle.thread_machine.specs.declared.status.Status.TheVariants as status
 use Rattle.thread_machine.specs.World.{ThreadState, Scene, World}
@@ -29,6 +30,11 @@ may_step rows scene thread = is_ready_in thread.status (row_at rows thread.pc) s
 -- whether thread t may
 abbrev pub is_ready : List Row → ℕ → Scene → Bool
 is_ready rows t scene = may_step rows scene (thread_at scene t)
+
+-- whether a choice may be played: a turn where its thread may step; an expiry never, since no row of these machines waits
+-- for a time
+abbrev pub is_choice_ready : List Row → Choice → Scene → Bool
+is_choice_ready rows choice scene = not choice.expiry && is_ready rows choice.thread scene
 
 -- a thread that takes no step any more
 abbrev pub is_finished : Status → Bool

@@ -1,5 +1,5 @@
 -- What one choice makes of the world.
-use Rattle.std.specs.Prelude.{ℕ, ◌+◌, ◌==◌, ◌&&◌, ◌||◌, nat_le, nat_lt, if◌then◌else◌, Bool, true, false, List, length, Option, Some, None}
+use Rattle.std.specs.Prelude.{ℕ, ◌+◌, ◌==◌, ◌&&◌, ◌||◌, not, nat_le, nat_lt, if◌then◌else◌, Bool, true, false, List, length, Option, Some, None}
 use Rattle.instruction_table.specs.declared.row.Row.{Row}
 use Rattle.instruction_table.specs.declared.row.Row.TheVariants.{Halt, Ldi, Out, Parr, Paaa}
 use Rattle.thread_machine.specs.declared.choice.Choice.{Choice}
@@ -15,7 +15,7 @@ use Rattle.thread_machine.specs.DataRows.{outcome_of_data_row}
 use Rattle.thread_machine.specs.PhaserRows.{outcome_of_phaser_row}
 use Rattle.thread_machine.specs.Unwinding.{outcome_of_pop}
 use Rattle.thread_machine.specs.Waits.{outcome_of_awaited}
-use Rattle.thread_machine.specs.Ready.{row_at, is_ready}
+use Rattle.thread_machine.specs.Ready.{row_at, is_choice_ready}
 
 -- a row belongs to one of these groups; rows outside them are in no program of these machines
 abbrev pub outcome_of_row : Row → ℕ → Scene → Outcome
@@ -63,29 +63,31 @@ stepped world t =
 abbrev pub idled : World → Played
 idled world = record { world = record world { choices = world.choices + 1 }; event = (no_outcome world.scene).event }
 
--- a choice is an effective step where its thread is ready, else idle
+-- a choice that is ready is an effective step of its thread, any other is idle
 abbrev pub played : World → Choice → Played
 played world choice =
-    if is_ready world.rows choice.thread world.scene then stepped world choice.thread else idled world
+    if is_choice_ready world.rows choice world.scene then stepped world choice.thread else idled world
 
--- nothing is left for a choice of this thread: all 1,000,000,000,000 choices are used, or the steps are at the limit and
--- the thread is ready, since an idle choice takes no step
-abbrev pub is_used_up : World → ℕ → Bool
-is_used_up world t =
-    (world.choices == 1000000000000) || (nat_le world.limit world.steps && is_ready world.rows t world.scene)
+-- nothing is left for a choice: all 1,000,000,000,000 choices are used, or the steps are at the limit and the choice is
+-- ready, since an idle one takes no step
+abbrev pub is_used_up : World → Choice → Bool
+is_used_up world choice =
+    (world.choices == 1000000000000)
+    || (nat_le world.limit world.steps && is_choice_ready world.rows choice world.scene)
 
 -- why a choice is refused, want of memory aside
 abbrev pub refusal_of : World → Choice → Option StepFault
 refusal_of world choice =
     if nat_le (length world.scene.threads) choice.thread then Some fault.NoSuchThread
-    else (if is_used_up world choice.thread then Some fault.StepLimit else None)
+    else (if is_used_up world choice then Some fault.StepLimit else None)
 
 -- whether a turn may want memory: a running thread puts a value out, and has room for it among its 4096
 abbrev pub may_grow : Row → ThreadState → Bool
 may_grow (Out value) thread = runs thread.status && nat_lt (length thread.output) 4096
 may_grow _ thread = false
 
--- whether the choice's turn may want memory
+-- whether the choice may want memory: an expiry doesn't
 abbrev pub puts_out : World → Choice → Bool
 puts_out world choice =
-    let thread = thread_at world.scene choice.thread in may_grow (row_at world.rows thread.pc) thread
+    let thread = thread_at world.scene choice.thread in
+    not choice.expiry && may_grow (row_at world.rows thread.pc) thread

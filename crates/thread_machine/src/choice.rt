@@ -1,6 +1,8 @@
-/// Whose turn it is.
+/// What happens next: a thread's turn, or the expiry of its timed wait.
 #[derive(Clone, Copy, Debug, PartialEq, Eq)]
 pub struct Choice {
     /// The thread's number, from 0 in the order of declaration.
     pub thread: u8,
+    /// Whether the thread's timed wait runs out. No row of these machines has one, so an expiry is idle.
+    pub expiry: bool,
 }

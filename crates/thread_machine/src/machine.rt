@@ -101,8 +101,8 @@ impl Machine {
         })
     }
 
-    /// Plays one choice. An idle choice, whose thread isn't ready, only counts as a choice. `Memory` comes only at the
-    /// row `out`.
+    /// Plays one choice. An idle choice, a turn of a thread that isn't ready or an expiry, only counts as a choice.
+    /// `Memory` comes only at the row `out`.
     pub fn step(&mut self, choice: Choice) -> Result<Event, StepFault>
         ensures played { IfOk result (λ event.
             record { world = self.new; event = event } ≡ played self.old choice) }
@@ -121,7 +121,7 @@ impl Machine {
             return Err(StepFault::StepLimit);
         }
         let row = self.stage.row_of(self.program.as_slice(), t);
-        if !self.stage.is_ready_at(row, t) {
+        if choice.expiry || !self.stage.is_ready_at(row, t) {
             self.chosen += 1;
             return Ok(Event {
                 what: What::Idle,

@@ -1,7 +1,7 @@
 pub mod Lines
-pub mod Pieces
 pub mod Plays
 pub mod Refusals
 pub mod RunLine
+pub mod Schedules
 pub mod Traces
 pub mod Unplayed

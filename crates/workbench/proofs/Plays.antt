@@ -10,10 +10,10 @@ use Rattle.thread_machine.specs.declared.fault.StepFault.TheVariants.{NoSuchThre
 use Rattle.thread_machine.specs.World.{World}
 use Rattle.thread_machine.specs.Scene.{thread_at}
 use Rattle.thread_machine.specs.Step.{Played, played, refusal_of, is_used_up, stepped, idled}
-use Rattle.thread_machine.specs.Ready.{is_ready}
+use Rattle.thread_machine.specs.Ready.{is_choice_ready}
 use Rattle.thread_machine.specs.Execution.{Execution, execution, execution_by}
-use Rattle.workbench.specs.declared.schedule.Run.{Run}
-use Rattle.workbench.specs.Schedule.{choices_of}
+use Rattle.schedule_reader.specs.declared.run.Run.{Run}
+use Rattle.schedule_reader.specs.Schedule.{choices_of}
 use Rattle.workbench.proofs.Traces.{flat_map-drop}
 use Rattle.workbench.specs.Trace.{AppendsPartOf, Plays, event_text, lines_of, lines_by}
 
@@ -129,7 +129,7 @@ pub refusal_of-accepted : (event : Event) (world : World) (choice : Choice)
     (ok ≡ Err StepLimit) ↔ (refusal_of world choice ≡ Some StepLimit))
     → refusal_of world choice ≡ None
 refusal_of-accepted event world choice there left =
-    accepted_by (nat_le (length world.scene.threads) choice.thread) (is_used_up world choice.thread)
+    accepted_by (nat_le (length world.scene.threads) choice.thread) (is_used_up world choice)
     (λ is. let no = there.1 is in cc) (λ is. let no = left.1 is in cc)
 
 -- each choice is counted
@@ -154,7 +154,7 @@ Plays-played world after choice event step pc old new accepted both step_is pc_i
     let event_is : event ≡ (played world choice).event = ap (λ (play : Played). play.event) both in
     let counted : step ≡ world.choices + 1 =
     step_is ∙ ap (λ (w : World). w.choices) world_is
-    ∙ choices-by (is_ready world.rows choice.thread world.scene) world choice.thread in
+    ∙ choices-by (is_choice_ready world.rows choice world.scene) world choice.thread in
     let text : event_text step choice pc event ≡ lines None =
     ap (λ n. event_text n choice pc event) counted
     ∙ ap (λ row. event_text (world.choices + 1) choice row event) pc_is

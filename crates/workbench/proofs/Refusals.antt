@@ -3,9 +3,9 @@ use Rattle.std.proofs.Common.{◌≡◌, ◌≢◌, inl, ℕ, List, refl, arith}
 use Rattle.std.specs.Prelude.{Result, Err}
 use Rattle.row_code.specs.declared.image.Image.{Image}
 use Rattle.row_code.specs.declared.image_fault.ImageFault.{ImageFault}
-use Rattle.assembler.specs.declared.asm_fault.AsmFault.{AsmFault}
-use Rattle.assembler.specs.declared.asm_fault.AsmFaultKind.{AsmFaultKind}
-use Rattle.assembler.specs.declared.asm_fault.AsmFaultKind.TheVariants as kind
+use Rattle.line_reader.specs.declared.asm_fault.AsmFault.{AsmFault}
+use Rattle.line_reader.specs.declared.asm_fault.AsmFaultKind.{AsmFaultKind}
+use Rattle.line_reader.specs.declared.asm_fault.AsmFaultKind.TheVariants as kind
 use Rattle.assembler.specs.Answers.{FailsAt}
 use Rattle.assembler.specs.Passes.{assembled}
 use Rattle.workbench.specs.declared.fault.Fault.{Fault}

@@ -9,7 +9,7 @@ use Rattle.std.proofs.lemmas.Bool.Decides.{nat_tests}
 use Rattle.std.proofs.lemmas.List.{take_all, take_more, drop_all, drop-drop, append-nil, append_assoc, length-drop, take-append-drop, take-take, drop-take}
 use Rattle.std.proofs.lemmas.List.Splits.{slice_split_first, slice_split_none, join_with_byte-slice_split, length-slice_split}
 use Rattle.std.proofs.lemmas.List.Sums.{fails_before_first, passes_at_first}
-use Rattle.assembler.specs.Words.{is_line_end}
+use Rattle.line_reader.specs.Words.{is_line_end}
 use Rattle.workbench.specs.RunLine.{is_run_line, are_run, after_run, before_run, schedule_part, program_part}
 
 -- one word, and each word is `.run`

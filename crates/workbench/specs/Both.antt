@@ -10,11 +10,11 @@ use Rattle.thread_machine.specs.World.{World}
 use Rattle.thread_machine.specs.Program.{IsProgram, first_world, new_phaser}
 use Rattle.workbench.specs.declared.fault.Fault.{Fault}
 use Rattle.workbench.specs.declared.fault.Fault.TheVariants as fault
-use Rattle.workbench.specs.declared.schedule.Run.{Run}
+use Rattle.schedule_reader.specs.declared.run.Run.{Run}
 use Rattle.workbench.specs.Input.{GivesAll}
 use Rattle.workbench.specs.Playable.{parts_of}
 use Rattle.workbench.specs.RunLine.{program_part, schedule_part}
-use Rattle.workbench.specs.Schedule.{finished_schedule, choices_of}
+use Rattle.schedule_reader.specs.Schedule.{finished_schedule, choices_of}
 use Rattle.workbench.specs.Trace.{AppendsPartOf, trace_of}
 
 -- an image's rows, the first rows of its threads, and words for its phasers, each with its policy

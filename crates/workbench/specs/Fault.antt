@@ -2,8 +2,8 @@
 use Rattle.std.specs.Prelude.{◌⊎◌, ℕ, Bool, IsTrue, List, ◌++◌, Option, Some, None, codes}
 use Rattle.std.specs.Fmt.{decimal}
 use Rattle.std.specs.Io.KnownBytes.{Appends}
-use Rattle.assembler.specs.declared.asm_fault.AsmFaultKind.{AsmFaultKind}
-use Rattle.assembler.specs.declared.asm_fault.AsmFaultKind.TheVariants as kind
+use Rattle.line_reader.specs.declared.asm_fault.AsmFaultKind.{AsmFaultKind}
+use Rattle.line_reader.specs.declared.asm_fault.AsmFaultKind.TheVariants as kind
 use Rattle.row_code.specs.declared.image_fault.ImageFault.{ImageFault}
 use Rattle.row_code.specs.declared.image_fault.ImageFault.TheVariants as image
 use Rattle.workbench.specs.declared.fault.Fault.{Fault}
@@ -64,6 +64,7 @@ image_line (image.Field at) = counted_line (codes "refused image 4 ") at
 image_line (image.Row n) = counted_line (codes "refused image 5 ") n
 image_line image.Extra = codes "refused image 6\n"
 image_line image.Memory = codes "memory\n"
+image_line image.Version = codes "refused image 8\n"
 
 -- the line on standard error
 abbrev pub line_of : Fault → List ℕ

@@ -6,5 +6,4 @@ pub mod List
 pub mod Playable
 pub mod ProgramFile
 pub mod RunLine
-pub mod Schedule
 pub mod Trace

@@ -1,7 +1,7 @@
 -- What `list` makes of a program's file.
 use Rattle.std.specs.Prelude.{ℕ, List, Option}
 use Rattle.std.specs.Io.KnownBytes.{Appends}
-use Rattle.assembler.specs.Listing.{canonical}
+use Rattle.listing.specs.Listing.{canonical}
 use Rattle.row_code.specs.declared.image.Image.{Image}
 use Rattle.workbench.specs.declared.fault.Fault.{Fault}
 use Rattle.workbench.specs.Input.{GivesAll}

@@ -1,17 +1,15 @@
 -- A program in a file: an image, or a text.
-use Rattle.std.specs.Prelude.{◌≡◌, ◌⊎◌, ◌||◌, ◌==◌, ℕ, Bool, true, false, List, codes, Ok, Err}
-use Rattle.std.specs.List.{starts_with}
+use Rattle.std.specs.Prelude.{◌≡◌, ◌⊎◌, ℕ, Bool, true, false, List, take, Ok, Err}
 use Rattle.assembler.specs.Meaning.{StandsFor}
 use Rattle.assembler.specs.Passes.{assembled}
-use Rattle.row_code.specs.Reading.{image_of}
+use Rattle.row_code.specs.Reading.{image_of, is_magic}
 use Rattle.row_code.specs.declared.image.Image.{Image}
 use Rattle.workbench.specs.declared.fault.Fault.{Fault}
 use Rattle.workbench.specs.declared.fault.Fault.TheVariants as fault
 
 -- a file is an image where its first four bytes are those of one
 abbrev pub is_image_file : List ℕ → Bool
-is_image_file bytes =
-    starts_with ◌==◌ bytes (codes "PBW1") || starts_with ◌==◌ bytes (codes "PBW2")
+is_image_file bytes = is_magic (take 4 bytes)
 
 -- the image that a file is, or that the text in it stands for
 abbrev pub IsProgramFile : List ℕ → Image → Type 0

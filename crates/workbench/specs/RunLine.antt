@@ -2,7 +2,7 @@
 use Rattle.std.specs.Prelude.{ℕ, if◌then◌else◌, Bool, false, List, [], ◌∷◌, ◌++◌, codes}
 use Rattle.std.specs.List.{slice_split, join_with_byte}
 use Rattle.std.specs.Str.{bytes_eq}
-use Rattle.assembler.specs.Words.{is_line_end, words_of}
+use Rattle.line_reader.specs.Words.{is_line_end, words_of}
 
 -- `.run` and no other word
 abbrev pub are_run : List (List ℕ) → Bool

@@ -48,9 +48,10 @@ mark_text (mark.Phase root view) = codes " +p" ++ (decimal root ++ (codes " " ++
 mark_text (mark.Tripped barrier) = codes " +b" ++ decimal barrier
 mark_text (mark.Broke barrier) = codes " -b" ++ decimal barrier
 
--- the number of the choice and its thread
+-- the number of the choice, and whose turn or expiry it is
 abbrev pub choice_text : ℕ → Choice → List ℕ
-choice_text step choice = decimal step ++ (codes " t" ++ (decimal choice.thread ++ codes " "))
+choice_text step choice =
+    decimal step ++ ((if choice.expiry then codes " x" else codes " t") ++ (decimal choice.thread ++ codes " "))
 
 -- the line of a choice that was played by a thread at this row
 abbrev pub event_text : ℕ → Choice → ℕ → Event → List ℕ

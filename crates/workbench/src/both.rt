@@ -1,26 +1,27 @@
-ghost use Rattle.std.specs.Prelude.{◌≡◌, ◌≢◌, ◌⊎◌, List, ℕ, IsTrue, OnOk, IfOk, IfErr, None};
+ghost use Rattle.std.specs.Prelude.{◌≡◌, ◌≢◌, ◌⊎◌, ◌<◌, ◌≤◌, length, List, ℕ, IsTrue, OnOk, IfOk, IfErr, None};
 ghost use Rattle.std.specs.Io.KnownBytes.{Appends};
-ghost use Rattle.assembler.specs.declared.asm_fault.AsmFault.{AsmFault};
+ghost use Rattle.line_reader.specs.declared.asm_fault.AsmFault.{AsmFault};
 ghost use Rattle.row_code.specs.declared.image_fault.ImageFault.{ImageFault};
 ghost use Rattle.assembler.specs.Answers.{FailsAt};
 ghost use Rattle.assembler.specs.Passes.{assembled};
 ghost use Rattle.workbench.specs.declared.fault.Fault.{Fault};
 ghost use Rattle.workbench.specs.Both.{AreRefusedFor, Begins, HasRefused, HasTraced, HasTracedAtMost, IsFaulty, IsFirstWorld, IsTraceOf, IsUnplayed, StandsForUnplayed};
 ghost use Rattle.workbench.specs.Fault.{HasTold, status_of};
-ghost use Rattle.workbench.specs.Input.{GivesTooMuch};
+ghost use Rattle.workbench.specs.Input.{GivesTooMuch, most_bytes};
 ghost use Rattle.workbench.specs.RunLine.{program_part, schedule_part};
-ghost use Rattle.workbench.specs.Schedule.{finished_schedule};
+ghost use Rattle.schedule_reader.specs.Schedule.{finished_schedule};
 ghost use Rattle.workbench.specs.Trace.{AppendsPartOf};
 
 use crate::fault::{DONE, Fault};
 use crate::input::read_all;
 use crate::playable::parts_of;
 use crate::run_line::split_at_run;
-use crate::schedule::{Run, ScheduleFault, read_schedule};
+use crate::schedule::read_schedule;
 use crate::trace::play::{PlayFault, play};
 use assembler::assemble;
 use byte_ports::{Sink, Source};
 use row_code::Image;
+use schedule_reader::{Run, ScheduleFault};
 use std::alloc::Global;
 use thread_machine::{Machine, is_program};
 
@@ -86,6 +87,7 @@ fn both<S: Source, K: Sink>(alloc: Global, input: &mut S, output: &mut K) -> Res
 
 /// Writes the trace of a whole input.
 fn trace_text<K: Sink>(alloc: Global, text: &[u8], output: &mut K) -> Result<(), Fault>
+    requires { length text.now ≤ most_bytes }
     ensures done { OnOk result ((trace : List ℕ) × (IsTraceOf text.now trace
         × Appends (K.written output.old) (K.written output.new) trace)) }
     ensures refused { IfErr result (λ fault. status_of fault ≡ 3
@@ -153,6 +155,7 @@ fn machine_of_image(alloc: Global, image: Image) -> Result<Machine, Fault>
 
 /// The runs of a whole schedule.
 fn runs_of(alloc: Global, schedule: &[u8]) -> Result<Vec<Run>, Fault>
+    requires { length schedule.now < 9223372036854775807 }
     ensures runs { IfOk result (λ runs.
         finished_schedule schedule.now ≡ record { runs = runs.items; fault = None }) }
     ensures refused { result ≡ Err Fault.Refused → IsFaulty schedule.now }

@@ -104,6 +104,7 @@ fn push_image_line<E: Sink>(errors: &mut E, fault: ImageFault) -> Result<(), Fai
         ),
         ImageFault::Extra => errors.push(b"refused image 6\n"),
         ImageFault::Memory => errors.push(b"memory\n"),
+        ImageFault::Version => errors.push(b"refused image 8\n"),
     }
 }
 

@@ -1,18 +1,11 @@
 ghost use Rattle.std.specs.Prelude.{◌≡◌, ◌≢◌, IfOk, IfErr};
 ghost use Rattle.workbench.specs.Fault.{status_of};
-ghost use Rattle.workbench.specs.ProgramFile.{IsNoProgramFor, IsProgramFile, is_image_file};
+ghost use Rattle.workbench.specs.ProgramFile.{IsNoProgramFor, IsProgramFile};
 
 use crate::fault::Fault;
 use assembler::assemble;
-use row_code::{Image, read_image};
+use row_code::{Image, is_image_file, read_image};
 use std::alloc::Global;
-
-/// Whether a file's first four bytes are those of an image.
-fn is_image_file(file: &[u8]) -> bool
-    ensures { result ≡ is_image_file file.now }
-{
-    file.starts_with(b"PBW1") || file.starts_with(b"PBW2")
-}
 
 /// The program in a file: the image that its bytes are, or the one that its text stands for.
 pub fn program_in(alloc: Global, file: &[u8]) -> Result<Image, Fault>

@@ -1,10 +1,10 @@
-ghost use Rattle.std.specs.Prelude.{◌≡◌, codes, length};
+ghost use Rattle.std.specs.Prelude.{◌≡◌, ◌≤◌, codes, length};
 ghost use Rattle.std.specs.List.{before_first, after_first, list_all};
 ghost use Rattle.std.specs.Str.{bytes_eq};
-ghost use Rattle.assembler.specs.Words.{is_line_end, words_in};
+ghost use Rattle.line_reader.specs.Words.{is_line_end, words_in};
 ghost use Rattle.workbench.specs.RunLine.{is_run_line, program_part, schedule_part};
 
-use assembler::words::{before_comment, is_blank, length_before};
+use line_reader::words::{before_comment, is_blank, length_before};
 
 fn count_words(text: &[u8]) -> usize
     ensures { result ≡ length (words_in text.now) }
@@ -50,6 +50,7 @@ fn first_line(bytes: &[u8]) -> (&[u8], &[u8])
 pub fn split_at_run(bytes: &[u8]) -> (&[u8], &[u8])
     ensures text { result.0.now ≡ program_part bytes.now }
     ensures schedule { result.1.now ≡ schedule_part bytes.now }
+    ensures within { length result.1.now ≤ length bytes.now }
 {
     let mut rest = bytes;
     while !rest.is_empty() {

@@ -2,17 +2,18 @@ ghost use Rattle.std.specs.Prelude.{◌≡◌, ◌<◌, if◌then◌else◌, opt
 ghost use Rattle.std.specs.List.{list_all};
 ghost use Rattle.instruction_table.specs.declared.shape.OperandKind.TheVariants as kind;
 ghost use Rattle.row_code.specs.Phasers.{IsPhaser};
-ghost use Rattle.assembler.specs.declared.statement.Statement.TheVariants as statement;
+ghost use Rattle.line_reader.specs.declared.statement.Statement.TheVariants as statement;
 ghost use Rattle.assembler.specs.Meaning.{are_known, barrier_of, is_known_or_none, is_operand_known, is_policy_known, referent_or_0, operands_of, phaser_of, policy_of, row_of, thread_of, with_operand};
-ghost use Rattle.assembler.specs.Symbols.{barrier_seen, operand_seen, operands_in, phaser_seen, policy_seen, reference_seen, row_seen, thread_seen};
+ghost use Rattle.line_reader.specs.Symbols.{operands_in};
+ghost use Rattle.line_reader.specs.Seen.{barrier_seen, operand_seen, phaser_seen, policy_seen, reference_seen, row_seen, thread_seen};
 
 use crate::draft::Draft;
-use crate::reference::Reference;
-use crate::symbolic_barrier::SymbolicBarrier;
-use crate::symbolic_phaser::{SymbolicPhaser, SymbolicPolicy};
-use crate::symbolic_row::{Operand, SymbolicRow};
-use crate::symbolic_thread::SymbolicThread;
 use instruction_table::{OperandKind, Reg, Row};
+use line_reader::reference::Reference;
+use line_reader::symbolic_barrier::SymbolicBarrier;
+use line_reader::symbolic_phaser::{SymbolicPhaser, SymbolicPolicy};
+use line_reader::symbolic_row::{Operand, SymbolicRow};
+use line_reader::symbolic_thread::SymbolicThread;
 use row_code::{
     DeclaredBarrier, DeclaredPhaser, DeclaredPolicy, DeclaredThread, Operands, row_with,
 };
@@ -134,7 +135,8 @@ fn operands_of<'a>(draft: &Draft<'a>, row: &SymbolicRow<&'a [u8]>) -> Option<Ope
         number: 0,
         object: 0,
     };
-    let operands = with_operand(draft, &row.third, none)?;
+    let operands = with_operand(draft, &row.fourth, none)?;
+    let operands = with_operand(draft, &row.third, operands)?;
     let operands = with_operand(draft, &row.second, operands)?;
     with_operand(draft, &row.first, operands)
 }
@@ -145,6 +147,8 @@ pub fn row_of<'a>(draft: &Draft<'a>, row: &SymbolicRow<&'a [u8]>) -> Option<Row>
         ≡ (if list_all (is_operand_known draft.now) (operands_in (row_seen row.now))
         then Some (row_of draft.now (row_seen row.now)) else None) }
 {
-    let operands = operands_of(draft, row)?;
-    Some(row_with(row.opcode, operands))
+    match operands_of(draft, row) {
+        Some(operands) => Some(row_with(row.opcode, operands)),
+        None => None,
+    }
 }

@@ -4,12 +4,12 @@ ghost use Rattle.row_code.specs.declared.image.Image.{Image};
 ghost use Rattle.row_code.specs.Image.{IsImage};
 ghost use Rattle.row_code.specs.Phasers.{IsPhaser};
 ghost use Rattle.assembler.specs.Meaning.{are_known, barriers_in, image_of, phasers_in, rows_in, threads_in};
-ghost use Rattle.assembler.specs.Symbols.{statement_seen};
+ghost use Rattle.line_reader.specs.Seen.{statement_seen};
 
 use super::lookups::{barrier_of, phaser_of, row_of, thread_of};
 use crate::draft::Draft;
-use crate::statement::Statement;
 use instruction_table::Row;
+use line_reader::statement::Statement;
 use row_code::{
     Barriers, DeclaredBarrier, DeclaredPhaser, DeclaredThread, Image, Phasers, Rows, Threads,
 };

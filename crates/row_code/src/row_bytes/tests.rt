@@ -1,6 +1,5 @@
 use super::*;
 use instruction_table::{Reg, mnemonic};
-use std::process::Abort;
 
 /// A row of each kind by its word, and its bytes: opcode, a, b, c and the four bytes of imm.
 const SPELLED: [(&str, [u8; 8]); 40] = [
@@ -46,20 +45,27 @@ const SPELLED: [(&str, [u8; 8]); 40] = [
     ("cparties", [39, 1, 0, 0, 0, 1, 0, 0]),
 ];
 
-fn check_each(rt: &impl Abort, cases: &[(&str, [u8; 8])]) {
-    for (word, bytes) in cases {
-        let row = decode(*bytes);
-        assert!(rt; row.is_some(), "{word}");
-        if let Some(row) = row {
-            assert_eq!(rt; mnemonic(row).as_bytes(), word.as_bytes());
-            assert_eq!(rt; encode(row), *bytes, "{word}");
-        }
+/// The rows with a timeout.
+const TIMED_SPELLED: [(&str, [u8; 8]); 2] = [
+    ("pawaitt", [40, 0, 1, 2, 0, 0, 0, 0]),
+    ("cawaitt", [41, 3, 4, 0, 5, 0, 0, 0]),
+];
+
+fn is_spelled(word: &str, bytes: [u8; 8]) -> bool {
+    match decode(bytes) {
+        Some(row) => mnemonic(row).as_bytes() == word.as_bytes() && encode(row) == bytes,
+        None => false,
     }
 }
 
 #[test]
 fn each_kind_of_row_is_read_as_it_was_written(rt: HostRuntime) {
-    check_each(&rt, &SPELLED);
+    for (word, bytes) in &SPELLED {
+        assert!(rt; is_spelled(word, *bytes), "{word}");
+    }
+    for (word, bytes) in &TIMED_SPELLED {
+        assert!(rt; is_spelled(word, *bytes), "{word}");
+    }
 }
 
 #[test]
@@ -69,31 +75,41 @@ fn operands_stand_in_their_fields(rt: HostRuntime) {
         phaser: 2,
         count: Reg::R3,
     };
-    assert_eq!(rt; encode(pbulk), [0x15, 1, 3, 0, 2, 0, 0, 0]);
+    assert!(rt; encode(pbulk) == [0x15, 1, 3, 0, 2, 0, 0, 0]);
+    let pawaitt = Row::Pawaitt {
+        into: Reg::R0,
+        phaser: 0,
+        phase: Reg::R1,
+        timeout: Reg::R2,
+    };
+    assert!(rt; encode(pawaitt) == [0x28, 0, 1, 2, 0, 0, 0, 0]);
     let ldi = Row::Ldi {
         into: Reg::R0,
         value: -5,
     };
-    assert_eq!(rt; encode(ldi), [1, 0, 0, 0, 0xfb, 0xff, 0xff, 0xff]);
+    assert!(rt; encode(ldi) == [1, 0, 0, 0, 0xfb, 0xff, 0xff, 0xff]);
 }
+
+const OTHERS: [[u8; 8]; 14] = [
+    [42, 0, 0, 0, 0, 0, 0, 0],
+    [255, 0, 0, 0, 0, 0, 0, 0],
+    [0, 1, 0, 0, 0, 0, 0, 0],
+    [0, 0, 0, 0, 0, 0, 0, 1],
+    [2, 1, 2, 1, 0, 0, 0, 0],
+    [3, 1, 2, 8, 0, 0, 0, 0],
+    [13, 8, 0, 0, 0, 0, 0, 0],
+    [5, 0, 0, 0, 0, 0, 1, 0],
+    [5, 0, 0, 0, 255, 255, 255, 255],
+    [9, 0, 0, 0, 0, 0, 0, 128],
+    [20, 1, 1, 0, 2, 0, 0, 0],
+    [40, 0, 1, 8, 0, 0, 0, 0],
+    [40, 0, 1, 2, 0, 0, 1, 0],
+    [41, 3, 4, 1, 5, 0, 0, 0],
+];
 
 #[test]
 fn other_bytes_are_no_row(rt: HostRuntime) {
-    let cases: [[u8; 8]; 12] = [
-        [40, 0, 0, 0, 0, 0, 0, 0],
-        [41, 0, 0, 0, 0, 0, 0, 0],
-        [255, 0, 0, 0, 0, 0, 0, 0],
-        [0, 1, 0, 0, 0, 0, 0, 0],
-        [0, 0, 0, 0, 0, 0, 0, 1],
-        [2, 1, 2, 1, 0, 0, 0, 0],
-        [3, 1, 2, 8, 0, 0, 0, 0],
-        [13, 8, 0, 0, 0, 0, 0, 0],
-        [5, 0, 0, 0, 0, 0, 1, 0],
-        [5, 0, 0, 0, 255, 255, 255, 255],
-        [9, 0, 0, 0, 0, 0, 0, 128],
-        [20, 1, 1, 0, 2, 0, 0, 0],
-    ];
-    for bytes in cases {
-        assert!(rt; decode(bytes).is_none(), "{bytes:?}");
+    for bytes in &OTHERS {
+        assert!(rt; decode(*bytes).is_none(), "{bytes:?}");
     }
 }

@@ -1,4 +1,4 @@
-ghost use Rattle.std.specs.Prelude.{◌≤◌};
+ghost use Rattle.std.specs.Prelude.{◌<◌, ◌≤◌, length};
 
 use super::*;
 use crate::program::is_program;
@@ -36,7 +36,7 @@ fn play(rt: &impl Abort, alloc: Global, walk: &Walk<'_>) -> Result<Machine, Fail
     let mut machine = machine_of(rt, alloc, walk, 1000000000)?;
     let mut number = 0usize;
     for (thread, what, mark) in walk.events {
-        let event = machine.step(Choice { thread: *thread });
+        let event = machine.step(turn_of(*thread));
         let expected = Event {
             what: *what,
             mark: *mark,
@@ -47,9 +47,35 @@ fn play(rt: &impl Abort, alloc: Global, walk: &Walk<'_>) -> Result<Machine, Fail
     Ok(machine)
 }
 
+const IDLE: Event = Event {
+    what: What::Idle,
+    mark: Mark::Nothing,
+};
+
+/// A thread's turn.
+fn turn_of(thread: u8) -> Choice {
+    Choice {
+        thread,
+        expiry: false,
+    }
+}
+
 /// The end of phaser 0's phase.
 fn turn(view: i32) -> Mark {
     Mark::Phase { root: 0, view }
+}
+
+/// Whether a thread has ended at row 2, with 1 in register 0 and as its output.
+fn has_put_out_1(machine: &Machine, thread: u8) -> bool
+    requires { thread < length machine.now.scene.threads }
+{
+    machine.status(thread) == Status::Ended
+        && machine.pc(thread) == 2
+        && machine.reg(thread, Reg::R0) == 1
+        && machine.reg(thread, Reg::R7) == 0
+        && machine.output(thread) == [1].as_slice()
+        && machine.depth(thread) == 0
+        && !machine.interrupted(thread)
 }
 
 #[test]
@@ -85,13 +111,7 @@ fn two_threads_meet(rt: HostRuntime) -> Result<(), Fail> {
     assert_eq!(rt; (machine.thread_count(), machine.phaser_count()), (2, 1));
     for thread in 0..2u8 {
         assert!(rt; (thread as usize) < machine.thread_count());
-        assert_eq!(rt; machine.status(thread), Status::Ended);
-        assert_eq!(rt; machine.pc(thread), 2);
-        assert_eq!(rt; machine.reg(thread, Reg::R0), 1);
-        assert_eq!(rt; machine.reg(thread, Reg::R7), 0);
-        assert_eq!(rt; machine.output(thread), [1].as_slice());
-        assert_eq!(rt; machine.depth(thread), 0);
-        assert!(rt; !machine.interrupted(thread));
+        assert!(rt; has_put_out_1(&machine, thread));
         assert!(rt; !machine.is_ready(thread));
     }
     assert!(rt; machine.phaser_count() == 1);
@@ -261,18 +281,28 @@ fn refused_choices(rt: HostRuntime) -> Result<(), Fail> {
         mark: Mark::Nothing,
     });
     for _ in 0..3 {
-        assert_eq!(rt; machine.step(Choice { thread: 0 }), loaded);
+        assert_eq!(rt; machine.step(turn_of(0)), loaded);
     }
     for thread in [0, 1] {
-        assert_eq!(rt; machine.step(Choice { thread }), Err(StepFault::StepLimit));
+        assert_eq!(rt; machine.step(turn_of(thread)), Err(StepFault::StepLimit));
     }
     for thread in [2, 63, 255] {
-        assert_eq!(rt;
-            machine.step(Choice { thread }),
-            Err(StepFault::NoSuchThread)
-        );
+        assert_eq!(rt; machine.step(turn_of(thread)), Err(StepFault::NoSuchThread));
     }
     assert_eq!(rt; (machine.choices(), machine.steps()), (3, 3));
+    // an expiry is idle, also where the limit is reached and the thread is ready
+    for (thread, answer) in &[
+        (0, Ok(IDLE)),
+        (1, Ok(IDLE)),
+        (2, Err(StepFault::NoSuchThread)),
+    ] {
+        let choice = Choice {
+            thread: *thread,
+            expiry: true,
+        };
+        assert_eq!(rt; machine.step(choice), *answer);
+    }
+    assert_eq!(rt; (machine.choices(), machine.steps()), (5, 3));
     Ok(())
 }
 
@@ -302,7 +332,7 @@ fn more_output_than_there_is_room_for(rt: HostRuntime) -> Result<(), Fail> {
             what: *what,
             mark: Mark::Nothing,
         };
-        assert_eq!(rt; machine.step(Choice { thread: 0 }), Ok(event));
+        assert_eq!(rt; machine.step(turn_of(0)), Ok(event));
     }
     assert!(rt; machine.thread_count() == 1);
     assert_eq!(rt; machine.output(0).len(), 4096);

@@ -37,12 +37,13 @@ fn add_mark(line: &mut Vec<u8>, mark: Mark) -> Result<(), AllocError>
     }
 }
 
-/// The beginning of a choice's line: its number, from 1, and its thread.
+/// The beginning of a choice's line: its number, from 1, and whose turn or expiry it is.
 fn add_choice(line: &mut Vec<u8>, step: u64, choice: Choice) -> Result<(), AllocError>
     ensures { OnOk result (line.new.items ≡ line.old.items ++ choice_text step choice) }
 {
     add_count(line, step)?;
-    add_with_count(line, b" t", u64::from(choice.thread))?;
+    let letter: &[u8] = if choice.expiry { b" x" } else { b" t" };
+    add_with_count(line, letter, u64::from(choice.thread))?;
     line.extend_from_slice(b" ")
 }
 
@@ -90,7 +91,15 @@ mod tests {
     use super::*;
     use std::test::Fail;
 
-    const CHOICE: Choice = Choice { thread: 63 };
+    const CHOICE: Choice = Choice {
+        thread: 63,
+        expiry: false,
+    };
+
+    const EXPIRY: Choice = Choice {
+        thread: 0,
+        expiry: true,
+    };
 
     #[test]
     fn each_event_has_its_line(rt: HostRuntime) -> Result<(), Fail> {
@@ -153,8 +162,8 @@ mod tests {
         };
         event_line(&mut line, 999_999_999_999, CHOICE, 65534, &event)?;
         refusal_line(&mut line, 1_000_000_000_000, CHOICE, Some(65535))?;
-        refusal_line(&mut line, 1, Choice { thread: 0 }, None)?;
-        let expected = b"999999999999 t63 65534 ok\n1000000000000 t63 65535 limit\n1 t0 - none\n";
+        refusal_line(&mut line, 1, EXPIRY, None)?;
+        let expected = b"999999999999 t63 65534 ok\n1000000000000 t63 65535 limit\n1 x0 - none\n";
         assert_eq!(rt; line.as_slice(), expected.as_slice());
         Ok(())
     }

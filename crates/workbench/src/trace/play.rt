@@ -1,13 +1,13 @@
 ghost use Rattle.std.specs.Prelude.{◌≡◌, ◌+◌, ◌∷◌, [], Some, None, replicate, IsTrue, IfOk, OnOk};
 ghost use Rattle.std.specs.Io.KnownBytes.{Appends};
 ghost use Rattle.thread_machine.specs.Scene.{thread_at};
-ghost use Rattle.workbench.specs.Schedule.{choices_of};
+ghost use Rattle.schedule_reader.specs.Schedule.{choices_of};
 ghost use Rattle.workbench.specs.Trace.{AppendsPartOf, Plays, event_text, lines_of, refusal_text, trace_of};
 
 use super::line::{event_line, refusal_line};
 use super::state::state_text;
-use crate::schedule::Run;
 use byte_ports::{Failed, Sink};
+use schedule_reader::Run;
 use std::alloc::{AllocError, Global};
 use thread_machine::{Choice, Event, Machine, StepFault};
 

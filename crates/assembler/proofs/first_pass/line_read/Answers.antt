@@ -1,5 +1,5 @@
 use Rattle.std.proofs.Common.{◌∙◌, Ok, Some, ap, option_map}
-use Rattle.assembler.specs.Symbols.{statement_seen}
+use Rattle.line_reader.specs.Seen.{statement_seen}
 use Rattle.assembler.proofs.SpelledLines.{line_takes}
 use Rattle.assembler.proofs.first_pass.line_read.Goals as goal
 

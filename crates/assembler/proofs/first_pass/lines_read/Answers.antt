@@ -1,9 +1,10 @@
 use Rattle.std.proofs.Common.{◌∙◌, ◌+◌, Ok, sym, ap, subst, refl, arith}
 use Rattle.assembler.specs.Answers.{FailsAt}
-use Rattle.assembler.specs.Words.{lines_of}
+use Rattle.line_reader.specs.Words.{lines_of}
 use Rattle.assembler.specs.Passes.{lines_read, behind}
 use Rattle.assembler.specs.Reading.{line_behind}
-use Rattle.assembler.proofs.FirstPass.{next_line, one_left, one_more, one_less, all_read, all_counted, fails_then}
+use Rattle.assembler.proofs.FirstPass.{next_line, one_left, one_more, one_less, all_read}
+use Rattle.assembler.proofs.ReadLines.{fails_then}
 use Rattle.assembler.proofs.FirstLines.{no_lines}
 use Rattle.assembler.proofs.first_pass.lines_read.Goals as goal
 
@@ -16,8 +17,8 @@ loop-rest-init c = record {
   room = omega arith;
 }
 
-pub returns-in-Err-clause-read : goal.returns-in-Err-clause-read
-returns-in-Err-clause-read c =
+pub returns-in-Err : goal.returns-in-Err
+returns-in-Err c =
     let before = c.loop-rest.invariant in
     let texts = lines_of c.args.text.now in
     let k = c.loop-rest.number in
@@ -26,9 +27,11 @@ returns-in-Err-clause-read c =
     let more = lines_of c.first_line.result.1.now in
     let next = next_line texts k draft line more before.met (sym before.left ∙ c.first_line.ensures.lines) in
     let fault = c.in-Err.fault in
-    subst (λ r. FailsAt fault.kind fault r) (sym next)
-    (fails_then fault.kind fault (behind draft (k + 1) (line_behind draft line))
-    (λ lines. lines_read (k + 1 + 1) lines more) c.in-Err.ensures.read)
+    record {
+      read = subst (λ r. FailsAt fault.kind fault r) (sym next)
+          (fails_then fault.kind fault (behind draft (k + 1) (line_behind draft line))
+          (λ lines. lines_read (k + 1 + 1) lines more) c.in-Err.ensures.read);
+    }
 
 pub loop-rest-preserved : goal.loop-rest-preserved
 loop-rest-preserved c =
@@ -46,14 +49,10 @@ loop-rest-preserved c =
       room = omega (arith, before.room, c.first_line.ensures.shorter);
     }
 
-pub returns-clause-read : goal.returns-clause-read
-returns-clause-read c =
+pub returns : goal.returns
+returns c =
     let before = c.loop-rest.invariant in
-    all_read (lines_of c.args.text.now) c.loop-rest.number c.loop-rest.draft before.met
-    (sym before.left ∙ no_lines c.loop-rest.rest.now c.loop-rest-test.ensures)
-
-pub returns-clause-count : goal.returns-clause-count
-returns-clause-count c =
-    let before = c.loop-rest.invariant in
-    all_counted (lines_of c.args.text.now) c.loop-rest.number before.count
-    (sym before.left ∙ no_lines c.loop-rest.rest.now c.loop-rest-test.ensures)
+    record {
+      read = all_read (lines_of c.args.text.now) c.loop-rest.number c.loop-rest.draft before.met
+          (sym before.left ∙ no_lines c.loop-rest.rest.now c.loop-rest-test.ensures);
+    }

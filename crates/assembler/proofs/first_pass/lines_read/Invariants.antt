@@ -1,5 +1,5 @@
 use Rattle.std.proofs.Common.{◌≡◌, ◌+◌, ◌≤◌, [], length, take, drop, Ok}
-use Rattle.assembler.specs.Words.{lines_of}
+use Rattle.line_reader.specs.Words.{lines_of}
 use Rattle.assembler.specs.Passes.{lines_read}
 use Rattle.assembler.proofs.first_pass.lines_read.Given as goal
 

@@ -2,9 +2,10 @@ use Rattle.std.proofs.Common.{List}
 use Rattle.std.specs.List.{flat_map}
 use Rattle.row_code.specs.declared.phasers.DeclaredPhaser.{DeclaredPhaser}
 use Rattle.row_code.specs.Phasers.{IsPhaser}
-use Rattle.assembler.specs.declared.statement.Line.{Line}
+use Rattle.line_reader.specs.declared.statement.Line.{Line}
 use Rattle.assembler.specs.Meaning.{phasers_in}
-use Rattle.assembler.specs.Symbols.{Name, line_seen}
+use Rattle.line_reader.specs.Symbols.{Name}
+use Rattle.line_reader.specs.Seen.{line_seen}
 use Rattle.assembler.proofs.RestOfLines.{next_has}
 use Rattle.assembler.proofs.resolution.parts_of.Goals as goal
 

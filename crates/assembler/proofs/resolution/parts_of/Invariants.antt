@@ -3,7 +3,7 @@ use Rattle.std.specs.Prelude.{find}
 use Rattle.std.specs.List.{flat_map}
 use Rattle.assembler.specs.Meaning.{are_known, barriers_in, phasers_in, rows_in, threads_in}
 use Rattle.assembler.specs.Passes.{first_unknown}
-use Rattle.assembler.specs.Symbols.{line_seen}
+use Rattle.line_reader.specs.Seen.{line_seen}
 use Rattle.assembler.proofs.resolution.parts_of.Given as goal
 
 abbrev pub invariant-loop-line : goal.invariant-loop-line

@@ -18,12 +18,12 @@ placed word (Some s) is =
     let P : Option Entry → Type 0 = λ o. IfSome o (λ e. slice_index_or table e.opcode no_entry ≡ e) in
     subst P (sym is) (named_is_placed word)
 
--- the answer has at most three operands
+-- the answer has at most four operands
 short : (word : List ℕ) (found : Option Shape) → option_map entry_of found ≡ entry_named table word →
-    IfSome found (λ s. length s.operands.now ≤ 3)
+    IfSome found (λ s. length s.operands.now ≤ 4)
 short word None is = tt
 short word (Some s) is =
-    subst (λ o. IfSome o (λ e. length e.operands ≤ 3)) (sym is) (named_is_short word)
+    subst (λ o. IfSome o (λ e. length e.operands ≤ 4)) (sym is) (named_is_short word)
 
 pub returns-clause-only : goal.returns-clause-only
 returns-clause-only c = only c.args.word.now c.shape_in.result c.shape_in.ensures

@@ -1,6 +1,6 @@
 use Rattle.std.proofs.Common.{◌≡◌, take, Ok, Err, arith, rules}
 use Rattle.std.proofs.lemmas.Result.{err_from_is_err_and}
-use Rattle.row_code.specs.Reading.{barrier_entry, entries}
+use Rattle.row_code.specs.Reading.{is_memory, barrier_entry, entries}
 use Rattle.row_code.proofs.Loop.{goes_on, ends, is_done, fails}
 use Rattle.row_code.proofs.read_barriers.entries_at.Goals as goal
 
@@ -10,7 +10,7 @@ returns-in_err-barrier_at-clause-read c =
     let total = entries 8 (barrier_entry c.args.start) 0 c.args.count c.args.bytes.now in
     let first : barrier_entry c.args.start c.loop-n.n (take 8 c.loop-n.rest.now) ≡ Err f = cc (c.split_at.ensures.front, c.from-in-loop-n.ensures, c.in_err-barrier_at.ensures) in
     let p = err_from_is_err_and c.from_residual-in_err-barrier_at.result c.from_residual-in_err-barrier_at.ensures.1 in
-    rw (p.1, p.2) (fails f total (ends 8 (barrier_entry c.args.start) c.loop-n.barriers.items c.args.count c.loop-n.n c.loop-n.rest.now f total
+    rw (p.1, p.2) (fails is_memory f total (ends 8 (barrier_entry c.args.start) c.loop-n.barriers.items c.args.count c.loop-n.n c.loop-n.rest.now f total
     c.loop-n-test.true first c.loop-n.invariant.told))
 
 pub loop-n-preserved : goal.loop-n-preserved

@@ -5,8 +5,8 @@ use Rattle.row_code.proofs.read_rows.entries_at.Given as goal
 
 abbrev pub invariant-loop-n : goal.invariant-loop-n
 invariant-loop-n l = record {
-  told : with_front l.rows.items (entries 8 row_at l.n (l.count - l.n) l.rest)
-      ≡ entries 8 row_at 0 l.count l.bytes;
+  told : with_front l.rows.items (entries 8 (row_at l.timed) l.n (l.count - l.n) l.rest)
+      ≡ entries 8 (row_at l.timed) 0 l.count l.bytes;
   count : length l.rows.items ≡ l.n;
   size : 8 * (l.count - l.n) ≤ length l.rest;
 }

@@ -1,27 +1,13 @@
-use Rattle.std.proofs.Common.{◌++◌, ap, subst, ◌∙◌}
-use Rattle.std.specs.List.{flat_map}
+use Rattle.std.proofs.Common.{◌++◌, subst, ◌∙◌}
 use Rattle.std.specs.Io.KnownBytes.{Appends}
-use Rattle.std.proofs.KnownBytes.{Appends-trans}
-use Rattle.row_code.specs.Phasers.{phaser_bytes}
-use Rattle.row_code.specs.Barriers.{barrier_bytes}
-use Rattle.row_code.specs.Threads.{thread_bytes}
-use Rattle.row_code.specs.RowBytes.{bytes_of}
 use Rattle.row_code.specs.Image.{magic, count_bytes}
+use Rattle.row_code.proofs.Written.{appends_behind}
 use Rattle.row_code.proofs.writing.write_image.Goals as goal
 
--- the head, and the four lists behind it
+-- the head, and the lists behind it
 pub returns-clause-bytes : goal.returns-clause-bytes
 returns-clause-bytes g c =
     let written = g.W.Sink.written in
     let head = subst (Appends (written c.args.sink.now) (written c.push.new.self))
-    (c.head_bytes.ensures ∙ ap (λ n. magic ++ count_bytes n) c.counts_of.ensures.counts) c.in_ok-push.ensures.bytes in
-    let phasers = subst (Appends (written c.push.new.self) (written c.write_phasers.new.sink))
-    (ap (flat_map phaser_bytes) c.as_slice.ensures.phasers) c.in_ok-write_phasers.ensures.bytes in
-    let barriers = subst (Appends (written c.write_phasers.new.sink) (written c.write_barriers.new.sink))
-    (ap (flat_map barrier_bytes) c.as_slice-2.ensures.barriers) c.in_ok-write_barriers.ensures.bytes in
-    let threads = subst (Appends (written c.write_barriers.new.sink) (written c.write_threads.new.sink))
-    (ap (flat_map thread_bytes) c.as_slice-3.ensures.threads) c.in_ok-write_threads.ensures.bytes in
-    let rows = subst (Appends (written c.write_threads.new.sink) (written c.write_rows.new.sink))
-    (ap (flat_map bytes_of) c.as_slice-4.ensures.rows) c.in_ok-write_rows.ensures.bytes in
-    Appends-trans _ _ _ _ _ head
-    (Appends-trans _ _ _ _ _ phasers (Appends-trans _ _ _ _ _ barriers (Appends-trans _ _ _ _ _ threads rows)))
+    (c.head_bytes.ensures ∙ (λ k. magic (c.has_timed.ensures k) ++ count_bytes (c.counts_of.ensures.counts k))) c.in_ok-push.ensures.bytes in
+    appends_behind c.write_lists.result _ _ _ _ _ head c.write_lists.ensures.bytes

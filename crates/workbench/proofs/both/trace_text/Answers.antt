@@ -1,7 +1,7 @@
 use Rattle.std.proofs.Common.{◌≡◌, ◌∙◌, Err, None, ap, sym, subst, refl, inr}
 use Rattle.workbench.specs.Both.{AreRefusedFor, Begins}
 use Rattle.workbench.specs.RunLine.{schedule_part}
-use Rattle.workbench.specs.Schedule.{choices_of, finished_schedule}
+use Rattle.schedule_reader.specs.Schedule.{choices_of, finished_schedule}
 use Rattle.workbench.specs.Trace.{trace_of}
 use Rattle.workbench.proofs.Refusals.{program-refused}
 use Rattle.workbench.proofs.both.trace_text.Goals as goal

@@ -1,7 +1,7 @@
 use Rattle.std.proofs.Common.{rules, tests, not, ◌==◌, length}
 use Rattle.std.proofs.lemmas.Iterator.Consumers.{count_from_yields_List, YieldsList-from_filter, YieldsList-at}
 use Rattle.std.proofs.lemmas.Iterator.Splits.{YieldsList-from_slice_split}
-use Rattle.assembler.specs.Words.{is_blank}
+use Rattle.line_reader.specs.Words.{is_blank}
 use Rattle.workbench.proofs.run_line.count_words.Goals as goal
 
 pub returns : goal.returns

@@ -27,7 +27,10 @@ fn meeting(rt: &impl Abort, alloc: Global) -> Result<Machine, Fail> {
 
 fn run(thread: u8, times: u32) -> Run {
     Run {
-        choice: Choice { thread },
+        choice: Choice {
+            thread,
+            expiry: false,
+        },
         times,
     }
 }

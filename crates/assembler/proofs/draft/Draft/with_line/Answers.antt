@@ -1,5 +1,5 @@
 use Rattle.std.proofs.Common.{◌∙◌, ap, map}
-use Rattle.assembler.specs.Symbols.{line_seen}
+use Rattle.line_reader.specs.Seen.{line_seen}
 use Rattle.assembler.specs.Statements.{is_new, name_in}
 use Rattle.assembler.specs.Draft.{named_with, places}
 use Rattle.assembler.proofs.Drafts.{kept_with}

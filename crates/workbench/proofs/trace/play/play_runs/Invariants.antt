@@ -1,5 +1,5 @@
 use Rattle.std.proofs.Common.{drop}
-use Rattle.workbench.specs.Schedule.{choices_of}
+use Rattle.schedule_reader.specs.Schedule.{choices_of}
 use Rattle.workbench.proofs.Plays.{Continues}
 use Rattle.workbench.proofs.trace.play.play_runs.Given as goal
 

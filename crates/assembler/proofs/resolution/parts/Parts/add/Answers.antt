@@ -1,7 +1,7 @@
 use Rattle.std.proofs.Common.{None}
-use Rattle.assembler.specs.declared.statement.Statement.TheVariants as statement
+use Rattle.line_reader.specs.declared.statement.Statement.TheVariants as statement
 use Rattle.assembler.specs.Meaning.{are_known, phaser_of, row_of}
-use Rattle.assembler.specs.Symbols.{phaser_seen, row_seen}
+use Rattle.line_reader.specs.Seen.{phaser_seen, row_seen}
 use Rattle.assembler.proofs.Lookups.{found_behind}
 use Rattle.assembler.proofs.resolution.parts.Parts.add.Goals as goal
 

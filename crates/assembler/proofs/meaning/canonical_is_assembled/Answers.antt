@@ -1,0 +1,7 @@
+use Rattle.listing.specs.Listing.{canonical}
+use Rattle.assembler.proofs.CanonicalMeaning.{canonical-stands_for}
+use Rattle.assembler.proofs.ReadLines.{stands_for-assembled}
+use Rattle.assembler.proofs.meaning.canonical_is_assembled.Goals as goal
+
+pub returns : goal.returns
+returns c = λ i is. stands_for-assembled (canonical i) i (canonical-stands_for i is)

@@ -1,0 +1,89 @@
+-- The operands of a row by their places, and one after the other: the same.
+use Rattle.std.proofs.Common.{◌≡◌, ℕ, suc, ◌+◌, ◌≤◌, List, [], ◌∷◌, length, map, Option, Some, None, Result, Ok, Err, refl, ◌∙◌, arith}
+use Rattle.std.specs.Prelude.{option_map}
+use Rattle.std.specs.List.{slice_get}
+use Rattle.std.proofs.lemmas.Option.{slice_get-map}
+use Rattle.std.proofs.lemmas.List.{length-map}
+use Rattle.instruction_table.specs.declared.shape.OperandKind.{OperandKind}
+use Rattle.line_reader.specs.declared.asm_fault.AsmFaultKind.{AsmFaultKind}
+use Rattle.line_reader.specs.declared.asm_fault.AsmFaultKind.TheVariants as fault
+use Rattle.line_reader.specs.declared.symbolic_row.Operand.{Operand}
+use Rattle.line_reader.specs.declared.symbolic_row.Operand.TheVariants as operand
+use Rattle.line_reader.specs.declared.symbolic_row.SymbolicRow.{SymbolicRow}
+use Rattle.line_reader.specs.Symbols.{Name}
+use Rattle.line_reader.specs.Spelling.{with_operands}
+use Rattle.line_reader.specs.Reading.{◌>>=◌, operand_at, row_of_kinds}
+use Rattle.line_reader.specs.Seen.{Borrowed, name_seen}
+
+abbrev Read : Type 0
+Read = Result (Operand Name) AsmFaultKind
+
+abbrev RowRead : Type 0
+RowRead = Result (SymbolicRow Name) AsmFaultKind
+
+-- operands of these kinds, one after the other
+unfoldable pub operands_at : List OperandKind → List (List ℕ) → Result (List (Operand Name)) AsmFaultKind
+operands_at [] words = Ok []
+operands_at (k ∷ kinds) [] = Err fault.OperandCount
+operands_at (k ∷ kinds) (word ∷ words) = do
+  first ← operand_at k word
+  others ← operands_at kinds words
+  Ok (first ∷ others)
+
+-- ---- what is read one after the other stands at its place
+
+abbrev row : ℕ → Operand Name → Operand Name → Operand Name → Operand Name → RowRead
+row opcode a b c d = Ok (record { opcode = opcode; first = a; second = b; third = c; fourth = d })
+
+abbrev pub rowed : ℕ → Result (List (Operand Name)) AsmFaultKind → RowRead
+rowed opcode os = os >>= (λ operands. Ok (with_operands opcode operands))
+
+abbrev before : Read → Result (List (Operand Name)) AsmFaultKind → Result (List (Operand Name)) AsmFaultKind
+before a os = a >>= (λ first. os >>= (λ others. Ok (first ∷ others)))
+
+abbrev none : Operand Name
+none = operand.Absent
+
+one : (opcode : ℕ) (a : Read) → rowed opcode (before a (Ok [])) ≡ (a >>= (λ w. row opcode w none none none))
+one opcode (Ok w) = refl
+one opcode (Err e) = refl
+
+two : (opcode : ℕ) (a b : Read) →
+    rowed opcode (before a (before b (Ok []))) ≡ (a >>= (λ w. b >>= (λ x. row opcode w x none none)))
+two opcode (Ok w) (Ok x) = refl
+two opcode (Ok w) (Err e) = refl
+two opcode (Err e) b = refl
+
+three : (opcode : ℕ) (a b c : Read) → rowed opcode (before a (before b (before c (Ok []))))
+    ≡ (a >>= (λ w. b >>= (λ x. c >>= (λ y. row opcode w x y none))))
+three opcode (Ok w) (Ok x) (Ok y) = refl
+three opcode (Ok w) (Ok x) (Err e) = refl
+three opcode (Ok w) (Err e) c = refl
+three opcode (Err e) b c = refl
+
+four : (opcode : ℕ) (a b c d : Read) → rowed opcode (before a (before b (before c (before d (Ok [])))))
+    ≡ (a >>= (λ w. b >>= (λ x. c >>= (λ y. d >>= (λ z. row opcode w x y z)))))
+four opcode (Ok w) (Ok x) (Ok y) (Ok z) = refl
+four opcode (Ok w) (Ok x) (Ok y) (Err e) = refl
+four opcode (Ok w) (Ok x) (Err e) d = refl
+four opcode (Ok w) (Err e) c d = refl
+four opcode (Err e) b c d = refl
+
+pub by_place : (opcode : ℕ) (kinds : List OperandKind) (words : List (List ℕ)) → length kinds ≤ 4 →
+    length words ≡ length kinds → rowed opcode (operands_at kinds words) ≡ row_of_kinds opcode kinds words
+unfolding row_of_kinds operands_at
+by_place opcode [] [] short same = refl
+by_place opcode (j ∷ []) (v ∷ []) short same = one opcode (operand_at j v)
+by_place opcode (j ∷ k ∷ []) (v ∷ w ∷ []) short same = two opcode (operand_at j v) (operand_at k w)
+by_place opcode (j ∷ k ∷ l ∷ []) (v ∷ w ∷ x ∷ []) short same =
+    three opcode (operand_at j v) (operand_at k w) (operand_at l x)
+by_place opcode (j ∷ k ∷ l ∷ m ∷ []) (v ∷ w ∷ x ∷ y ∷ []) short same =
+    four opcode (operand_at j v) (operand_at k w) (operand_at l x) (operand_at m y)
+by_place opcode (j ∷ k ∷ l ∷ m ∷ n ∷ kinds) words short same = absurd (omega (arith, short))
+by_place opcode _ _ short same = absurd (omega (arith, same))
+
+-- ---- the same of names that are borrowed
+
+pub seen_there : (words : List Borrowed) (place : ℕ) →
+    slice_get (map name_seen words) place ≡ option_map name_seen (slice_get words place)
+seen_there words place = slice_get-map name_seen words place

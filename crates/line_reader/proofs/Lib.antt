@@ -1,0 +1,9 @@
+pub mod Steps
+pub mod Places
+pub mod Digits
+pub mod Registers
+pub mod Labels
+pub mod ByPlace
+pub mod SpelledNumbers
+pub mod SpelledOperands
+pub mod SpelledDirectives

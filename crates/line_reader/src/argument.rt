@@ -1,0 +1,68 @@
+ghost use Rattle.std.specs.Prelude.{◌≡◌, map, option_map, pos};
+ghost use Rattle.line_reader.specs.Seen.{seen};
+ghost use Rattle.line_reader.specs.Reading.{argument_at, end_at, number_at, reference_at, reference_option_at};
+ghost use Rattle.line_reader.specs.Spelling.{greatest_int};
+ghost use Rattle.line_reader.specs.Seen.{name_seen, reference_seen};
+
+use crate::asm_fault::AsmFaultKind;
+use crate::number::number_at;
+use crate::reference::{Reference, reference_at};
+use crate::words::is_word;
+
+/// Reads the argument of an option, a row or an object, and tells the words behind it.
+pub fn reference_argument<'a, 'w>(
+    high: u16,
+    words: &'w [&'a [u8]],
+) -> Result<(Reference<&'a [u8]>, &'w [&'a [u8]]), AsmFaultKind>
+    ensures { seen (λ x. (reference_seen x.0, map name_seen x.1.now)) result
+        ≡ argument_at (reference_at high) (map name_seen words.now) }
+{
+    match words {
+        [] => Err(AsmFaultKind::OperandCount),
+        [word, rest @ ..] => Ok((reference_at(high, *word)?, rest)),
+    }
+}
+
+/// Reads an option whose argument is a row or an object, where it comes next, and tells the words
+/// behind it.
+#[tactic(auto, unfolding(crate::specs::Reading::reference_option_at))]
+pub fn reference_option_at<'a, 'w>(
+    option: &str,
+    high: u16,
+    words: &'w [&'a [u8]],
+) -> Result<(Option<Reference<&'a [u8]>>, &'w [&'a [u8]]), AsmFaultKind>
+    ensures { seen (λ x. (option_map reference_seen x.0, map name_seen x.1.now)) result
+        ≡ reference_option_at option.now high (map name_seen words.now) }
+{
+    match words {
+        [] => Ok((None, words)),
+        [word, rest @ ..] => {
+            if !is_word(*word, option) {
+                return Ok((None, words));
+            }
+            let (reference, rest) = reference_argument(high, rest)?;
+            Ok((Some(reference), rest))
+        }
+    }
+}
+
+/// Reads the argument of an option, a phase, and tells the words behind it.
+pub fn phase_argument<'a, 'w>(words: &'w [&'a [u8]]) -> Result<(i32, &'w [&'a [u8]]), AsmFaultKind>
+    ensures { seen (λ x. (x.0, map name_seen x.1.now)) result
+        ≡ argument_at (number_at (pos 0) greatest_int) (map name_seen words.now) }
+{
+    match words {
+        [] => Err(AsmFaultKind::OperandCount),
+        [word, rest @ ..] => Ok((number_at(0, i32::MAX, *word)?, rest)),
+    }
+}
+
+/// That no word is left.
+pub fn end_at(words: &[&[u8]]) -> Result<(), AsmFaultKind>
+    ensures { result ≡ end_at (map name_seen words.now) }
+{
+    match words {
+        [] => Ok(()),
+        _ => Err(AsmFaultKind::BadOption),
+    }
+}

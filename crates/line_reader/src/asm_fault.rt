@@ -1,0 +1,61 @@
+ghost use Rattle.std.specs.Prelude.{◌≡◌};
+ghost use Rattle.line_reader.specs.declared.asm_fault.AsmFaultKind.TheVariants.{Memory};
+
+use std::alloc::{AllocError, AllocFailed};
+
+/// What is wrong with a line of a text.
+#[derive(Clone, Copy, Debug, PartialEq, Eq)]
+pub enum AsmFaultKind {
+    /// A byte that no line may hold, in a comment too.
+    BadByte,
+    /// More than 256 bytes before the line's end, its comment and a CR counted.
+    LongLine,
+    /// No instruction and no directive has this word.
+    UnknownWord,
+    /// Operands are missing, the argument of an option too, or there are too many.
+    OperandCount,
+    /// Not `r0` to `r7`.
+    BadRegister,
+    /// Not spelled as a number, behind `#` too.
+    BadNumber,
+    /// A number out of its range, or of more than ten digits.
+    OutOfRange,
+    /// Not spelled as a name.
+    BadName,
+    /// No thing of the kind that is wanted has this name.
+    UnknownName,
+    /// The name was given before.
+    NameTwice,
+    /// A directive behind the first label or instruction.
+    MisplacedDirective,
+    /// A word that can't come there in a directive.
+    BadOption,
+    /// One more than there may be of its kind.
+    TooMany,
+    /// Memory was refused.
+    Memory,
+}
+
+/// The first fault of a text and its line, counted from 1; for `Memory` the line at hand when it was
+/// refused.
+#[derive(Clone, Copy, Debug, PartialEq, Eq)]
+pub struct AsmFault {
+    pub line: u64,
+    pub kind: AsmFaultKind,
+}
+
+impl From<AllocError> for AsmFaultKind {
+    ghost from_gives = { λ _ kind. kind ≡ Memory };
+
+    fn from(_e: AllocError) -> AsmFaultKind {
+        AsmFaultKind::Memory
+    }
+}
+
+impl<T: Drop> From<AllocFailed<T>> for AsmFaultKind {
+    ghost from_gives = { λ _ kind. kind ≡ Memory };
+
+    fn from(_e: AllocFailed<T>) -> AsmFaultKind {
+        AsmFaultKind::Memory
+    }
+}

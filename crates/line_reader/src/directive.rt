@@ -1,0 +1,52 @@
+ghost use Rattle.std.specs.Prelude.{◌≡◌, map};
+ghost use Rattle.line_reader.specs.Seen.{seen};
+ghost use Rattle.line_reader.specs.Reading.{cell_at, directive_at, is_directive};
+ghost use Rattle.line_reader.specs.Seen.{name_seen, statement_seen};
+
+use crate::asm_fault::AsmFaultKind;
+use crate::name::name_at;
+use crate::statement::Statement;
+use crate::symbolic_barrier::barrier_at;
+use crate::symbolic_phaser::phaser_at;
+use crate::symbolic_thread::thread_at;
+use crate::words::is_word;
+
+/// Whether a word begins a directive.
+pub fn is_directive(word: &[u8]) -> bool
+    ensures { result ≡ is_directive word.now }
+{
+    is_word(word, ".phaser")
+        || is_word(word, ".barrier")
+        || is_word(word, ".thread")
+        || is_word(word, ".cell")
+}
+
+/// Reads the operand of `.cell`.
+#[tactic(auto, unfolding(crate::specs::Reading::cell_at))]
+fn cell_at<'a>(words: &[&'a [u8]]) -> Result<&'a [u8], AsmFaultKind>
+    ensures { seen name_seen result ≡ cell_at (map name_seen words.now) }
+{
+    match words {
+        [name] => name_at(*name),
+        _ => Err(AsmFaultKind::OperandCount),
+    }
+}
+
+/// Reads a directive: the word that begins it, and its operands.
+#[tactic(auto, unfolding(crate::specs::Reading::directive_at))]
+pub fn directive_at<'a>(
+    word: &[u8],
+    words: &[&'a [u8]],
+) -> Result<Statement<&'a [u8]>, AsmFaultKind>
+    ensures { seen statement_seen result ≡ directive_at word.now (map name_seen words.now) }
+{
+    if is_word(word, ".phaser") {
+        Ok(Statement::Phaser(phaser_at(words)?))
+    } else if is_word(word, ".barrier") {
+        Ok(Statement::Barrier(barrier_at(words)?))
+    } else if is_word(word, ".thread") {
+        Ok(Statement::Thread(thread_at(words)?))
+    } else {
+        Ok(Statement::Cell(cell_at(words)?))
+    }
+}

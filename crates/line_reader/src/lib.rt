@@ -1,0 +1,26 @@
+//! What one line of a program's text says: its words, and what they spell.
+//!
+//! A line is cut into words, and its words are read as a directive, a label or a row, with names
+//! where there may be names. Which names there are, and what stood before, is the assembler's
+//! matter: here a line is read alone. `line_reader::specs::Spelling` is the grammar, as a relation
+//! that knows nothing of faults; `line_reader::specs::Reading` says which of a line's faults is told.
+#![tactic(auto)]
+
+// What a line consists of.
+pub mod label;
+pub mod name;
+pub mod number;
+pub mod words;
+
+// What a line says: a row or an object that it declares, with names where there may be names.
+pub mod reference;
+pub mod statement;
+pub mod symbolic_barrier;
+pub mod symbolic_phaser;
+pub mod symbolic_row;
+pub mod symbolic_thread;
+
+// How its words are read, and what can be wrong with them.
+mod argument;
+pub mod asm_fault;
+pub mod directive;

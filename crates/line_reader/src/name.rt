@@ -1,0 +1,44 @@
+ghost use Rattle.std.specs.Prelude.{◌≡◌};
+ghost use Rattle.std.specs.List.{list_all};
+ghost use Rattle.line_reader.specs.Seen.{seen};
+ghost use Rattle.line_reader.specs.Names.{begins_name, goes_on_name, is_name};
+ghost use Rattle.line_reader.specs.Reading.{name_at};
+ghost use Rattle.line_reader.specs.Seen.{name_seen};
+
+use crate::asm_fault::AsmFaultKind;
+
+fn begins_name(byte: u8) -> bool
+    ensures { result ≡ begins_name byte }
+{
+    byte.is_ascii_alphabetic() || byte == b'_'
+}
+
+fn goes_on_name(byte: u8) -> bool
+    ensures { result ≡ goes_on_name byte }
+{
+    byte.is_ascii_alphanumeric() || byte == b'_'
+}
+
+fn all_go_on_name(word: &[u8]) -> bool
+    ensures { result ≡ list_all goes_on_name word.now }
+{
+    word.iter().all(|byte| goes_on_name(*byte))
+}
+
+fn is_name(word: &[u8]) -> bool
+    ensures { result ≡ is_name word.now }
+{
+    !word.is_empty() && word.len() < 33 && begins_name(word[0]) && all_go_on_name(word)
+}
+
+/// Reads a name: a letter or `_`, then letters, digits and `_`, at most 32 bytes in all.
+#[tactic(auto, unfolding(crate::specs::Reading::name_at))]
+pub fn name_at(word: &[u8]) -> Result<&[u8], AsmFaultKind>
+    ensures { seen name_seen result ≡ name_at word.now }
+{
+    if is_name(word) {
+        Ok(word)
+    } else {
+        Err(AsmFaultKind::BadName)
+    }
+}

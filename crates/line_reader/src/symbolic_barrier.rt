@@ -1,0 +1,37 @@
+ghost use Rattle.std.specs.Prelude.{◌≡◌, map};
+ghost use Rattle.line_reader.specs.Seen.{seen};
+ghost use Rattle.line_reader.specs.Reading.{barrier_at};
+ghost use Rattle.line_reader.specs.Seen.{barrier_seen, name_seen};
+
+use crate::argument::{end_at, reference_option_at};
+use crate::asm_fault::AsmFaultKind;
+use crate::name::name_at;
+use crate::number::count_at;
+use crate::reference::Reference;
+
+/// A barrier as a line declares it.
+#[derive(Drop)]
+pub struct SymbolicBarrier<N> {
+    pub name: N,
+    pub parties: u16,
+    pub action: Option<Reference<N>>,
+}
+
+/// Reads the operands of `.barrier`.
+#[tactic(auto, unfolding(crate::specs::Reading::barrier_at))]
+pub fn barrier_at<'a>(words: &[&'a [u8]]) -> Result<SymbolicBarrier<&'a [u8]>, AsmFaultKind>
+    ensures { seen barrier_seen result ≡ barrier_at (map name_seen words.now) }
+{
+    let [name, parties, options @ ..] = words else {
+        return Err(AsmFaultKind::OperandCount);
+    };
+    let name = name_at(*name)?;
+    let parties = count_at(u16::MAX, *parties)?;
+    let (action, rest) = reference_option_at("action", u16::MAX, options)?;
+    end_at(rest)?;
+    Ok(SymbolicBarrier {
+        name,
+        parties,
+        action,
+    })
+}

@@ -1,0 +1,75 @@
+ghost use Rattle.std.specs.Prelude.{◌≡◌, ◌==◌, ◌≤◌, IfOk, bytes_eq, length, map};
+ghost use Rattle.std.specs.List.{before_first, list_all, position, position_or_len};
+ghost use Rattle.line_reader.specs.Seen.{name_seen};
+ghost use Rattle.line_reader.specs.Words.{begins_comment, is_allowed, is_blank, is_line_end, words_of};
+
+use std::alloc::{AllocError, Global};
+
+/// Space, tab and CR.
+pub fn is_blank(byte: u8) -> bool
+    ensures { result ≡ is_blank byte }
+{
+    matches!(byte, b' ' | b'\t' | b'\r')
+}
+
+/// LF.
+pub fn is_line_end(byte: u8) -> bool
+    ensures { result ≡ is_line_end byte }
+{
+    byte == b'\n'
+}
+
+fn is_allowed(byte: u8) -> bool
+    ensures { result ≡ is_allowed byte }
+{
+    byte == b'\t' || byte == b'\r' || (31 < byte && byte < 127)
+}
+
+/// Whether a line may hold each of its bytes, those of its comment among them.
+pub fn are_allowed(line: &[u8]) -> bool
+    ensures { result ≡ list_all is_allowed line.now }
+{
+    line.iter().all(|byte| is_allowed(*byte))
+}
+
+/// Where this byte first stands.
+pub fn place_of(byte: u8, bytes: &[u8]) -> Option<usize>
+    ensures { result ≡ position (λ one. one == byte) bytes.now }
+{
+    bytes.iter().position(|one| *one == byte)
+}
+
+/// How many bytes stand before the first one that is this byte: all where none is.
+#[tactic(auto, using(crate::proofs::Places::position_some, crate::proofs::Places::position_none))]
+pub fn length_before(byte: u8, bytes: &[u8]) -> usize
+    ensures length { result ≡ position_or_len (λ one. one == byte) bytes.now }
+    ensures within { result ≤ length bytes.now }
+{
+    match place_of(byte, bytes) {
+        Some(place) => place,
+        None => bytes.len(),
+    }
+}
+
+/// What stands before the line's comment.
+pub fn before_comment(line: &[u8]) -> &[u8]
+    ensures { result.now ≡ before_first begins_comment line.now }
+{
+    &line[..length_before(b';', line)]
+}
+
+/// The words of a line.
+pub fn words_of(alloc: Global, line: &[u8]) -> Result<Vec<&[u8]>, AllocError>
+    ensures { IfOk result (λ words. map name_seen words.items ≡ words_of line.now) }
+{
+    let pieces = before_comment(line).split(|byte| is_blank(*byte));
+    let words = pieces.filter(|piece| !piece.is_empty()).collect(alloc)?;
+    Ok(words)
+}
+
+/// Whether a word is this one.
+pub fn is_word(word: &[u8], text: &str) -> bool
+    ensures { result ≡ bytes_eq word.now text.now }
+{
+    word == text.as_bytes()
+}

@@ -1,0 +1,37 @@
+-- Texts of lists, element by element, and words of options, one behind the other.
+use Rattle.std.proofs.Common.{◌≡◌, ◌≢◌, ◌∙◌, ◌+◌, ◌<◌, ℕ, zero, suc, ℤ, pos, negsuc, List, [], ◌∷◌, ◌++◌, length, get_or, drop, map, ap, sym, refl, codes, append_assoc, append-nil}
+use Rattle.std.proofs.lemmas.List.{drop_more}
+use Rattle.std.specs.Fmt.{signed_decimal}
+use Rattle.std.specs.List.{flat_map}
+use Rattle.listing.specs.Listing.{line_text, numbered, phase_words, spaced}
+
+-- from one element on: its line, and the lines from the next on
+pub lines-drop : {A : Type 0} (words : A → List (List ℕ)) (xs : List A) (i : ℕ) (d : A) → i < length xs
+    → flat_map line_text (map words (drop i xs)) ≡ line_text (words (get_or xs i d)) ++ flat_map line_text (map words (drop (i + 1) xs))
+lines-drop words xs i d there = ap (λ ys. flat_map line_text (map words ys)) (drop_more xs i d there)
+
+-- the same where each line has its number
+pub numbered-drop : {A : Type 0} (words : ℕ → A → List (List ℕ)) (xs : List A) (i : ℕ) (d : A) → i < length xs
+    → flat_map line_text (numbered words i (drop i xs))
+    ≡ line_text (words i (get_or xs i d)) ++ flat_map line_text (numbered words (i + 1) (drop (i + 1) xs))
+numbered-drop words xs i d there = ap (λ ys. flat_map line_text (numbered words i ys)) (drop_more xs i d there)
+
+pub spaced-append : (a b : List (List ℕ)) → spaced (a ++ b) ≡ spaced a ++ spaced b
+spaced-append [] b = refl
+spaced-append (word ∷ words) b =
+    ap (λ rest. 32 ∷ (word ++ rest)) (spaced-append words b)
+    ∙ ap (λ rest. 32 ∷ rest) (sym (append_assoc word (spaced words) (spaced b)))
+
+-- a first phase that isn't 0 has its option
+pub phase_there : (phase : ℤ) → phase ≢ pos 0 → phase_words phase ≡ codes "phase" ∷ signed_decimal phase ∷ []
+phase_there (pos zero) other = absurd (other refl)
+phase_there (pos (suc n)) other = refl
+phase_there (negsuc n) other = refl
+
+pub ruleset word_steps = (append_assoc, append-nil)
+
+pub ruleset option_steps = (append_assoc, spaced-append)
+
+pub ruleset text_steps = (lines-drop, numbered-drop)
+
+pub ruleset operand_steps = (drop_more, append_assoc)

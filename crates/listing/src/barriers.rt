@@ -1,0 +1,41 @@
+// The lines of the barriers.
+ghost use Rattle.std.specs.Prelude.{◌≡◌, ◌++◌, OnOk};
+ghost use Rattle.std.specs.List.{flat_map};
+ghost use Rattle.listing.specs.Listing.{action_words, barrier_words, line_text, numbered, spaced};
+
+use crate::pieces::{push_count, push_number};
+use row_code::DeclaredBarrier;
+use std::alloc::AllocError;
+
+fn push_action(text: &mut Vec<u8>, action: Option<u16>) -> Result<(), AllocError>
+    ensures { OnOk result (text.new.items ≡ text.old.items ++ spaced (action_words action)) }
+{
+    match action {
+        None => Ok(()),
+        Some(row) => push_number(text, b"action", u64::from(row)),
+    }
+}
+
+#[tactic(auto, using(crate::proofs::ListedTexts::option_steps))]
+fn push_barrier(text: &mut Vec<u8>, n: u64, barrier: DeclaredBarrier) -> Result<(), AllocError>
+    ensures { OnOk result (text.new.items ≡ text.old.items ++ line_text (barrier_words n barrier)) }
+{
+    push_count(text, b".barrier b", n)?;
+    push_count(text, b" ", u64::from(barrier.parties))?;
+    push_action(text, barrier.action)?;
+    text.extend_from_slice(b"\n")
+}
+
+#[tactic(auto, using(crate::proofs::ListedTexts::text_steps))]
+pub(crate) fn push_barriers(
+    text: &mut Vec<u8>,
+    barriers: &[DeclaredBarrier],
+) -> Result<(), AllocError>
+    ensures { OnOk result (text.new.items
+        ≡ text.old.items ++ flat_map line_text (numbered barrier_words 0 barriers.now)) }
+{
+    for (n, barrier) in barriers.iter().enumerate() {
+        push_barrier(text, n as u64, *barrier)?;
+    }
+    Ok(())
+}

@@ -1,0 +1,40 @@
+//! The canonical text of an image: what `disassemble` writes of it.
+//!
+//! A line for each phaser, barrier, thread and row, in this order; a line is its words with one
+//! space between each two. `listing::specs::Listing` is that text. That it stands for the image,
+//! and for no other, are laws of the crate `assembler`.
+#![tactic(auto)]
+
+ghost use Rattle.std.specs.Prelude.{◌≡◌, IfOk, OnOk};
+ghost use Rattle.row_code.specs.declared.image.Image.{Image};
+ghost use Rattle.row_code.specs.Image.{IsImage};
+ghost use Rattle.listing.specs.Listing.{canonical};
+
+mod barriers;
+mod phasers;
+mod pieces;
+mod rows;
+mod threads;
+
+use barriers::push_barriers;
+use phasers::push_phasers;
+use row_code::Image;
+use rows::push_rows;
+use std::alloc::{AllocError, Global};
+use threads::push_threads;
+
+/// The canonical text of an image. Phaser `n` is named `pn`, barrier `n` `bn` and thread `n` `tn`;
+/// what an operand or a directive refers to stands there by its number.
+pub fn disassemble(alloc: Global, image: &Image) -> Result<Vec<u8>, AllocError>
+    ensures text { IfOk result (λ text. text.items ≡ canonical image.now) }
+
+    // What the laws of canonical texts ask of an image.
+    ensures fits { OnOk result (IsImage image.now) }
+{
+    let mut text = Vec::new(alloc);
+    push_phasers(&mut text, image.phasers.as_slice())?;
+    push_barriers(&mut text, image.barriers.as_slice())?;
+    push_threads(&mut text, image.threads.as_slice())?;
+    push_rows(&mut text, image.rows.as_slice())?;
+    Ok(text)
+}

@@ -1,0 +1,158 @@
+-- A written schedule is read as its runs.
+use Rattle.std.proofs.Common.{suc, ◌≡◌, ◌∙◌, ◌+◌, ◌^◌, ◌<◌, ◌≤◌, ◌==◌, not, if◌then◌else◌, ℕ, Bool, true, false, List, [], ◌∷◌, ◌++◌, length, drop, refl, ap, sym, arith, lit≤}
+use Rattle.std.specs.Prelude.{None, All, Ok}
+use Rattle.std.specs.List.{slice_split}
+use Rattle.std.specs.Char.{is_ascii_digit, digit_value}
+use Rattle.std.specs.Fmt.{decimal}
+use Rattle.std.specs.Str.Parse.{AllDigits, digits_value_after}
+use Rattle.std.proofs.lemmas.Fmt.{decimal_is_IsNumeral, length-decimal-le}
+use Rattle.std.proofs.lemmas.List.{append-nil}
+use Rattle.std.proofs.lemmas.List.Elements.{All-cons}
+use Rattle.std.proofs.lemmas.List.Splits.{slice_split_at, slice_split_none, length-slice_split}
+use Rattle.std.proofs.lemmas.Bool.Decides.{nat_tests}
+use Rattle.thread_machine.specs.declared.choice.Choice.{Choice}
+use Rattle.schedule_reader.specs.declared.run.Run.{Run}
+use Rattle.schedule_reader.specs.declared.fault.ScheduleFault.TheVariants as fault
+use Rattle.schedule_reader.specs.Schedule.{Faulty, Token, Unfinished, IsRun, is_blank, whole, schedule_with, schedule_with_piece, schedule_in, no_runs, finished_schedule, choice_of, run_of, digits_of, reading_of, reading_after_letter, reading_after_star, reading_of_thread, reading_of_count, reading_by_thread, reading_by_times, reading_of_times}
+use Rattle.schedule_reader.specs.Places.{thread_by, times_by}
+use Rattle.schedule_reader.specs.Text.{letter_of, times_text, token_of, spaced_tokens, schedule_text}
+use Rattle.schedule_reader.proofs.Numbers.{digits_of-digit, number_by-some}
+
+is_digit : (c : ℕ) → digit_value c < 10 → is_ascii_digit c ≡ true
+is_digit c below = grind (arith, nat_tests)
+
+-- digits up to what is none
+digits-then : (ds rest : List ℕ) → AllDigits 10 ds → digits_of rest ≡ [] → digits_of (ds ++ rest) ≡ ds
+digits-then [] rest all stops = stops
+digits-then (d ∷ ds) rest all stops = digits_of-digit d (ds ++ rest) (is_digit d all.0) ∙ ap (λ more. d ∷ more) (digits-then ds rest all.1 stops)
+
+drop-before : (ds rest : List ℕ) → drop (length ds) (ds ++ rest) ≡ rest
+drop-before [] rest = refl
+drop-before (d ∷ ds) rest = drop-before ds rest
+
+-- a number that was written is read
+thread-read : (at : ℕ) (expiry : Bool) (thread : ℕ) (rest : List ℕ) → thread ≤ 63 → digits_of rest ≡ []
+    → reading_after_letter at expiry (decimal thread ++ rest) ≡ reading_by_thread at (choice_of expiry thread) (length (decimal thread)) rest
+thread-read at expiry thread rest small stops =
+    let numeral = decimal_is_IsNumeral thread (omega arith) in
+    let few = length-decimal-le 2 thread (omega arith) (omega arith) (omega arith) in
+    let part = decimal thread ++ rest in
+    let count = length (decimal thread) in
+    ap (λ ds. thread_by at expiry (length ds) (digits_value_after 10 0 ds) (drop (length ds) part)) (digits-then (decimal thread) rest numeral.0.1 stops)
+    ∙ ap (λ v. thread_by at expiry count v (drop count part)) numeral.1
+    ∙ ap (λ n. reading_of_thread at expiry count (drop count part) n) (number_by-some count thread 2 63 few small)
+    ∙ ap (reading_by_thread at (choice_of expiry thread) count) (drop-before (decimal thread) rest)
+
+times-read : (at : ℕ) (choice : Choice) (times : ℕ) → times ≤ 1000000000
+    → reading_after_star at choice (decimal times) ≡ reading_by_times at choice times (length (decimal times)) []
+times-read at choice times small =
+    let numeral = decimal_is_IsNumeral times (omega arith) in
+    let few = length-decimal-le 10 times (omega arith) (omega arith) (omega arith) in
+    let part = decimal times ++ [] in
+    let count = length (decimal times) in
+    ap (reading_after_star at choice) (sym (append-nil (decimal times)))
+    ∙ ap (λ ds. times_by at choice (length ds) (digits_value_after 10 0 ds) (drop (length ds) part)) (digits-then (decimal times) [] numeral.0.1 refl)
+    ∙ ap (λ v. times_by at choice count v (drop count part)) numeral.1
+    ∙ ap (λ n. reading_of_count at choice count (drop count part) n) (number_by-some count times 10 1000000000 few small)
+    ∙ ap (reading_by_times at choice times count) (drop-before (decimal times) [])
+
+not_zero : (n : ℕ) → 0 < n → (n == 0) ≡ false
+not_zero n some = grind (arith, nat_tests)
+
+-- how often was written
+rest-read : (at : ℕ) (choice : Choice) (times count : ℕ) (once : Bool) → (times == 1) ≡ once → 0 < count → 1 ≤ times → times ≤ 1000000000
+    → reading_by_thread at choice count (if once then [] else 42 ∷ decimal times) ≡ Token (run_of choice times)
+rest-read at choice times count true is some least most =
+    let one : 1 ≡ times = grind (arith, nat_tests) in
+    ap (λ t. if t then Unfinished (fault.Byte at) else Token (run_of choice 1)) (not_zero count some) ∙ ap (λ n. Token (run_of choice n)) one
+rest-read at choice times count false is some least most =
+    let star = at + count + 1 in
+    let numeral = decimal_is_IsNumeral times (omega arith) in
+    ap (λ t. if not t then reading_after_star star choice (decimal times) else Faulty (fault.Byte (at + count))) (not_zero count some)
+    ∙ times-read star choice times most
+    ∙ ap (λ t. if t then Unfinished (fault.Byte star) else reading_of_times star choice times) (not_zero (length (decimal times)) numeral.0.0)
+    ∙ ap (λ t. if t then Unfinished (fault.Repeat star) else Token (run_of choice times)) (not_zero times least)
+
+stops-read : (times : ℕ) (once : Bool) → digits_of (if once then [] else 42 ∷ decimal times) ≡ []
+stops-read times true = refl
+stops-read times false = refl
+
+-- a token is read as its run
+letter-read : (at : ℕ) (expiry : Bool) (part : List ℕ) → reading_of at (letter_of expiry ∷ part) ≡ reading_after_letter (at + 1) expiry part
+letter-read at true part = refl
+letter-read at false part = refl
+
+token-read : (at : ℕ) (run : Run) → IsRun run → reading_of at (token_of run) ≡ Token run
+token-read at run is =
+    let thread = run.choice.thread in
+    let numeral = decimal_is_IsNumeral thread (omega (arith, is.thread)) in
+    letter-read at run.choice.expiry (decimal thread ++ times_text run.times)
+    ∙ thread-read (at + 1) run.choice.expiry thread (times_text run.times) is.thread (stops-read run.times (run.times == 1))
+    ∙ rest-read (at + 1) run.choice run.times (length (decimal thread)) (run.times == 1) refl numeral.0.0 is.some is.few
+
+-- there is no blank in it
+no_blank : (c : ℕ) → 33 ≤ c → is_blank c ≡ false
+no_blank c above = grind (arith, nat_tests)
+
+digit_above : (c : ℕ) → digit_value c < 10 → 33 ≤ c
+digit_above c below = grind (arith, nat_tests)
+
+abbrev pub Above : List ℕ → Type 0
+Above [] = Unit {0}
+Above (b ∷ bs) = (33 ≤ b) × Above bs
+
+above-digits : (ds : List ℕ) → AllDigits 10 ds → Above ds
+above-digits [] all = tt
+above-digits (d ∷ ds) all = (digit_above d all.0, above-digits ds all.1)
+
+above-append : (xs ys : List ℕ) → Above xs → Above ys → Above (xs ++ ys)
+above-append [] ys first second = second
+above-append (x ∷ xs) ys first second = (first.0, above-append xs ys first.1 second)
+
+above-blanks : (bs : List ℕ) → Above bs → All (λ b. is_blank b ≡ false) bs
+above-blanks [] above = λ k d there. absurd (omega arith)
+above-blanks (b ∷ bs) above = All-cons (λ c. is_blank c ≡ false) b bs (no_blank b above.0) (above-blanks bs above.1)
+
+above-times : (times : ℕ) (once : Bool) → times < 2 ^ 64 → Above (if once then [] else 42 ∷ decimal times)
+above-times times true small = tt
+above-times times false small = (lit≤ tt, above-digits (decimal times) (decimal_is_IsNumeral times small).0.1)
+
+above-letter : (expiry : Bool) → 33 ≤ letter_of expiry
+above-letter true = lit≤ tt
+above-letter false = lit≤ tt
+
+token-blanks : (run : Run) → IsRun run → All (λ b. is_blank b ≡ false) (token_of run)
+token-blanks run is =
+    above-blanks (token_of run) (
+      above-letter run.choice.expiry,
+      above-append (decimal run.choice.thread) (times_text run.times)
+          (above-digits (decimal run.choice.thread) (decimal_is_IsNumeral run.choice.thread (omega (arith, is.thread))).0.1)
+          (above-times run.times (run.times == 1) (omega (arith, is.few))),
+    )
+
+-- pieces after the first
+schedule_in-cons : (at : ℕ) (piece : List ℕ) (pieces : List (List ℕ)) → 0 < length pieces
+    → schedule_in true at (piece ∷ pieces) ≡ schedule_with_piece at piece (schedule_in true (at + length piece + 1) pieces)
+schedule_in-cons at piece [] some = absurd (omega arith)
+schedule_in-cons at piece (next ∷ pieces) some = refl
+
+-- the tokens from one on
+tokens-read : (at : ℕ) (run : Run) (runs : List Run) → IsRun run → All IsRun runs
+    → schedule_in true at (slice_split is_blank (token_of run ++ spaced_tokens runs)) ≡ record { runs = run ∷ runs; fault = None }
+tokens-read at run [] is all =
+    ap (λ bs. schedule_in true at (slice_split is_blank bs)) (append-nil (token_of run))
+    ∙ ap (schedule_in true at) (slice_split_none is_blank (token_of run) (token-blanks run is))
+    ∙ ap (λ r. schedule_with (whole r) no_runs) (token-read at run is)
+tokens-read at run (next ∷ runs) is all =
+    let rest = token_of next ++ spaced_tokens runs in
+    let some : 0 < length (slice_split is_blank rest) = omega (arith, length-slice_split is_blank rest) in
+    let after = at + length (token_of run) + 1 in
+    ap (schedule_in true at) (slice_split_at is_blank (token_of run) 32 rest (token-blanks run is) refl)
+    ∙ schedule_in-cons at (token_of run) (slice_split is_blank rest) some
+    ∙ ap (λ r. schedule_with (whole r) (schedule_in true after (slice_split is_blank rest))) (token-read at run is)
+    ∙ ap (schedule_with (Ok run)) (tokens-read after next runs (all 0 next (omega arith)) (λ k d there. all (suc k) d (omega arith)))
+
+-- the whole text
+pub text-read : (runs : List Run) → All IsRun runs → finished_schedule (schedule_text runs) ≡ record { runs = runs; fault = None }
+text-read [] all = refl
+text-read (run ∷ runs) all = tokens-read 0 run runs (all 0 run (omega arith)) (λ k d there. all (suc k) d (omega arith))

@@ -1,0 +1,4 @@
+pub mod Schedule
+pub mod Reading
+pub mod Places
+pub mod Text

@@ -1,0 +1,194 @@
+ghost use Rattle.std.specs.Prelude.{◌≡◌, ◌≢◌, ◌⊎◌, ◌+◌, ◌*◌, ◌/◌, ◌<◌, ◌≤◌, List, ◌∷◌, [], ◌++◌, ℕ, Bool, length, IfOk, IfErr, OnOk, IsErr, Err, Ok, Some, None};
+ghost use Rattle.std.specs.Vec.{vec_len, vec_capacity};
+ghost use Rattle.schedule_reader.specs.declared.fault.ScheduleFault.TheVariants.{Memory};
+ghost use Rattle.schedule_reader.specs.declared.place.Place.TheVariants.{Between};
+ghost use Rattle.schedule_reader.specs.Schedule.{Schedule, open_schedule, finished_schedule};
+ghost use Rattle.schedule_reader.specs.Reading.{Adds, answer_of};
+ghost use Rattle.schedule_reader.specs.Places.{IsPlace, HasRead, Takes, spent, piece_with, schedule_from};
+
+use crate::fault::ScheduleFault;
+use crate::place::{Place, is_blank};
+use crate::run::Run;
+use std::marker::Model;
+
+/// Reads one schedule, a stream of bytes that comes in pieces. A token is whole when the blank after it, or `finish`, has
+/// come. After a fault every call answers that fault.
+#[derive(Drop)]
+pub struct Reader {
+    read: u64,
+    place: Place,
+    fault: Option<ScheduleFault>,
+}
+
+impl Model for Reader {
+    ghost use Rattle.schedule_reader.specs.Places.{Progress, IsPlace};
+
+    ghost Value = { Progress };
+
+    ghost view = { λ reader. record {
+      read = reader.read;
+      place = reader.place;
+      fault = reader.fault;
+    } };
+
+    ghost invariant = { λ reader. IsPlace reader.read reader.place };
+}
+
+impl Reader {
+    /// A reader of a stream that has yet to come.
+    pub fn new() -> Reader
+        ensures stream { HasRead result [] }
+        ensures read { result.read ≡ 0 }
+        ensures fault { result.fault ≡ None }
+    {
+        Reader {
+            read: 0,
+            place: Place::Between,
+            fault: None,
+        }
+    }
+
+    /// How many bytes it was given.
+    pub fn bytes_read(&self) -> u64
+        ensures { result ≡ self.now.read }
+    {
+        self.read
+    }
+
+    /// Takes the stream's next bytes, and adds the runs of the tokens that are whole with them. A list with room for a
+    /// run for every three bytes and two bytes more takes no memory.
+    pub fn feed(&mut self, piece: &[u8], runs: &mut Vec<Run>) -> Result<(), ScheduleFault>
+        requires { self.old.read + length piece.now < 9223372036854775807 }
+        ensures runs { (bytes : List ℕ) → HasRead self.old bytes
+            → Adds result (open_schedule bytes) (open_schedule (bytes ++ piece.now))
+            runs.old.items runs.new.items }
+        ensures answer { (bytes : List ℕ) → HasRead self.old bytes → (result ≡ Err Memory)
+            ⊎ (result ≡ answer_of (open_schedule (bytes ++ piece.now))) }
+        ensures stream { (bytes : List ℕ) → HasRead self.old bytes → (result ≡ Err Memory)
+            ⊎ HasRead self.new (bytes ++ piece.now) }
+        ensures read { self.new.read ≡ self.old.read + length piece.now }
+        ensures ok { OnOk result (self.new.fault ≡ None) }
+        ensures err { IfErr result (λ fault. self.new.fault ≡ Some fault) }
+        ensures stays { (fault : ScheduleFault) → self.old.fault ≡ Some fault
+            → (result ≡ Err fault) × (runs.new ≡ runs.old) }
+        ensures few { length runs.new.items
+            ≤ length runs.old.items + (length piece.now + 2) / 3 }
+        ensures room { vec_len runs.old + (length piece.now + 2) / 3 ≤ vec_capacity runs.old
+            → self.old.fault ≡ None → result ≢ Err Memory }
+    {
+        let at = self.read;
+        self.read += piece.len() as u64;
+        if let Some(fault) = self.fault {
+            return Err(fault);
+        }
+        match read_bytes(self.place, at, piece, runs) {
+            Ok(place) => {
+                self.place = place;
+                Ok(())
+            }
+            Err(fault) => {
+                self.fault = Some(fault);
+                Err(fault)
+            }
+        }
+    }
+
+    /// Ends the stream, and adds the run of its last token where that wasn't whole before. A list with room for one run
+    /// takes no memory.
+    pub fn finish(self, runs: &mut Vec<Run>) -> Result<(), ScheduleFault>
+        ensures runs { (bytes : List ℕ) → HasRead self bytes
+            → Adds result (open_schedule bytes) (finished_schedule bytes)
+            runs.old.items runs.new.items }
+        ensures answer { (bytes : List ℕ) → HasRead self bytes → (result ≡ Err Memory)
+            ⊎ (result ≡ answer_of (finished_schedule bytes)) }
+        ensures stays { (fault : ScheduleFault) → self.fault ≡ Some fault
+            → (result ≡ Err fault) × (runs.new ≡ runs.old) }
+        ensures few { length runs.new.items ≤ length runs.old.items + 1 }
+        ensures room { vec_len runs.old < vec_capacity runs.old → self.fault ≡ None
+            → result ≢ Err Memory }
+    {
+        match self.fault {
+            Some(fault) => Err(fault),
+            None => end_token(self.place, self.read, runs),
+        }
+    }
+}
+
+/// Goes on from a place over bytes that begin at this offset.
+fn read_bytes(
+    place: Place,
+    at: u64,
+    piece: &[u8],
+    runs: &mut Vec<Run>,
+) -> Result<Place, ScheduleFault>
+    requires place { IsPlace at place }
+    requires length { at + length piece.now < 9223372036854775807 }
+    ensures takes { Takes result runs.old.items runs.new.items
+        (λ (stream : Bool × List ℕ). schedule_from stream.0 place at (piece.now ++ stream.1))
+        (λ stream next. schedule_from stream.0 next (at + length piece.now) stream.1) }
+    ensures place { IfOk result (λ next. IsPlace (at + length piece.now) next) }
+    ensures few { 3 * length runs.new.items
+        ≤ 3 * length runs.old.items + spent place + length piece.now }
+    ensures room { 3 * vec_len runs.old + spent place + length piece.now
+        < 3 * vec_capacity runs.old + 3 → result ≢ Err Memory }
+{
+    let mut next = place;
+    let mut offset = at;
+    for byte in piece {
+        match read_byte(next, offset, *byte, runs) {
+            Ok(place) => next = place,
+            Err(fault) => return Err(fault),
+        }
+        offset += 1;
+    }
+    Ok(next)
+}
+
+/// Goes on from a place over the byte at this offset.
+fn read_byte(place: Place, at: u64, byte: u8, runs: &mut Vec<Run>) -> Result<Place, ScheduleFault>
+    requires place { IsPlace at place }
+    ensures takes { Takes result runs.old.items runs.new.items
+        (λ (stream : Bool × List ℕ). schedule_from stream.0 place at (byte ∷ stream.1))
+        (λ stream next. schedule_from stream.0 next (at + 1) stream.1) }
+    ensures place { IfOk result (λ next. IsPlace (at + 1) next) }
+    ensures few { IfOk result (λ next. 3 * length runs.new.items + spent next
+        ≤ 3 * length runs.old.items + spent place + 1) }
+    ensures few_err { 3 * length runs.new.items
+        ≤ 3 * length runs.old.items + spent place + 1 }
+    ensures capacity { vec_capacity runs.old ≤ vec_capacity runs.new }
+    ensures room { 3 * vec_len runs.old + spent place + 1 < 3 * vec_capacity runs.old + 3
+        → result ≢ Err Memory }
+{
+    if is_blank(byte) {
+        match end_token(place, at, runs) {
+            Ok(()) => Ok(Place::Between),
+            Err(fault) => Err(fault),
+        }
+    } else {
+        place.with_byte(at, byte)
+    }
+}
+
+/// Adds the run of the token that ends before this offset.
+fn end_token(place: Place, at: u64, runs: &mut Vec<Run>) -> Result<(), ScheduleFault>
+    requires place { IsPlace at place }
+    ensures takes { Takes result runs.old.items runs.new.items
+        (λ (more : Schedule). piece_with place at [] more) (λ more _. more) }
+    ensures few { 3 * length runs.new.items ≤ 3 * length runs.old.items + spent place + 1 }
+    ensures one { length runs.new.items ≤ length runs.old.items + 1 }
+    ensures capacity { vec_capacity runs.old ≤ vec_capacity runs.new }
+    ensures room { 3 * vec_len runs.old + spent place + 1 < 3 * vec_capacity runs.old + 3
+        → result ≢ Err Memory }
+{
+    match place.end(at) {
+        Ok(None) => Ok(()),
+        Ok(Some(run)) => match runs.push(run) {
+            Ok(()) => Ok(()),
+            Err(_) => Err(ScheduleFault::Memory),
+        },
+        Err(fault) => Err(fault),
+    }
+}
+
+#[cfg(test)]
+mod tests;
