@@ -1,6 +1,5 @@
-pub mod Steps
+pub mod View
 pub mod Lines
-pub mod Undone
 pub mod Fresh
 pub mod Safe
 pub mod Balance
@@ -9,3 +8,9 @@ pub mod Turned
 pub mod Joined
 pub mod Added
 pub mod Between
+pub mod Shown
+pub mod Times
+pub mod Changed
+pub mod Kept
+pub mod Turning
+pub mod Calls

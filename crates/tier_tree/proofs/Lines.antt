@@ -27,7 +27,7 @@ set-places [] id flat ends = refl
 set-places (p ∷ phasers) zero flat ends = refl
 set-places (p ∷ phasers) (suc id) flat ends = ap (λ ps. place_of p ∷ ps) (set-places phasers id flat ends)
 
-with_flat-places : (phasers : List PhaserState) (id : ℕ) (flat : Flat) → places_of (with_flat phasers id flat) ≡ places_of phasers
+pub with_flat-places : (phasers : List PhaserState) (id : ℕ) (flat : Flat) → places_of (with_flat phasers id flat) ≡ places_of phasers
 with_flat-places phasers id flat = set-places phasers id flat (phaser_at phasers id).ends
 
 pub joined-places : (all : List Join) (phasers : List PhaserState) → places_of (joined all phasers) ≡ places_of phasers

@@ -92,7 +92,7 @@ line_own phasers id sound there =
 abbrev pub last_of : List ℕ → ℕ
 last_of line = slice_index_or line (length line - 1) 0
 
-last-more : (id x : ℕ) (rest : List ℕ) → last_of (id ∷ x ∷ rest) ≡ last_of (x ∷ rest)
+pub last-more : (id x : ℕ) (rest : List ℕ) → last_of (id ∷ x ∷ rest) ≡ last_of (x ∷ rest)
 last-more id x rest =
     let here : suc (suc (length rest)) - 1 ≡ suc (length rest) = omega arith in
     let there : suc (length rest) - 1 ≡ length rest = omega arith in

@@ -9,6 +9,16 @@ use Rattle.tier_tree.specs.declared.fault.DeclareFault.TheVariants as fault
 use Rattle.tier_tree.specs.Forest.{PhaserState, phaser_at, flat_at, root_of, root_at}
 use Rattle.tier_tree.specs.Registration.{Join, joins, joined, is_overfull}
 
+-- the number that a fault is printed with
+abbrev pub fault_number : DeclareFault → ℕ
+fault_number fault.BadParties = 1
+fault_number fault.TooMany = 2
+fault_number fault.TooDeep = 3
+fault_number fault.TooManyPhasers = 4
+fault_number fault.PhaseOnChild = 5
+fault_number fault.NoParent = 6
+fault_number fault.Memory = 7
+
 -- a phaser has 0 to 65535 parties
 abbrev pub is_count : ℤ → Bool
 is_count parties = not (int_lt parties (pos 0) || int_lt (pos 65535) parties)

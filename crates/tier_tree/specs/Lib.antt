@@ -4,8 +4,11 @@ pub mod Arrival
 pub mod PhaseEnd
 pub use Rattle.packed_phaser.specs.Flat
 pub use Rattle.packed_phaser.specs.Policy
+pub use Rattle.packed_phaser.specs.Word
 pub mod Declaration
 pub mod Sound
+pub mod Stored
+pub mod Answer
 pub mod Undo
 pub mod Origin
 pub mod Law

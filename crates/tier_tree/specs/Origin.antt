@@ -104,3 +104,7 @@ declared_at id count top origin = record {
   unarrived = λ n. if n == id then count else origin.unarrived n;
   stray = λ n. if top && (n == id) then false else origin.stray n;
 }
+
+-- whatever counts the one forest stands for, the other stands for what is made of them here
+abbrev pub Carries : (Origin → Origin) → List PhaserState → List PhaserState → Type 0
+Carries next before after = (origin : Origin) → StandsFor before origin → StandsFor after (next origin)

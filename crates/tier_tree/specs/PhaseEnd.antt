@@ -14,9 +14,9 @@ in_step root phase ended phaser =
 
 -- the turned root's phase ends, with termination where the test says so, and all phasers of the tree follow
 abbrev pub after_turn : ℕ → Bool → List PhaserState → List PhaserState
-after_turn root ends phasers =
+after_turn root terminates phasers =
     let before = phaser_at phasers root in
-    let flat = advance ends before.flat in
+    let flat = advance terminates before.flat in
     slice_set (map (in_step root flat.phase flat.ended) phasers) root (record before { flat = flat; ends = before.ends + 1 })
 
 -- a phaser of the tree is terminated

@@ -1,18 +1,38 @@
-/// Why a declaration is refused, with the number of each.
+ghost use Rattle.std.specs.Prelude.{◌≡◌};
+ghost use Rattle.tier_tree.specs.Declaration.{fault_number};
+
+/// Why a declaration is refused.
 #[derive(Clone, Copy, Debug, PartialEq, Eq)]
 pub enum DeclareFault {
     /// The parties are below 0 or above 65535.
-    BadParties = 1,
+    BadParties,
     /// A phaser that the new one's parties would register with above has 65535 parties.
-    TooMany = 2,
+    TooMany,
     /// The phaser would be more than 7 levels below its root.
-    TooDeep = 3,
+    TooDeep,
     /// There are 64 phasers.
-    TooManyPhasers = 4,
+    TooManyPhasers,
     /// A first phase other than 0 was given for a child.
-    PhaseOnChild = 5,
+    PhaseOnChild,
     /// No phaser of the parent's number was declared before.
-    NoParent = 6,
+    NoParent,
     /// No memory could be had.
-    Memory = 7,
+    Memory,
+}
+
+impl DeclareFault {
+    /// The number that the fault is printed with.
+    pub fn number(self) -> u8
+        ensures { result ≡ fault_number self }
+    {
+        match self {
+            DeclareFault::BadParties => 1,
+            DeclareFault::TooMany => 2,
+            DeclareFault::TooDeep => 3,
+            DeclareFault::TooManyPhasers => 4,
+            DeclareFault::PhaseOnChild => 5,
+            DeclareFault::NoParent => 6,
+            DeclareFault::Memory => 7,
+        }
+    }
 }

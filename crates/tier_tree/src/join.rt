@@ -1,22 +1,40 @@
-ghost use Rattle.std.specs.Prelude.{◌≡◌, ◌<◌, length, All};
+ghost use Rattle.std.specs.Prelude.{◌≡◌, ◌+◌, ◌<◌, [], ◌∷◌, length, All, nat_lt};
 ghost use Rattle.std.specs.List.{list_any};
-ghost use Rattle.tier_tree.specs.Registration.{joins_along, is_overfull, is_turned, joined};
+ghost use Rattle.packed_phaser.specs.Flat.{register};
+ghost use Rattle.packed_phaser.specs.Word.{record_of};
+ghost use Rattle.tier_tree.specs.Forest.{flat_at, with_flat};
+ghost use Rattle.tier_tree.specs.Registration.{joins_along, is_overfull, is_turned, joined, flat_by};
+ghost use Rattle.tier_tree.specs.Registration.{registration, after_registration};
+ghost use Rattle.tier_tree.specs.Answer.{DoesntJoin};
+ghost use Rattle.tier_tree.specs.Stored.{IsStored, ChangedOnly, ChangedAt, phasers_of};
 
-use crate::node::{Node, join_at, word_at};
+use crate::node::Node;
+use crate::present::{line_at, set_word, word_at};
+use crate::registered::Registered;
+use packed_phaser::Word;
+
+/// Whether this many more parties are too many.
+fn is_full_for(word: Word, count: u32) -> bool
+    ensures { result ≡ nat_lt 65535 ((record_of word).parties + count) }
+{
+    count > 65535 - word.parties() as u32
+}
 
 /// Whether a phaser that the registration would change would have too many parties.
 pub fn is_overfull_along(nodes: &[Node], line: &[u8], count: u32) -> bool
-    requires { All (λ id. id < length nodes.now) line.now }
-    ensures { result ≡ list_any (is_overfull nodes.now) (joins_along line.now count nodes.now) }
+    requires stored { IsStored nodes.now }
+    requires there { All (λ id. id < length nodes.now) line.now }
+    ensures { result ≡ list_any (is_overfull (phasers_of nodes.now))
+        (joins_along line.now count (phasers_of nodes.now)) }
 {
     let Some((id, above)) = line.split_first() else {
         return false;
     };
-    let node = &nodes[*id as usize];
-    if node.is_full_for(count) {
+    let word = word_at(nodes, *id as usize);
+    if is_full_for(word, count) {
         return true;
     }
-    if node.word().is_empty() {
+    if word.is_empty() {
         is_overfull_along(nodes, above, 1)
     } else {
         false
@@ -25,13 +43,15 @@ pub fn is_overfull_along(nodes: &[Node], line: &[u8], count: u32) -> bool
 
 /// Whether the phase of a phaser that the registration would change is about to end.
 pub fn is_turned_along(nodes: &[Node], line: &[u8], count: u32) -> bool
-    requires { All (λ id. id < length nodes.now) line.now }
-    ensures { result ≡ list_any (is_turned nodes.now) (joins_along line.now count nodes.now) }
+    requires stored { IsStored nodes.now }
+    requires there { All (λ id. id < length nodes.now) line.now }
+    ensures { result ≡ list_any (is_turned (phasers_of nodes.now))
+        (joins_along line.now count (phasers_of nodes.now)) }
 {
     let Some((id, above)) = line.split_first() else {
         return false;
     };
-    let word = nodes[*id as usize].word();
+    let word = word_at(nodes, *id as usize);
     if word.is_turned() {
         return true;
     }
@@ -42,10 +62,29 @@ pub fn is_turned_along(nodes: &[Node], line: &[u8], count: u32) -> bool
     }
 }
 
+/// Parties register with one phaser as with one without tiers.
+fn join_at(nodes: &mut [Node], i: usize, count: u32)
+    requires stored { IsStored nodes.old }
+    requires there { i < length nodes.old }
+    ensures joined { phasers_of nodes.new ≡ with_flat (phasers_of nodes.old) i
+        (flat_by (register count (flat_at (phasers_of nodes.old) i))
+        (flat_at (phasers_of nodes.old) i)) }
+    ensures stored { IsStored nodes.new }
+    ensures only { ChangedOnly (i ∷ []) nodes.old nodes.new }
+{
+    if let packed_phaser::Registered::At(word, _) = word_at(nodes, i).register(count) {
+        set_word(nodes, i, word);
+    }
+}
+
 /// Registers the parties, and one party above as long as the phaser is empty.
 pub fn join_along(nodes: &mut [Node], line: &[u8], count: u32)
-    requires { All (λ id. id < length nodes.old) line.now }
-    ensures { nodes.new ≡ joined (joins_along line.now count nodes.old) nodes.old }
+    requires stored { IsStored nodes.old }
+    requires there { All (λ id. id < length nodes.old) line.now }
+    ensures joined { phasers_of nodes.new
+        ≡ joined (joins_along line.now count (phasers_of nodes.old)) (phasers_of nodes.old) }
+    ensures stored { IsStored nodes.new }
+    ensures only { ChangedOnly line.now nodes.old nodes.new }
 {
     let Some((id, above)) = line.split_first() else {
         return;
@@ -55,4 +94,45 @@ pub fn join_along(nodes: &mut [Node], line: &[u8], count: u32)
         join_along(nodes, above, 1);
     }
     join_at(nodes, i, count);
+}
+
+/// What a registration with one phaser would answer.
+pub fn registration(nodes: &[Node], i: usize, count: u32) -> Registered
+    requires stored { IsStored nodes.now }
+    requires there { i < length nodes.now }
+    ensures { result ≡ registration i count (phasers_of nodes.now) }
+{
+    let word = word_at(nodes, i);
+    if word.is_terminated() {
+        return Registered::Dead(word.phase_view());
+    }
+    if count == 0 {
+        return Registered::At(word.phase_view());
+    }
+    let line = line_at(nodes, i);
+    if is_overfull_along(nodes, line.as_slice(), count) {
+        Registered::TooMany
+    } else if is_turned_along(nodes, line.as_slice(), count) {
+        Registered::Held
+    } else {
+        Registered::At(word.phase_view())
+    }
+}
+
+/// A registration with one phaser, with what it makes of those above.
+pub fn register(nodes: &mut [Node], i: usize, count: u32) -> Registered
+    requires stored { IsStored nodes.old }
+    requires there { i < length nodes.old }
+    ensures answer { result ≡ registration i count (phasers_of nodes.old) }
+    ensures forest { phasers_of nodes.new ≡ after_registration i count (phasers_of nodes.old) }
+    ensures stored { IsStored nodes.new }
+    ensures only { ChangedAt i nodes.old nodes.new }
+    ensures refused { DoesntJoin result count → nodes.new ≡ nodes.old }
+{
+    let answer = registration(nodes, i, count);
+    if count > 0 && matches!(answer, Registered::At(_)) {
+        let line = line_at(nodes, i);
+        join_along(nodes, line.as_slice(), count);
+    }
+    answer
 }

@@ -3,12 +3,12 @@ ghost use Rattle.std.specs.Prelude.{◌≡◌, ◌-◌, ◌<◌, [], ◌∷◌, 
 use std::marker::Model;
 
 /// The most phasers from one up to its root.
-const MOST: usize = 8;
+pub const MOST_LEVELS: usize = 8;
 
 /// The numbers of a phaser, its parent, its parent's parent and so on up to its root.
 #[derive(Drop)]
 pub struct Line {
-    ids: [u8; 8],
+    ids: [u8; MOST_LEVELS],
     len: u8,
 }
 
@@ -33,7 +33,6 @@ impl Line {
         }
     }
 
-    /// The same line.
     pub fn copy(&self) -> Line
         ensures { result ≡ self.now }
     {
@@ -43,7 +42,6 @@ impl Line {
         }
     }
 
-    /// Its numbers.
     pub fn as_slice(&self) -> &[u8]
         ensures { result.now ≡ self.now }
     {

@@ -1,40 +1,49 @@
-ghost use Rattle.std.specs.Prelude.{◌≡◌, ◌<◌, map, length, true, false};
-ghost use Rattle.tier_tree.specs.PhaseEnd.{in_step, terminated, after_turn};
-ghost use Rattle.tier_tree.specs.Forest.{phaser_at, flat_at};
+ghost use Rattle.std.specs.Prelude.{◌≡◌, ◌<◌, [], ◌∷◌, map, length, true, false};
+ghost use Rattle.tier_tree.specs.PhaseEnd.{terminated, after_turn, after_force};
+ghost use Rattle.tier_tree.specs.Forest.{phaser_at, flat_at, root_at};
+ghost use Rattle.tier_tree.specs.Stored.{IsStored, ChangedOnly, ChangedAt, phasers_of};
 
-use crate::node::{Node, phase_of, word_at};
-use phase_number::Phase;
+use crate::node::Node;
+use crate::present::{root_of, word_at};
 
-/// Each phaser of the root's tree follows it into this phase, or into termination.
-fn follow_root(nodes: &mut [Node], root: u8, phase: Phase, ends: bool)
-    ensures { nodes.new ≡ map (in_step root phase ends) nodes.old }
-{
-    for node in nodes.iter_mut() {
-        node.follow(root, phase, ends);
-    }
-}
-
-/// Each phaser of the root's tree is terminated.
-pub fn force_tree(nodes: &mut [Node], root: u8)
-    ensures { nodes.new ≡ map (terminated root) nodes.old }
-{
-    for node in nodes.iter_mut() {
-        node.force(root);
-    }
-}
-
-/// Ends the phase of a turned root, with termination where `ends` says so.
-pub fn end_phase(nodes: &mut [Node], root: u8, ends: bool)
+/// Ends the phase of a turned root, with termination where `ends` says so. Only the root's word is
+/// written: the others of its tree lag behind it from then on.
+pub fn end_phase(nodes: &mut [Node], root: usize, ends: bool)
+    requires stored { IsStored nodes.old }
     requires there { root < length nodes.old }
-    requires turned { (flat_at nodes.old root).turned ≡ true }
-    requires live { (flat_at nodes.old root).ended ≡ false }
-    requires ends { (phaser_at nodes.old root).ends < 2147483647 }
-    ensures { nodes.new ≡ after_turn root ends nodes.old }
+    requires root { root_at (phasers_of nodes.old) root ≡ root }
+    requires turned { (flat_at (phasers_of nodes.old) root).turned ≡ true }
+    requires live { (flat_at (phasers_of nodes.old) root).ended ≡ false }
+    requires ends { (phaser_at (phasers_of nodes.old) root).ends < 2147483647 }
+    ensures present { phasers_of nodes.new ≡ after_turn root ends (phasers_of nodes.old) }
+    ensures stored { IsStored nodes.new }
+    ensures only { ChangedOnly (root ∷ []) nodes.old nodes.new }
 {
-    let i = root as usize;
-    let phase = phase_of(word_at(nodes, i)).next();
-    let mut node = nodes[i].copy();
-    node.advance(ends);
-    follow_root(nodes, root, phase, ends);
-    nodes[i] = node;
+    let word = word_at(nodes, root).advance(ends);
+    nodes[root].end_phase(word);
+}
+
+/// Terminates the tree of a root, by the root's word alone.
+fn force_root(nodes: &mut [Node], root: usize)
+    requires stored { IsStored nodes.old }
+    requires there { root < length nodes.old }
+    requires root { root_at (phasers_of nodes.old) root ≡ root }
+    ensures present { phasers_of nodes.new ≡ map (terminated root) (phasers_of nodes.old) }
+    ensures stored { IsStored nodes.new }
+    ensures only { ChangedOnly (root ∷ []) nodes.old nodes.new }
+{
+    let word = nodes[root].word().force();
+    nodes[root].set_word(word);
+}
+
+/// Terminates the tree of one phaser.
+pub fn force_tree(nodes: &mut [Node], i: usize)
+    requires stored { IsStored nodes.old }
+    requires there { i < length nodes.old }
+    ensures forest { phasers_of nodes.new ≡ after_force i (phasers_of nodes.old) }
+    ensures stored { IsStored nodes.new }
+    ensures only { ChangedAt i nodes.old nodes.new }
+{
+    let root = root_of(nodes, i);
+    force_root(nodes, root as usize);
 }

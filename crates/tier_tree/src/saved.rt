@@ -1,20 +1,26 @@
-ghost use Rattle.std.specs.Prelude.{◌≡◌, ◌≤◌, map, take};
-ghost use Rattle.tier_tree.specs.Undo.{kept_by};
+ghost use Rattle.std.specs.Prelude.{◌≡◌, ◌<◌, ◌≤◌, map, take, length, All};
+ghost use Rattle.tier_tree.specs.Stored.{IsStored, stored_at};
+ghost use Rattle.tier_tree.specs.Undo.{kept_by, kept_at, saved_of, with_kept, restored};
 
+use crate::node::Node;
+use crate::present::line_at;
 use packed_phaser::Word;
+use phase_number::Phase;
 use std::marker::Model;
 
 /// What was kept of one phaser.
 #[derive(Clone, Copy)]
 pub struct KeptWord {
+    pub id: u8,
     pub word: Word,
     pub ended_phases: u32,
 }
 
-/// What was kept of a forest before a call, so that `Forest::restore` can undo the call.
+/// What was kept of a forest before a call, so that `Forest::restore` can undo the call: the words
+/// from the phaser that the call names up to its root, at most 8.
 #[derive(Drop)]
 pub struct Saved {
-    kept: [KeptWord; 64],
+    kept: [KeptWord; 8],
     len: u8,
 }
 
@@ -26,22 +32,73 @@ impl Model for Saved {
 
     ghost view = { λ saved. map kept_by (take saved.len saved.kept) };
 
-    ghost invariant = { λ saved. saved.len ≤ 64 };
+    ghost invariant = { λ saved. saved.len ≤ 8 };
 }
 
-impl Saved {
-    /// The first `len` of these.
-    pub fn new(kept: [KeptWord; 64], len: u8) -> Saved
-        requires { len ≤ 64 }
-        ensures { result ≡ map kept_by (take len kept) }
-    {
-        Saved { kept, len }
+fn keep_at(nodes: &[Node], id: u8) -> KeptWord
+    requires { id < length nodes.now }
+    ensures { kept_by result ≡ kept_at nodes.now id }
+{
+    let node = &nodes[id as usize];
+    KeptWord {
+        id,
+        word: node.word(),
+        ended_phases: node.ended_phases(),
     }
+}
 
-    /// What was kept of each phaser.
-    pub fn as_slice(&self) -> &[KeptWord]
-        ensures { map kept_by result.now ≡ self.now }
-    {
-        &self.kept[..self.len as usize]
+fn keep_line(nodes: &[Node], line: &[u8]) -> Saved
+    requires few { length line.now ≤ 8 }
+    requires there { All (λ id. id < length nodes.now) line.now }
+    ensures { result ≡ map (kept_at nodes.now) line.now }
+{
+    let none = KeptWord {
+        id: 0,
+        word: Word::fresh(Phase::prevailing(0), 0),
+        ended_phases: 0,
+    };
+    let mut kept = [none; 8];
+    for (i, id) in line.iter().enumerate() {
+        kept[i] = keep_at(nodes, *id);
     }
+    Saved {
+        kept,
+        len: line.len() as u8,
+    }
+}
+
+/// What a call at this phaser can change.
+pub fn keep(nodes: &[Node], i: usize) -> Saved
+    requires stored { IsStored nodes.now }
+    requires there { i < length nodes.now }
+    ensures { result ≡ saved_of i nodes.now }
+{
+    let line = line_at(nodes, i);
+    keep_line(nodes, line.as_slice())
+}
+
+/// Puts back what was kept of one phaser, where there is such a phaser.
+#[tactic(auto, using(std::proofs::lemmas::List::set_past))]
+fn put_back_at(nodes: &mut [Node], kept: &KeptWord)
+    ensures { nodes.new ≡ with_kept (kept_by kept.now) nodes.old }
+{
+    let i = kept.id as usize;
+    if i < nodes.len() {
+        nodes[i].put_back(kept);
+    }
+}
+
+fn put_back_each(nodes: &mut [Node], kept: &[KeptWord])
+    ensures { nodes.new ≡ restored (map kept_by kept.now) nodes.old }
+{
+    for one in kept {
+        put_back_at(nodes, one);
+    }
+}
+
+/// Puts back all that was kept.
+pub fn put_back_all(nodes: &mut [Node], saved: &Saved)
+    ensures { nodes.new ≡ restored saved.now nodes.old }
+{
+    put_back_each(nodes, &saved.kept[..saved.len as usize]);
 }

@@ -1,9 +1,9 @@
-use Rattle.std.proofs.Common.{arith}
-use Rattle.tier_tree.specs.PhaseEnd.{terminated}
-use Rattle.tier_tree.proofs.Steps.{map_step}
+use Rattle.std.proofs.Common.{◌∙◌}
+use Rattle.tier_tree.proofs.Shown.{root_shown}
+use Rattle.tier_tree.proofs.Changed.{only_root}
 use Rattle.tier_tree.proofs.phase_end.force_tree.Goals as goal
 
-pub loop-node-preserved : goal.loop-node-preserved
-loop-node-preserved c =
-    map_step (terminated c.args.root) c.args.nodes.now c.loop-node.nodes c.loop-node.node-index
-    c.node-item.result c.force.new.self c.loop-node.invariant (omega arith) c.force.ensures
+pub returns-clause-only : goal.returns-clause-only
+returns-clause-only c =
+    only_root c.args.nodes.now c.force_root.new.nodes c.args.i c.root_of-root.result c.requires.stored c.requires.there
+    (c.root_of-root.ensures.root ∙ root_shown c.args.nodes.now c.args.i c.requires.there) c.force_root.ensures.only

@@ -1,9 +1,33 @@
-use Rattle.std.proofs.Common.{subst}
-use Rattle.tier_tree.specs.Sound.{IsForest}
-use Rattle.tier_tree.proofs.Joined.{stands_registered}
+use Rattle.std.proofs.Common.{◌≡◌, List}
+use Rattle.tier_tree.specs.Stored.{Stored, phasers_of}
+use Rattle.tier_tree.specs.Answer.{DoesntJoin, KeepsPlaces, KeepsEnds}
+use Rattle.tier_tree.specs.Origin.{Carries, origin_after_registration}
+use Rattle.tier_tree.proofs.Calls.{written_back, registered}
 use Rattle.tier_tree.proofs.forest.Forest.register.Goals as goal
 
+pub returns-clause-refused : goal.returns-clause-refused
+returns-clause-refused c =
+    written_back (λ (before after : List Stored). DoesntJoin c.register.result c.args.count → after ≡ before) c.self.inside.nodes.items c.as_mut_slice.result.now
+    c.args.self.now c.register.new.nodes c.self.inside.nodes.len c.as_mut_slice.ensures.value c.self.view_is c.as_mut_slice.ensures.len c.register.ensures.only.many
+    c.register.ensures.refused
+
+pub returns-clause-places : goal.returns-clause-places
+returns-clause-places c =
+    written_back (λ (before after : List Stored). KeepsPlaces (phasers_of before) (phasers_of after)) c.self.inside.nodes.items c.as_mut_slice.result.now
+    c.args.self.now c.register.new.nodes c.self.inside.nodes.len c.as_mut_slice.ensures.value c.self.view_is c.as_mut_slice.ensures.len c.register.ensures.only.many
+    (registered c.self.inside.nodes.items c.as_mut_slice.result.now c.args.self.now c.register.new.nodes c.args.id.0 c.args.count c.register.result c.as_mut_slice.ensures.value c.self.view_is c.self.invariant c.requires
+    c.register.ensures.answer c.register.ensures.forest).places
+
+pub returns-clause-ends : goal.returns-clause-ends
+returns-clause-ends c =
+    written_back (λ (before after : List Stored). KeepsEnds (phasers_of before) (phasers_of after)) c.self.inside.nodes.items c.as_mut_slice.result.now
+    c.args.self.now c.register.new.nodes c.self.inside.nodes.len c.as_mut_slice.ensures.value c.self.view_is c.as_mut_slice.ensures.len c.register.ensures.only.many
+    (registered c.self.inside.nodes.items c.as_mut_slice.result.now c.args.self.now c.register.new.nodes c.args.id.0 c.args.count c.register.result c.as_mut_slice.ensures.value c.self.view_is c.self.invariant c.requires
+    c.register.ensures.answer c.register.ensures.forest).ends
+
 pub returns-clause-origin : goal.returns-clause-origin
-returns-clause-origin c origin stands =
-    stands_registered c.args.id.0 c.args.count c.args.self.now c.join.new.self origin c.join.result (subst IsForest c.self.view_is c.self.invariant)
-    c.requires c.join.ensures.answer c.join.ensures.forest stands
+returns-clause-origin c =
+    written_back (λ (before after : List Stored). Carries (origin_after_registration c.register.result c.args.id.0 c.args.count) (phasers_of before) (phasers_of after)) c.self.inside.nodes.items c.as_mut_slice.result.now
+    c.args.self.now c.register.new.nodes c.self.inside.nodes.len c.as_mut_slice.ensures.value c.self.view_is c.as_mut_slice.ensures.len c.register.ensures.only.many
+    (registered c.self.inside.nodes.items c.as_mut_slice.result.now c.args.self.now c.register.new.nodes c.args.id.0 c.args.count c.register.result c.as_mut_slice.ensures.value c.self.view_is c.self.invariant c.requires
+    c.register.ensures.answer c.register.ensures.forest).origin

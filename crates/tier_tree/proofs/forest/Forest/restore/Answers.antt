@@ -1,6 +1,13 @@
-use Rattle.tier_tree.proofs.Undone.{restored_change}
+use Rattle.std.proofs.Common.{◌≡◌, List}
+use Rattle.tier_tree.specs.Stored.{Stored, ChangedAt}
+use Rattle.tier_tree.proofs.Changed.{restored_call}
+use Rattle.tier_tree.proofs.Calls.{written_back, written_many}
 use Rattle.tier_tree.proofs.forest.Forest.restore.Goals as goal
 
-pub returns : goal.returns
-returns c id before kept change =
-    restored_change id before c.args.self.now c.put_back.new.self c.args.saved.now c.put_back.ensures kept change
+pub returns-clause-undone : goal.returns-clause-undone
+returns-clause-undone c id before kept changed =
+    written_back (λ (old new : List Stored). ChangedAt id before old → new ≡ before) c.self.inside.nodes.items c.as_mut_slice.result.now
+    c.args.self.now c.put_back_all.new.nodes c.self.inside.nodes.len c.as_mut_slice.ensures.value c.self.view_is c.as_mut_slice.ensures.len
+    (written_many c.args.saved.now c.as_mut_slice.result.now c.put_back_all.new.nodes c.put_back_all.ensures)
+    (λ moved. restored_call id before c.as_mut_slice.result.now c.put_back_all.new.nodes c.args.saved.now c.put_back_all.ensures kept moved)
+    changed

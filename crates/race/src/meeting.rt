@@ -1,0 +1,154 @@
+//! Threads that meet at one shared phaser.
+ghost use Rattle.std.specs.Prelude.{◌≡◌, ◌≢◌, All, IfOk, IfErr, IfSome, None};
+ghost use Rattle.shared_phaser.specs.Known.{phaser_of};
+ghost use Rattle.race.specs.Race.{IsFinal};
+
+use crate::fault::RaceFault;
+use packed_phaser::{Policy, Word};
+use phase_number::Phase;
+use shared_phaser::{NewFault, Party, SharedPhaser};
+use std::alloc::{AllocError, Global};
+use std::snapshot::Snapshot;
+use std::sync::Wait;
+use std::thread;
+use std::thread::{Promise, PromisedHandle, Threads};
+
+/// A thread's caller comes back, still one of this phaser.
+#[derive(Drop)]
+pub struct Home(Snapshot<SharedPhaser>);
+
+impl Promise<Party> for Home {
+    ghost use Rattle.std.specs.Prelude.{◌≡◌};
+    ghost use Rattle.shared_phaser.specs.Known.{phaser_of};
+
+    ghost kept_by = { λ home party. phaser_of party ≡ home.0.value };
+}
+
+/// A thread that runs, and its caller.
+type Running = PromisedHandle<Party, Home>;
+
+/// What one thread does: it arrives and awaits the phase's end, so many times.
+fn work<R: Wait>(rt: &R, phaser: &SharedPhaser, mut party: Party, rounds: u32) -> Party
+    requires { phaser_of party ≡ phaser.now }
+    ensures { phaser_of result ≡ phaser.now }
+{
+    for _ in 0..rounds {
+        let _ = phaser.arrive_and_await_advance(rt, &mut party);
+    }
+    party
+}
+
+/// So many callers beside the first.
+fn callers(
+    alloc: Global,
+    phaser: &SharedPhaser,
+    first: &mut Party,
+    count: u16,
+) -> Result<Vec<Party>, AllocError>
+    requires first { first.old.known.number ≡ 0 }
+    requires phaser { phaser_of first.old ≡ phaser.now }
+    ensures first { first.new.known.number ≡ 0 }
+    ensures phaser { phaser_of first.new ≡ phaser.now }
+    ensures callers { IfOk result (λ v. All (λ p. phaser_of p ≡ phaser.now) v.items) }
+{
+    let mut callers = Vec::new(alloc);
+    for _ in 0..count {
+        callers.push(phaser.split(first))?;
+    }
+    Ok(callers)
+}
+
+/// Starts a thread for each caller, and waits until all have ended. Where one can't be started, the phaser is
+/// terminated, so that those that run come back.
+fn run<R: Threads + Wait + Sync>(
+    rt: &R,
+    alloc: Global,
+    phaser: &SharedPhaser,
+    first: Party,
+    callers: Vec<Party>,
+    rounds: u32,
+) -> (Party, Vec<Running>, Option<RaceFault>)
+    requires first { first.known.number ≡ 0 }
+    requires phaser { phaser_of first ≡ phaser.now }
+    requires callers { All (λ p. phaser_of p ≡ phaser.now) callers.items }
+    ensures first { result.0.known.number ≡ 0 }
+    ensures phaser { phaser_of result.0 ≡ phaser.now }
+    ensures running { All (λ h. h.promise.0.value ≡ phaser.now) result.1.items }
+    ensures fault { IfSome result.2 (λ fault. fault ≢ RaceFault.Write) }
+{
+    thread::scope(
+        thread::scope_env(),
+        rt,
+        move |scope| -> (Party, Vec<Running>, Option<RaceFault>)
+            requires first { first.known.number ≡ 0 }
+            requires phaser { phaser_of first ≡ phaser.now }
+            requires callers { All (λ p. phaser_of p ≡ phaser.now) callers.items }
+            ensures first { result.0.known.number ≡ 0 }
+            ensures phaser { phaser_of result.0 ≡ phaser.entry.now }
+            ensures running { All (λ h. h.promise.0.value ≡ phaser.entry.now) result.1.items }
+            ensures fault { IfSome result.2 (λ fault. fault ≢ RaceFault.Write) }
+        {
+            let mut first = first;
+            let mut running = Vec::new(alloc);
+            for caller in callers {
+                let home = Home(Snapshot::of(phaser));
+                let Ok(handle) = scope.spawn_with(
+                    home,
+                    move || -> Party
+                        requires { phaser_of caller ≡ phaser.now }
+                        ensures { phaser_of result ≡ phaser.entry.now }
+                    { work(rt, phaser, caller, rounds) },
+                ) else {
+                    phaser.force(rt, &mut first);
+                    return (first, running, Some(RaceFault::Spawn));
+                };
+                let Ok(()) = running.push(handle) else {
+                    phaser.force(rt, &mut first);
+                    return (first, running, Some(RaceFault::Memory));
+                };
+            }
+            (first, running, None)
+        },
+    )
+}
+
+/// Takes all callers back into the first.
+fn gather<R: Threads>(rt: &R, phaser: &SharedPhaser, first: &mut Party, running: Vec<Running>)
+    requires first { first.old.known.number ≡ 0 }
+    requires phaser { phaser_of first.old ≡ phaser.now }
+    requires running { All (λ h. h.promise.0.value ≡ phaser.now) running.items }
+    ensures first { first.new.known.number ≡ 0 }
+    ensures phaser { phaser_of first.new ≡ phaser.now }
+{
+    for handle in running {
+        let party = handle.join(rt);
+        phaser.join(first, party);
+    }
+}
+
+/// So many threads meet so often at a phaser of as many parties; its last word.
+pub fn race<R: Threads + Wait + Sync>(
+    rt: &R,
+    alloc: Global,
+    parties: u16,
+    rounds: u32,
+) -> Result<Word, RaceFault>
+    ensures word { IfOk result (λ word. IsFinal parties word) }
+    ensures fault { IfErr result (λ fault. fault ≢ RaceFault.Write) }
+{
+    let made = SharedPhaser::new(alloc, parties, Policy::Default, Phase::prevailing(0));
+    let (phaser, mut first) = match made {
+        Ok(both) => both,
+        Err(NewFault::Memory) => return Err(RaceFault::Memory),
+        Err(NewFault::RoutinePolicy) => unreachable!(),
+    };
+    let Ok(callers) = callers(alloc, &phaser, &mut first, parties) else {
+        return Err(RaceFault::Memory);
+    };
+    let (mut first, running, fault) = run(rt, alloc, &phaser, first, callers, rounds);
+    gather(rt, &phaser, &mut first, running);
+    if let Some(fault) = fault {
+        return Err(fault);
+    }
+    Ok(phaser.close(first))
+}

@@ -1,0 +1,30 @@
+//! A race for a stopwatch: `race_benchmark PARTIES ROUNDS`, 2 and 1000 where they aren't said.
+#![tactic(auto)]
+
+use byte_ports::WritePort;
+use race::race_cmd;
+use std::env;
+use std::process::ExitCode;
+
+/// How many threads meet where no number is said, and how often.
+const PARTIES: u16 = 2;
+
+const ROUNDS: u32 = 1000;
+
+fn main(rt: HostRuntime) -> ExitCode {
+    let mut parties = PARTIES;
+    let mut rounds = ROUNDS;
+    if let Ok(mut words) = env::args(&rt) {
+        let _ = words.next();
+        if let Some(word) = words.next() {
+            parties = word.as_str().parse().unwrap_or(PARTIES);
+        }
+        if let Some(word) = words.next() {
+            rounds = word.as_str().parse().unwrap_or(ROUNDS);
+        }
+    }
+    let mut output = WritePort::new(rt.stdout());
+    let mut errors = WritePort::new(rt.stderr());
+    let status = race_cmd(&rt, rt.alloc(), parties, rounds, &mut output, &mut errors);
+    ExitCode::from(status)
+}

@@ -1,0 +1,5 @@
+pub mod Stories
+pub mod Steps
+pub mod Plays
+pub mod Tries
+pub mod Parties

@@ -1,0 +1,264 @@
+-- What the tries of a call come to.
+use Rattle.std.proofs.Common.{◌≡◌, ◌≢◌, ◌⊎◌, ℕ, ℤ, zero, suc, pos, ◌+◌, ◌-◌, ◌<◌, ◌≤◌, ◌==◌, nat_lt, if◌then◌else◌, Bool, true, false, List, [], ◌∷◌, ◌++◌, refl, sym, ap, ◌∙◌, subst, inl, inr, ⊎_elim, arith, append_assoc, eq-zero-or-pos, eqb-true, ne_eqb, int_eq}
+use mathlib.Core.List.{IsPrefix}
+use Rattle.atomic_table.specs.Table.{Me, Step}
+use Rattle.packed_phaser.specs.Flat.{Flat, Registration, Joins, JoinsLate, MustWait, Overfull, Counts, Turns, ComesLate, IsUnregistered, register, arrive, settled, advance, force, view_of}
+use Rattle.packed_phaser.specs.Word.{IsWord, record_of}
+use Rattle.packed_phaser.specs.declared.policy.Policy.{Policy}
+use Rattle.shared_phaser.specs.declared.history.Call.{Call}
+use Rattle.shared_phaser.specs.declared.history.Call.TheVariants.{Look, Register, Arrive, Force, Await}
+use Rattle.shared_phaser.specs.declared.history.Answer.{Answer}
+use Rattle.shared_phaser.specs.declared.history.Answer.TheVariants.{Saw, Replied, Passed}
+use Rattle.shared_phaser.specs.declared.history.Entry.{Entry}
+use Rattle.shared_phaser.specs.declared.history.Known.{Known}
+use Rattle.shared_phaser.specs.declared.history.View.{View}
+use Rattle.shared_phaser.specs.History.{Effect, Shows, Tells, Makes, Waits, effect, registering, arriving, forcing, awaiting, Answers, IsLegal, at_end, after_all, changes, opened}
+use Rattle.shared_phaser.specs.Known.{Owns, making, seeing, MakesCall, SeesMore}
+use Rattle.shared_phaser.specs.Outcome.{IsTried, IsPrompt, Suits}
+use Rattle.shared_phaser.specs.Rule.{knowing, Finds, loaded, exchanged, effect_at, Loads, Exchanges, Watches}
+use Rattle.shared_phaser.proofs.Stories.{after_all-append, changes-append, unchanged}
+use Rattle.shared_phaser.proofs.Plays.{made_legal, made_owns}
+
+-- a call that changes the phaser finds it not terminated
+opens_fields : (p : Policy) (c : Call) (ph : ℕ) (b : Bool) (pa ar : ℕ) (t : Bool) (g : Flat) (a : Answer)
+    → effect p c (record { phase = ph; ended = b; parties = pa; arrived = ar; turned = t }) ≡ Makes g a → b ≡ false
+opens_fields p c ph false pa ar t g a is = refl
+opens_fields p Look ph true pa ar t g a is = absurd (cc is)
+opens_fields p (Register k) ph true pa ar t g a is = absurd (cc is)
+opens_fields p (Arrive leave) ph true pa ar t g a is = absurd (cc is)
+opens_fields p Force ph true pa ar t g a is = absurd (cc is)
+opens_fields p (Await n) ph true pa ar t g a is = absurd (cc is)
+
+pub opens : (p : Policy) (c : Call) (f g : Flat) (a : Answer) → effect p c f ≡ Makes g a → f.ended ≡ false
+opens p c f g a is = opens_fields p c f.phase f.ended f.parties f.arrived f.turned g a is
+
+-- and leaves it not turned
+same_flat : (f g : Flat) (x a : Answer) → Makes f x ≡ Makes g a → f.turned ≡ false → g.turned ≡ false
+same_flat f g x a is un = let same : f ≡ g = cc is in sym (ap (λ (h : Flat). h.turned) same) ∙ un
+
+joins_unturned : (z : Bool) (f g : Flat) (x a : Answer) → (if z then Tells x else Makes f x) ≡ Makes g a → f.turned ≡ false → g.turned ≡ false
+joins_unturned true f g x a is un = absurd (cc is)
+joins_unturned false f g x a is un = same_flat f g x a is un
+
+registers_unturned : (k : ℕ) (b z o t : Bool) (f f' g : Flat) (view phase : ℤ) (a : Answer)
+    → registering k (if b then JoinsLate view else (if z then Joins f phase else (if o then Overfull else (if t then MustWait else Joins f' phase)))) ≡ Makes g a
+    → f.turned ≡ false → f'.turned ≡ false → g.turned ≡ false
+registers_unturned k true z o t f f' g view phase a is un un' = absurd (cc is)
+registers_unturned k false true o t f f' g view phase a is un un' = joins_unturned (k == 0) f g _ a is un
+registers_unturned k false false true t f f' g view phase a is un un' = absurd (cc is)
+registers_unturned k false false false true f f' g view phase a is un un' = absurd (cc is)
+registers_unturned k false false false false f f' g view phase a is un un' = joins_unturned (k == 0) f' g _ a is un'
+
+settles_unturned : (p : Policy) (phase : ℕ) (b : Bool) (f f' g : Flat) (a : Answer)
+    → arriving p phase (if b then Turns f' else Counts f) ≡ Makes g a → f.turned ≡ false → g.turned ≡ false
+settles_unturned p phase true f f' g a is un = same_flat _ g _ a is refl
+settles_unturned p phase false f f' g a is un = same_flat f g _ a is un
+
+arrives_unturned : (p : Policy) (phase : ℕ) (b n l : Bool) (f f' g : Flat) (view : ℤ) (a : Answer)
+    → arriving p phase (if b then ComesLate view else (if n then IsUnregistered else (if l then settled f' else settled f))) ≡ Makes g a
+    → f.turned ≡ false → f'.turned ≡ false → g.turned ≡ false
+arrives_unturned p phase true n l f f' g view a is un un' = absurd (cc is)
+arrives_unturned p phase false true l f f' g view a is un un' = absurd (cc is)
+arrives_unturned p phase false false true f f' g view a is un un' = settles_unturned p phase (f'.arrived == f'.parties) f' _ g a is un'
+arrives_unturned p phase false false false f f' g view a is un un' = settles_unturned p phase (f.arrived == f.parties) f _ g a is un
+
+forces_unturned : (b : Bool) (f g : Flat) (x y a : Answer) → (if b then Tells x else Makes (force f) y) ≡ Makes g a → g.turned ≡ false
+forces_unturned true f g x y a is = absurd (cc is)
+forces_unturned false f g x y a is = same_flat (force f) g y a is refl
+
+awaits_nothing : (b e : Bool) (g : Flat) (x y a : Answer) → (if b then Tells x else (if e then Waits else Tells y)) ≡ Makes g a → ⊥
+awaits_nothing true e g x y a is = cc is
+awaits_nothing false true g x y a is = cc is
+awaits_nothing false false g x y a is = cc is
+
+pub unturned_after : (p : Policy) (c : Call) (f g : Flat) (a : Answer) → effect p c f ≡ Makes g a → f.turned ≡ false → g.turned ≡ false
+unturned_after p Look f g a is un = absurd (cc is)
+unturned_after p (Register k) f g a is un =
+    registers_unturned k f.ended (k == 0) (nat_lt 65535 (f.parties + k)) f.turned f (record f { parties = f.parties + k }) g (view_of f) (pos f.phase) a is un un
+unturned_after p (Arrive leave) f g a is un =
+    arrives_unturned p f.phase f.ended (f.arrived == f.parties) leave (record f { arrived = f.arrived + 1 }) (record f { parties = f.parties - 1 }) g (view_of f) a is un un
+unturned_after p Force f g a is un = forces_unturned f.ended f g _ _ a is
+unturned_after p (Await n) f g a is un = absurd (awaits_nothing f.ended (int_eq (pos f.phase) n) g _ _ a is)
+
+-- a call on the history that was found
+pub made : (v : View) (n : ℕ) (log : List Entry) (c : Call) (a : Answer) → Finds v n log → Answers (record_of n) (effect_at v c n) a
+    → MakesCall v.known c a (making v.known log c a)
+made v n log c a finds answers = record {
+  between = finds.knows.begins.0;
+  is = ap (λ (xs : List Entry). making v.known xs c a) (sym finds.knows.begins.1);
+  legal = made_legal v n log c a finds.legal finds.now answers;
+  owns = made_owns v.known log c a finds.knows.owns;
+}
+
+-- a look at it
+pub seen : (v : View) (n : ℕ) (log : List Entry) (least : ℕ) (finds : Finds v n log)
+    → least ≤ changes v.known.opening.policy (at_end v.known.opening v.known.seen) finds.knows.begins.0 → SeesMore v.known least (seeing v.known log)
+seen v n log least finds grown = record {
+  between = finds.knows.begins.0;
+  is = ap (seeing v.known) (sym finds.knows.begins.1);
+  legal = finds.legal;
+  owns = record { own = finds.knows.owns.own; kept = finds.knows.owns.kept; apart = finds.knows.owns.apart };
+  grown = grown;
+}
+
+-- what the call makes of the word found, as the code asked
+pub effect_here : (v : View) (c d : Call) (p : Policy) (n word : ℕ) (e : Effect) → v.known.opening.policy ≡ p → c ≡ d → word ≡ n
+    → e ≡ effect p d (record_of word) → effect_at v c n ≡ e
+effect_here v c d p n word e policy call same is =
+    ap (λ (q : Policy). effect q c (record_of n)) policy
+    ∙ (ap (λ (z : Call). effect p z (record_of n)) call ∙ (ap (λ (m : ℕ). effect p d (record_of m)) (sym same) ∙ sym is))
+
+loaded_opening : (e : Effect) (k : Known) (log : List Entry) (c : Call) (n : ℕ) → (loaded e k log c n).opening ≡ k.opening
+loaded_opening Shows k log c n = refl
+loaded_opening (Tells a) k log c n = refl
+loaded_opening (Makes f a) k log c n = refl
+loaded_opening Waits k log c n = refl
+
+module _ (c : Call) (s : Step (Unit {0})) (v w : Me (Unit {0}) View) (n : ℕ) (load : Loads c s v n w) where
+  pub opening_stays : w.0.known.opening ≡ v.0.known.opening
+  opening_stays = ap (λ (u : View). u.known.opening) load.view ∙ loaded_opening (effect_at v.0 c n) v.0.known load.log c n
+
+  pub live_stays : w.0.live ≡ v.0.live
+  live_stays = ap (λ (u : View). u.live) load.view
+
+  known_is : (e : Effect) → effect_at v.0 c n ≡ e → loaded e v.0.known load.log c n ≡ w.0.known
+  known_is e is = sym (ap (λ (u : View). u.known) load.view ∙ ap (λ (e : Effect). loaded e v.0.known load.log c n) is)
+
+  -- a load that answers the call
+  pub told : (a : Answer) → effect_at v.0 c n ≡ Tells a → MakesCall v.0.known c a w.0.known
+  told a is = subst (MakesCall v.0.known c a) (known_is (Tells a) is)
+      (made v.0 n load.log c a load.finds (subst (λ (e : Effect). Answers (record_of n) e a) (sym is) refl))
+
+  pub looked : effect_at v.0 c n ≡ Shows → MakesCall v.0.known c (Saw n) w.0.known
+  looked is = subst (MakesCall v.0.known c (Saw n)) (known_is Shows is)
+      (made v.0 n load.log c (Saw n) load.finds (subst (λ (e : Effect). Answers (record_of n) e (Saw n)) (sym is) (n, refl, refl)))
+
+  -- and one that doesn't
+  waited_as : (e : Effect) → effect_at v.0 c n ≡ e → loaded e v.0.known load.log c n ≡ seeing v.0.known load.log → SeesMore v.0.known 0 w.0.known
+  waited_as e is same = subst (SeesMore v.0.known 0) (sym same ∙ known_is e is) (seen v.0 n load.log 0 load.finds (omega arith))
+
+  pub waited : effect_at v.0 c n ≡ Waits → SeesMore v.0.known 0 w.0.known
+  waited is = waited_as Waits is refl
+
+  pub begun : (g : Flat) (a : Answer) → effect_at v.0 c n ≡ Makes g a → SeesMore v.0.known 0 w.0.known
+  begun g a is = waited_as (Makes g a) is refl
+
+  pub begun_at : (g : Flat) (a : Answer) → effect_at v.0 c n ≡ Makes g a → record_of n ≡ at_end w.0.known.opening w.0.known.seen
+  begun_at g a is = subst (λ (k : Known). record_of n ≡ at_end k.opening k.seen) (known_is (Makes g a) is) load.finds.now
+
+-- what follows what was seen
+pub then_makes : (k l m : Known) (least : ℕ) (c : Call) (a : Answer) → SeesMore k least l → MakesCall l c a m → MakesCall k c a m
+then_makes k l m least c a sees =
+    subst (λ (z : Known). MakesCall z c a m → MakesCall k c a m) (sym sees.is) (λ makes. record {
+      between = sees.between ++ makes.between;
+      is = makes.is ∙ ap (λ (xs : List Entry). making k xs c a) (append_assoc k.seen sees.between makes.between);
+      legal = makes.legal;
+      owns = makes.owns;
+    })
+
+pub then_sees : (k l m : Known) (least more : ℕ) → SeesMore k least l → SeesMore l more m → SeesMore k (least + more) m
+then_sees k l m least more sees =
+    subst (λ (z : Known). SeesMore z more m → SeesMore k (least + more) m) (sym sees.is) (λ further.
+    let p = k.opening.policy in
+    let here = at_end k.opening k.seen in
+    let both = changes-append p here sees.between further.between in
+    let at : at_end k.opening (k.seen ++ sees.between) ≡ after_all p here sees.between = after_all-append p (opened k.opening) k.seen sees.between in
+    let rest : more ≤ changes p (after_all p here sees.between) further.between =
+    subst (λ (f : Flat). more ≤ changes p f further.between) at further.grown in
+    let first : least ≤ changes p here sees.between = sees.grown in
+    record {
+      between = sees.between ++ further.between;
+      is = further.is ∙ ap (seeing k) (append_assoc k.seen sees.between further.between);
+      legal = further.legal;
+      owns = further.owns;
+      grown = omega arith;
+    })
+
+-- a word is the only one of a phaser that isn't terminated
+abbrev pub OneWord : Type 0
+OneWord = (v w : ℕ) → IsWord v → IsWord w → record_of v ≡ record_of w → (record_of v).ended ≡ false → v ≡ w
+
+module _ (c : Call) (s : Step (Unit {0})) (v w : Me (Unit {0}) View) (n : ℕ) (exchange : Exchanges c s v n w) where
+  exchanged_is : (b : Bool) → (n == s.first) ≡ b → exchanged b (effect_at v.0 c n) v.0.known exchange.log c ≡ w.0.known
+  exchanged_is b is = sym (ap (λ (u : View). u.known) exchange.view ∙ ap (λ (b : Bool). exchanged b (effect_at v.0 c n) v.0.known exchange.log c) is)
+
+  -- the exchange was won
+  pub won_is : (a : Answer) (g : Flat) → (n == s.first) ≡ true → effect_at v.0 c n ≡ Makes g a → MakesCall v.0.known c a w.0.known
+  won_is a g hit is = subst (MakesCall v.0.known c a)
+      (sym (ap (λ (e : Effect). exchanged true e v.0.known exchange.log c) is) ∙ exchanged_is true hit)
+      (made v.0 n exchange.log c a exchange.finds (subst (λ (e : Effect). Answers (record_of n) e a) (sym is) refl))
+
+  -- or lost, and then another call changed the phaser
+  pub lost_is : OneWord → (n == s.first) ≡ false → n ≢ s.first → IsWord s.first → (record_of s.first).ended ≡ false
+      → record_of s.first ≡ at_end v.0.known.opening v.0.known.seen
+      → SeesMore v.0.known 1 w.0.known × (record_of n ≡ at_end w.0.known.opening w.0.known.seen)
+  lost_is one miss apart valid running found =
+      let k = v.0.known in
+      let p = k.opening.policy in
+      let rest = exchange.finds.knows.begins in
+      let after_rest : at_end k.opening exchange.log ≡ after_all p (at_end k.opening k.seen) rest.0 =
+      ap (at_end k.opening) (sym rest.1) ∙ after_all-append p (opened k.opening) k.seen rest.0 in
+      let never : changes p (at_end k.opening k.seen) rest.0 ≡ 0 → ⊥ = λ none. apart (sym (one s.first n valid exchange.finds.valid
+      (found ∙ (sym (unchanged p (at_end k.opening k.seen) rest.0 none) ∙ (sym after_rest ∙ sym exchange.finds.now))) running)) in
+      let grown : 1 ≤ changes p (at_end k.opening k.seen) rest.0 =
+      ⊎_elim (λ (h : changes p (at_end k.opening k.seen) rest.0 ≡ 0). absurd (never h)) (λ h. h) (eq-zero-or-pos (changes p (at_end k.opening k.seen) rest.0)) in (
+        subst (SeesMore k 1) (exchanged_is false miss) (seen v.0 n exchange.log 1 exchange.finds grown),
+        subst (λ (l : Known). record_of n ≡ at_end l.opening l.seen) (exchanged_is false miss) exchange.finds.now,
+      )
+
+-- the tries of a call, so far all lost
+abbrev pub RacesSoFar : Known → ℕ → ℕ → Known → Type 0
+RacesSoFar k n word l = ((n ≡ 0) × (l ≡ k)) ⊎ (SeesMore k n l × (record_of word ≡ at_end l.opening l.seen))
+
+pub race_more : (k l m : Known) (n word word' : ℕ) → RacesSoFar k n word l → SeesMore l 1 m → record_of word' ≡ at_end m.opening m.seen → RacesSoFar k (n + 1) word' m
+race_more k l m n word word' (inl h) sees is = inr (subst (λ (z : Known × ℕ). SeesMore z.0 (z.1 + 1) m) (λ i. (h.1 i, sym h.0 i)) sees, is)
+race_more k l m n word word' (inr h) sees is = inr (then_sees k l m n 1 h.0 sees, is)
+
+pub race_makes : (k l m : Known) (n word : ℕ) (c : Call) (a : Answer) → RacesSoFar k n word l → MakesCall l c a m → MakesCall k c a m
+race_makes k l m n word c a (inl h) makes = subst (λ (z : Known). MakesCall z c a m) h.1 makes
+race_makes k l m n word c a (inr h) makes = then_makes k l m n c a h.0 makes
+
+pub race_done : (k l : Known) (n word : ℕ) → RacesSoFar k n word l → 0 < n → SeesMore k n l × (record_of word ≡ at_end l.opening l.seen)
+race_done k l n word (inl h) some = let none = h.0 in absurd (omega arith)
+race_done k l n word (inr h) some = h
+
+-- the tries of a call that is tried until it has an answer
+abbrev pub LaterThan : Known → Known → Type 0
+LaterThan k l = (l ≡ k) ⊎ SeesMore k 0 l
+
+weaker : (k l : Known) (n : ℕ) → SeesMore k n l → SeesMore k 0 l
+weaker k l n sees = record { between = sees.between; is = sees.is; legal = sees.legal; owns = sees.owns; grown = omega arith }
+
+pub later_more : (k l m : Known) (n : ℕ) → LaterThan k l → SeesMore l n m → LaterThan k m
+later_more k l m n (inl h) sees = inr (weaker k m n (subst (λ (z : Known). SeesMore z n m) h sees))
+later_more k l m n (inr h) sees = inr (weaker k m (0 + n) (then_sees k l m 0 n h sees))
+
+pub later_makes : (k l m : Known) (c : Call) (a : Answer) → LaterThan k l → MakesCall l c a m → MakesCall k c a m
+later_makes k l m c a (inl h) makes = subst (λ (z : Known). MakesCall z c a m) h makes
+later_makes k l m c a (inr h) makes = then_makes k l m 0 c a h makes
+
+-- a call that waits for nobody has a reply
+abbrev pub IsReply : Answer → Type 0
+IsReply (Saw word) = ⊥
+IsReply (Replied r) = Unit {0}
+IsReply (Passed view) = ⊥
+
+pub prompt_replies : (c : Call) (a : Answer) → IsPrompt c → Suits c a → IsReply a
+prompt_replies Look a prompt suits = absurd prompt
+prompt_replies (Register k) (Saw w) prompt suits = suits
+prompt_replies (Register k) (Replied r) prompt suits = tt
+prompt_replies (Register k) (Passed v) prompt suits = suits
+prompt_replies (Arrive leave) (Saw w) prompt suits = suits
+prompt_replies (Arrive leave) (Replied r) prompt suits = tt
+prompt_replies (Arrive leave) (Passed v) prompt suits = suits
+prompt_replies Force (Saw w) prompt suits = suits
+prompt_replies Force (Replied r) prompt suits = tt
+prompt_replies Force (Passed v) prompt suits = suits
+prompt_replies (Await n) a prompt suits = absurd prompt
+
+pub prompt_tries : (c : Call) → IsPrompt c → IsTried c
+prompt_tries Look prompt = prompt
+prompt_tries (Register k) prompt = tt
+prompt_tries (Arrive leave) prompt = tt
+prompt_tries Force prompt = tt
+prompt_tries (Await n) prompt = tt

@@ -1,0 +1,58 @@
+-- What the code's own answers mean.
+use Rattle.std.specs.Prelude.{◌≡◌, ℕ, ℤ}
+use Rattle.packed_phaser.specs.Word.{record_of}
+use Rattle.shared_phaser.specs.declared.history.Call.{Call}
+use Rattle.shared_phaser.specs.declared.history.Call.TheVariants.{Look, Register, Arrive, Force, Await}
+use Rattle.shared_phaser.specs.declared.history.Reply.TheVariants.{Counted, Dead, TooMany, NotThere}
+use Rattle.shared_phaser.specs.declared.history.Answer.{Answer}
+use Rattle.shared_phaser.specs.declared.history.Answer.TheVariants.{Saw, Replied, Passed}
+use Rattle.shared_phaser.specs.declared.effect.Outcome.{Outcome}
+use Rattle.shared_phaser.specs.declared.effect.Outcome.TheVariants.{Told, Change, Wait}
+use Rattle.shared_phaser.specs.declared.attempt.Attempt.{Attempt}
+use Rattle.shared_phaser.specs.declared.attempt.Attempt.TheVariants.{Made, Lost, Waiting}
+use Rattle.shared_phaser.specs.declared.history.Known.{Known}
+use Rattle.shared_phaser.specs.History.{Effect, Tells, Makes, Waits, at_end}
+use Rattle.shared_phaser.specs.Known.{MakesCall, SeesMore}
+
+-- the effect that an outcome stands for
+abbrev pub effect_of : Outcome → Effect
+effect_of (Told a) = Tells a
+effect_of (Change word a) = Makes (record_of word) a
+effect_of Wait = Waits
+
+-- the calls that are tried until they have an answer
+abbrev pub IsTried : Call → Type 0
+IsTried Look = ⊥
+IsTried (Register k) = Unit {0}
+IsTried (Arrive leave) = Unit {0}
+IsTried Force = Unit {0}
+IsTried (Await n) = Unit {0}
+
+-- those of them that wait for nobody
+abbrev pub IsPrompt : Call → Type 0
+IsPrompt Look = ⊥
+IsPrompt (Register k) = Unit {0}
+IsPrompt (Arrive leave) = Unit {0}
+IsPrompt Force = Unit {0}
+IsPrompt (Await n) = ⊥
+
+-- the kinds of answer that a call may have
+abbrev pub Suits : Call → Answer → Type 0
+Suits (Await n) (Passed view) = Unit {0}
+Suits (Arrive leave) (Replied TooMany) = ⊥
+Suits (Arrive leave) (Replied r) = Unit {0}
+Suits (Register k) (Replied r) = Unit {0}
+Suits Force (Replied r) = Unit {0}
+Suits c a = ⊥
+
+-- and the kinds of outcome
+abbrev pub SuitsOutcome : Call → Outcome → Type 0
+SuitsOutcome c (Told a) = Suits c a
+SuitsOutcome c (Change word a) = Suits c a
+SuitsOutcome c Wait = IsPrompt c → ⊥
+
+-- what one try makes of what the caller knows
+abbrev pub Tried : Known → Call → Attempt → Known → Type 0
+Tried k c (Made a) l = MakesCall k c a l × Suits c a
+Tried k c (Lost word) l = SeesMore k 1 l × (record_of word ≡ at_end l.opening l.seen)
+Tried k c Waiting l = SeesMore k 0 l × (IsPrompt c → ⊥)

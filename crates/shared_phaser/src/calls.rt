@@ -1,0 +1,120 @@
+//! The calls that wait for nobody.
+ghost use Rattle.std.specs.Prelude.{◌≡◌, ◌<◌, IfOk, IfErr};
+ghost use Rattle.shared_phaser.specs.declared.history.Call.TheVariants.{Look, Register, Arrive, Force};
+ghost use Rattle.shared_phaser.specs.declared.history.Answer.TheVariants.{Saw, Replied};
+ghost use Rattle.shared_phaser.specs.Known.{phaser_of, MakesCall};
+ghost use Rattle.shared_phaser.specs.Outcome.{IsPrompt, Suits};
+ghost use Rattle.shared_phaser.specs.Race.{LosesRaces};
+
+use crate::attempt::Attempt;
+use crate::history::{Answer, Call, Reply};
+use crate::phaser::{Party, SharedPhaser};
+use crate::rule::{Asked, Load};
+use packed_phaser::Word;
+use std::marker::Brand;
+
+/// Every try of a call lost to a call of another caller that changed the phaser.
+#[derive(Clone, Copy, Debug, PartialEq, Eq)]
+pub struct Raced {
+    /// How often it was tried.
+    pub tries: u32,
+    /// The word that the last try found.
+    pub word: Word,
+}
+
+/// The reply of a call that waits for nobody.
+#[tactic(auto, using(crate::proofs::Tries::prompt_replies))]
+pub fn reply_of(call: Call, answer: Answer) -> Reply
+    requires prompt { IsPrompt call }
+    requires suits { Suits call answer }
+    ensures { answer ≡ Replied result }
+{
+    match answer {
+        Answer::Replied(reply) => reply,
+        _ => unreachable!(),
+    }
+}
+
+impl SharedPhaser {
+    /// The phaser as it is, from which `getPhase`, `getRegisteredParties` and the other getters are read.
+    pub fn look(&self, party: &mut Party) -> Word
+        requires { phaser_of party.old ≡ self.now }
+        ensures phaser { phaser_of party.new ≡ self.now }
+        ensures made { MakesCall party.old.known Look (Saw result) party.new.known }
+    {
+        let table = &*self.table;
+        let found = table.shared.load::<Load<Brand>>(&mut party.seat, 0);
+        match Word::from_raw(found) {
+            Some(word) => word,
+            None => unreachable!(),
+        }
+    }
+
+    /// So many tries of a call.
+    fn within<C: Asked>(&self, party: &mut Party, call: Call, tries: u32) -> Result<Reply, Raced>
+        requires call { C.call ≡ call }
+        requires prompt { IsPrompt call }
+        requires tries { 0 < tries }
+        requires phaser { phaser_of party.old ≡ self.now }
+        ensures phaser { phaser_of party.new ≡ self.now }
+        ensures made { IfOk result
+            (λ r. MakesCall party.old.known call (Replied r) party.new.known) }
+        ensures raced { IfErr result (λ e. LosesRaces party.old.known tries e party.new.known) }
+    {
+        let mut last = 1;
+        for lost in 0..tries {
+            let tried = self.attempt::<C>(party, call);
+            match tried {
+                Attempt::Made(answer) => return Ok(reply_of(call, answer)),
+                Attempt::Lost(word) => last = word.raw(),
+                Attempt::Waiting => unreachable!(),
+            }
+        }
+        match Word::from_raw(last) {
+            Some(word) => Err(Raced { tries, word }),
+            None => unreachable!(),
+        }
+    }
+
+    /// `register` where `parties` is 1, else `bulkRegister(parties)`, in at most so many tries.
+    pub fn register_within(
+        &self,
+        party: &mut Party,
+        parties: u32,
+        tries: u32,
+    ) -> Result<Reply, Raced>
+        requires tries { 0 < tries }
+        requires phaser { phaser_of party.old ≡ self.now }
+        ensures phaser { phaser_of party.new ≡ self.now }
+        ensures made { IfOk result
+            (λ r. MakesCall party.old.known (Register parties) (Replied r) party.new.known) }
+        ensures raced { IfErr result (λ e. LosesRaces party.old.known tries e party.new.known) }
+    {
+        self.within::<Brand>(party, Call::Register(parties), tries)
+    }
+
+    /// `arrive`, or `arriveAndDeregister` where the party leaves, in at most so many tries. The last arrival of a phase
+    /// ends it in the same step.
+    pub fn arrive_within(&self, party: &mut Party, leave: bool, tries: u32) -> Result<Reply, Raced>
+        requires tries { 0 < tries }
+        requires phaser { phaser_of party.old ≡ self.now }
+        ensures phaser { phaser_of party.new ≡ self.now }
+        ensures made { IfOk result
+            (λ r. MakesCall party.old.known (Arrive leave) (Replied r) party.new.known) }
+        ensures raced { IfErr result (λ e. LosesRaces party.old.known tries e party.new.known) }
+    {
+        self.within::<Brand>(party, Call::Arrive(leave), tries)
+    }
+
+    /// `forceTermination`, in at most so many tries. The reply is the view after it.
+    pub fn force_within(&self, party: &mut Party, tries: u32) -> Result<Reply, Raced>
+        requires tries { 0 < tries }
+        requires phaser { phaser_of party.old ≡ self.now }
+        ensures phaser { phaser_of party.new ≡ self.now }
+        ensures made { IfOk result
+            (λ r. MakesCall party.old.known Force (Replied r) party.new.known) }
+        ensures raced { IfErr result (λ e. LosesRaces party.old.known tries e party.new.known) }
+    {
+        self.within::<Brand>(party, Call::Force, tries)
+    }
+}

@@ -1,0 +1,145 @@
+//! The phaser that threads share, and its callers.
+ghost use Rattle.std.specs.Prelude.{◌≡◌, IfOk, IfErr, ◌↔◌};
+ghost use Rattle.packed_phaser.specs.declared.policy.Policy.TheVariants.{Routine};
+ghost use Rattle.shared_phaser.specs.Known.{phaser_of, newcomer, giving, given, JoinsCaller, EndsAs};
+
+use crate::history::{Setup, View};
+use crate::rule::{Both, Halves, Law, Watch};
+use atomic_table::{Seat, Table};
+use crossbeam_utils::CachePadded;
+use packed_phaser::{Policy, Word};
+use phase_number::Phase;
+use std::alloc::Global;
+use std::marker::Model;
+
+/// A phaser that threads share by reference: one word, which changes by compare-and-exchange.
+#[derive(Drop)]
+pub struct SharedPhaser {
+    pub(crate) table: CachePadded<Table<(), View, Setup, Law, Global>>,
+    pub(crate) policy: Policy,
+}
+
+impl Model for SharedPhaser {
+    ghost use Rattle.std.specs.Prelude.{◌≡◌};
+    ghost use Rattle.crossbeam_utils.specs.Padded.{padded_value};
+    ghost use Rattle.shared_phaser.specs.Known.{Identity};
+
+    ghost Value = { Identity };
+
+    ghost view = { λ p. record {
+      table = (padded_value p.table).shared.table_id;
+      opening = (padded_value p.table).shared.key;
+    } };
+
+    ghost invariant = { λ p. ((padded_value p.table).shared.table_id.words ≡ 1)
+        × ((padded_value p.table).shared.table_id.slots ≡ 0)
+        × ((padded_value p.table).shared.key.policy ≡ p.policy) };
+}
+
+/// A caller's token. Each thread that calls has one of its own.
+#[derive(Drop)]
+pub struct Party {
+    pub(crate) seat: Seat<(), View>,
+}
+
+impl Model for Party {
+    ghost use Rattle.std.specs.Prelude.{◌≡◌, [], true};
+    ghost use Rattle.shared_phaser.specs.Known.{Caller};
+
+    ghost Value = { Caller };
+
+    ghost view = { λ p. record { table = p.seat.table_id; known = p.seat.me.0.known } };
+
+    ghost invariant = { λ p. (p.seat.me.0.live ≡ true)
+        × (p.seat.me.0.told ≡ [])
+        × (p.seat.me.1 ≡ []) };
+}
+
+/// Why there is no shared phaser.
+#[derive(Clone, Copy, Debug, PartialEq, Eq)]
+pub enum NewFault {
+    /// A routine's own code can't run within the one step that ends a phase.
+    RoutinePolicy,
+    /// There was no memory.
+    Memory,
+}
+
+impl SharedPhaser {
+    /// A phaser of so many parties in this phase, and its first caller. This alone takes memory.
+    pub fn new(
+        alloc: Global,
+        parties: u16,
+        policy: Policy,
+        phase: Phase,
+    ) -> Result<(SharedPhaser, Party), NewFault>
+        ensures opened { IfOk result (λ r. r.0.opening
+            ≡ record { parties = parties; phase = phase; policy = policy }) }
+        ensures first { IfOk result (λ r. (r.1.table ≡ r.0.table)
+            × (r.1.known ≡ newcomer r.0.opening)) }
+        ensures routine { (result ≡ Err NewFault.RoutinePolicy) ↔ (policy ≡ Routine) }
+    {
+        if let Policy::Routine = policy {
+            return Err(NewFault::RoutinePolicy);
+        }
+        let opening = Setup {
+            parties,
+            phase,
+            policy,
+        };
+        let word = Word::fresh(phase, parties);
+        let Ok((table, seat)) = Table::of_words(alloc, &[word.raw()], &opening) else {
+            return Err(NewFault::Memory);
+        };
+        Ok((
+            SharedPhaser {
+                table: CachePadded::new(table),
+                policy,
+            },
+            Party { seat },
+        ))
+    }
+
+    /// Another caller, for another thread. It has seen what the first caller has.
+    pub fn split(&self, first: &mut Party) -> Party
+        requires first { first.old.known.number ≡ 0 }
+        requires phaser { phaser_of first.old ≡ self.now }
+        ensures first { first.new ≡ record first.old { known = giving first.old.known } }
+        ensures given { result ≡ record first.old { known = given first.old.known } }
+    {
+        let table = &*self.table;
+        Party {
+            seat: table.shared.split_seat::<Halves>(&mut first.seat),
+        }
+    }
+
+    /// The first caller stands for `other` too from now on, and has seen what either had seen.
+    pub fn join(&self, first: &mut Party, other: Party)
+        requires first { first.old.known.number ≡ 0 }
+        requires phaser { phaser_of first.old ≡ self.now }
+        requires other { phaser_of other ≡ self.now }
+        ensures phaser { phaser_of first.new ≡ self.now }
+        ensures joined { JoinsCaller first.old.known other.known first.new.known }
+    {
+        let table = &*self.table;
+        let Party { seat } = other;
+        table.shared.join_seat::<Both>(&mut first.seat, seat);
+        table.shared.load::<Watch>(&mut first.seat, 0);
+    }
+
+    /// The phaser's last word. No caller can call any more.
+    pub fn close(self, first: Party) -> Word
+        requires first { first.known.number ≡ 0 }
+        requires phaser { phaser_of first ≡ self }
+        ensures { EndsAs first.known result }
+    {
+        let SharedPhaser { table, policy: _ } = self;
+        let Party { seat } = first;
+        let closed = table.into_inner().close_with(seat);
+        let bits = closed.word(0);
+        closed.free();
+        match Word::from_raw(bits) {
+            Some(word) => word,
+            None => unreachable!(),
+        }
+    }
+}

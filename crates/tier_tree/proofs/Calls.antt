@@ -1,0 +1,180 @@
+-- What a call promises of the whole forest, from what it makes of the slice of phasers.
+use Rattle.std.proofs.Common.{◌≡◌, ◌∙◌, ℕ, ◌-◌, ◌<◌, ◌==◌, Bool, true, false, List, [], ◌∷◌, ◌++◌, length, take, drop, ap, refl, sym, subst, arith, if◌then◌else◌}
+use Rattle.std.specs.Prelude.{◌&&◌, not}
+use Rattle.std.proofs.lemmas.List.{take_at}
+use Rattle.std.proofs.lemmas.Bool.Decides.{nat_tests}
+use Rattle.packed_phaser.specs.Flat.{Flat}
+use Rattle.packed_phaser.specs.Word.{record_of, fields_of}
+use Rattle.tier_tree.specs.declared.registered.Registered.{Registered}
+use Rattle.tier_tree.specs.declared.arrived.Arrived.{Arrived}
+use Rattle.tier_tree.specs.Forest.{PhaserState, phaser_at, flat_at, root_at}
+use Rattle.tier_tree.specs.Registration.{registration, after_registration}
+use Rattle.tier_tree.specs.Arrival.{Arrives, arrival}
+use Rattle.tier_tree.specs.PhaseEnd.{after_turn, after_force}
+use Rattle.tier_tree.specs.Sound.{places_of}
+use Rattle.tier_tree.specs.Stored.{Stored, stored_at, kept_flat, present, phasers_of, IsStored}
+use Rattle.tier_tree.specs.Answer.{IfTurning, Turns, KeepsPlaces, KeepsEnds, HaveOnePhase}
+use Rattle.tier_tree.specs.Origin.{Origin, StandsFor, Carries, origin_after_registration, after_arrival, after_phase_end}
+use Rattle.tier_tree.specs.declared.id.PhaserId.{PhaserId}
+use Rattle.packed_phaser.specs.declared.policy.Policy.{Policy}
+use Rattle.std.specs.Prelude.{Option}
+use Rattle.std.proofs.lemmas.List.{get_or_append_left, length-set}
+use Rattle.std.proofs.Common.{get_or}
+use Rattle.tier_tree.specs.Forest.{no_phaser}
+use Rattle.tier_tree.specs.Sound.{Place, place_of}
+use Rattle.tier_tree.specs.Declaration.{declared, joins_above, after_declaration}
+use Rattle.tier_tree.specs.Answer.{AddsPlace}
+use Rattle.tier_tree.specs.Undo.{Kept, with_kept, restored}
+use Rattle.tier_tree.proofs.Kept.{joined-ends, push-ends}
+use Rattle.tier_tree.proofs.Lines.{joined-places, place_at-places}
+use Rattle.tier_tree.proofs.Lines.{registration-places, arrival-places, turn-places, force-places}
+use Rattle.tier_tree.proofs.Stands.{stands_after_arrival}
+use Rattle.tier_tree.proofs.Joined.{stands_registered}
+use Rattle.tier_tree.proofs.Turned.{stands_after_turn, stands_after_force}
+use Rattle.tier_tree.proofs.Shown.{top_at, length-shown, flat_shown, root_shown, top_there, top-top, present-phase}
+use Rattle.tier_tree.proofs.Changed.{there_shown}
+use Rattle.tier_tree.proofs.Kept.{keeps_places, registration-ends, arrival-ends, force-ends}
+use Rattle.tier_tree.proofs.Turning.{IsFull, turning}
+
+-- a slice of all phasers, written back
+pub written_back : (P : List Stored → List Stored → Type 0) (items given now written : List Stored) (n : ℕ) → given ≡ items → items ≡ now
+    → length given ≡ n → length written ≡ length given → P given written → P now (take n (written ++ drop (length written) items))
+written_back P items given now written n value view len many p =
+    subst (λ (before : List Stored). P before (take n (written ++ drop (length written) items))) (value ∙ view)
+    (subst (P given) (sym (take_at written (drop (length written) items) n (many ∙ len))) p)
+
+-- what every call keeps
+pub record Keeps (next : Origin → Origin) (before after : List PhaserState) : Type 0 where
+  pub places : KeepsPlaces before after
+  pub ends : KeepsEnds before after
+  pub origin : Carries next before after
+
+there_given : (given now : List Stored) (id : ℕ) → given ≡ now → id < length now → id < length (phasers_of given)
+there_given given now id is there = there_shown given id (subst (λ (ss : List Stored). id < length ss) (sym is) there)
+
+pub registered : (items given now written : List Stored) (id count : ℕ) (answer : Registered) → given ≡ items → items ≡ now → IsStored items
+    → id < length now → answer ≡ registration id count (phasers_of given) → phasers_of written ≡ after_registration id count (phasers_of given)
+    → Keeps (origin_after_registration answer id count) (phasers_of given) (phasers_of written)
+registered items given now written id count answer value view stored there is forest = record {
+  places = keeps_places (phasers_of given) (phasers_of written) (ap places_of forest ∙ registration-places id count (phasers_of given));
+  ends = λ n. ap (λ (ps : List PhaserState). (phaser_at ps n).ends) forest ∙ registration-ends id count (phasers_of given) n;
+  origin = λ origin stands. stands_registered id count (phasers_of given) (phasers_of written) origin answer
+      (subst IsStored (sym value) stored).places (there_given given now id (value ∙ view) there) is forest stands;
+}
+
+pub arrived : (items given now written : List Stored) (id : ℕ) (leave : Bool) (answer : Arrived) → given ≡ items → items ≡ now → IsStored items
+    → id < length now → record { phasers = phasers_of written; answer = answer } ≡ arrival id leave (phasers_of given)
+    → Keeps (after_arrival answer id (root_at (phasers_of given) id) leave) (phasers_of given) (phasers_of written)
+arrived items given now written id leave answer value view stored there is = record {
+  places = keeps_places (phasers_of given) (phasers_of written)
+      (ap (λ (a : Arrives). places_of a.phasers) is ∙ arrival-places id leave (phasers_of given));
+  ends = λ n. ap (λ (a : Arrives). (phaser_at a.phasers n).ends) is ∙ arrival-ends id leave (phasers_of given) n;
+  origin = λ origin stands. stands_after_arrival (phasers_of given) origin id leave (record { phasers = phasers_of written; answer = answer })
+      (subst IsStored (sym value) stored).places (there_given given now id (value ∙ view) there) is stands;
+}
+
+pub forced : (items given now written : List Stored) (id : ℕ) → given ≡ items → items ≡ now → IsStored items
+    → id < length now → phasers_of written ≡ after_force id (phasers_of given)
+    → Keeps (λ origin. origin) (phasers_of given) (phasers_of written)
+forced items given now written id value view stored there forest = record {
+  places = keeps_places (phasers_of given) (phasers_of written) (ap places_of forest ∙ force-places id (phasers_of given));
+  ends = λ n. ap (λ (ps : List PhaserState). (phaser_at ps n).ends) forest ∙ force-ends id (phasers_of given) n;
+  origin = λ origin stands. stands_after_force id (phasers_of given) (phasers_of written) origin
+      (subst IsStored (sym value) stored).places (there_given given now id (value ∙ view) there) forest stands;
+}
+
+pub turned_places : (given written : List Stored) (root : ℕ) (ends : Bool) → phasers_of written ≡ after_turn root ends (phasers_of given)
+    → KeepsPlaces (phasers_of given) (phasers_of written)
+turned_places given written root ends forest =
+    keeps_places (phasers_of given) (phasers_of written) (ap places_of forest ∙ turn-places root ends (phasers_of given))
+
+pub turned_origin : (items given now written : List Stored) (root : ℕ) (ends : Bool) → given ≡ items → items ≡ now → IsStored items
+    → root < length now → root_at (phasers_of now) root ≡ root → (flat_at (phasers_of now) root).ended ≡ false
+    → phasers_of written ≡ after_turn root ends (phasers_of given)
+    → Carries (after_phase_end root (phasers_of given)) (phasers_of given) (phasers_of written)
+turned_origin items given now written root ends value view stored there top live forest =
+    let same = value ∙ view in
+    λ origin stands. stands_after_turn root ends (phasers_of given) (phasers_of written) origin (subst IsStored (sym value) stored).places
+    (there_given given now root same there) (subst (λ (ss : List Stored). root_at (phasers_of ss) root ≡ root) (sym same) top)
+    (subst (λ (ss : List Stored). (flat_at (phasers_of ss) root).ended ≡ false) (sym same) live) forest stands
+
+-- of a turned root all have arrived: its word says so
+turned_all : (ended : Bool) (parties unarrived : ℕ) → (not ended && (unarrived == 0)) ≡ true → (if ended then parties else parties - unarrived) ≡ parties
+turned_all true parties unarrived turned = absurd (cc (turned))
+turned_all false parties unarrived turned = grind (arith, nat_tests, turned)
+
+word_full : (w : ℕ) → IsFull (record_of w)
+word_full w turned = turned_all (fields_of w).ended (fields_of w).parties (fields_of w).unarrived turned
+
+present_full : (top own : Flat) → IsFull own → IsFull (present top own)
+present_full top own full = by_case top.ended (own.phase == top.phase)
+  where
+    by_case : (ended same : Bool) → IsFull (if ended then record { phase = top.phase; ended = true; parties = own.parties; arrived = own.parties; turned = false }
+        else (if same then own else record { phase = top.phase; ended = false; parties = own.parties; arrived = 0; turned = false }))
+    by_case true same turned = absurd (cc (turned))
+    by_case false true turned = full turned
+    by_case false false turned = absurd (cc (turned))
+
+pub all_full : (forest : List Stored) (id : ℕ) → id < length forest → IsFull (flat_at (phasers_of forest) id)
+all_full forest id there =
+    subst IsFull (sym (flat_shown forest id there))
+    (present_full (kept_flat (stored_at forest (top_at forest id))) (kept_flat (stored_at forest id)) (word_full (stored_at forest id).word))
+
+pub arrived_turning : (items given now written : List Stored) (id : ℕ) (leave : Bool) (answer : Arrived) → given ≡ items → items ≡ now → IsStored items
+    → id < length now → length written ≡ length given → record { phasers = phasers_of written; answer = answer } ≡ arrival id leave (phasers_of given)
+    → IfTurning answer (λ root. (root.0 < length written) × (root.0 ≡ root_at (phasers_of given) id) × Turns root.0 (phasers_of given) (phasers_of written))
+arrived_turning items given now written id leave answer value view stored there many is =
+    let sound : IsStored given = subst IsStored (sym value) stored in
+    let within : id < length given = subst (λ (ss : List Stored). id < length ss) (sym (value ∙ view)) there in
+    let below = top_there given id sound within in
+    let top = root_shown given id within in
+    let small : root_at (phasers_of given) id < length given = omega (arith, below, top) in
+    turning id (length written) leave (phasers_of given) (phasers_of written) answer sound.places (there_shown given id within)
+    (omega (arith, small, many)) (all_full given (root_at (phasers_of given) id) small) is
+
+-- all phasers of a tree are in its root's phase
+pub one_phase : (forest : List Stored) → IsStored forest → HaveOnePhase (phasers_of forest)
+one_phase forest stored id there =
+    let many = length-shown forest in
+    let within : id < length forest = omega (arith, many, there) in
+    let root_is = root_shown forest id within in
+    let below = top_there forest id stored within in
+    let t = kept_flat (stored_at forest (top_at forest id)) in
+    let own : flat_at (phasers_of forest) id ≡ present t (kept_flat (stored_at forest id)) = flat_shown forest id within in
+    let up : flat_at (phasers_of forest) (root_at (phasers_of forest) id) ≡ present t t =
+    ap (flat_at (phasers_of forest)) root_is ∙ flat_shown forest (top_at forest id) below
+    ∙ ap (λ (n : ℕ). present (kept_flat (stored_at forest n)) t) (top-top forest id stored within) in
+    ap (λ (f : Flat). f.phase) own ∙ present-phase t (kept_flat (stored_at forest id)) ∙ sym (present-phase t t)
+    ∙ sym (ap (λ (f : Flat). f.phase) up)
+
+-- a declaration
+pub declared_ends : (parent : Option PhaserId) (parties : ℕ) (policy : Policy) (phase : ℕ) (before after : List PhaserState)
+    → after ≡ after_declaration parent parties policy phase before → KeepsEnds before after
+declared_ends parent parties policy phase before after is n =
+    let new = declared parent parties policy phase before in
+    let more = before ++ new ∷ [] in
+    ap (λ (ps : List PhaserState). (phaser_at ps n).ends) is ∙ joined-ends (joins_above parent parties more) more n ∙ push-ends before new refl n
+
+pub declared_places : (parent : Option PhaserId) (parties : ℕ) (policy : Policy) (phase : ℕ) (before after : List PhaserState)
+    → after ≡ after_declaration parent parties policy phase before → AddsPlace before after
+declared_places parent parties policy phase before after is id there =
+    let new = declared parent parties policy phase before in
+    let more = before ++ new ∷ [] in
+    ap (λ (ps : List PhaserState). place_of (phaser_at ps id)) is ∙ place_at-places (after_declaration parent parties policy phase before) id
+    ∙ ap (λ (places : List Place). get_or places id (place_of no_phaser)) (joined-places (joins_above parent parties more) more)
+    ∙ sym (place_at-places more id) ∙ ap place_of (get_or_append_left before (new ∷ []) no_phaser id there)
+
+-- an empty forest stands for any counts
+pub stands_empty : (origin : Origin) → StandsFor [] origin
+stands_empty origin = record {
+  steady = λ id there. absurd (omega (arith, there));
+  tallied = λ id there. absurd (omega (arith, there));
+}
+
+-- what was kept, put back
+pub restored-many : (saved : List Kept) (forest : List Stored) → length (restored saved forest) ≡ length forest
+restored-many [] forest = refl
+restored-many (kept ∷ others) forest = restored-many others (with_kept kept forest) ∙ length-set forest kept.id _
+
+pub written_many : (saved : List Kept) (given written : List Stored) → written ≡ restored saved given → length written ≡ length given
+written_many saved given written is = ap length is ∙ restored-many saved given

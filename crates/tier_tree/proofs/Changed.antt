@@ -1,0 +1,278 @@
+-- Which words a call changes, and that putting them back undoes it.
+use Rattle.std.proofs.Common.{inl, inr, ◌≡◌, ◌≢◌, ◌∙◌, ℕ, suc, ◌+◌, ◌-◌, ◌<◌, ◌≤◌, true, false, List, [], ◌∷◌, ◌++◌, length, map, get_or, ap, refl, sym, subst, arith}
+use Rattle.std.specs.Prelude.{slice_set, All, Option, Some, None}
+use Rattle.std.proofs.lemmas.Bool.{cases_eq, cases_lt}
+use Rattle.std.proofs.lemmas.List.{get_or_read, get_or_past, set_past, ext_get_or, length_push, get_or_append_left, get_or_push}
+use Rattle.std.proofs.lemmas.List.Elements.{All-cons, All-nil}
+use Rattle.std.proofs.lemmas.Bool.Decides.{nat_tests}
+use Rattle.packed_phaser.specs.declared.policy.Policy.{Policy}
+use Rattle.packed_phaser.specs.Flat.{Flat}
+use Rattle.tier_tree.specs.declared.id.PhaserId.{PhaserId}
+use Rattle.tier_tree.specs.Declaration.{declared, has_parent, IsFreshAbove, IsFresh}
+use Rattle.tier_tree.specs.Forest.{PhaserState, no_phaser, phaser_at, flat_at, root_at}
+use Rattle.tier_tree.specs.Sound.{Place, place_of, IsForest}
+use Rattle.tier_tree.specs.Stored.{Stored, no_stored, stored_at, kept_flat, top_of, present, shown, phasers_of, behind, IsNear, IsStored, place_in, ChangedOnly, ChangedAt}
+use Rattle.tier_tree.specs.Undo.{Kept, kept_at, saved_of, with_kept, restored}
+use Rattle.tier_tree.proofs.Lines.{line_within, forest_declared}
+use Rattle.tier_tree.proofs.Safe.{linked, line_own, root-parent, last_of, last-more}
+use Rattle.tier_tree.proofs.Turned.{root-root}
+use Rattle.tier_tree.proofs.Shown.{top_at, shown_at, length-shown, flat_shown, root_shown, top_there, top-top, present_live, present-phase, present-now, is_put, behind-self}
+
+pub there_shown : (forest : List Stored) (id : ℕ) → id < length forest → id < length (phasers_of forest)
+there_shown forest id there = let many = length-shown forest in omega (arith, many, there)
+
+pub there_few : (forest : List Stored) → length forest < 64 → length (phasers_of forest) < 64
+there_few forest few = let many = length-shown forest in omega (arith, many, few)
+
+-- the line that is read leads through the forest
+pub line_read : (forest : List Stored) (id : ℕ) (s : Stored) (line : List ℕ) → line ≡ s.line → s ≡ get_or forest id s → IsStored forest
+    → id < length forest → All (λ (above : ℕ). above < length forest) line
+line_read forest id s line is read stored there =
+    let same : line ≡ (phaser_at (phasers_of forest) id).line =
+    is ∙ ap (λ (x : Stored). x.line) (get_or_read forest id s there read no_stored) ∙ sym (ap (λ (p : PhaserState). p.line) (shown_at forest id there)) in
+    subst (λ (l : List ℕ). All (λ (above : ℕ). above < length forest) l) (sym same)
+    (subst (λ (n : ℕ). All (λ (above : ℕ). above < n) (phaser_at (phasers_of forest) id).line) (length-shown forest)
+    (line_within (phasers_of forest) id stored.places (there_shown forest id there)))
+
+-- the root that is read
+pub root_read : (forest : List Stored) (id r : ℕ) (s : Stored) → s ≡ get_or forest id s → r ≡ top_of s → IsStored forest → id < length forest
+    → (r < length forest) × (root_at (phasers_of forest) r ≡ r)
+root_read forest id r s read is stored there =
+    let same : r ≡ top_at forest id = is ∙ ap top_of (get_or_read forest id s there read no_stored) in
+    let below = top_there forest id stored there in (
+      omega (arith, same, below),
+      ap (root_at (phasers_of forest)) same ∙ root_shown forest (top_at forest id) below ∙ top-top forest id stored there ∙ sym same,
+    )
+
+-- a root is alone in its line
+pub root-line : (forest : List Stored) (r : ℕ) → IsStored forest → r < length forest → top_at forest r ≡ r → (stored_at forest r).line ≡ r ∷ []
+root-line forest r stored there top =
+    let ps = phasers_of forest in
+    let within = there_shown forest r there in
+    let own : (phaser_at ps r).line ≡ (stored_at forest r).line = ap (λ (p : PhaserState). p.line) (shown_at forest r there) in
+    elim (linked ps r stored.places within) as (λ _. (stored_at forest r).line ≡ r ∷ []) [
+      | inl alone ↦ sym own ∙ alone
+      | inr child ↦
+          let below : child.0 < r = child.1 in
+          let parent_there : child.0 < length ps = omega (arith, below, within) in
+          let up = root-parent ps r child.0 stored.places parent_there child.2 in
+          let least : root_at ps child.0 ≤ child.0 = (root-root ps (phaser_at ps child.0).line child.0 stored.places parent_there refl).1 in
+          let is : root_at ps r ≡ r = root_shown forest r there ∙ top in
+          absurd (omega (arith, below, up, least, is))
+    ]
+
+-- whoever isn't on a phaser's line isn't its root
+not_top : (forest : List Stored) (id n : ℕ) → IsStored forest → id < length forest → All (λ (m : ℕ). n ≢ m) (stored_at forest id).line → n ≢ top_at forest id
+not_top forest id n stored there away =
+    let own = line_own (phasers_of forest) id stored.places (there_shown forest id there) in
+    let line : (stored_at forest id).line ≡ id ∷ own.0 = sym (ap (λ (p : PhaserState). p.line) (shown_at forest id there)) ∙ own.1 in
+    let some : length (stored_at forest id).line ≡ suc (length own.0) = ap length line in
+    away (length (stored_at forest id).line - 1) 0 (omega (arith, some))
+
+-- a change of the root alone is one of the line
+pub only_root : (before after : List Stored) (id r : ℕ) → IsStored before → id < length before → r ≡ top_at before id
+    → ChangedOnly (r ∷ []) before after → ChangedAt id before after
+only_root before after id r stored there is only = record {
+  many = only.many;
+  places = only.places;
+  others = λ n away. only.others n (All-cons (λ (m : ℕ). n ≢ m) r [] (λ same. not_top before id n stored there away (same ∙ is)) (All-nil (λ (m : ℕ). n ≢ m)));
+}
+
+-- a call at a phaser, and then one at its root
+pub changed_then_root : (before mid after : List Stored) (id r : ℕ) → IsStored before → IsStored mid → id < length before → r ≡ top_at before id
+    → ChangedAt id before mid → ChangedAt r mid after → ChangedAt id before after
+changed_then_root before mid after id r stored stored_mid there is one two =
+    let below = top_there before id stored there in
+    let many = one.many in
+    let within : r < length mid = omega (arith, below, is, many) in
+    let kept : top_at mid r ≡ top_at before r = ap (λ (p : Place). get_or p.line (length p.line - 1) 0) (one.places r) in
+    let top : top_at mid r ≡ r = kept ∙ ap (top_at before) is ∙ top-top before id stored there ∙ sym is in
+    let line = root-line mid r stored_mid within top in
+    record {
+      many = two.many ∙ one.many;
+      places = λ n. two.places n ∙ one.places n;
+      others = λ n away.
+          two.others n (subst (λ (l : List ℕ). All (λ (m : ℕ). n ≢ m) l) (sym line)
+          (All-cons (λ (m : ℕ). n ≢ m) r [] (λ same. not_top before id n stored there away (same ∙ is)) (All-nil (λ (m : ℕ). n ≢ m))))
+          ∙ one.others n away;
+    }
+
+-- two calls at one phaser
+pub changed_again : (before mid after : List Stored) (id : ℕ) → ChangedAt id before mid → ChangedAt id mid after → ChangedAt id before after
+changed_again before mid after id one two =
+    let same : (stored_at mid id).line ≡ (stored_at before id).line = ap (λ (p : Place). p.line) (one.places id) in
+    record {
+      many = two.many ∙ one.many;
+      places = λ n. two.places n ∙ one.places n;
+      others = λ n away. two.others n (subst (λ (l : List ℕ). All (λ (m : ℕ). n ≢ m) l) (sym same) away) ∙ one.others n away;
+    }
+
+-- nothing has changed
+pub changed_nothing : (id : ℕ) (before after : List Stored) → after ≡ before → ChangedAt id before after
+changed_nothing id before after is = record {
+  many = ap length is;
+  places = λ n. ap (λ (ss : List Stored). place_in (stored_at ss n)) is;
+  others = λ n away. ap (λ (ss : List Stored). stored_at ss n) is;
+}
+
+-- what was kept of a line, put back
+pub restored_line : (line : List ℕ) (before after : List Stored) → ChangedOnly line before after → restored (map (kept_at before) line) after ≡ before
+restored_line [] before after only =
+    ext_get_or no_stored after before only.many (λ n here. only.others n (All-nil (λ (m : ℕ). n ≢ m)))
+restored_line (id ∷ line) before after only =
+    restored_line line before (with_kept (kept_at before id) after) (elim (cases_lt id (length after)) as (λ _. ChangedOnly line before (with_kept (kept_at before id) after)) [
+      | inl there ↦
+          let x : Stored = record (stored_at after id) { word = (stored_at before id).word; ends = (stored_at before id).ends } in
+          let put = is_put after id x there refl in
+          let own : x ≡ stored_at before id = ap (λ (p : Place). record {
+            line = p.line;
+            policy = p.policy;
+            word = (stored_at before id).word;
+            ends = (stored_at before id).ends;
+          }) (only.places id) in
+          record {
+            many = put.many ∙ only.many;
+            places = λ n. put.places n ∙ only.places n;
+            others = λ n away. elim (cases_eq n id) as (λ _. stored_at (slice_set after id x) n ≡ stored_at before n) [
+              | inl is ↦ subst (λ (m : ℕ). stored_at (slice_set after id x) m ≡ stored_at before m) (sym is) (put.own ∙ own)
+              | inr other ↦ put.others n other ∙ only.others n (All-cons (λ (m : ℕ). n ≢ m) id line other away)
+            ];
+          }
+      | inr past ↦
+          let same : with_kept (kept_at before id) after ≡ after = set_past after id _ past in
+          subst (ChangedOnly line before) (sym same) (record {
+            many = only.many;
+            places = only.places;
+            others = λ n away. elim (cases_eq n id) as (λ _. stored_at after n ≡ stored_at before n) [
+              | inl is ↦
+                  let many = only.many in
+                  get_or_past after n no_stored (omega (arith, is, past)) ∙ sym (get_or_past before n no_stored (omega (arith, is, past, many)))
+              | inr other ↦ only.others n (All-cons (λ (m : ℕ). n ≢ m) id line other away)
+            ];
+          })
+    ])
+
+pub restored_call : (id : ℕ) (before after now : List Stored) (saved : List Kept) → now ≡ restored saved after → saved ≡ saved_of id before
+    → ChangedAt id before after → now ≡ before
+restored_call id before after now saved is kept changed =
+    is ∙ ap (λ (ks : List Kept). restored ks after) kept ∙ restored_line (stored_at before id).line before after changed
+
+pub place_is : (node : Stored) (p : PhaserState) → node.line ≡ p.line → node.policy ≡ p.policy → place_in node ≡ place_of p
+place_is node p line policy =
+    let by_line : List ℕ → Place = λ l. record { line = l; policy = node.policy } in
+    let by_policy : Policy → Place = λ q. record { line = p.line; policy = q } in
+    ap by_line line ∙ ap by_policy policy
+
+-- a new phaser at the end
+pub record Pushes (now after : List Stored) (new : PhaserState) : Type 0 where
+  pub shows : phasers_of after ≡ phasers_of now ++ new ∷ []
+  pub stored : IsStored after
+
+record IsNewest (after : List Stored) (node : Stored) : Type 0 where
+  top : (kept_flat (stored_at after (top_of node))).ended ≡ false
+  phase : (kept_flat node).phase ≡ (kept_flat (stored_at after (top_of node))).phase
+
+newest : (parent : Option PhaserId) (parties : ℕ) (policy : Policy) (phase : ℕ) (now : List Stored) (node : Stored)
+    → place_in node ≡ place_of (declared parent parties policy phase (phasers_of now))
+    → kept_flat node ≡ (declared parent parties policy phase (phasers_of now)).flat
+    → has_parent parent (phasers_of now) ≡ true → IsFreshAbove parent (phasers_of now) → IsStored now
+    → IsNewest (now ++ node ∷ []) node
+newest None parties policy phase now node place word there fresh_above stored =
+    let n = length (phasers_of now) in
+    let top : top_of node ≡ n = ap (λ (p : Place). last_of p.line) place in
+    let own : stored_at (now ++ node ∷ []) (top_of node) ≡ node =
+    ap (stored_at (now ++ node ∷ [])) top ∙ get_or_push now node no_stored n (sym (length-shown now)) in
+    record {
+      top = ap (λ (s : Stored). (kept_flat s).ended) own ∙ ap (λ (f : Flat). f.ended) word;
+      phase = sym (ap (λ (s : Stored). (kept_flat s).phase) own);
+    }
+newest (Some parent) parties policy phase now node place word there fresh_above stored =
+    let ps = phasers_of now in
+    let n = length ps in
+    let within : parent.0 < length ps = grind (arith, nat_tests, there) in
+    let many = length-shown now in
+    let inside : parent.0 < length now = omega (arith, within, many) in
+    let own = line_own ps parent.0 stored.places within in
+    let top : top_of node ≡ top_at now parent.0 =
+    ap (λ (p : Place). last_of p.line) place ∙ ap (λ (l : List ℕ). last_of (n ∷ l)) own.1 ∙ last-more n parent.0 own.0
+    ∙ ap last_of (sym own.1) ∙ ap (λ (p : PhaserState). last_of p.line) (shown_at now parent.0 inside) in
+    let below = top_there now parent.0 stored inside in
+    let same : stored_at (now ++ node ∷ []) (top_of node) ≡ stored_at now (top_at now parent.0) =
+    ap (stored_at (now ++ node ∷ [])) top ∙ get_or_append_left now (node ∷ []) no_stored (top_at now parent.0) below in
+    let above = flat_shown now parent.0 inside in
+    let is_fresh : IsFresh (phaser_at ps parent.0) = fresh_above parent refl within parent.0 no_phaser within refl in
+    let live : (flat_at ps parent.0).ended ≡ false = ap (λ (f : Flat). f.ended) is_fresh in
+    let t = kept_flat (stored_at now (top_at now parent.0)) in
+    record {
+      top = ap (λ (s : Stored). (kept_flat s).ended) same
+          ∙ present_live t (kept_flat (stored_at now parent.0)) (ap (λ (f : Flat). f.ended) (sym above) ∙ live);
+      phase = ap (λ (f : Flat). f.phase) word ∙ ap (λ (f : Flat). f.phase) above ∙ present-phase t (kept_flat (stored_at now parent.0))
+          ∙ sym (ap (λ (s : Stored). (kept_flat s).phase) same);
+    }
+
+pub pushed : (parent : Option PhaserId) (parties : ℕ) (policy : Policy) (phase : ℕ) (items now after : List Stored) (node : Stored) → items ≡ now
+    → place_in node ≡ place_of (declared parent parties policy phase (phasers_of now))
+    → kept_flat node ≡ (declared parent parties policy phase (phasers_of now)).flat → node.ends ≡ 0 → after ≡ items ++ node ∷ []
+    → length now < 64 → has_parent parent (phasers_of now) ≡ true → IsFreshAbove parent (phasers_of now) → IsStored items
+    → Pushes now after (declared parent parties policy phase (phasers_of now))
+pushed parent parties policy phase items now after node shown_is place word none is few there fresh_above sound =
+    let stored : IsStored now = subst IsStored shown_is sound in
+    let more = now ++ node ∷ [] in
+    let new = declared parent parties policy phase (phasers_of now) in
+    let ps = phasers_of now in
+    let all : after ≡ more = is ∙ ap (λ (ss : List Stored). ss ++ node ∷ []) shown_is in
+    let new_is = newest parent parties policy phase now node place word there fresh_above stored in
+    let longer : length more ≡ length now + 1 = length_push now node in
+    let many = length-shown now in
+    let many_more = length-shown more in
+    let longer_ps : length (ps ++ new ∷ []) ≡ length ps + 1 = length_push ps new in
+    let old : (k : ℕ) → k < length now → stored_at more k ≡ stored_at now k = λ k within. get_or_append_left now (node ∷ []) no_stored k within in
+    let old_top : (k : ℕ) → k < length now → stored_at more (top_at more k) ≡ stored_at now (top_at now k) =
+    λ k within. ap (λ (s : Stored). stored_at more (top_of s)) (old k within) ∙ old (top_at now k) (top_there now k stored within) in
+    let last : stored_at more (length now) ≡ node = get_or_push now node no_stored (length now) refl in
+    let shows : phasers_of more ≡ ps ++ new ∷ [] =
+    ext_get_or no_phaser (phasers_of more) (ps ++ new ∷ []) (omega (arith, longer, many, many_more, longer_ps)) (λ k here.
+    let inside : k < length more = omega (arith, many_more, here) in
+    elim (cases_lt k (length now)) as (λ _. phaser_at (phasers_of more) k ≡ phaser_at (ps ++ new ∷ []) k) [
+      | inl within ↦
+          shown_at more k inside
+          ∙ ap (λ (s : Stored). shown more s) (old k within)
+          ∙ ap (λ (s : Stored). record {
+            line = (stored_at now k).line;
+            policy = (stored_at now k).policy;
+            flat = present (kept_flat s) (kept_flat (stored_at now k));
+            ends = (stored_at now k).ends;
+          }) (old (top_at now k) (top_there now k stored within))
+          ∙ sym (shown_at now k within)
+          ∙ sym (get_or_append_left ps (new ∷ []) no_phaser k (there_shown now k within))
+      | inr past ↦
+          let same : k ≡ length now = omega (arith, past, inside, longer) in
+          subst (λ (m : ℕ). phaser_at (phasers_of more) m ≡ phaser_at (ps ++ new ∷ []) m) (sym same)
+          (shown_at more (length now) (omega (arith, longer))
+          ∙ ap (λ (s : Stored). shown more s) last
+          ∙ ap (λ (f : Flat). record { line = node.line; policy = node.policy; flat = f; ends = node.ends })
+          (present-now (kept_flat (stored_at more (top_of node))) (kept_flat node) new_is.top new_is.phase ∙ word)
+          ∙ ap (λ (p : Place). record { line = p.line; policy = p.policy; flat = new.flat; ends = node.ends }) place
+          ∙ ap (λ (e : ℕ). record { line = new.line; policy = new.policy; flat = new.flat; ends = e }) none
+          ∙ sym (get_or_push ps new no_phaser (length now) many))
+    ]) in
+    let near : IsNear more = λ k here. elim (cases_lt k (length now)) as
+    (λ _. behind (kept_flat (stored_at more k)).phase (kept_flat (stored_at more (top_at more k))).phase ≤ (stored_at more (top_at more k)).ends) [
+      | inl within ↦
+          subst (λ (s : Stored). behind (kept_flat (stored_at more k)).phase (kept_flat s).phase ≤ s.ends) (sym (old_top k within))
+          (subst (λ (s : Stored). behind (kept_flat s).phase (kept_flat (stored_at now (top_at now k))).phase ≤ (stored_at now (top_at now k)).ends) (sym (old k within)) (stored.near k within))
+      | inr past ↦
+          let same : k ≡ length now = omega (arith, past, here, longer) in
+          let own : stored_at more k ≡ node = ap (stored_at more) same ∙ last in
+          let zero_is : behind (kept_flat (stored_at more k)).phase (kept_flat (stored_at more (top_at more k))).phase ≡ 0 =
+          ap (λ (s : Stored). behind (kept_flat s).phase (kept_flat (stored_at more (top_of s))).phase) own
+          ∙ ap (λ (p : ℕ). behind p (kept_flat (stored_at more (top_of node))).phase) new_is.phase ∙ behind-self _ in
+          omega (arith, zero_is)
+    ] in
+    subst (λ (ss : List Stored). Pushes now ss new) (sym all) (record {
+      shows = shows;
+      stored = record {
+        places = subst IsForest (sym shows) (forest_declared parent parties policy phase ps (omega (arith, few, many)) there stored.places);
+        near = near;
+      };
+    })

@@ -1,0 +1,729 @@
+-- What a stored forest shows, after each change of one word.
+use Rattle.std.proofs.Common.{inl, inr, ◌≡◌, ◌≢◌, ◌∙◌, ℕ, ◌+◌, ◌-◌, ◌<◌, ◌≤◌, ◌==◌, Bool, true, false, List, [], ◌∷◌, length, map, get_or, ap, refl, sym, subst, arith, if◌then◌else◌}
+use Rattle.std.specs.Prelude.{nat_le, slice_set}
+use Rattle.std.proofs.lemmas.Bool.{cases_eq}
+use Rattle.std.proofs.lemmas.Bool.Decides.{nat_tests}
+use Rattle.std.proofs.lemmas.List.{length-map, length-set, get_or-map, get_or_read, get_or_default, get_or-set_same, get_or-set_other, ext_get_or}
+use Rattle.std.proofs.lemmas.List.Elements.{All-head, All-tail, All-cons, All-nil}
+use Rattle.packed_phaser.specs.Flat.{Flat, advance, renew, force, fresh}
+use Rattle.packed_phaser.specs.Word.{record_of}
+use Rattle.phase_number.specs.Phase.{next_phase}
+use Rattle.tier_tree.specs.Forest.{PhaserState, no_phaser, phaser_at, flat_at, root_of, root_at, with_flat}
+use Rattle.tier_tree.specs.PhaseEnd.{follow, in_step, terminated, after_turn}
+use Rattle.tier_tree.specs.Sound.{Place, places_of}
+use Rattle.tier_tree.specs.Stored.{Stored, no_stored, stored_at, kept_flat, top_of, present, shown, phasers_of, behind, IsNear, IsStored, place_in, ChangedOnly}
+use Rattle.tier_tree.proofs.Lines.{root_within, forest_kept, with_flat-places, turn-places, terminated-places}
+use Rattle.tier_tree.proofs.Turned.{root-root}
+use Rattle.tier_tree.proofs.Stands.{same-is, other-is}
+
+-- 1. words beside that of their root
+
+abbrev pub seen : Bool → ℕ → Flat → Flat
+seen ended phase own = if ended then force (renew phase own) else (if own.phase == phase then own else renew phase own)
+
+pub present_live : (top own : Flat) → (present top own).ended ≡ false → top.ended ≡ false
+present_live top own live = by_case top.ended live
+  where
+    by_case : (ended : Bool) → (seen ended top.phase own).ended ≡ false → ended ≡ false
+    by_case true still = absurd (cc)
+    by_case false still = refl
+
+pub present-phase : (top own : Flat) → (present top own).phase ≡ top.phase
+present-phase top own = by_case top.ended (own.phase == top.phase) refl
+  where
+    by_case : (ended same : Bool) → (own.phase == top.phase) ≡ same
+        → (if ended then force (renew top.phase own) else (if same then own else renew top.phase own)).phase ≡ top.phase
+    by_case true same is = refl
+    by_case false true is = grind (arith, nat_tests, is)
+    by_case false false is = refl
+
+pub present-parties : (top own : Flat) → (present top own).parties ≡ own.parties
+present-parties top own = by_case top.ended (own.phase == top.phase)
+  where
+    by_case : (ended same : Bool) → (if ended then force (renew top.phase own) else (if same then own else renew top.phase own)).parties ≡ own.parties
+    by_case true same = refl
+    by_case false true = refl
+    by_case false false = refl
+
+-- in the root's phase a word stands as it is
+pub present-now : (top own : Flat) → top.ended ≡ false → own.phase ≡ top.phase → present top own ≡ own
+present-now top own live same =
+    let is : (own.phase == top.phase) ≡ true = ap (λ (n : ℕ). n == top.phase) same ∙ same-is top.phase in
+    ap (λ (e : Bool). seen e top.phase own) live ∙ ap (λ (t : Bool). if t then own else renew top.phase own) is
+
+-- in another phase all its parties are to arrive
+pub present-late : (top own : Flat) → top.ended ≡ false → own.phase ≢ top.phase → present top own ≡ renew top.phase own
+present-late top own live other =
+    ap (λ (e : Bool). seen e top.phase own) live ∙ ap (λ (t : Bool). if t then own else renew top.phase own) (other-is own.phase top.phase other)
+
+-- only the root's phase and termination matter
+pub present-top : (top other own : Flat) → top.phase ≡ other.phase → top.ended ≡ other.ended → present top own ≡ present other own
+present-top top other own phase ended =
+    ap (λ (e : Bool). seen e top.phase own) ended ∙ ap (λ (p : ℕ). seen other.ended p own) phase
+
+-- 2. a forest, read
+
+abbrev pub top_at : List Stored → ℕ → ℕ
+top_at forest id = top_of (stored_at forest id)
+
+pub shown_at : (forest : List Stored) (id : ℕ) → id < length forest → phaser_at (phasers_of forest) id ≡ shown forest (stored_at forest id)
+shown_at forest id there = get_or-map (shown forest) forest id no_stored no_phaser there
+
+pub length-shown : (forest : List Stored) → length (phasers_of forest) ≡ length forest
+length-shown forest = length-map forest (shown forest)
+
+pub flat_shown : (forest : List Stored) (id : ℕ) → id < length forest
+    → flat_at (phasers_of forest) id ≡ present (kept_flat (stored_at forest (top_at forest id))) (kept_flat (stored_at forest id))
+flat_shown forest id there = ap (λ (p : PhaserState). p.flat) (shown_at forest id there)
+
+pub root_shown : (forest : List Stored) (id : ℕ) → id < length forest → root_at (phasers_of forest) id ≡ top_at forest id
+root_shown forest id there = ap root_of (shown_at forest id there)
+
+pub top_there : (forest : List Stored) (id : ℕ) → IsStored forest → id < length forest → top_at forest id < length forest
+top_there forest id stored there =
+    let many = length-shown forest in
+    let within = root_within (phasers_of forest) id stored.places (omega (arith, many, there)) in
+    let same = root_shown forest id there in
+    omega (arith, many, within, same)
+
+pub top-top : (forest : List Stored) (id : ℕ) → IsStored forest → id < length forest → top_at forest (top_at forest id) ≡ top_at forest id
+top-top forest id stored there =
+    let many = length-shown forest in
+    let up = (root-root (phasers_of forest) (phaser_at (phasers_of forest) id).line id stored.places (omega (arith, many, there)) refl).0 in
+    sym (root_shown forest (top_at forest id) (top_there forest id stored there))
+    ∙ ap (root_at (phasers_of forest)) (sym (root_shown forest id there)) ∙ up ∙ root_shown forest id there
+
+-- 3. a forest in which one phaser changes and keeps its place
+
+pub record IsPut (forest : List Stored) (i : ℕ) (x : Stored) (now : List Stored) : Type 0 where
+  pub own : stored_at now i ≡ x
+  pub others : (n : ℕ) → n ≢ i → stored_at now n ≡ stored_at forest n
+  pub many : length now ≡ length forest
+  pub places : (n : ℕ) → place_in (stored_at now n) ≡ place_in (stored_at forest n)
+
+pub is_put : (forest : List Stored) (i : ℕ) (x : Stored) → i < length forest → place_in x ≡ place_in (stored_at forest i)
+    → IsPut forest i x (slice_set forest i x)
+is_put forest i x there same = record {
+  own = get_or-set_same forest i x no_stored there;
+  others = λ n other. get_or-set_other forest i n x no_stored other;
+  many = length-set forest i x;
+  places = λ n. elim (cases_eq n i) as (λ _. place_in (stored_at (slice_set forest i x) n) ≡ place_in (stored_at forest n)) [
+    | inl is ↦ subst (λ (m : ℕ). place_in (stored_at (slice_set forest i x) m) ≡ place_in (stored_at forest m)) (sym is)
+        (ap place_in (get_or-set_same forest i x no_stored there) ∙ same)
+    | inr other ↦ ap place_in (get_or-set_other forest i n x no_stored other)
+  ];
+}
+
+pub only_put : (forest : List Stored) (i : ℕ) (x : Stored) (now : List Stored) → IsPut forest i x now → ChangedOnly (i ∷ []) forest now
+only_put forest i x now put = record {
+  many = put.many;
+  places = put.places;
+  others = λ n away. put.others n (All-head (λ (m : ℕ). n ≢ m) i [] away);
+}
+
+pub top-put : (forest : List Stored) (i : ℕ) (x : Stored) (now : List Stored) → IsPut forest i x now → (n : ℕ) → top_at now n ≡ top_at forest n
+top-put forest i x now put n = ap (λ (p : Place). get_or p.line (length p.line - 1) 0) (put.places n)
+
+pub shown_put : (forest : List Stored) (i : ℕ) (x : Stored) (now : List Stored) → IsPut forest i x now → (n : ℕ) → n < length forest
+    → phaser_at (phasers_of now) n ≡ record {
+      line = (stored_at forest n).line;
+      policy = (stored_at forest n).policy;
+      flat = present (kept_flat (stored_at now (top_at forest n))) (kept_flat (stored_at now n));
+      ends = (stored_at now n).ends;
+    }
+shown_put forest i x now put n there =
+    let many = put.many in
+    shown_at now n (omega (arith, many, there))
+    ∙ ap (λ (p : Place). record {
+      line = p.line;
+      policy = p.policy;
+      flat = present (kept_flat (stored_at now (get_or p.line (length p.line - 1) 0))) (kept_flat (stored_at now n));
+      ends = (stored_at now n).ends;
+    }) (put.places n)
+
+pub behind-self : (p : ℕ) → behind p p ≡ 0
+behind-self p = grind (arith, nat_tests)
+
+-- 4. another word of the present phase
+
+record IsSteadyPut (forest : List Stored) (i : ℕ) (w : ℕ) (now : List Stored) : Type 0 where
+  put : IsPut forest i (record (stored_at forest i) { word = w }) now
+  top : (n : ℕ) → n < length forest
+      → ((kept_flat (stored_at now (top_at forest n))).phase ≡ (kept_flat (stored_at forest (top_at forest n))).phase)
+      × ((kept_flat (stored_at now (top_at forest n))).ended ≡ (kept_flat (stored_at forest (top_at forest n))).ended)
+  live : (kept_flat (stored_at forest (top_at forest i))).ended ≡ false
+  phase : (record_of w).phase ≡ (kept_flat (stored_at forest (top_at forest i))).phase
+
+steady_put : (forest : List Stored) (i w : ℕ) → IsStored forest → i < length forest
+    → (record_of w).phase ≡ (flat_at (phasers_of forest) i).phase → (flat_at (phasers_of forest) i).ended ≡ false → (record_of w).ended ≡ false
+    → IsSteadyPut forest i w (slice_set forest i (record (stored_at forest i) { word = w }))
+steady_put forest i w stored there phase before live =
+    let now = slice_set forest i (record (stored_at forest i) { word = w }) in
+    let put = is_put forest i (record (stored_at forest i) { word = w }) there refl in
+    let top = kept_flat (stored_at forest (top_at forest i)) in
+    let own = kept_flat (stored_at forest i) in
+    let is = flat_shown forest i there in
+    let live_top : top.ended ≡ false = present_live top own (ap (λ (f : Flat). f.ended) (sym is) ∙ before) in
+    let same : (record_of w).phase ≡ top.phase = phase ∙ ap (λ (f : Flat). f.phase) is ∙ present-phase top own in
+    record {
+      put = put;
+      top = λ n within. elim (cases_eq (top_at forest n) i) as (λ _.
+          ((kept_flat (stored_at now (top_at forest n))).phase ≡ (kept_flat (stored_at forest (top_at forest n))).phase)
+          × ((kept_flat (stored_at now (top_at forest n))).ended ≡ (kept_flat (stored_at forest (top_at forest n))).ended)) [
+            | inl own_top ↦
+                let up : top_at forest i ≡ i = ap (top_at forest) (sym own_top) ∙ top-top forest n stored within ∙ own_top in
+                let new : kept_flat (stored_at now (top_at forest n)) ≡ record_of w =
+                ap (λ (m : ℕ). kept_flat (stored_at now m)) own_top ∙ ap kept_flat put.own in
+                let old : kept_flat (stored_at forest (top_at forest n)) ≡ top =
+                ap (λ (m : ℕ). kept_flat (stored_at forest m)) (own_top ∙ sym up) in (
+                  ap (λ (f : Flat). f.phase) new ∙ same ∙ sym (ap (λ (f : Flat). f.phase) old),
+                  ap (λ (f : Flat). f.ended) new ∙ live ∙ sym live_top ∙ sym (ap (λ (f : Flat). f.ended) old),
+                )
+            | inr other ↦
+                let kept = ap kept_flat (put.others (top_at forest n) other) in
+                (ap (λ (f : Flat). f.phase) kept, ap (λ (f : Flat). f.ended) kept)
+          ];
+      live = live_top;
+      phase = same;
+    }
+
+put_shows : (forest : List Stored) (i w : ℕ) (now : List Stored) → IsStored forest → i < length forest → IsSteadyPut forest i w now
+    → phasers_of now ≡ with_flat (phasers_of forest) i (record_of w)
+put_shows forest i w now stored there steady =
+    let put = steady.put in
+    let ps = phasers_of forest in
+    let new : PhaserState = record (phaser_at ps i) { flat = record_of w } in
+    let many = put.many in
+    let many_now = length-shown now in
+    let many_ps = length-shown forest in
+    let many_set = length-set ps i new in
+    ext_get_or no_phaser (phasers_of now) (slice_set ps i new) (omega (arith, many, many_now, many_ps, many_set)) (λ n here.
+    let within : n < length forest = omega (arith, many, many_now, here) in
+    let is = shown_put forest i (record (stored_at forest i) { word = w }) now put n within in
+    let top = steady.top n within in
+    elim (cases_eq n i) as (λ _. phaser_at (phasers_of now) n ≡ phaser_at (slice_set ps i new) n) [
+      | inl same ↦
+          subst (λ (m : ℕ). phaser_at (phasers_of now) m ≡ phaser_at (slice_set ps i new) m) (sym same)
+          (shown_put forest i (record (stored_at forest i) { word = w }) now put i there
+          ∙ ap (λ (s : Stored). record {
+            line = (stored_at forest i).line;
+            policy = (stored_at forest i).policy;
+            flat = present (kept_flat (stored_at now (top_at forest i))) (kept_flat s);
+            ends = s.ends;
+          }) put.own
+          ∙ ap (λ (f : Flat). record {
+            line = (stored_at forest i).line;
+            policy = (stored_at forest i).policy;
+            flat = f;
+            ends = (stored_at forest i).ends;
+          }) (present-top (kept_flat (stored_at now (top_at forest i))) (kept_flat (stored_at forest (top_at forest i))) (record_of w)
+          (steady.top i there).0 (steady.top i there).1
+          ∙ present-now (kept_flat (stored_at forest (top_at forest i))) (record_of w) steady.live steady.phase)
+          ∙ ap (λ (p : PhaserState). record p { flat = record_of w }) (sym (shown_at forest i there))
+          ∙ sym (get_or-set_same ps i new no_phaser (omega (arith, many_ps, there))))
+      | inr other ↦
+          is
+          ∙ ap (λ (s : Stored). record {
+            line = (stored_at forest n).line;
+            policy = (stored_at forest n).policy;
+            flat = present (kept_flat (stored_at now (top_at forest n))) (kept_flat s);
+            ends = s.ends;
+          }) (put.others n other)
+          ∙ ap (λ (f : Flat). record {
+            line = (stored_at forest n).line;
+            policy = (stored_at forest n).policy;
+            flat = f;
+            ends = (stored_at forest n).ends;
+          }) (present-top (kept_flat (stored_at now (top_at forest n))) (kept_flat (stored_at forest (top_at forest n))) (kept_flat (stored_at forest n)) top.0 top.1)
+          ∙ sym (shown_at forest n within)
+          ∙ sym (get_or-set_other ps i n new no_phaser other)
+    ])
+
+put_near : (forest : List Stored) (i w : ℕ) (now : List Stored) → IsStored forest → i < length forest → IsSteadyPut forest i w now → IsNear now
+put_near forest i w now stored there steady n here =
+    let put = steady.put in
+    let many = put.many in
+    let within : n < length forest = omega (arith, many, here) in
+    let near = stored.near n within in
+    let up = top-put forest i (record (stored_at forest i) { word = w }) now put n in
+    let top = steady.top n within in
+    let tops : (kept_flat (stored_at now (top_at now n))).phase ≡ (kept_flat (stored_at forest (top_at forest n))).phase =
+    ap (λ (m : ℕ). (kept_flat (stored_at now m)).phase) up ∙ top.0 in
+    let ends : (stored_at now (top_at now n)).ends ≡ (stored_at forest (top_at forest n)).ends =
+    ap (λ (m : ℕ). (stored_at now m).ends) up ∙ elim (cases_eq (top_at forest n) i) as (λ _. (stored_at now (top_at forest n)).ends ≡ (stored_at forest (top_at forest n)).ends) [
+      | inl is ↦ subst (λ (m : ℕ). (stored_at now m).ends ≡ (stored_at forest m).ends) (sym is) (ap (λ (s : Stored). s.ends) put.own)
+      | inr other ↦ ap (λ (s : Stored). s.ends) (put.others (top_at forest n) other)
+    ] in
+    elim (cases_eq n i) as (λ _. behind (kept_flat (stored_at now n)).phase (kept_flat (stored_at now (top_at now n))).phase ≤ (stored_at now (top_at now n)).ends) [
+      | inl is ↦
+          let own : (kept_flat (stored_at now n)).phase ≡ (kept_flat (stored_at now (top_at now n))).phase =
+          ap (λ (m : ℕ). (kept_flat (stored_at now m)).phase) is ∙ ap (λ (s : Stored). (kept_flat s).phase) put.own ∙ steady.phase
+          ∙ ap (λ (m : ℕ). (kept_flat (stored_at forest (top_at forest m))).phase) (sym is) ∙ sym tops in
+          let none : behind (kept_flat (stored_at now n)).phase (kept_flat (stored_at now (top_at now n))).phase ≡ 0 =
+          ap (λ (p : ℕ). behind p (kept_flat (stored_at now (top_at now n))).phase) own ∙ behind-self _ in
+          omega (arith, none)
+      | inr other ↦
+          let same : behind (kept_flat (stored_at now n)).phase (kept_flat (stored_at now (top_at now n))).phase
+          ≡ behind (kept_flat (stored_at forest n)).phase (kept_flat (stored_at forest (top_at forest n))).phase =
+          ap (λ (s : Stored). behind (kept_flat s).phase (kept_flat (stored_at now (top_at now n))).phase) (put.others n other)
+          ∙ ap (λ (p : ℕ). behind (kept_flat (stored_at forest n)).phase p) tops in
+          omega (arith, near, same, ends)
+    ]
+
+pub record Puts (forest : List Stored) (i w : ℕ) (now : List Stored) : Type 0 where
+  pub shows : phasers_of now ≡ with_flat (phasers_of forest) i (record_of w)
+  pub stored : IsStored now
+  pub only : ChangedOnly (i ∷ []) forest now
+
+pub puts : (forest : List Stored) (i w : ℕ) (now : List Stored) → now ≡ slice_set forest i (record (stored_at forest i) { word = w })
+    → IsStored forest → i < length forest
+    → (record_of w).phase ≡ (flat_at (phasers_of forest) i).phase → (flat_at (phasers_of forest) i).ended ≡ false → (record_of w).ended ≡ false
+    → Puts forest i w now
+puts forest i w now is stored there phase before live =
+    let steady : IsSteadyPut forest i w now = subst (IsSteadyPut forest i w) (sym is) (steady_put forest i w stored there phase before live) in
+    let shows = put_shows forest i w now stored there steady in
+    record {
+      shows = shows;
+      stored = record {
+        places = forest_kept (phasers_of forest) (phasers_of now) (ap places_of shows ∙ with_flat-places (phasers_of forest) i (record_of w)) stored.places;
+        near = put_near forest i w now stored there steady;
+      };
+      only = only_put forest i (record (stored_at forest i) { word = w }) now steady.put;
+    }
+
+-- 5. what the code reads of a slice
+
+pub top_read : (forest : List Stored) (i r : ℕ) (own : Stored) → IsStored forest → i < length forest → own ≡ get_or forest i own → r ≡ top_of own
+    → r < length forest
+top_read forest i r own stored there read is =
+    let same : r ≡ top_at forest i = is ∙ ap top_of (get_or_read forest i own there read no_stored) in
+    let within = top_there forest i stored there in
+    omega (arith, same, within)
+
+pub word_read : (forest : List Stored) (i r w wt wo : ℕ) (own top : Stored) → IsStored forest → i < length forest → own ≡ get_or forest i own → r ≡ top_of own
+    → top ≡ get_or forest r top → wt ≡ top.word → wo ≡ own.word → record_of w ≡ present (record_of wt) (record_of wo)
+    → record_of w ≡ flat_at (phasers_of forest) i
+word_read forest i r w wt wo own top stored there read_own is_top read_top is_wt is_wo is =
+    let own_is : own ≡ stored_at forest i = get_or_read forest i own there read_own no_stored in
+    let r_is : r ≡ top_at forest i = is_top ∙ ap top_of own_is in
+    let top_is : top ≡ stored_at forest r = get_or_read forest r top (top_read forest i r own stored there read_own is_top) read_top no_stored in
+    is ∙ ap (λ (n : ℕ). present (record_of n) (record_of wo)) (is_wt ∙ ap (λ (s : Stored). s.word) (top_is ∙ ap (stored_at forest) r_is))
+    ∙ ap (λ (n : ℕ). present (kept_flat (stored_at forest (top_at forest i))) (record_of n)) (is_wo ∙ ap (λ (s : Stored). s.word) own_is)
+    ∙ sym (flat_shown forest i there)
+
+pub puts_read : (forest : List Stored) (i w : ℕ) (d x : Stored) → x ≡ record (get_or forest i d) { word = w }
+    → IsStored forest → i < length forest
+    → (record_of w).phase ≡ (flat_at (phasers_of forest) i).phase → (flat_at (phasers_of forest) i).ended ≡ false → (record_of w).ended ≡ false
+    → Puts forest i w (slice_set forest i x)
+puts_read forest i w d x is stored there phase before live =
+    puts forest i w (slice_set forest i x)
+    (ap (slice_set forest i) (is ∙ ap (λ (s : Stored). record s { word = w }) (get_or_default forest i d no_stored there)))
+    stored there phase before live
+
+-- 6. the root's phase ends
+
+same_true : (n : ℕ) → (n == n) ≡ true
+same_true n = grind (arith, nat_tests)
+
+present-self : (ends : Bool) (f : Flat) → present (advance ends f) (advance ends f) ≡ advance ends f
+present-self true f = refl
+present-self false f = ap (λ (t : Bool). if t then advance false f else renew (advance false f).phase (advance false f)) (same_true (next_phase f.phase))
+
+-- a word that isn't a whole turn behind isn't in the next phase yet
+not_next : (own top ends : ℕ) → behind own top ≤ ends → ends < 2147483647 → own ≢ next_phase top
+not_next own top ends near few = λ is. by_case (nat_le own top) (top == 2147483647) refl refl is
+  where
+    by_case : (below last : Bool) → nat_le own top ≡ below → (top == 2147483647) ≡ last → own ≡ next_phase top → ⊥
+    by_case below last is_below is_last is =
+        let b : (if below then top - own else (top + 2147483648) - own) ≤ ends =
+        subst (λ (t : Bool). (if t then top - own else (top + 2147483648) - own) ≤ ends) is_below near in
+        let n : own ≡ (if last then 0 else top + 1) = is ∙ ap (λ (t : Bool). if t then 0 else top + 1) is_last in
+        in_case below last is_below is_last b n
+      where
+        in_case : (below last : Bool) → nat_le own top ≡ below → (top == 2147483647) ≡ last
+            → (if below then top - own else (top + 2147483648) - own) ≤ ends → own ≡ (if last then 0 else top + 1) → ⊥
+        in_case true true is_below is_last b n = grind (arith, nat_tests, is_below, is_last, b, n, few)
+        in_case true false is_below is_last b n = grind (arith, nat_tests, is_below, is_last, b, n, few)
+        in_case false true is_below is_last b n = grind (arith, nat_tests, is_below, is_last, b, n, few)
+        in_case false false is_below is_last b n = grind (arith, nat_tests, is_below, is_last, b, n, few)
+
+-- a phase end puts a word one phase further behind at most
+behind_next : (own top ends : ℕ) → behind own top ≤ ends → behind own (next_phase top) ≤ ends + 1
+behind_next own top ends near = by_case (nat_le own top) (top == 2147483647) (nat_le own (next_phase top)) refl refl refl
+  where
+    by_case : (below last after : Bool) → nat_le own top ≡ below → (top == 2147483647) ≡ last → nat_le own (next_phase top) ≡ after
+        → behind own (next_phase top) ≤ ends + 1
+    by_case below last after is_below is_last is_after =
+        let b : (if below then top - own else (top + 2147483648) - own) ≤ ends =
+        subst (λ (t : Bool). (if t then top - own else (top + 2147483648) - own) ≤ ends) is_below near in
+        let n : next_phase top ≡ (if last then 0 else top + 1) = ap (λ (t : Bool). if t then 0 else top + 1) is_last in
+        let goal_is : behind own (next_phase top) ≡ (if after then (next_phase top) - own else ((next_phase top) + 2147483648) - own) =
+        ap (λ (t : Bool). if t then (next_phase top) - own else ((next_phase top) + 2147483648) - own) is_after in
+        subst (λ (m : ℕ). m ≤ ends + 1) (sym goal_is) (in_case below last after (next_phase top) is_below is_last is_after b n)
+      where
+        in_case : (below last after : Bool) (next : ℕ) → nat_le own top ≡ below → (top == 2147483647) ≡ last → nat_le own next ≡ after
+            → (if below then top - own else (top + 2147483648) - own) ≤ ends → next ≡ (if last then 0 else top + 1)
+            → (if after then next - own else (next + 2147483648) - own) ≤ ends + 1
+        in_case true true true next is_below is_last is_after b n = grind (arith, nat_tests, is_below, is_last, is_after, b, n)
+        in_case true true false next is_below is_last is_after b n = grind (arith, nat_tests, is_below, is_last, is_after, b, n)
+        in_case true false true next is_below is_last is_after b n = grind (arith, nat_tests, is_below, is_last, is_after, b, n)
+        in_case true false false next is_below is_last is_after b n = grind (arith, nat_tests, is_below, is_last, is_after, b, n)
+        in_case false true true next is_below is_last is_after b n = grind (arith, nat_tests, is_below, is_last, is_after, b, n)
+        in_case false true false next is_below is_last is_after b n = grind (arith, nat_tests, is_below, is_last, is_after, b, n)
+        in_case false false true next is_below is_last is_after b n = grind (arith, nat_tests, is_below, is_last, is_after, b, n)
+        in_case false false false next is_below is_last is_after b n = grind (arith, nat_tests, is_below, is_last, is_after, b, n)
+
+-- a word below a root whose phase ends
+present_turned : (ends : Bool) (top own : Flat) (count : ℕ) → behind own.phase top.phase ≤ count → count < 2147483647
+    → present (advance ends top) own ≡ follow (advance ends top).phase ends (present top own)
+present_turned true top own count near few = ap (λ (n : ℕ). force (fresh (next_phase top.phase) n)) (sym (present-parties top own))
+present_turned false top own count near few =
+    present-late (advance false top) own refl (not_next own.phase top.phase count near few)
+    ∙ ap (λ (n : ℕ). fresh (next_phase top.phase) n) (sym (present-parties top own))
+
+-- a terminated root
+present_forced : (top own : Flat) → present (force top) own ≡ force (present top own)
+present_forced top own = by_case top.ended (own.phase == top.phase) refl
+  where
+    by_case : (ended same : Bool) → (own.phase == top.phase) ≡ same
+        → force (renew top.phase own) ≡ force (if ended then force (renew top.phase own) else (if same then own else renew top.phase own))
+    by_case true same is = refl
+    by_case false true is = ap (λ (p : ℕ). force (renew p own)) (sym (let eq : own.phase ≡ top.phase = grind (arith, nat_tests, is) in eq))
+    by_case false false is = refl
+
+-- the root's word changes to one that all others of the tree are read beside
+record IsTopPut (forest : List Stored) (root w count : ℕ) (now : List Stored) : Type 0 where
+  put : IsPut forest root (record (stored_at forest root) { word = w; ends = count }) now
+  top : top_at forest root ≡ root
+
+top_put : (forest : List Stored) (root w count : ℕ) → IsStored forest → root < length forest → root_at (phasers_of forest) root ≡ root
+    → IsTopPut forest root w count (slice_set forest root (record (stored_at forest root) { word = w; ends = count }))
+top_put forest root w count stored there is_root = record {
+  put = is_put forest root (record (stored_at forest root) { word = w; ends = count }) there refl;
+  top = sym (root_shown forest root there) ∙ is_root;
+}
+
+-- what another phaser shows then
+top_shows : (forest : List Stored) (root w count : ℕ) (now : List Stored) → IsTopPut forest root w count now
+    → (n : ℕ) → n < length forest → n ≢ root
+    → phaser_at (phasers_of now) n ≡ record (phaser_at (phasers_of forest) n) {
+      flat = (if top_at forest n == root then present (record_of w) (kept_flat (stored_at forest n)) else flat_at (phasers_of forest) n);
+    }
+top_shows forest root w count now changed n there other =
+    let put = changed.put in
+    let x : Stored = record (stored_at forest root) { word = w; ends = count } in
+    let is = shown_put forest root x now put n there
+    ∙ ap (λ (s : Stored). record {
+      line = (stored_at forest n).line;
+      policy = (stored_at forest n).policy;
+      flat = present (kept_flat (stored_at now (top_at forest n))) (kept_flat s);
+      ends = s.ends;
+    }) (put.others n other) in
+    let flat : present (kept_flat (stored_at now (top_at forest n))) (kept_flat (stored_at forest n))
+    ≡ (if top_at forest n == root then present (record_of w) (kept_flat (stored_at forest n)) else flat_at (phasers_of forest) n) =
+    elim (cases_eq (top_at forest n) root) as (λ _. present (kept_flat (stored_at now (top_at forest n))) (kept_flat (stored_at forest n))
+    ≡ (if top_at forest n == root then present (record_of w) (kept_flat (stored_at forest n)) else flat_at (phasers_of forest) n)) [
+      | inl under ↦
+          ap (λ (m : ℕ). present (kept_flat (stored_at now m)) (kept_flat (stored_at forest n))) under
+          ∙ ap (λ (s : Stored). present (kept_flat s) (kept_flat (stored_at forest n))) put.own
+          ∙ sym (ap (λ (t : Bool). if t then present (record_of w) (kept_flat (stored_at forest n)) else flat_at (phasers_of forest) n)
+          (ap (λ (m : ℕ). m == root) under ∙ same-is root))
+      | inr apart ↦
+          ap (λ (s : Stored). present (kept_flat s) (kept_flat (stored_at forest n))) (put.others (top_at forest n) apart)
+          ∙ sym (flat_shown forest n there)
+          ∙ sym (ap (λ (t : Bool). if t then present (record_of w) (kept_flat (stored_at forest n)) else flat_at (phasers_of forest) n)
+          (other-is (top_at forest n) root apart))
+    ] in
+    is ∙ ap (λ (f : Flat). record {
+      line = (stored_at forest n).line;
+      policy = (stored_at forest n).policy;
+      flat = f;
+      ends = (stored_at forest n).ends;
+    }) flat
+    ∙ ap (λ (p : PhaserState). record p {
+      flat = (if top_at forest n == root then present (record_of w) (kept_flat (stored_at forest n)) else flat_at (phasers_of forest) n);
+    }) (sym (shown_at forest n there))
+
+put_if : (here : Bool) (p : PhaserState) (f g : Flat) → p.flat ≡ g → record p { flat = (if here then f else g) } ≡ (if here then record p { flat = f } else p)
+put_if true p f g is = refl
+put_if false p f g is = ap (λ (x : Flat). record p { flat = x }) (sym is)
+
+-- the whole forest after it
+turned_shows : (forest : List Stored) (root w : ℕ) (ends : Bool) (now : List Stored) → IsStored forest → root < length forest
+    → root_at (phasers_of forest) root ≡ root → (flat_at (phasers_of forest) root).ended ≡ false
+    → (stored_at forest root).ends < 2147483647
+    → record_of w ≡ advance ends (flat_at (phasers_of forest) root)
+    → IsTopPut forest root w ((stored_at forest root).ends + 1) now
+    → phasers_of now ≡ after_turn root ends (phasers_of forest)
+turned_shows forest root w ends now stored there is_root live few is changed =
+    let put = changed.put in
+    let ps = phasers_of forest in
+    let before = phaser_at ps root in
+    let flat = advance ends before.flat in
+    let moved = map (in_step root flat.phase flat.ended) ps in
+    let new : PhaserState = record before { flat = flat; ends = before.ends + 1 } in
+    let x : Stored = record (stored_at forest root) { word = w; ends = (stored_at forest root).ends + 1 } in
+    let top = kept_flat (stored_at forest root) in
+    let own_flat : flat_at ps root ≡ top =
+    flat_shown forest root there ∙ ap (λ (m : ℕ). present (kept_flat (stored_at forest m)) top) changed.top
+    ∙ present-now top top (present_live top top (ap (λ (f : Flat). f.ended)
+    (sym (flat_shown forest root there ∙ ap (λ (m : ℕ). present (kept_flat (stored_at forest m)) top) changed.top)) ∙ live)) refl in
+    let many = put.many in
+    let many_now = length-shown now in
+    let many_ps = length-shown forest in
+    let many_moved : length moved ≡ length ps = length-map ps (in_step root flat.phase flat.ended) in
+    let many_set = length-set moved root new in
+    ext_get_or no_phaser (phasers_of now) (slice_set moved root new) (omega (arith, many, many_now, many_ps, many_moved, many_set)) (λ n here.
+    let within : n < length forest = omega (arith, many, many_now, here) in
+    elim (cases_eq n root) as (λ _. phaser_at (phasers_of now) n ≡ phaser_at (slice_set moved root new) n) [
+      | inl same ↦
+          subst (λ (m : ℕ). phaser_at (phasers_of now) m ≡ phaser_at (slice_set moved root new) m) (sym same)
+          (shown_put forest root x now put root there
+          ∙ ap (λ (m : ℕ). record {
+            line = (stored_at forest root).line;
+            policy = (stored_at forest root).policy;
+            flat = present (kept_flat (stored_at now m)) (kept_flat (stored_at now root));
+            ends = (stored_at now root).ends;
+          }) changed.top
+          ∙ ap (λ (s : Stored). record {
+            line = (stored_at forest root).line;
+            policy = (stored_at forest root).policy;
+            flat = present (kept_flat s) (kept_flat s);
+            ends = s.ends;
+          }) put.own
+          ∙ ap (λ (f : Flat). record {
+            line = (stored_at forest root).line;
+            policy = (stored_at forest root).policy;
+            flat = present f f;
+            ends = (stored_at forest root).ends + 1;
+          }) is
+          ∙ ap (λ (f : Flat). record {
+            line = (stored_at forest root).line;
+            policy = (stored_at forest root).policy;
+            flat = f;
+            ends = (stored_at forest root).ends + 1;
+          }) (present-self ends (flat_at ps root))
+          ∙ ap (λ (p : PhaserState). record p { flat = flat; ends = p.ends + 1 }) (sym (shown_at forest root there))
+          ∙ sym (get_or-set_same moved root new no_phaser (omega (arith, many_moved, many_ps, there))))
+      | inr other ↦
+          let near : behind (kept_flat (stored_at forest n)).phase (kept_flat (stored_at forest (top_at forest n))).phase ≤ (stored_at forest (top_at forest n)).ends = stored.near n within in
+          let follows : (if top_at forest n == root then present (record_of w) (kept_flat (stored_at forest n)) else flat_at ps n)
+          ≡ (if root_of (phaser_at ps n) == root then follow flat.phase flat.ended (flat_at ps n) else flat_at ps n) =
+          elim (cases_eq (top_at forest n) root) as (λ _. (if top_at forest n == root then present (record_of w) (kept_flat (stored_at forest n)) else flat_at ps n)
+          ≡ (if root_of (phaser_at ps n) == root then follow flat.phase flat.ended (flat_at ps n) else flat_at ps n)) [
+            | inl under ↦
+                ap (λ (t : Bool). if t then present (record_of w) (kept_flat (stored_at forest n)) else flat_at ps n) (ap (λ (m : ℕ). m == root) under ∙ same-is root)
+                ∙ ap (λ (f : Flat). present f (kept_flat (stored_at forest n))) (is ∙ ap (advance ends) own_flat)
+                ∙ present_turned ends top (kept_flat (stored_at forest n)) (stored_at forest root).ends
+                (subst (λ (m : ℕ). behind (kept_flat (stored_at forest n)).phase (kept_flat (stored_at forest m)).phase ≤ (stored_at forest m).ends) under near) few
+                ∙ ap (λ (m : ℕ). follow (advance ends top).phase ends (present (kept_flat (stored_at forest m)) (kept_flat (stored_at forest n)))) (sym under)
+                ∙ ap (λ (f : Flat). follow (advance ends top).phase ends f) (sym (flat_shown forest n within))
+                ∙ ap (λ (f : Flat). follow (advance ends f).phase ends (flat_at ps n)) (sym own_flat)
+                ∙ sym (ap (λ (t : Bool). if t then follow flat.phase flat.ended (flat_at ps n) else flat_at ps n)
+                (ap (λ (m : ℕ). m == root) (root_shown forest n within ∙ under) ∙ same-is root))
+            | inr apart ↦
+                ap (λ (t : Bool). if t then present (record_of w) (kept_flat (stored_at forest n)) else flat_at ps n) (other-is (top_at forest n) root apart)
+                ∙ sym (ap (λ (t : Bool). if t then follow flat.phase flat.ended (flat_at ps n) else flat_at ps n)
+                (other-is (root_at ps n) root (λ same. apart (sym (root_shown forest n within) ∙ same))))
+          ] in
+          top_shows forest root w ((stored_at forest root).ends + 1) now changed n within other
+          ∙ ap (λ (f : Flat). record (phaser_at ps n) { flat = f }) follows
+          ∙ put_if (root_of (phaser_at ps n) == root) (phaser_at ps n) (follow flat.phase flat.ended (flat_at ps n)) (flat_at ps n) refl
+          ∙ sym (get_or-map (in_step root flat.phase flat.ended) ps n no_phaser no_phaser (omega (arith, many_ps, within)))
+          ∙ sym (get_or-set_other moved root n new no_phaser other)
+    ])
+
+forced_shows : (forest : List Stored) (root w : ℕ) (now : List Stored) → IsStored forest → root < length forest
+    → record_of w ≡ force (kept_flat (stored_at forest root))
+    → IsTopPut forest root w (stored_at forest root).ends now
+    → phasers_of now ≡ map (terminated root) (phasers_of forest)
+forced_shows forest root w now stored there is changed =
+    let put = changed.put in
+    let ps = phasers_of forest in
+    let x : Stored = record (stored_at forest root) { word = w; ends = (stored_at forest root).ends } in
+    let top = kept_flat (stored_at forest root) in
+    let many = put.many in
+    let many_now = length-shown now in
+    let many_ps = length-shown forest in
+    let many_moved : length (map (terminated root) ps) ≡ length ps = length-map ps (terminated root) in
+    ext_get_or no_phaser (phasers_of now) (map (terminated root) ps) (omega (arith, many, many_now, many_ps, many_moved)) (λ n here.
+    let within : n < length forest = omega (arith, many, many_now, here) in
+    elim (cases_eq n root) as (λ _. phaser_at (phasers_of now) n ≡ phaser_at (map (terminated root) ps) n) [
+      | inl same ↦
+          subst (λ (m : ℕ). phaser_at (phasers_of now) m ≡ phaser_at (map (terminated root) ps) m) (sym same)
+          (shown_put forest root x now put root there
+          ∙ ap (λ (m : ℕ). record {
+            line = (stored_at forest root).line;
+            policy = (stored_at forest root).policy;
+            flat = present (kept_flat (stored_at now m)) (kept_flat (stored_at now root));
+            ends = (stored_at now root).ends;
+          }) changed.top
+          ∙ ap (λ (s : Stored). record {
+            line = (stored_at forest root).line;
+            policy = (stored_at forest root).policy;
+            flat = present (kept_flat s) (kept_flat s);
+            ends = s.ends;
+          }) put.own
+          ∙ ap (λ (f : Flat). record {
+            line = (stored_at forest root).line;
+            policy = (stored_at forest root).policy;
+            flat = present f f;
+            ends = (stored_at forest root).ends;
+          }) is
+          ∙ ap (λ (f : Flat). record {
+            line = (stored_at forest root).line;
+            policy = (stored_at forest root).policy;
+            flat = f;
+            ends = (stored_at forest root).ends;
+          }) (present_forced top top)
+          ∙ ap (λ (m : ℕ). record {
+            line = (stored_at forest root).line;
+            policy = (stored_at forest root).policy;
+            flat = force (present (kept_flat (stored_at forest m)) top);
+            ends = (stored_at forest root).ends;
+          }) (sym changed.top)
+          ∙ ap (λ (p : PhaserState). record p { flat = force p.flat }) (sym (shown_at forest root there))
+          ∙ sym (ap (λ (t : Bool). if t then record (phaser_at ps root) { flat = force (flat_at ps root) } else phaser_at ps root)
+          (ap (λ (m : ℕ). m == root) (root_shown forest root there ∙ changed.top) ∙ same-is root))
+          ∙ sym (get_or-map (terminated root) ps root no_phaser no_phaser (omega (arith, many_ps, there))))
+      | inr other ↦
+          let follows : (if top_at forest n == root then present (record_of w) (kept_flat (stored_at forest n)) else flat_at ps n)
+          ≡ (if root_of (phaser_at ps n) == root then force (flat_at ps n) else flat_at ps n) =
+          elim (cases_eq (top_at forest n) root) as (λ _. (if top_at forest n == root then present (record_of w) (kept_flat (stored_at forest n)) else flat_at ps n)
+          ≡ (if root_of (phaser_at ps n) == root then force (flat_at ps n) else flat_at ps n)) [
+            | inl under ↦
+                ap (λ (t : Bool). if t then present (record_of w) (kept_flat (stored_at forest n)) else flat_at ps n) (ap (λ (m : ℕ). m == root) under ∙ same-is root)
+                ∙ ap (λ (f : Flat). present f (kept_flat (stored_at forest n))) is
+                ∙ present_forced top (kept_flat (stored_at forest n))
+                ∙ ap (λ (m : ℕ). force (present (kept_flat (stored_at forest m)) (kept_flat (stored_at forest n)))) (sym under)
+                ∙ ap force (sym (flat_shown forest n within))
+                ∙ sym (ap (λ (t : Bool). if t then force (flat_at ps n) else flat_at ps n)
+                (ap (λ (m : ℕ). m == root) (root_shown forest n within ∙ under) ∙ same-is root))
+            | inr apart ↦
+                ap (λ (t : Bool). if t then present (record_of w) (kept_flat (stored_at forest n)) else flat_at ps n) (other-is (top_at forest n) root apart)
+                ∙ sym (ap (λ (t : Bool). if t then force (flat_at ps n) else flat_at ps n)
+                (other-is (root_at ps n) root (λ same. apart (sym (root_shown forest n within) ∙ same))))
+          ] in
+          top_shows forest root w (stored_at forest root).ends now changed n within other
+          ∙ ap (λ (f : Flat). record (phaser_at ps n) { flat = f }) follows
+          ∙ put_if (root_of (phaser_at ps n) == root) (phaser_at ps n) (force (flat_at ps n)) (flat_at ps n) refl
+          ∙ sym (get_or-map (terminated root) ps n no_phaser no_phaser (omega (arith, many_ps, within)))
+    ])
+
+-- no word is too far behind then
+top_near : (forest : List Stored) (root w count : ℕ) (now : List Stored) → IsStored forest → root < length forest
+    → IsTopPut forest root w count now
+    → ((p : ℕ) → behind p (kept_flat (stored_at forest root)).phase ≤ (stored_at forest root).ends → behind p (record_of w).phase ≤ count)
+    → IsNear now
+top_near forest root w count now stored there changed step n here =
+    let put = changed.put in
+    let x : Stored = record (stored_at forest root) { word = w; ends = count } in
+    let many = put.many in
+    let within : n < length forest = omega (arith, many, here) in
+    let near = stored.near n within in
+    let up = top-put forest root x now put n in
+    elim (cases_eq n root) as (λ _. behind (kept_flat (stored_at now n)).phase (kept_flat (stored_at now (top_at now n))).phase ≤ (stored_at now (top_at now n)).ends) [
+      | inl is ↦
+          let own : top_at now n ≡ n = up ∙ ap (top_at forest) is ∙ changed.top ∙ sym is in
+          let none : behind (kept_flat (stored_at now n)).phase (kept_flat (stored_at now (top_at now n))).phase ≡ 0 =
+          ap (λ (m : ℕ). behind (kept_flat (stored_at now n)).phase (kept_flat (stored_at now m)).phase) own ∙ behind-self _ in
+          omega (arith, none)
+      | inr other ↦
+          let kept : behind (kept_flat (stored_at now n)).phase (kept_flat (stored_at now (top_at now n))).phase
+          ≡ behind (kept_flat (stored_at forest n)).phase (kept_flat (stored_at now (top_at forest n))).phase =
+          ap (λ (s : Stored). behind (kept_flat s).phase (kept_flat (stored_at now (top_at now n))).phase) (put.others n other)
+          ∙ ap (λ (m : ℕ). behind (kept_flat (stored_at forest n)).phase (kept_flat (stored_at now m)).phase) up in
+          let count_is : (stored_at now (top_at now n)).ends ≡ (stored_at now (top_at forest n)).ends = ap (λ (m : ℕ). (stored_at now m).ends) up in
+          let goal : behind (kept_flat (stored_at forest n)).phase (kept_flat (stored_at now (top_at forest n))).phase ≤ (stored_at now (top_at forest n)).ends =
+          elim (cases_eq (top_at forest n) root) as (λ _. behind (kept_flat (stored_at forest n)).phase (kept_flat (stored_at now (top_at forest n))).phase ≤ (stored_at now (top_at forest n)).ends) [
+            | inl under ↦
+                subst (λ (m : ℕ). behind (kept_flat (stored_at forest n)).phase (kept_flat (stored_at now m)).phase ≤ (stored_at now m).ends) (sym under)
+                (subst (λ (s : Stored). behind (kept_flat (stored_at forest n)).phase (kept_flat s).phase ≤ s.ends) (sym put.own)
+                (step (kept_flat (stored_at forest n)).phase
+                (subst (λ (m : ℕ). behind (kept_flat (stored_at forest n)).phase (kept_flat (stored_at forest m)).phase ≤ (stored_at forest m).ends) under near)))
+            | inr apart ↦
+                subst (λ (s : Stored). behind (kept_flat (stored_at forest n)).phase (kept_flat s).phase ≤ s.ends) (sym (put.others (top_at forest n) apart)) near
+          ] in
+          omega (arith, kept, count_is, goal)
+    ]
+
+pub record Changes (root : ℕ) (forest now : List Stored) (after : List PhaserState) : Type 0 where
+  pub shows : phasers_of now ≡ after
+  pub stored : IsStored now
+  pub only : ChangedOnly (root ∷ []) forest now
+
+pub turns : (forest : List Stored) (root w : ℕ) (ends : Bool) (d x : Stored) → x ≡ record (get_or forest root d) { word = w; ends = (get_or forest root d).ends + 1 }
+    → IsStored forest → root < length forest
+    → root_at (phasers_of forest) root ≡ root → (flat_at (phasers_of forest) root).ended ≡ false
+    → (phaser_at (phasers_of forest) root).ends < 2147483647
+    → record_of w ≡ advance ends (flat_at (phasers_of forest) root)
+    → Changes root forest (slice_set forest root x) (after_turn root ends (phasers_of forest))
+turns forest root w ends d x is stored there is_root live few is_word =
+    let new : Stored = record (stored_at forest root) { word = w; ends = (stored_at forest root).ends + 1 } in
+    let now = slice_set forest root x in
+    let now_is : now ≡ slice_set forest root new =
+    ap (slice_set forest root) (is ∙ ap (λ (s : Stored). record s { word = w; ends = s.ends + 1 }) (get_or_default forest root d no_stored there)) in
+    let changed : IsTopPut forest root w ((stored_at forest root).ends + 1) now =
+    subst (IsTopPut forest root w ((stored_at forest root).ends + 1)) (sym now_is) (top_put forest root w ((stored_at forest root).ends + 1) stored there is_root) in
+    let count : (phaser_at (phasers_of forest) root).ends ≡ (stored_at forest root).ends = ap (λ (p : PhaserState). p.ends) (shown_at forest root there) in
+    let few_stored : (stored_at forest root).ends < 2147483647 = omega (arith, count, few) in
+    let shows = turned_shows forest root w ends now stored there is_root live few_stored is_word changed in
+    let phase_is : (record_of w).phase ≡ next_phase (kept_flat (stored_at forest root)).phase =
+    ap (λ (f : Flat). f.phase) is_word ∙ ap (λ (f : Flat). next_phase f.phase) (flat_shown forest root there)
+    ∙ ap next_phase (present-phase (kept_flat (stored_at forest (top_at forest root))) (kept_flat (stored_at forest root)))
+    ∙ ap (λ (m : ℕ). next_phase (kept_flat (stored_at forest m)).phase) changed.top in
+    record {
+      shows = shows;
+      stored = record {
+        places = forest_kept (phasers_of forest) (phasers_of now) (ap places_of shows ∙ turn-places root ends (phasers_of forest)) stored.places;
+        near = top_near forest root w ((stored_at forest root).ends + 1) now stored there changed (λ p near.
+            subst (λ (q : ℕ). behind p q ≤ (stored_at forest root).ends + 1) (sym phase_is)
+            (behind_next p (kept_flat (stored_at forest root)).phase (stored_at forest root).ends near));
+      };
+      only = only_put forest root new now changed.put;
+    }
+
+pub forces : (forest : List Stored) (root w : ℕ) (d x : Stored) → x ≡ record (get_or forest root d) { word = w }
+    → IsStored forest → root < length forest → root_at (phasers_of forest) root ≡ root
+    → record_of w ≡ force (kept_flat (stored_at forest root))
+    → Changes root forest (slice_set forest root x) (map (terminated root) (phasers_of forest))
+forces forest root w d x is stored there is_root is_word =
+    let new : Stored = record (stored_at forest root) { word = w; ends = (stored_at forest root).ends } in
+    let now = slice_set forest root x in
+    let now_is : now ≡ slice_set forest root new =
+    ap (slice_set forest root) (is ∙ ap (λ (s : Stored). record s { word = w }) (get_or_default forest root d no_stored there)) in
+    let changed : IsTopPut forest root w (stored_at forest root).ends now =
+    subst (IsTopPut forest root w (stored_at forest root).ends) (sym now_is) (top_put forest root w (stored_at forest root).ends stored there is_root) in
+    let shows = forced_shows forest root w now stored there is_word changed in
+    let phase_is : (record_of w).phase ≡ (kept_flat (stored_at forest root)).phase = ap (λ (f : Flat). f.phase) is_word in
+    record {
+      shows = shows;
+      stored = record {
+        places = forest_kept (phasers_of forest) (phasers_of now) (ap places_of shows ∙ terminated-places root (phasers_of forest)) stored.places;
+        near = top_near forest root w (stored_at forest root).ends now stored there changed (λ p near.
+            subst (λ (q : ℕ). behind p q ≤ (stored_at forest root).ends) (sym phase_is) near);
+      };
+      only = only_put forest root new now changed.put;
+    }
+
+-- the word that is read of a slice
+pub forces_read : (forest : List Stored) (root w own : ℕ) (d : Stored) → root < length forest → own ≡ (get_or forest root d).word
+    → record_of w ≡ force (record_of own) → record_of w ≡ force (kept_flat (stored_at forest root))
+forces_read forest root w own d there is is_word =
+    is_word ∙ ap (λ (n : ℕ). force (record_of n)) (is ∙ ap (λ (x : Stored). x.word) (get_or_default forest root d no_stored there))
+
+-- 7. changes of some phasers, one after the other
+
+pub only_same : (line : List ℕ) (forest : List Stored) → ChangedOnly line forest forest
+only_same line forest = record { many = refl; places = (λ id. refl); others = (λ id away. refl) }
+
+pub only_more : (line above : List ℕ) (i : ℕ) (before mid after : List Stored) → line ≡ i ∷ above → ChangedOnly above before mid
+    → ChangedOnly (i ∷ []) mid after → ChangedOnly line before after
+only_more line above i before mid after is one two =
+    subst (λ (l : List ℕ). ChangedOnly l before after) (sym is) (record {
+      many = two.many ∙ one.many;
+      places = (λ id. two.places id ∙ one.places id);
+      others = (λ id away.
+          two.others id (All-cons (λ (n : ℕ). id ≢ n) i [] (All-head (λ (n : ℕ). id ≢ n) i above away) (All-nil (λ (n : ℕ). id ≢ n)))
+          ∙ one.others id (All-tail (λ (n : ℕ). id ≢ n) i above away));
+    })

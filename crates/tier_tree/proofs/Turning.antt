@@ -1,0 +1,153 @@
+-- An arrival that is the last of its tree leaves the root turned.
+use Rattle.std.proofs.Common.{◌≡◌, ◌≢◌, ◌∙◌, ℕ, ◌+◌, ◌-◌, ◌<◌, ◌≤◌, ◌==◌, Bool, true, false, List, [], ◌∷◌, length, ap, refl, sym, subst, arith, if◌then◌else◌}
+use Rattle.std.proofs.lemmas.List.{get_or-set_same, get_or-set_other}
+use Rattle.packed_phaser.specs.Flat.{Flat, Arrival, Counts, Turns, ComesLate, IsUnregistered, arrive, settled, view_of}
+use Rattle.tier_tree.specs.declared.climb.Climb.{Climb}
+use Rattle.tier_tree.specs.declared.climb.Climb.TheVariants as climb
+use Rattle.tier_tree.specs.Forest.{PhaserState, no_phaser, phaser_at, flat_at, root_at, with_flat}
+use Rattle.tier_tree.specs.Answer.{IfTurning}
+use Rattle.tier_tree.specs.Answer.{Turns as TurnsRoot}
+use Rattle.tier_tree.specs.declared.arrived.Arrived.{Arrived}
+use Rattle.tier_tree.specs.declared.arrived.Arrived.TheVariants as arrived
+use Rattle.tier_tree.specs.Arrival.{Arrives, arrival, arrival_by, Climbed, passed_on, with_child, climbed_by, climbed}
+use Rattle.tier_tree.specs.Sound.{IsForest}
+use Rattle.tier_tree.proofs.Lines.{climbed_same}
+use Rattle.tier_tree.proofs.Safe.{last_of, line_own, root-parent}
+use Rattle.tier_tree.proofs.Balance.{next-parent}
+use Rattle.tier_tree.proofs.Turned.{root-root}
+use Rattle.tier_tree.proofs.Stands.{root-same, same-is}
+
+abbrev pub IsTurned : Flat → Type 0
+IsTurned f = (f.turned ≡ true) × (f.ended ≡ false)
+
+-- somebody is still to arrive
+abbrev pub IsOpen : Flat → Type 0
+IsOpen f = (f.ended ≡ false) × ((f.arrived == f.parties) ≡ false)
+
+abbrev pub TurnsAll : Flat → Arrival → Type 0
+TurnsAll f (Counts g) = Unit {0}
+TurnsAll f (Turns g) = IsTurned g × IsOpen f
+TurnsAll f (ComesLate view) = Unit {0}
+TurnsAll f IsUnregistered = Unit {0}
+
+settled_turns : (f g : Flat) → IsOpen f → g.ended ≡ false → (all : Bool) → TurnsAll f (if all then Turns (record g { turned = true }) else Counts g)
+settled_turns f g awaits live true = ((refl, live), awaits)
+settled_turns f g awaits live false = tt
+
+arrive_turns : (leave : Bool) (f : Flat) → TurnsAll f (arrive leave f)
+arrive_turns leave f = by_case leave f.ended (f.arrived == f.parties) refl refl
+  where
+    by_case : (leave ended none : Bool) → f.ended ≡ ended → (f.arrived == f.parties) ≡ none
+        → TurnsAll f (if ended then ComesLate (view_of f)
+        else (if none then IsUnregistered
+        else (if leave then settled (record f { parties = f.parties - 1 })
+        else settled (record f { arrived = f.arrived + 1 }))))
+    by_case leave true none is some = tt
+    by_case leave false true is some = tt
+    by_case true false false is some = settled_turns f (record f { parties = f.parties - 1 }) (is, some) is (f.arrived == f.parties - 1)
+    by_case false false false is some = settled_turns f (record f { arrived = f.arrived + 1 }) (is, some) is (f.arrived + 1 == f.parties)
+
+-- the root is turned now, and waited for somebody before
+abbrev pub TurnsIt : Flat → Flat → Type 0
+TurnsIt f g = IsTurned g × IsOpen f
+
+child_turned : (id : ℕ) (g : Flat) (c : Climb) (above : List PhaserState) → (with_child id g c above).climb ≡ climb.Turned
+    → (c ≡ climb.Turned) × ((with_child id g c above).phasers ≡ with_flat above id (passed_on g))
+child_turned id g climb.Counted above is = absurd (cc (is))
+child_turned id g climb.Turned above is = (refl, refl)
+child_turned id g climb.Refused above is = absurd (cc (is))
+
+root_turned : (a : Arrival) (i : ℕ) (above : Bool → Climbed) (phasers : List PhaserState) → i < length phasers → TurnsAll (flat_at phasers i) a
+    → (climbed_by a i true above phasers).climb ≡ climb.Turned → TurnsIt (flat_at phasers i) (flat_at (climbed_by a i true above phasers).phasers i)
+root_turned (Counts g) i above phasers there all is = absurd (cc (is))
+root_turned (Turns g) i above phasers there all is =
+    subst (TurnsIt (flat_at phasers i)) (sym (ap (λ (p : PhaserState). p.flat) (get_or-set_same phasers i (record (phaser_at phasers i) { flat = g }) no_phaser there))) all
+root_turned (ComesLate view) i above phasers there all is = absurd (cc (is))
+root_turned IsUnregistered i above phasers there all is = absurd (cc (is))
+
+above_turned : (a : Arrival) (i r : ℕ) (above : Bool → Climbed) (phasers : List PhaserState) → r ≢ i
+    → ((leaves : Bool) → (above leaves).climb ≡ climb.Turned → TurnsIt (flat_at phasers r) (flat_at (above leaves).phasers r))
+    → (climbed_by a i false above phasers).climb ≡ climb.Turned → TurnsIt (flat_at phasers r) (flat_at (climbed_by a i false above phasers).phasers r)
+above_turned (Counts g) i r above phasers apart rest is = absurd (cc (is))
+above_turned (Turns g) i r above phasers apart rest is =
+    let up = above (g.parties == 0) in
+    let child = child_turned i g up.climb up.phasers is in
+    subst (λ (ps : List PhaserState). TurnsIt (flat_at phasers r) (flat_at ps r)) (sym child.1)
+    (subst (TurnsIt (flat_at phasers r)) (sym (ap (λ (p : PhaserState). p.flat)
+    (get_or-set_other up.phasers i r (record (phaser_at up.phasers i) { flat = passed_on g }) no_phaser apart))) (rest (g.parties == 0) child.0))
+above_turned (ComesLate view) i r above phasers apart rest is = absurd (cc (is))
+above_turned IsUnregistered i r above phasers apart rest is = absurd (cc (is))
+
+pub climbed_turned : (above : List ℕ) (i : ℕ) (leave : Bool) (phasers : List PhaserState) → IsForest phasers → i < length phasers
+    → (phaser_at phasers i).line ≡ i ∷ above → (climbed (i ∷ above) leave phasers).climb ≡ climb.Turned
+    → TurnsIt (flat_at phasers (root_at phasers i)) (flat_at (climbed (i ∷ above) leave phasers).phasers (root_at phasers i))
+climbed_turned [] i leave phasers sound there line is =
+    subst (λ (n : ℕ). TurnsIt (flat_at phasers n) (flat_at (climbed (i ∷ []) leave phasers).phasers n)) (sym (ap last_of line))
+    (root_turned (arrive leave (flat_at phasers i)) i (λ leaves. climbed [] leaves phasers) phasers there (arrive_turns leave (flat_at phasers i)) is)
+climbed_turned (q ∷ more) i leave phasers sound there line is =
+    let next = next-parent phasers i q more sound there line in
+    let below : q < i = next.0 in
+    let within : q < length phasers = omega (arith, below, there) in
+    let same : root_at phasers i ≡ root_at phasers q = root-parent phasers i q sound within (line ∙ ap (λ (l : List ℕ). i ∷ l) (sym next.1)) in
+    let least : root_at phasers q ≤ q = (root-root phasers (phaser_at phasers q).line q sound within refl).1 in
+    let apart : root_at phasers q ≢ i = λ eq. absurd (omega (arith, eq, least, below)) in
+    subst (λ (n : ℕ). TurnsIt (flat_at phasers n) (flat_at (climbed (i ∷ q ∷ more) leave phasers).phasers n)) (sym same)
+    (above_turned (arrive leave (flat_at phasers i)) i (root_at phasers q) (λ leaves. climbed (q ∷ more) leaves phasers) phasers apart
+    (λ leaves up. climbed_turned more q leaves phasers sound within next.1 up) is)
+
+-- of a turned phaser all have arrived
+abbrev pub IsFull : Flat → Type 0
+IsFull f = f.turned ≡ true → f.arrived ≡ f.parties
+
+not_turned : (f : Flat) → IsOpen f → IsFull f → f.turned ≡ false
+not_turned f awaits full = by_case f.turned refl
+  where
+    by_case : (turned : Bool) → f.turned ≡ turned → turned ≡ false
+    by_case true is =
+        let all = ap (λ (n : ℕ). n == f.parties) (full is) ∙ same-is f.parties in
+        absurd (cc (all, awaits.1))
+    by_case false is = refl
+
+-- what the answer of an arrival tells of the root
+pub turning : (id m : ℕ) (leave : Bool) (phasers after : List PhaserState) (answer : Arrived) → IsForest phasers → id < length phasers
+    → root_at phasers id < m → IsFull (flat_at phasers (root_at phasers id))
+    → record { phasers = after; answer = answer } ≡ arrival id leave phasers
+    → IfTurning answer (λ root. (root.0 < m) × (root.0 ≡ root_at phasers id) × TurnsRoot root.0 phasers after)
+turning id m leave phasers after answer sound there below full is =
+    subst (λ (a : Arrives). IfTurning a.answer (λ root. (root.0 < m) × (root.0 ≡ root_at phasers id) × TurnsRoot root.0 phasers a.phasers))
+    (sym is) (by_end (flat_at phasers id).ended)
+  where
+    own : (above : List ℕ) × ((phaser_at phasers id).line ≡ id ∷ above)
+    own = line_own phasers id sound there
+
+    Tells : Arrives → Type 0
+    Tells a = IfTurning a.answer (λ root. (root.0 < m) × (root.0 ≡ root_at phasers id) × TurnsRoot root.0 phasers a.phasers)
+
+    by_climb : (c : Climb) → (climbed (phaser_at phasers id).line leave phasers).climb ≡ c
+        → Tells (arrival_by c id (climbed (phaser_at phasers id).line leave phasers).phasers phasers)
+    by_climb climb.Counted came = tt
+    by_climb climb.Turned came =
+        let top = root_at phasers id in
+        let all = climbed (phaser_at phasers id).line leave phasers in
+        let it : TurnsIt (flat_at phasers top) (flat_at all.phasers top) =
+        subst (λ (l : List ℕ). TurnsIt (flat_at phasers top) (flat_at (climbed l leave phasers).phasers top)) (sym own.1)
+        (climbed_turned own.0 id leave phasers sound there own.1 (ap (λ (l : List ℕ). (climbed l leave phasers).climb) (sym own.1) ∙ came)) in
+        let same : root_at all.phasers top ≡ top =
+        root-same phasers all.phasers top (climbed_same (phaser_at phasers id).line leave phasers all.phasers all.climb refl)
+        ∙ (root-root phasers (phaser_at phasers id).line id sound there refl).0 in (
+          below,
+          refl,
+          record {
+            top = same;
+            turned = it.0.0;
+            live = it.0.1;
+            unturned_before = not_turned (flat_at phasers top) it.1 full;
+            live_before = it.1.0;
+          },
+        )
+    by_climb climb.Refused came = tt
+
+    by_end : (ended : Bool) → Tells (if ended then record { phasers = phasers; answer = arrived.Dead (view_of (flat_at phasers id)) }
+        else arrival_by (climbed (phaser_at phasers id).line leave phasers).climb id (climbed (phaser_at phasers id).line leave phasers).phasers phasers)
+    by_end true = tt
+    by_end false = by_climb (climbed (phaser_at phasers id).line leave phasers).climb refl

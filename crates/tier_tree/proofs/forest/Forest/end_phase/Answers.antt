@@ -1,9 +1,0 @@
-use Rattle.std.proofs.Common.{◌∙◌, ap}
-use Rattle.tier_tree.specs.Sound.{places_of}
-use Rattle.tier_tree.proofs.Lines.{forest_back, turn-places}
-use Rattle.tier_tree.proofs.forest.Forest.end_phase.Goals as goal
-
-pub invariant_of-self : goal.invariant_of-self
-invariant_of-self c =
-    forest_back c.self.inside.nodes.items c.as_mut_slice.result.now c.end_phase.new.nodes _ c.as_mut_slice.ensures.value c.as_mut_slice.ensures.len
-    (ap places_of c.end_phase.ensures ∙ turn-places _ _ _) c.self.invariant

@@ -1,0 +1,217 @@
+ghost use Rattle.std.specs.Prelude.{◌≡◌, ◌+◌, ◌<◌, ◌∷◌, [], ◌++◌, length, true, false, None, IfOk, IfErr, IfSome, OnErr, nat_abs};
+ghost use Rattle.std.specs.List.{list_any};
+ghost use Rattle.packed_phaser.specs.Word.{record_of};
+ghost use Rattle.tier_tree.specs.Answer.{AddsPlace, KeepsEnds};
+ghost use Rattle.tier_tree.specs.Declaration.{has_parent, is_root, line_above, joins_above};
+ghost use Rattle.tier_tree.specs.Declaration.{declared, fault_of, after_declaration};
+ghost use Rattle.tier_tree.specs.Declaration.{IsFreshAbove, AreAllFresh};
+ghost use Rattle.tier_tree.specs.Origin.{Carries, declared_at};
+ghost use Rattle.tier_tree.specs.Registration.{is_overfull, joined};
+ghost use Rattle.tier_tree.specs.Stored.{phasers_of};
+
+use super::Forest;
+use crate::fault::DeclareFault;
+use crate::id::PhaserId;
+use crate::join::{is_overfull_along, join_along};
+use crate::line::{Line, MOST_LEVELS};
+use crate::node::Node;
+use crate::present::{line_at, phase_of, word_at};
+use packed_phaser::{Policy, Word};
+use phase_number::Phase;
+use std::alloc::AllocError;
+
+/// The most phasers of a forest.
+const MOST_PHASERS: usize = 64;
+
+/// A phaser is declared, and registers with its parent.
+impl Forest {
+    /// `new Phaser(parent, parties)`, with the policy that `onAdvance` follows. A root may begin in
+    /// any phase; a child is declared before anything has happened in its parent's tree in the
+    /// present phase, and begins in that phase, with 0 given for it. Only this call, `new` and
+    /// `copy` take memory.
+    pub fn declare(
+        &mut self,
+        parent: Option<PhaserId>,
+        parties: i32,
+        policy: Policy,
+        phase: Phase,
+    ) -> Result<PhaserId, DeclareFault>
+        requires { IsFreshAbove parent (phasers_of self.old) }
+        ensures fault { IfSome (fault_of parent parties phase (phasers_of self.old))
+            (λ fault. result ≡ Err fault) }
+        ensures memory { fault_of parent parties phase (phasers_of self.old) ≡ None
+            → IfErr result (λ fault. fault ≡ DeclareFault.Memory) }
+        ensures id { IfOk result (λ id. id.0 ≡ length self.old) }
+        ensures many { IfOk result (λ _. length self.new ≡ length self.old + 1) }
+        ensures declared { IfOk result (λ _. phasers_of self.new
+            ≡ after_declaration parent (nat_abs parties) policy phase (phasers_of self.old)) }
+        ensures err { OnErr result (self.new ≡ self.old) }
+        ensures places { IfOk result (λ _. AddsPlace (phasers_of self.old) (phasers_of self.new)) }
+        ensures ends { IfOk result (λ _. KeepsEnds (phasers_of self.old) (phasers_of self.new)) }
+        ensures fresh { AreAllFresh (phasers_of self.old) → AreAllFresh (phasers_of self.new) }
+        ensures origin { IfOk result (λ id. Carries
+            (declared_at id.0 (nat_abs parties) (is_root parent))
+            (phasers_of self.old) (phasers_of self.new)) }
+    {
+        if let Some(fault) = self.fault(parent, parties, phase) {
+            return Err(fault);
+        }
+        let id = self.nodes.len() as u8;
+        match self.add(parent, parties as u16, policy, phase) {
+            Ok(()) => Ok(PhaserId(id)),
+            Err(_) => Err(DeclareFault::Memory),
+        }
+    }
+
+    /// Why a declaration is refused, want of memory aside.
+    fn fault(&self, parent: Option<PhaserId>, parties: i32, phase: Phase) -> Option<DeclareFault>
+        ensures { result ≡ fault_of parent parties phase (phasers_of self.now) }
+    {
+        if self.nodes.len() >= MOST_PHASERS {
+            Some(DeclareFault::TooManyPhasers)
+        } else if !self.has_parent(parent) {
+            Some(DeclareFault::NoParent)
+        } else if parties < 0 || parties > 65535 {
+            Some(DeclareFault::BadParties)
+        } else if parent.is_some() && phase.number() != 0 {
+            Some(DeclareFault::PhaseOnChild)
+        } else if self.height(parent) >= MOST_LEVELS {
+            Some(DeclareFault::TooDeep)
+        } else if self.is_overfull_above(parent, parties as u32) {
+            Some(DeclareFault::TooMany)
+        } else {
+            None
+        }
+    }
+
+    /// Whether there is such a parent, or none is asked for.
+    fn has_parent(&self, parent: Option<PhaserId>) -> bool
+        ensures { result ≡ has_parent parent (phasers_of self.now) }
+    {
+        match parent {
+            Some(parent) => (parent.0 as usize) < self.nodes.len(),
+            None => true,
+        }
+    }
+
+    /// How many phasers there are from the parent up to its root.
+    fn height(&self, parent: Option<PhaserId>) -> usize
+        requires { has_parent parent (phasers_of self.now) ≡ true }
+        ensures { result ≡ length (line_above parent (phasers_of self.now)) }
+    {
+        match parent {
+            Some(parent) => line_at(self.nodes.as_slice(), parent.0 as usize).len(),
+            None => 0,
+        }
+    }
+
+    /// Whether a phaser above has no room for the party that a child of these parties registers.
+    fn is_overfull_above(&self, parent: Option<PhaserId>, parties: u32) -> bool
+        requires { has_parent parent (phasers_of self.now) ≡ true }
+        ensures { result ≡ list_any (is_overfull (phasers_of self.now))
+            (joins_above parent parties (phasers_of self.now)) }
+    {
+        match parent {
+            Some(parent) => {
+                if parties == 0 {
+                    return false;
+                }
+                let line = line_at(self.nodes.as_slice(), parent.0 as usize);
+                is_overfull_along(self.nodes.as_slice(), line.as_slice(), 1)
+            }
+            None => false,
+        }
+    }
+
+    /// A new phaser, registered above.
+    fn add(
+        &mut self,
+        parent: Option<PhaserId>,
+        parties: u16,
+        policy: Policy,
+        phase: Phase,
+    ) -> Result<(), AllocError>
+        requires few { length self.old < 64 }
+        requires parent { has_parent parent (phasers_of self.old) ≡ true }
+        requires levels { length (line_above parent (phasers_of self.old)) < 8 }
+        requires tree { IsFreshAbove parent (phasers_of self.old) }
+        requires room { list_any (is_overfull (phasers_of self.old))
+            (joins_above parent parties (phasers_of self.old)) ≡ false }
+        ensures ok { IfOk result (λ _. phasers_of self.new
+            ≡ after_declaration parent parties policy phase (phasers_of self.old)) }
+        ensures many { IfOk result (λ _. length self.new ≡ length self.old + 1) }
+        ensures err { OnErr result (self.new ≡ self.old) }
+        ensures places { IfOk result (λ _. AddsPlace (phasers_of self.old) (phasers_of self.new)) }
+        ensures ends { IfOk result (λ _. KeepsEnds (phasers_of self.old) (phasers_of self.new)) }
+        ensures fresh { AreAllFresh (phasers_of self.old) → AreAllFresh (phasers_of self.new) }
+        ensures origin { IfOk result (λ _. Carries
+            (declared_at (length self.old) parties (is_root parent))
+            (phasers_of self.old) (phasers_of self.new)) }
+    {
+        self.is_forest();
+        self.push(parent, parties, policy, phase)?;
+        self.join_above(parent, parties);
+        Ok(())
+    }
+
+    /// A new phaser at the end.
+    fn push(
+        &mut self,
+        parent: Option<PhaserId>,
+        parties: u16,
+        policy: Policy,
+        phase: Phase,
+    ) -> Result<(), AllocError>
+        requires few { length self.old < 64 }
+        requires parent { has_parent parent (phasers_of self.old) ≡ true }
+        requires levels { length (line_above parent (phasers_of self.old)) < 8 }
+        requires fresh { IsFreshAbove parent (phasers_of self.old) }
+        ensures ok { IfOk result (λ _. phasers_of self.new
+            ≡ phasers_of self.old ++ declared parent parties policy phase (phasers_of self.old) ∷ []) }
+        ensures many { IfOk result (λ _. length self.new ≡ length self.old + 1) }
+        ensures err { OnErr result (self.new ≡ self.old) }
+    {
+        let node = self.new_node(parent, parties, policy, phase);
+        self.nodes.push(node)?;
+        Ok(())
+    }
+
+    /// A new phaser.
+    fn new_node(&self, parent: Option<PhaserId>, parties: u16, policy: Policy, phase: Phase) -> Node
+        requires few { length self.now < 64 }
+        requires parent { has_parent parent (phasers_of self.now) ≡ true }
+        requires levels { length (line_above parent (phasers_of self.now)) < 8 }
+        ensures line { result.line
+            ≡ (declared parent parties policy phase (phasers_of self.now)).line }
+        ensures policy { result.policy ≡ policy }
+        ensures word { record_of result.word
+            ≡ (declared parent parties policy phase (phasers_of self.now)).flat }
+        ensures ends { result.ends ≡ 0 }
+    {
+        let id = self.nodes.len() as u8;
+        match parent {
+            Some(parent) => {
+                let line = line_at(self.nodes.as_slice(), parent.0 as usize);
+                let above = word_at(self.nodes.as_slice(), parent.0 as usize);
+                let word = Word::fresh(phase_of(above), parties);
+                Node::new(line.of_child(id), policy, word)
+            }
+            None => Node::new(Line::of_root(id), policy, Word::fresh(phase, parties)),
+        }
+    }
+
+    /// Registers the party of a child that has parties.
+    fn join_above(&mut self, parent: Option<PhaserId>, parties: u16)
+        requires { has_parent parent (phasers_of self.old) ≡ true }
+        ensures joined { phasers_of self.new
+            ≡ joined (joins_above parent parties (phasers_of self.old)) (phasers_of self.old) }
+        ensures many { length self.new ≡ length self.old }
+    {
+        if let Some(parent) = parent {
+            if parties > 0 {
+                let line = line_at(self.nodes.as_slice(), parent.0 as usize);
+                join_along(self.nodes.as_mut_slice(), line.as_slice(), 1);
+            }
+        }
+    }
+}

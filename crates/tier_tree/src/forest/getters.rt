@@ -1,0 +1,101 @@
+ghost use Rattle.std.specs.Prelude.{◌≡◌, ◌<◌, length, slice_get, IfSome};
+ghost use Rattle.std.specs.Option.{option_map};
+ghost use Rattle.packed_phaser.specs.Flat.{view_of, unarrived_of};
+ghost use Rattle.tier_tree.specs.Forest.{phaser_at, flat_at, root_at};
+ghost use Rattle.tier_tree.specs.Stored.{phasers_of};
+
+use super::Forest;
+use crate::id::PhaserId;
+use crate::present::{line_at, phase_of, root_of, word_at};
+use packed_phaser::Policy;
+use phase_number::Phase;
+
+/// What a phaser shows at present.
+impl Forest {
+    /// The number of phasers.
+    pub fn len(&self) -> usize
+        ensures { result ≡ length self.now }
+    {
+        self.nodes.len()
+    }
+
+    /// `getPhase`: the number of the tree's phase, less 2147483648 once the tree is terminated.
+    pub fn phase(&self, id: PhaserId) -> i32
+        requires { id.0 < length self.now }
+        ensures { result ≡ view_of (flat_at (phasers_of self.now) id.0) }
+    {
+        word_at(self.nodes.as_slice(), id.0 as usize).phase_view()
+    }
+
+    /// The number of the tree's phase, terminated or not.
+    pub fn phase_number(&self, id: PhaserId) -> Phase
+        requires { id.0 < length self.now }
+        ensures { result ≡ (flat_at (phasers_of self.now) id.0).phase }
+    {
+        phase_of(word_at(self.nodes.as_slice(), id.0 as usize))
+    }
+
+    /// `getRegisteredParties`.
+    pub fn parties(&self, id: PhaserId) -> u16
+        requires { id.0 < length self.now }
+        ensures { result ≡ (flat_at (phasers_of self.now) id.0).parties }
+    {
+        word_at(self.nodes.as_slice(), id.0 as usize).parties()
+    }
+
+    /// `getArrivedParties`; all of them once the tree is terminated.
+    pub fn arrived(&self, id: PhaserId) -> u16
+        requires { id.0 < length self.now }
+        ensures { result ≡ (flat_at (phasers_of self.now) id.0).arrived }
+    {
+        word_at(self.nodes.as_slice(), id.0 as usize).arrived()
+    }
+
+    /// `getUnarrivedParties`; 0 once the tree is terminated.
+    pub fn unarrived(&self, id: PhaserId) -> u16
+        requires { id.0 < length self.now }
+        ensures { result ≡ unarrived_of (flat_at (phasers_of self.now) id.0) }
+    {
+        word_at(self.nodes.as_slice(), id.0 as usize).unarrived()
+    }
+
+    /// `isTerminated`.
+    pub fn is_terminated(&self, id: PhaserId) -> bool
+        requires { id.0 < length self.now }
+        ensures { result ≡ (flat_at (phasers_of self.now) id.0).ended }
+    {
+        word_at(self.nodes.as_slice(), id.0 as usize).is_terminated()
+    }
+
+    /// `getParent`.
+    pub fn parent(&self, id: PhaserId) -> Option<PhaserId>
+        requires { id.0 < length self.now }
+        ensures parent { result ≡ option_map (λ n. record { 0 = n })
+            (slice_get (phaser_at (phasers_of self.now) id.0).line 1) }
+        ensures there { IfSome result (λ parent. parent.0 < length self.now) }
+    {
+        let line = line_at(self.nodes.as_slice(), id.0 as usize);
+        match line.as_slice().get(1) {
+            Some(parent) => Some(PhaserId(*parent)),
+            None => None,
+        }
+    }
+
+    /// `getRoot`.
+    pub fn root(&self, id: PhaserId) -> PhaserId
+        requires { id.0 < length self.now }
+        ensures root { result.0 ≡ root_at (phasers_of self.now) id.0 }
+        ensures there { result.0 < length self.now }
+        ensures top { root_at (phasers_of self.now) result.0 ≡ result.0 }
+    {
+        PhaserId(root_of(self.nodes.as_slice(), id.0 as usize))
+    }
+
+    /// What `onAdvance` answers at a root. A child's policy is kept, and nothing asks for it.
+    pub fn policy(&self, id: PhaserId) -> Policy
+        requires { id.0 < length self.now }
+        ensures { result ≡ (phaser_at (phasers_of self.now) id.0).policy }
+    {
+        self.nodes[id.0 as usize].policy()
+    }
+}

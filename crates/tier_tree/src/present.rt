@@ -1,0 +1,79 @@
+ghost use Rattle.std.specs.Prelude.{◌≡◌, ◌<◌, ◌≤◌, [], ◌∷◌, length, false, All};
+ghost use Rattle.packed_phaser.specs.Word.{record_of};
+ghost use Rattle.tier_tree.specs.Forest.{phaser_at, flat_at, root_at, with_flat};
+ghost use Rattle.tier_tree.specs.Stored.{IsStored, ChangedOnly, present, stored_at, phasers_of};
+
+use crate::line::Line;
+use crate::node::Node;
+use packed_phaser::Word;
+use phase_number::Phase;
+
+/// The phase of a word, terminated or not.
+#[tactic(auto, using(crate::proofs::View::view_number), unfolding(packed_phaser::specs::Word::fields_of))]
+pub fn phase_of(word: Word) -> Phase
+    ensures { result ≡ (record_of word).phase }
+{
+    Phase::prevailing(word.phase_view())
+}
+
+/// What a word says at present, beside that of its root.
+fn brought_up(root: Word, own: Word) -> Word
+    ensures { record_of result ≡ present (record_of root) (record_of own) }
+{
+    let phase = phase_of(root);
+    if root.is_terminated() {
+        own.renew(phase).force()
+    } else if phase_of(own).number() == phase.number() {
+        own
+    } else {
+        own.renew(phase)
+    }
+}
+
+/// The line of one phaser.
+pub fn line_at(nodes: &[Node], i: usize) -> Line
+    requires stored { IsStored nodes.now }
+    requires there { i < length nodes.now }
+    ensures line { result ≡ (phaser_at (phasers_of nodes.now) i).line }
+    ensures stored { result ≡ (stored_at nodes.now i).line }
+    ensures within { All (λ above. above < length nodes.now) result }
+{
+    nodes[i].line()
+}
+
+/// The root of one phaser.
+pub fn root_of(nodes: &[Node], i: usize) -> u8
+    requires stored { IsStored nodes.now }
+    requires there { i < length nodes.now }
+    ensures root { result ≡ root_at (phasers_of nodes.now) i }
+    ensures within { result < length nodes.now }
+    ensures top { root_at (phasers_of nodes.now) result ≡ result }
+{
+    nodes[i].root()
+}
+
+/// The present word of one phaser.
+pub fn word_at(nodes: &[Node], i: usize) -> Word
+    requires stored { IsStored nodes.now }
+    requires there { i < length nodes.now }
+    ensures { record_of result ≡ flat_at (phasers_of nodes.now) i }
+{
+    let node = &nodes[i];
+    let root = &nodes[node.root() as usize];
+    brought_up(root.word(), node.word())
+}
+
+/// Another word of the present phase for one phaser.
+pub fn set_word(nodes: &mut [Node], i: usize, word: Word)
+    requires stored { IsStored nodes.old }
+    requires there { i < length nodes.old }
+    requires phase { (record_of word).phase ≡ (flat_at (phasers_of nodes.old) i).phase }
+    requires before { (flat_at (phasers_of nodes.old) i).ended ≡ false }
+    requires live { (record_of word).ended ≡ false }
+    ensures present { phasers_of nodes.new
+        ≡ with_flat (phasers_of nodes.old) i (record_of word) }
+    ensures stored { IsStored nodes.new }
+    ensures only { ChangedOnly (i ∷ []) nodes.old nodes.new }
+{
+    nodes[i].set_word(word);
+}
