@@ -12,13 +12,19 @@ pub const OUT: &str = "OUT";
 
 pub const FILE: &str = "FILE";
 
+pub const RACE: &str = "race";
+
+pub const PARTIES: &str = "parties";
+
+pub const ROUNDS: &str = "rounds";
+
 /// What stands below the help of each command.
 const STATUSES: &str = "\
 Exit statuses:
   0  done
   2  the command line is wrong
   3  the input is refused: standard error has a line `refused ..`
-  4  memory is wanting: standard error has `memory`
+  4  memory is wanting, or a thread: standard error has `memory` or `spawn`
   5  a file can't be read or written: standard error has `read` or `write`
 
 docs/FORMATS.md has the formats, and what each line on standard error means.";
@@ -45,6 +51,14 @@ FILE is an image where its first four bytes are `PBW1` or `PBW2`, else a text.
 
 Example: vuthgal list meeting.image";
 
+const RACE_ABOUT: &str = "\
+Lets real threads meet at one shared phaser, round after round, and writes the word that they leave.
+
+N threads call `arriveAndAwaitAdvance` R times each on a phaser of N parties. The line is `phase A parties B unarrived C`: A is R, \
+and B and C are N, whatever the threads' order was.
+
+Example: vuthgal race --parties 4 --rounds 10000";
+
 /// A word that has to be there, in its place.
 fn place<'a>(alloc: Global, name: &'a str, help: &'a str) -> Arg<'a> {
     Arg::new(alloc, name).required(true).help(help)
@@ -67,6 +81,24 @@ fn list<'a>(alloc: Global) -> Result<Command<'a>, AllocError> {
         .arg(place(alloc, FILE, "The file of the image or of the program text"))
 }
 
+/// An option that has to be there, with a number.
+fn number<'a>(alloc: Global, name: &'a str, value: &'a str, help: &'a str) -> Arg<'a> {
+    Arg::new(alloc, name)
+        .long(name)
+        .value_name(value)
+        .required(true)
+        .help(help)
+}
+
+fn race<'a>(alloc: Global) -> Result<Command<'a>, AllocError> {
+    Command::new(alloc, RACE)
+        .about("Lets real threads meet at a shared phaser")
+        .long_about(RACE_ABOUT)
+        .after_help(STATUSES)
+        .arg(number(alloc, PARTIES, "N", "How many threads, 1 to 16"))?
+        .arg(number(alloc, ROUNDS, "R", "How many phases, 1 to 1000000"))
+}
+
 /// The program with all its commands.
 pub fn program<'a>(alloc: Global) -> Result<Command<'a>, AllocError> {
     Command::new(alloc, "vuthgal")
@@ -75,5 +107,6 @@ pub fn program<'a>(alloc: Global) -> Result<Command<'a>, AllocError> {
         .long_about(PROGRAM)
         .after_help(STATUSES)
         .subcommand(asm(alloc)?)?
-        .subcommand(list(alloc)?)
+        .subcommand(list(alloc)?)?
+        .subcommand(race(alloc)?)
 }

@@ -1,9 +1,12 @@
-use crate::commands::{ASM, FILE, LIST, OUT, SRC, program};
+ghost use Rattle.std.specs.Prelude.{◌≡◌, ◌≤◌, ◌^◌, IfSome};
+
+use crate::commands::{ASM, FILE, LIST, OUT, PARTIES, RACE, ROUNDS, SRC, program};
+use clap::error::ErrorKind;
 use clap::{ArgMatches, Error};
 use std::alloc::Global;
 
 /// What a command line asks for. A file is named as it was written.
-#[derive(Clone, Copy, Debug, PartialEq, Eq)]
+#[derive(Clone, Copy, PartialEq, Eq)]
 pub enum Request<'a> {
     /// No words: play what standard input holds.
     Both,
@@ -11,35 +14,70 @@ pub enum Request<'a> {
     Asm { source: &'a str, image: &'a str },
     /// `list FILE`.
     List { file: &'a str },
+    /// `race --parties N --rounds R`: 1 to 16 threads, 1 to 1,000,000 phases.
+    Race { parties: u16, rounds: u32 },
 }
+
+/// What is told of a number that is none, or out of its range.
+const NUMBERS: &str =
+    "a number is written in digits alone: parties from 1 to 16, rounds from 1 to 1000000";
 
 /// The word in this place, which is there where the place has to be filled.
 fn word<'a>(matches: &ArgMatches<'a>, place: &str) -> &'a str {
     matches.get_str(place).unwrap_or("")
 }
 
-/// What a subcommand with these matches asks for; `Both` for a name that isn't one.
-fn request_by<'a>(name: &str, matches: &ArgMatches<'a>) -> Request<'a> {
+/// The number that one to ten digits spell, where it is one of 1 to `most`; no sign may stand before them.
+fn number(text: &str, most: u32) -> Option<u32>
+    ensures { IfSome result (λ n. (1 ≤ n) × (n ≤ most)) }
+{
+    if text.len() > 10 || !text.bytes().all(|byte| byte.is_ascii_digit()) {
+        return None;
+    }
+    match text.parse::<u32>() {
+        Ok(number) if 1 <= number && number <= most => Some(number),
+        _ => None,
+    }
+}
+
+/// The race that these matches ask for, where both numbers are in range.
+fn race<'a>(matches: &ArgMatches<'a>) -> Option<Request<'a>> {
+    let parties = number(word(matches, PARTIES), 16)?;
+    let rounds = number(word(matches, ROUNDS), 1_000_000)?;
+    Some(Request::Race {
+        parties: parties as u16,
+        rounds,
+    })
+}
+
+/// What a subcommand with these matches asks for; `None` where a number is out of range.
+fn request_by<'a>(name: &str, matches: &ArgMatches<'a>) -> Option<Request<'a>> {
     match name {
-        ASM => Request::Asm {
+        ASM => Some(Request::Asm {
             source: word(matches, SRC),
             image: word(matches, OUT),
-        },
-        LIST => Request::List {
+        }),
+        LIST => Some(Request::List {
             file: word(matches, FILE),
-        },
-        _ => Request::Both,
+        }),
+        RACE => race(matches),
+        _ => Some(Request::Both),
     }
 }
 
 /// What the words of a command line ask for, the program's own name the first of them. An error is also what `--help` and
 /// `--version` come to: its `exit_code` is 0 then, and 2 where the words are wrong.
 pub fn parse<'a>(alloc: Global, words: &'a [String]) -> Result<Request<'a>, Error> {
-    let matches = program(alloc)?.try_get_matches_from(words)?;
-    Ok(match matches.subcommand() {
+    let mut command = program(alloc)?;
+    let matches = command.try_get_matches_from_mut(words)?;
+    let request = match matches.subcommand() {
         Some((name, matches)) => request_by(name, matches),
-        None => Request::Both,
-    })
+        None => Some(Request::Both),
+    };
+    match request {
+        Some(request) => Ok(request),
+        None => Err(command.error(ErrorKind::ValueValidation, NUMBERS)?),
+    }
 }
 
 #[cfg(test)]

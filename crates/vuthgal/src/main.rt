@@ -8,8 +8,11 @@ mod words;
 use byte_ports::{ReadPort, Sink, WritePort};
 use command_line::request::Request;
 use ending::{flushed, told};
+use race::race_cmd;
 use std::io::{BufWriter, IsTerminal};
 use std::process::ExitCode;
+use std::sync::Wait;
+use std::thread::Threads;
 use workbench::asm::asm_cmd;
 use workbench::both::both_cmd;
 use workbench::fault::Fault;
@@ -71,13 +74,19 @@ fn list(rt: &HostRuntime, file: &str) -> u8 {
     flushed(rt, status, &mut output)
 }
 
-/// Does what the words ask for.
-fn done(rt: &HostRuntime, request: Request) -> u8 {
-    match request {
-        Request::Both => both(rt),
-        Request::Asm { source, image } => asm(rt, source, image),
-        Request::List { file } => list(rt, file),
-    }
+/// Lets real threads meet at a shared phaser.
+fn meet<R: Threads + Wait + Sync>(threads: &R, rt: &HostRuntime, parties: u16, rounds: u32) -> u8 {
+    let mut output = WritePort::new(rt.stdout());
+    let mut errors = WritePort::new(rt.stderr());
+    let status = race_cmd(
+        threads,
+        rt.alloc(),
+        parties,
+        rounds,
+        &mut output,
+        &mut errors,
+    );
+    flushed(rt, status, &mut output)
 }
 
 fn main(rt: HostRuntime) -> ExitCode {
@@ -86,7 +95,10 @@ fn main(rt: HostRuntime) -> ExitCode {
         Err(status) => return ExitCode::from(status),
     };
     ExitCode::from(match words::request(&rt, words.as_slice()) {
-        Ok(request) => done(&rt, request),
+        Ok(Request::Both) => both(&rt),
+        Ok(Request::Asm { source, image }) => asm(&rt, source, image),
+        Ok(Request::List { file }) => list(&rt, file),
+        Ok(Request::Race { parties, rounds }) => meet(&rt, &rt, parties, rounds),
         Err(status) => status,
     })
 }

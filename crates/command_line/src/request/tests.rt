@@ -2,7 +2,7 @@ use super::*;
 use std::test::Fail;
 
 /// A command line after the program's name, its words parted by one space, and what it asks for.
-const REQUESTS: [(&str, Request); 4] = [
+const REQUESTS: [(&str, Request); 6] = [
     ("", Request::Both),
     (
         "asm a.txt b",
@@ -13,10 +13,24 @@ const REQUESTS: [(&str, Request); 4] = [
     ),
     ("list -", Request::List { file: "-" }),
     ("list -- --help", Request::List { file: "--help" }),
+    (
+        "race --parties 16 --rounds 1000000",
+        Request::Race {
+            parties: 16,
+            rounds: 1_000_000,
+        },
+    ),
+    (
+        "race --rounds=0000000001 --parties=1",
+        Request::Race {
+            parties: 1,
+            rounds: 1,
+        },
+    ),
 ];
 
 /// Command lines that ask for nothing, and the status of each.
-const REFUSED: [(&str, i32); 9] = [
+const REFUSED: [(&str, i32); 17] = [
     ("asm", 2),
     ("asm a", 2),
     ("asm a b c", 2),
@@ -24,6 +38,14 @@ const REFUSED: [(&str, i32); 9] = [
     ("list a b", 2),
     ("examples/stuck.txt", 2),
     ("--nonsense", 2),
+    ("race --parties 2", 2),
+    ("race --parties 0 --rounds 1", 2),
+    ("race --parties 17 --rounds 1", 2),
+    ("race --parties 1 --rounds 0", 2),
+    ("race --parties 1 --rounds 1000001", 2),
+    ("race --parties +1 --rounds 1", 2),
+    ("race --parties 1 --rounds 00000000001", 2),
+    ("race --parties 1x --rounds 1", 2),
     ("--help", 0),
     ("--version", 0),
 ];
