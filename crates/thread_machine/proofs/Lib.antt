@@ -1,2 +1,3 @@
 pub mod Executions
+pub mod Readiness
 pub mod Soundness

@@ -3,11 +3,14 @@ pub mod World
 pub mod Thread
 pub mod Phaser
 pub mod Scene
+pub mod Group
 pub mod OwnRows
+pub mod CallRows
 pub mod DataRows
 pub mod PhaserRows
 pub mod Unwinding
 pub mod Waits
+pub mod Outcomes
 pub mod Ready
 pub mod Step
 pub mod Execution

@@ -1,5 +1,5 @@
 -- Rows that register at a phaser, arrive or wait.
-use Rattle.std.specs.Prelude.{ℕ, pos, Bool, true, false, if◌then◌else◌, slice_set}
+use Rattle.std.specs.Prelude.{ℕ, pos, Bool, true, false, if◌then◌else◌, slice_set, Option, Some, None}
 use Rattle.instruction_table.specs.declared.row.Row.{Row}
 use Rattle.instruction_table.specs.declared.row.Row.TheVariants.{Parr, Paaa}
 use Rattle.instruction_table.specs.declared.register.Reg.{Reg}
@@ -10,7 +10,7 @@ use Rattle.thread_machine.specs.Thread.{Turn, turn_of_throw, turn_of_answer, tur
 use Rattle.thread_machine.specs.declared.phaser.Met.{Met}
 use Rattle.thread_machine.specs.declared.phaser.Met.TheVariants as met
 use Rattle.thread_machine.specs.Phaser.{Meeting, meeting_of_arrival}
-use Rattle.thread_machine.specs.Scene.{Outcome, thread_at, phaser_at, no_outcome}
+use Rattle.thread_machine.specs.Scene.{Outcome, thread_at, phaser_at}
 
 -- what an arrival means to its thread: an answer, a wait where it is to wait for the phase's end, or exception 1
 abbrev pub turn_of_met : Bool → Reg → Met → ThreadState → Turn
@@ -37,8 +37,8 @@ outcome_of_arrival waits into p t scene =
       event = record { what = turn.what; mark = mark_of_met p meeting.met };
     }
 
--- what such a row does; `parr` and `paaa` alone are rows of these machines, and any other stands here as doing nothing
-abbrev pub outcome_of_phaser_row : Row → ℕ → Scene → Outcome
-outcome_of_phaser_row (Parr into p) t scene = outcome_of_arrival false into p t scene
-outcome_of_phaser_row (Paaa into p) t scene = outcome_of_arrival true into p t scene
-outcome_of_phaser_row _ t scene = no_outcome scene
+-- what such a row does; a row of another group has no outcome here
+abbrev pub outcome_of_phaser_row : Row → ℕ → Scene → Option Outcome
+outcome_of_phaser_row (Parr into p) t scene = Some (outcome_of_arrival false into p t scene)
+outcome_of_phaser_row (Paaa into p) t scene = Some (outcome_of_arrival true into p t scene)
+outcome_of_phaser_row _ t scene = None

@@ -1,44 +1,19 @@
 -- What one choice makes of the world.
-use Rattle.std.specs.Prelude.{ℕ, ◌+◌, ◌==◌, ◌&&◌, ◌||◌, not, nat_le, nat_lt, if◌then◌else◌, Bool, true, false, List, length, Option, Some, None}
+use Rattle.std.specs.Prelude.{ℕ, ◌+◌, ◌==◌, ◌&&◌, ◌||◌, not, nat_le, nat_lt, if◌then◌else◌, Bool, true, false, length, Option, Some, None}
 use Rattle.instruction_table.specs.declared.row.Row.{Row}
-use Rattle.instruction_table.specs.declared.row.Row.TheVariants.{Halt, Ldi, Out, Parr, Paaa}
+use Rattle.instruction_table.specs.declared.row.Row.TheVariants.{Out}
 use Rattle.thread_machine.specs.declared.choice.Choice.{Choice}
 use Rattle.thread_machine.specs.declared.event.Event.{Event}
+use Rattle.thread_machine.specs.declared.event.What.TheVariants as what
+use Rattle.thread_machine.specs.declared.event.Mark.TheVariants as mark
 use Rattle.thread_machine.specs.declared.fault.StepFault.{StepFault}
 use Rattle.thread_machine.specs.declared.fault.StepFault.TheVariants as fault
 use Rattle.thread_machine.specs.declared.status.Status.{Status}
 use Rattle.thread_machine.specs.declared.status.Status.TheVariants as status
-use Rattle.thread_machine.specs.World.{ThreadState, Scene, World}
-use Rattle.thread_machine.specs.Scene.{Outcome, thread_at, no_outcome}
-use Rattle.thread_machine.specs.OwnRows.{outcome_of_own_row}
-use Rattle.thread_machine.specs.DataRows.{outcome_of_data_row}
-use Rattle.thread_machine.specs.PhaserRows.{outcome_of_phaser_row}
-use Rattle.thread_machine.specs.Unwinding.{outcome_of_pop}
-use Rattle.thread_machine.specs.Waits.{outcome_of_awaited}
-use Rattle.thread_machine.specs.Ready.{row_at, is_choice_ready}
-
--- a row belongs to one of these groups; rows outside them are in no program of these machines
-abbrev pub outcome_of_row : Row → ℕ → Scene → Outcome
-outcome_of_row Halt t scene = outcome_of_own_row Halt t scene
-outcome_of_row (Ldi into value) t scene = outcome_of_own_row (Ldi into value) t scene
-outcome_of_row (Out value) t scene = outcome_of_data_row (Out value) t scene
-outcome_of_row (Parr into p) t scene = outcome_of_phaser_row (Parr into p) t scene
-outcome_of_row (Paaa into p) t scene = outcome_of_phaser_row (Paaa into p) t scene
-outcome_of_row _ t scene = no_outcome scene
-
--- the turn of a ready thread: its row, one pop while it throws, or its finished wait; a thread at a barrier, ended or
--- dead is never ready
-abbrev pub outcome_in : Status → Row → ℕ → Scene → Outcome
-outcome_in status.Runs row t scene = outcome_of_row row t scene
-outcome_in (status.Throws code) row t scene = outcome_of_pop code t scene
-outcome_in (status.AwaitsPhase phase) row t scene = outcome_of_awaited row t scene
-outcome_in (status.AwaitsBarrier index) row t scene = no_outcome scene
-outcome_in status.Ended row t scene = no_outcome scene
-outcome_in (status.Died code) row t scene = no_outcome scene
-
--- the turn of thread t
-abbrev pub outcome_of : List Row → ℕ → Scene → Outcome
-outcome_of rows t scene = outcome_in (thread_at scene t).status (row_at rows (thread_at scene t).pc) t scene
+use Rattle.thread_machine.specs.World.{ThreadState, World}
+use Rattle.thread_machine.specs.Scene.{Outcome, row_at, thread_at}
+use Rattle.thread_machine.specs.Outcomes.{outcome_of_choice}
+use Rattle.thread_machine.specs.Ready.{is_choice_ready}
 
 -- whether a thread plays its rows
 abbrev pub runs : Status → Bool
@@ -50,23 +25,27 @@ pub record Played : Type 0 where
   pub world : World
   pub event : Event
 
--- an effective step: the thread was ready
-abbrev pub stepped : World → ℕ → Played
-stepped world t =
-    let outcome : Outcome = outcome_of world.rows t world.scene in
-    record {
-      world = record world { scene = outcome.scene; choices = world.choices + 1; steps = world.steps + 1 };
-      event = outcome.event;
-    }
+-- an effective step
+abbrev pub stepped : Outcome → World → Played
+stepped outcome world = record {
+  world = record world { scene = outcome.scene; choices = world.choices + 1; steps = world.steps + 1 };
+  event = outcome.event;
+}
 
 -- an idle choice: only the choices are counted
 abbrev pub idled : World → Played
-idled world = record { world = record world { choices = world.choices + 1 }; event = (no_outcome world.scene).event }
+idled world = record {
+  world = record world { choices = world.choices + 1 };
+  event = record { what = what.Idle; mark = mark.Nothing };
+}
 
--- a choice that is ready is an effective step of its thread, any other is idle
+-- a choice with an outcome is an effective step, any other is idle
+abbrev pub played_by : Option Outcome → World → Played
+played_by (Some outcome) world = stepped outcome world
+played_by None world = idled world
+
 abbrev pub played : World → Choice → Played
-played world choice =
-    if is_choice_ready world.rows choice world.scene then stepped world choice.thread else idled world
+played world choice = played_by (outcome_of_choice world.rows choice world.scene) world
 
 -- nothing is left for a choice: all 1,000,000,000,000 choices are used, or the steps are at the limit and the choice is
 -- ready, since an idle one takes no step

@@ -4,14 +4,15 @@
 //! names the thread whose turn it is. The crate promises that `Machine::step` does exactly what the definitions in
 //! `specs/` say of that choice: what the row at the thread's place does, one popped stack entry while it throws, one
 //! finished wait, or nothing where the thread isn't ready. A step takes no memory but for a value put out, and a
-//! refused one changes nothing. These machines play the rows `halt`, `ldi`, `out`, `parr` and `paaa`, on phasers
-//! without tiers and routines.
+//! refused one changes nothing. These machines play all rows that touch neither tiers nor barriers (registers, calls
+//! and handlers, outputs, cells, interrupted statuses), and `parr` and `paaa` on phasers without tiers and routines.
 #![tactic(auto)]
 
 mod choice;
 mod event;
 mod fault;
 mod frame;
+mod group;
 mod law;
 mod machine;
 mod phaser;

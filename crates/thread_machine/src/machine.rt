@@ -103,6 +103,7 @@ impl Machine {
 
     /// Plays one choice. An idle choice, a turn of a thread that isn't ready or an expiry, only counts as a choice.
     /// `Memory` comes only at the row `out`.
+    #[tactic(auto, using(crate::proofs::Readiness::idle_choice, crate::proofs::Readiness::ready_choice))]
     pub fn step(&mut self, choice: Choice) -> Result<Event, StepFault>
         ensures played { IfOk result (λ event.
             record { world = self.new; event = event } ≡ played self.old choice) }

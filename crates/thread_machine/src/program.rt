@@ -1,7 +1,8 @@
-ghost use Rattle.std.specs.Prelude.{◌≡◌, ◌↔◌, ◌<◌, ◌-◌, All, IsTrue, Some, length, slice_get};
-ghost use Rattle.instruction_table.specs.declared.row.Row.TheVariants.{Halt};
-ghost use Rattle.thread_machine.specs.Program.{IsPlayable, IsNew, IsCode, IsProgram};
+ghost use Rattle.std.specs.Prelude.{◌≡◌, ◌↔◌, ◌<◌, All, IsTrue, length};
+ghost use Rattle.thread_machine.specs.Group.{group_of};
+ghost use Rattle.thread_machine.specs.Program.{IsNamed, IsTarget, IsPlayable, IsNew, IsCode, IsProgram, is_played, stops};
 
+use crate::group::{Group, group_of};
 use instruction_table::Row;
 use packed_phaser::{Policy, Word};
 
@@ -9,7 +10,7 @@ use packed_phaser::{Policy, Word};
 pub fn is_program(rows: &[Row], threads: &[u16], phasers: &[(Word, Policy)]) -> bool
     ensures { IsTrue result ↔ IsProgram rows.now threads.now phasers.now }
 {
-    is_code(rows, phasers.len())
+    is_code(rows, threads.len(), phasers.len())
         && 0 < threads.len()
         && threads.len() <= 64
         && begin_within(threads, rows.len())
@@ -17,10 +18,23 @@ pub fn is_program(rows: &[Row], threads: &[u16], phasers: &[(Word, Policy)]) -> 
         && are_new(phasers)
 }
 
-fn is_code(rows: &[Row], phasers: usize) -> bool
-    ensures { IsTrue result ↔ IsCode rows.now (record { phasers = phasers }) }
+fn is_code(rows: &[Row], threads: usize, phasers: usize) -> bool
+    ensures { IsTrue result ↔ IsCode rows.now (record { threads = threads; phasers = phasers }) }
 {
-    rows.len() < 65536 && ends_in_halt(rows) && are_playable(rows, phasers)
+    0 < rows.len()
+        && rows.len() < 65536
+        && stops(rows[rows.len() - 1])
+        && are_playable(rows, threads, phasers)
+}
+
+/// Whether no thread goes on from this row to the one after it.
+fn stops(row: Row) -> bool
+    ensures { result ≡ stops row }
+{
+    matches!(
+        row,
+        Row::Halt | Row::Jmp { .. } | Row::Ret | Row::Throw { .. }
+    )
 }
 
 fn are_new(phasers: &[(Word, Policy)]) -> bool
@@ -39,25 +53,48 @@ fn is_new(word: Word, policy: Policy) -> bool
         && !matches!(policy, Policy::Routine)
 }
 
-fn ends_in_halt(rows: &[Row]) -> bool
-    ensures { IsTrue result ↔ (slice_get rows.now (length rows.now - 1) ≡ Some Halt) }
+fn are_playable(rows: &[Row], threads: usize, phasers: usize) -> bool
+    ensures { IsTrue result
+        ↔ All (IsPlayable (length rows.now) (record { threads = threads; phasers = phasers })) rows.now }
 {
-    matches!(rows.last(), Some(Row::Halt))
+    rows.iter()
+        .all(|row| is_playable(*row, rows.len(), threads, phasers))
 }
 
-fn are_playable(rows: &[Row], phasers: usize) -> bool
-    ensures { IsTrue result ↔ All (IsPlayable (record { phasers = phasers })) rows.now }
+fn is_playable(row: Row, rows: usize, threads: usize, phasers: usize) -> bool
+    ensures { IsTrue result ↔ IsPlayable rows (record { threads = threads; phasers = phasers }) row }
 {
-    rows.iter().all(|row| is_playable(*row, phasers))
+    is_played(row) && is_named(row, threads, phasers) && is_target(row, rows)
 }
 
-fn is_playable(row: Row, phasers: usize) -> bool
-    ensures { IsTrue result ↔ IsPlayable (record { phasers = phasers }) row }
+fn is_played(row: Row) -> bool
+    ensures { result ≡ is_played (group_of row) }
+{
+    !matches!(group_of(row), Group::Unplayed)
+}
+
+fn is_named(row: Row, threads: usize, phasers: usize) -> bool
+    ensures { IsTrue result ↔ IsNamed (record { threads = threads; phasers = phasers }) row }
 {
     match row {
-        Row::Halt | Row::Ldi { .. } | Row::Out { .. } => true,
+        Row::Lds { cell, .. } | Row::Sts { cell, .. } => cell < 32,
+        Row::Intr { thread } => (thread as usize) < threads,
         Row::Parr { phaser, .. } | Row::Paaa { phaser, .. } => (phaser as usize) < phasers,
-        _ => false,
+        _ => true,
+    }
+}
+
+fn is_target(row: Row, rows: usize) -> bool
+    ensures { IsTrue result ↔ IsTarget rows row }
+{
+    match row {
+        Row::Jmp { target }
+        | Row::Beq { target, .. }
+        | Row::Bne { target, .. }
+        | Row::Blt { target, .. }
+        | Row::Call { target }
+        | Row::Try { handler: target } => (target as usize) < rows,
+        _ => true,
     }
 }
 

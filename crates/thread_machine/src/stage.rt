@@ -1,11 +1,14 @@
-ghost use Rattle.std.specs.Prelude.{◌≡◌, ◌<◌, ◌≤◌, length, true, IsErr, IfOk, OnErr};
-ghost use Rattle.thread_machine.specs.Scene.{thread_at, phaser_at, first_scene};
-ghost use Rattle.thread_machine.specs.Ready.{row_at, is_ready_in, may_step, all_finished, some_ready};
-ghost use Rattle.thread_machine.specs.Step.{outcome_in, outcome_of, outcome_of_row, runs, may_grow};
-ghost use Rattle.thread_machine.specs.Program.{IsPlayable, counts_of};
-ghost use Rattle.thread_machine.specs.Sound.{IsSound};
+ghost use Rattle.std.specs.Prelude.{◌≡◌, ◌<◌, ◌≤◌, length, true, Some, is_some, IsErr, IfOk, OnErr};
+ghost use Rattle.thread_machine.specs.Scene.{row_at, thread_at, phaser_at, first_scene};
+ghost use Rattle.thread_machine.specs.Ready.{is_ready, all_finished, some_ready};
+ghost use Rattle.thread_machine.specs.Outcomes.{outcome_in, outcome_of, outcome_of_row};
+ghost use Rattle.thread_machine.specs.Step.{runs, may_grow};
+ghost use Rattle.thread_machine.specs.Group.{group_of};
+ghost use Rattle.thread_machine.specs.Program.{IsNamed, counts_of, is_played};
+ghost use Rattle.thread_machine.specs.Sound.{IsOutside, IsSound};
 
 use crate::event::{Event, Mark, What};
+use crate::group::{Group, group_of};
 use crate::phaser::FlatPhaser;
 use crate::status::Status;
 use crate::thread::Thread;
@@ -13,6 +16,7 @@ use instruction_table::Row;
 use std::alloc::AllocError;
 use std::marker::Model;
 
+mod call_rows;
 mod data_rows;
 mod own_rows;
 mod phaser_rows;
@@ -118,7 +122,9 @@ impl Stage {
         requires sound { IsSound rows.now self.now }
         requires thread { t < length self.now.threads }
         ensures row { result ≡ row_at rows.now (thread_at self.now t).pc }
-        ensures playable { IsPlayable (counts_of self.now) result }
+        ensures played { is_played (group_of result) ≡ true }
+        ensures named { IsNamed (counts_of self.now) result }
+        ensures outside { IsOutside (thread_at self.now t) }
         ensures place { (thread_at self.now t).pc < length rows.now }
     {
         rows[self.players[t].pc() as usize]
@@ -128,7 +134,7 @@ impl Stage {
     pub fn is_ready(&self, rows: &[Row], t: usize) -> bool
         requires sound { IsSound rows.now self.now }
         requires thread { t < length self.now.threads }
-        ensures { result ≡ may_step rows.now self.now (thread_at self.now t) }
+        ensures { result ≡ is_ready rows.now t self.now }
     {
         let row = self.row_of(rows, t);
         self.is_ready_at(row, t)
@@ -148,10 +154,13 @@ impl Stage {
     }
 
     /// Whether a thread that stands at this row may take a step.
+    #[tactic(auto, using(crate::proofs::Readiness::row_is_ready, crate::proofs::Readiness::wait_is_ready))]
     pub fn is_ready_at(&self, row: Row, t: usize) -> bool
-        requires row { IsPlayable (counts_of self.now) row }
+        requires played { is_played (group_of row) ≡ true }
+        requires named { IsNamed (counts_of self.now) row }
+        requires outside { IsOutside (thread_at self.now t) }
         requires thread { t < length self.now.threads }
-        ensures { result ≡ is_ready_in (thread_at self.now t).status row self.now }
+        ensures { result ≡ is_some (outcome_in (thread_at self.now t).status row t self.now) }
     {
         match self.players[t].status() {
             Status::Runs | Status::Throws(_) => true,
@@ -165,11 +174,11 @@ impl Stage {
         requires sound { IsSound rows.now self.old }
         requires thread { t < length self.old.threads }
         requires row { row ≡ row_at rows.now (thread_at self.old t).pc }
-        requires playable { IsPlayable (counts_of self.old) row }
+        requires named { IsNamed (counts_of self.old) row }
         requires place { (thread_at self.old t).pc < 65535 }
-        requires ready { is_ready_in (thread_at self.old t).status row self.old ≡ true }
-        ensures ok { IfOk result (λ event. record { scene = self.new; event = event }
-            ≡ outcome_of rows.now t self.old) }
+        requires ready { is_some (outcome_in (thread_at self.old t).status row t self.old) ≡ true }
+        ensures ok { IfOk result (λ event. outcome_of rows.now t self.old
+            ≡ Some (record { scene = self.new; event = event })) }
         ensures err { OnErr result (self.new ≡ self.old) }
         ensures sound { IsSound rows.now self.new }
         ensures memory { IsErr result → may_grow row (thread_at self.old t) ≡ true }
@@ -179,13 +188,14 @@ impl Stage {
     }
 
     /// The turn of a ready thread at this row.
+    #[tactic(auto, using(crate::proofs::Readiness::wait_is_over))]
     fn turn(&mut self, row: Row, t: usize) -> Result<Event, AllocError>
-        requires row { IsPlayable (counts_of self.old) row }
+        requires named { IsNamed (counts_of self.old) row }
         requires thread { t < length self.old.threads }
         requires place { (thread_at self.old t).pc < 65535 }
-        requires ready { is_ready_in (thread_at self.old t).status row self.old ≡ true }
-        ensures ok { IfOk result (λ event. record { scene = self.new; event = event }
-            ≡ outcome_in (thread_at self.old t).status row t self.old) }
+        requires ready { is_some (outcome_in (thread_at self.old t).status row t self.old) ≡ true }
+        ensures ok { IfOk result (λ event. outcome_in (thread_at self.old t).status row t self.old
+            ≡ Some (record { scene = self.new; event = event })) }
         ensures err { OnErr result (self.new ≡ self.old) }
         ensures memory { IsErr result → may_grow row (thread_at self.old t) ≡ true }
     {
@@ -199,20 +209,22 @@ impl Stage {
 
     /// The row of a running thread, by its group.
     fn row(&mut self, row: Row, t: usize) -> Result<Event, AllocError>
-        requires row { IsPlayable (counts_of self.old) row }
+        requires ready { is_some (outcome_of_row row t self.old) ≡ true }
+        requires named { IsNamed (counts_of self.old) row }
         requires thread { t < length self.old.threads }
         requires place { (thread_at self.old t).pc < 65535 }
         requires runs { runs (thread_at self.old t).status ≡ true }
-        ensures ok { IfOk result (λ event. record { scene = self.new; event = event }
-            ≡ outcome_of_row row t self.old) }
+        ensures ok { IfOk result (λ event. outcome_of_row row t self.old
+            ≡ Some (record { scene = self.new; event = event })) }
         ensures err { OnErr result (self.new ≡ self.old) }
         ensures memory { IsErr result → may_grow row (thread_at self.old t) ≡ true }
     {
-        match row {
-            Row::Halt | Row::Ldi { .. } => Ok(self.own_row(row, t)),
-            Row::Out { .. } => self.data_row(row, t),
-            Row::Parr { .. } | Row::Paaa { .. } => Ok(self.phaser_row(row, t)),
-            _ => unreachable!(),
+        match group_of(row) {
+            Group::Own => Ok(self.own_row(row, t)),
+            Group::Calls => Ok(self.call_row(row, t)),
+            Group::Data => self.data_row(row, t),
+            Group::Phasers => Ok(self.phaser_row(row, t)),
+            Group::Unplayed => unreachable!(),
         }
     }
 }

@@ -1,10 +1,11 @@
-ghost use Rattle.std.specs.Prelude.{◌≡◌, ◌<◌, ◌≤◌, length, IsTrue, IsErr, OnErr, IfOk};
+ghost use Rattle.std.specs.Prelude.{◌≡◌, ◌<◌, ◌≤◌, length, false, IsTrue, IsErr, OnErr, IfOk};
 ghost use Rattle.instruction_table.specs.LocalRows.{is_local_row};
 ghost use Rattle.instruction_table.specs.Registers.{value_in};
-ghost use Rattle.thread_machine.specs.Thread.{turn_of_throw, turn_of_answer, turn_of_wait, turn_of_halt, turn_of_local, turn_of_out, turn_of_pop};
+ghost use Rattle.thread_machine.specs.Thread.{turn_of_throw, turn_of_answer, turn_of_done, turn_of_wait, turn_of_halt, turn_of_local, turn_of_out};
+ghost use Rattle.thread_machine.specs.Thread.{turn_of_call, turn_of_try, turn_of_endtry, turn_of_ret, turn_of_pop, turn_of_intrd};
+ghost use Rattle.thread_machine.specs.Thread.{is_finished, is_full, top_of, with_entry, interrupted};
 ghost use Rattle.thread_machine.specs.Frame.{is_routine};
 ghost use Rattle.thread_machine.specs.Program.{new_thread};
-ghost use Rattle.thread_machine.specs.Ready.{is_finished};
 ghost use Rattle.std.specs.List.{list_any};
 
 use crate::event::What;
@@ -135,6 +136,15 @@ impl Thread {
         What::Value(value)
     }
 
+    /// Goes on from a row that has no answer.
+    pub fn done(&mut self) -> What
+        requires { self.old.pc < 65535 }
+        ensures { record { thread = self.new; what = result } ≡ turn_of_done self.old }
+    {
+        self.place += 1;
+        What::Done
+    }
+
     /// Begins to wait for the end of a phase.
     pub fn wait(&mut self, phase: i32) -> What
         ensures { record { thread = self.new; what = result } ≡ turn_of_wait phase self.old }
@@ -193,6 +203,96 @@ impl Thread {
         Ok(What::Out(value))
     }
 
+    /// `call`.
+    pub fn call(&mut self, target: u16) -> What
+        requires { self.old.pc < 65535 }
+        ensures { record { thread = self.new; what = result } ≡ turn_of_call target self.old }
+    {
+        if self.is_full() {
+            return self.throw(6);
+        }
+        self.enter(Frame::Call(self.place + 1), target)
+    }
+
+    /// `try`.
+    pub fn begin_try(&mut self, handler: u16) -> What
+        requires { self.old.pc < 65535 }
+        ensures { record { thread = self.new; what = result } ≡ turn_of_try handler self.old }
+    {
+        if self.is_full() {
+            return self.throw(6);
+        }
+        self.enter(Frame::Handler(handler), self.place + 1)
+    }
+
+    fn is_full(&self) -> bool
+        ensures { result ≡ is_full self.now }
+    {
+        self.entries.len() == STACK_ROOM
+    }
+
+    /// Takes one entry more, and stands at this row.
+    fn enter(&mut self, entry: Frame, row: u16) -> What
+        requires { is_full self.old ≡ false }
+        ensures thread { self.new ≡ with_entry entry row self.old }
+        ensures what { result ≡ What.Done }
+    {
+        if self.entries.push(entry).is_err() {
+            unreachable!()
+        }
+        self.place = row;
+        What::Done
+    }
+
+    /// `endtry`.
+    pub fn end_try(&mut self) -> What
+        requires { self.old.pc < 65535 }
+        ensures { record { thread = self.new; what = result }
+            ≡ turn_of_endtry (top_of self.old.stack) self.old }
+    {
+        match self.entries.last() {
+            Some(Frame::Handler(_)) => {
+                let _ = self.entries.pop();
+                self.done()
+            }
+            _ => self.throw(7),
+        }
+    }
+
+    /// `ret` to a caller.
+    pub fn ret(&mut self) -> What
+        ensures { record { thread = self.new; what = result }
+            ≡ turn_of_ret (top_of self.old.stack) self.old }
+    {
+        match self.entries.last() {
+            Some(Frame::Call(row)) => {
+                self.place = *row;
+                let _ = self.entries.pop();
+                What::Done
+            }
+            _ => self.throw(7),
+        }
+    }
+
+    /// Is interrupted by a thread: `Thread.interrupt`. No effect once it has ended or died.
+    pub fn interrupt(&mut self)
+        ensures { self.new ≡ interrupted self.old }
+    {
+        if !self.is_finished() {
+            self.was_interrupted = true;
+        }
+    }
+
+    /// `intrd`: `Thread.interrupted`.
+    pub fn take_interrupt(&mut self, into: Reg) -> What
+        requires { self.old.pc < 65535 }
+        ensures { record { thread = self.new; what = result } ≡ turn_of_intrd into self.old }
+    {
+        let status = i32::from(self.was_interrupted);
+        self.was_interrupted = false;
+        self.answer(into, status)
+    }
+
     /// Pops one entry while an exception looks for its handler.
     pub fn pop(&mut self, code: i32) -> What
         ensures { record { thread = self.new; what = result } ≡ turn_of_pop code self.old }
@@ -215,6 +315,7 @@ impl Thread {
         }
     }
 
+    /// Stands at the row of its routine or action, whose entry is popped, with the registers of then.
     fn leave_routine(&mut self, registers: &Regs, row: u16) -> What
         ensures thread { self.new ≡ record self.old { registers = registers.now; pc = row } }
         ensures what { result ≡ What.Unwinds }

@@ -8,9 +8,9 @@ use Rattle.thread_machine.specs.declared.event.Event.{Event}
 use Rattle.thread_machine.specs.declared.fault.StepFault.{StepFault}
 use Rattle.thread_machine.specs.declared.fault.StepFault.TheVariants.{NoSuchThread, StepLimit, Memory}
 use Rattle.thread_machine.specs.World.{World}
-use Rattle.thread_machine.specs.Scene.{thread_at}
-use Rattle.thread_machine.specs.Step.{Played, played, refusal_of, is_used_up, stepped, idled}
-use Rattle.thread_machine.specs.Ready.{is_choice_ready}
+use Rattle.thread_machine.specs.Scene.{Outcome, thread_at}
+use Rattle.thread_machine.specs.Step.{Played, played, played_by, refusal_of, is_used_up}
+use Rattle.thread_machine.specs.Outcomes.{outcome_of_choice}
 use Rattle.thread_machine.specs.Execution.{Execution, execution, execution_by}
 use Rattle.schedule_reader.specs.declared.run.Run.{Run}
 use Rattle.schedule_reader.specs.Schedule.{choices_of}
@@ -133,10 +133,10 @@ refusal_of-accepted event world choice there left =
     (λ is. let no = there.1 is in cc) (λ is. let no = left.1 is in cc)
 
 -- each choice is counted
-choices-by : (ready : Bool) (world : World) (t : ℕ)
-    → (if ready then stepped world t else idled world).world.choices ≡ world.choices + 1
-choices-by true world t = refl
-choices-by false world t = refl
+choices-by : (outcome : Option Outcome) (world : World)
+    → (played_by outcome world).world.choices ≡ world.choices + 1
+choices-by (Some outcome) world = refl
+choices-by None world = refl
 
 -- a choice that is accepted
 pub Plays-played : (world after : World) (choice : Choice) (event : Event) (step pc : ℕ) (old new : Option (List ℕ))
@@ -154,7 +154,7 @@ Plays-played world after choice event step pc old new accepted both step_is pc_i
     let event_is : event ≡ (played world choice).event = ap (λ (play : Played). play.event) both in
     let counted : step ≡ world.choices + 1 =
     step_is ∙ ap (λ (w : World). w.choices) world_is
-    ∙ choices-by (is_choice_ready world.rows choice world.scene) world choice.thread in
+    ∙ choices-by (outcome_of_choice world.rows choice world.scene) world in
     let text : event_text step choice pc event ≡ lines None =
     ap (λ n. event_text n choice pc event) counted
     ∙ ap (λ row. event_text (world.choices + 1) choice row event) pc_is

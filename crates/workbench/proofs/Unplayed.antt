@@ -38,7 +38,7 @@ IsProgram-words : (rows : List Row) (threads : List ℕ) (ps qs : List (ℕ × P
 IsProgram-words rows threads ps qs same program =
     let lengths = same_length ps qs same in
     record {
-      code = subst (λ n. IsCode rows (record { phasers = n })) lengths program.code;
+      code = subst (λ n. IsCode rows (record { threads = length threads; phasers = n })) lengths program.code;
       some_threads = program.some_threads;
       few_threads = program.few_threads;
       begin_within = program.begin_within;

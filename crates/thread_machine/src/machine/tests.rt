@@ -339,3 +339,327 @@ fn more_output_than_there_is_room_for(rt: HostRuntime) -> Result<(), Fail> {
     assert_eq!(rt; machine.pc(0), 4096);
     Ok(())
 }
+
+/// A program without phasers, and what each choice of a schedule is to do.
+#[derive(Clone, Copy)]
+struct Steps<'a> {
+    rows: &'a [Row],
+    threads: &'a [u16],
+    steps: &'a [(u8, What)],
+}
+
+/// Whether each choice does what it is to.
+fn goes_as(rt: &impl Abort, alloc: Global, walk: &Steps<'_>) -> Result<bool, Fail> {
+    let parts = Walk {
+        rows: walk.rows,
+        threads: walk.threads,
+        phasers: &[],
+        events: &[],
+    };
+    let mut machine = machine_of(rt, alloc, &parts, 1000000000)?;
+    for (thread, what) in walk.steps {
+        if machine.step(turn_of(*thread)) != Ok(unmarked(*what)) {
+            return Ok(false);
+        }
+    }
+    Ok(true)
+}
+
+fn unmarked(what: What) -> Event {
+    Event {
+        what,
+        mark: Mark::Nothing,
+    }
+}
+
+#[test]
+fn recursion_fills_the_stack(rt: HostRuntime) -> Result<(), Fail> {
+    let walk = Walk {
+        rows: &[Row::Call { target: 0 }, Row::Halt],
+        threads: &[0],
+        phasers: &[],
+        events: &[],
+    };
+    let mut machine = machine_of(&rt, rt.alloc(), &walk, 1000000000)?;
+    for (times, what) in &[
+        (64, What::Done),
+        (1, What::Throws(6)),
+        (64, What::Unwinds),
+        (1, What::Dies(6)),
+    ] {
+        for _ in 0..*times {
+            assert_eq!(rt; machine.step(turn_of(0)), Ok(unmarked(*what)));
+        }
+    }
+    assert!(rt; machine.ended());
+    assert!(rt; machine.thread_count() == 1);
+    assert_eq!(rt; machine.pc(0), 0);
+    Ok(())
+}
+
+#[test]
+fn calls_and_handlers(rt: HostRuntime) -> Result<(), Fail> {
+    let walks = [
+        // an empty stack
+        Steps {
+            rows: &[Row::Ret],
+            threads: &[0],
+            steps: &[(0, What::Throws(7)), (0, What::Dies(7))],
+        },
+        Steps {
+            rows: &[Row::Endtry, Row::Halt],
+            threads: &[0],
+            steps: &[(0, What::Throws(7)), (0, What::Dies(7))],
+        },
+        // a call and its return
+        Steps {
+            rows: &[Row::Call { target: 2 }, Row::Halt, Row::Ret],
+            threads: &[0],
+            steps: &[(0, What::Done), (0, What::Done), (0, What::Ends)],
+        },
+        // past a call to the handler, where the last register has the code
+        Steps {
+            rows: &[
+                Row::Ldi {
+                    into: Reg::R1,
+                    value: -5,
+                },
+                Row::Try { handler: 4 },
+                Row::Call { target: 3 },
+                Row::Throw { code: Reg::R1 },
+                Row::Out { value: Reg::R7 },
+                Row::Halt,
+            ],
+            threads: &[0],
+            steps: &[
+                (0, What::Value(-5)),
+                (0, What::Done),
+                (0, What::Done),
+                (0, What::Throws(-5)),
+                (0, What::Unwinds),
+                (0, What::Catches(-5)),
+                (0, What::Out(-5)),
+                (0, What::Ends),
+            ],
+        },
+        // a handler is no call, and a call no handler
+        Steps {
+            rows: &[Row::Try { handler: 2 }, Row::Ret, Row::Halt],
+            threads: &[0],
+            steps: &[(0, What::Done), (0, What::Throws(7)), (0, What::Catches(7)), (0, What::Ends)],
+        },
+        Steps {
+            rows: &[Row::Call { target: 1 }, Row::Endtry, Row::Halt],
+            threads: &[0],
+            steps: &[(0, What::Done), (0, What::Throws(7)), (0, What::Unwinds), (0, What::Dies(7))],
+        },
+        // a handler that was taken off
+        Steps {
+            rows: &[Row::Try { handler: 0 }, Row::Endtry, Row::Throw { code: Reg::R0 }],
+            threads: &[0],
+            steps: &[(0, What::Done), (0, What::Done), (0, What::Throws(0)), (0, What::Dies(0))],
+        },
+    ];
+    for walk in &walks {
+        assert!(rt; goes_as(&rt, rt.alloc(), walk)?);
+    }
+    Ok(())
+}
+
+#[test]
+fn jumps_cells_and_interrupts(rt: HostRuntime) -> Result<(), Fail> {
+    let compared = [
+        Row::Ldi {
+            into: Reg::R0,
+            value: 1,
+        },
+        Row::Beq {
+            left: Reg::R0,
+            right: Reg::R1,
+            target: 12,
+        },
+        Row::Bne {
+            left: Reg::R0,
+            right: Reg::R1,
+            target: 4,
+        },
+        Row::Ret,
+        Row::Blt {
+            left: Reg::R1,
+            right: Reg::R0,
+            target: 6,
+        },
+        Row::Ret,
+        Row::Blt {
+            left: Reg::R0,
+            right: Reg::R1,
+            target: 12,
+        },
+        Row::Beq {
+            left: Reg::R1,
+            right: Reg::R2,
+            target: 9,
+        },
+        Row::Ret,
+        Row::Bne {
+            left: Reg::R1,
+            right: Reg::R2,
+            target: 12,
+        },
+        Row::Jmp { target: 13 },
+        Row::Halt,
+        Row::Ret,
+        Row::Jmp { target: 11 },
+    ];
+    let done = (0, What::Done);
+    let walks = [
+        // each jump taken and not, the last one back
+        Steps {
+            rows: &compared,
+            threads: &[0],
+            steps: &[
+                (0, What::Value(1)),
+                done,
+                done,
+                done,
+                done,
+                done,
+                done,
+                done,
+                done,
+                (0, What::Ends),
+            ],
+        },
+        // sums wrap
+        Steps {
+            rows: &[
+                Row::Ldi {
+                    into: Reg::R0,
+                    value: 2147483647,
+                },
+                Row::Mov {
+                    into: Reg::R1,
+                    from: Reg::R0,
+                },
+                Row::Add {
+                    into: Reg::R2,
+                    left: Reg::R0,
+                    right: Reg::R1,
+                },
+                Row::Sub {
+                    into: Reg::R3,
+                    left: Reg::R2,
+                    right: Reg::R0,
+                },
+                Row::Halt,
+            ],
+            threads: &[0],
+            steps: &[
+                (0, What::Value(2147483647)),
+                (0, What::Value(2147483647)),
+                (0, What::Value(-2)),
+                (0, What::Value(2147483647)),
+            ],
+        },
+        // cells are shared; an interrupt is set, read and cleared, and none comes to a thread that ended
+        Steps {
+            rows: &[
+                Row::SelfNumber { into: Reg::R1 },
+                Row::Sts {
+                    from: Reg::R1,
+                    cell: 31,
+                },
+                Row::Lds {
+                    into: Reg::R2,
+                    cell: 31,
+                },
+                Row::Intr { thread: 0 },
+                Row::Intrd { into: Reg::R3 },
+                Row::Intrd { into: Reg::R3 },
+                Row::Halt,
+            ],
+            threads: &[0, 0],
+            steps: &[
+                (0, What::Value(0)),
+                (1, What::Value(1)),
+                (1, What::Done),
+                (1, What::Value(1)),
+                (0, What::Done),
+                (0, What::Value(0)),
+                (1, What::Done),
+                (0, What::Done),
+                (0, What::Value(1)),
+                (0, What::Value(0)),
+                (1, What::Value(0)),
+                (0, What::Ends),
+            ],
+        },
+    ];
+    for walk in &walks {
+        assert!(rt; goes_as(&rt, rt.alloc(), walk)?);
+    }
+    Ok(())
+}
+
+#[test]
+fn an_ended_thread_is_not_interrupted(rt: HostRuntime) -> Result<(), Fail> {
+    let walk = Walk {
+        rows: &[Row::Halt, Row::Intr { thread: 0 }, Row::Intr { thread: 2 }, Row::Halt],
+        threads: &[0, 1, 0],
+        phasers: &[],
+        events: &[
+            (0, What::Ends, Mark::Nothing),
+            (1, What::Done, Mark::Nothing),
+            (1, What::Done, Mark::Nothing),
+        ],
+    };
+    let machine = play(&rt, rt.alloc(), &walk)?;
+    assert!(rt; machine.thread_count() == 3);
+    assert!(rt; !machine.interrupted(0));
+    assert!(rt; machine.interrupted(2));
+    Ok(())
+}
+
+#[test]
+fn which_programs_are_played(rt: HostRuntime) {
+    let played: [&[Row]; 4] = [
+        &[Row::Halt],
+        &[Row::Jmp { target: 0 }],
+        &[Row::Call { target: 1 }, Row::Ret],
+        &[
+            Row::Sts {
+                from: Reg::R0,
+                cell: 31,
+            },
+            Row::Throw { code: Reg::R0 },
+        ],
+    ];
+    let refused: [&[Row]; 8] = [
+        &[],
+        &[Row::Out { value: Reg::R0 }],
+        &[Row::Jmp { target: 1 }],
+        &[Row::Try { handler: 2 }, Row::Halt],
+        &[
+            Row::Lds {
+                into: Reg::R0,
+                cell: 32,
+            },
+            Row::Halt,
+        ],
+        &[Row::Intr { thread: 1 }, Row::Halt],
+        &[
+            Row::Paaa {
+                into: Reg::R0,
+                phaser: 0,
+            },
+            Row::Halt,
+        ],
+        &[Row::Creset { barrier: 0 }, Row::Halt],
+    ];
+    for rows in &played {
+        assert!(rt; is_program(rows, &[0], &[]));
+    }
+    for rows in &refused {
+        assert!(rt; !is_program(rows, &[0], &[]));
+    }
+}

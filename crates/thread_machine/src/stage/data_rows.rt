@@ -1,29 +1,60 @@
-ghost use Rattle.std.specs.Prelude.{◌≡◌, ◌<◌, length, true, IsErr, IfOk, OnErr};
+ghost use Rattle.std.specs.Prelude.{◌≡◌, ◌<◌, length, true, Some, is_some, IsErr, IfOk, OnErr};
 ghost use Rattle.thread_machine.specs.Scene.{thread_at};
-ghost use Rattle.thread_machine.specs.DataRows.{outcome_of_data_row};
+ghost use Rattle.thread_machine.specs.DataRows.{outcome_of_store, outcome_of_interrupt, outcome_of_data_row};
 ghost use Rattle.thread_machine.specs.Step.{runs, may_grow};
-ghost use Rattle.thread_machine.specs.Program.{IsDataRow};
+ghost use Rattle.thread_machine.specs.Program.{IsNamed, counts_of};
 
 use super::{Stage, alone};
 use crate::event::Event;
-use instruction_table::Row;
+use instruction_table::{Reg, Row};
 use std::alloc::AllocError;
 
 impl Stage {
-    /// The rows on outputs, cells and interrupted statuses.
+    /// The rows on outputs, cells, thread numbers and interrupted statuses.
     pub(super) fn data_row(&mut self, row: Row, t: usize) -> Result<Event, AllocError>
-        requires row { IsDataRow row }
+        requires ready { is_some (outcome_of_data_row row t self.old) ≡ true }
+        requires named { IsNamed (counts_of self.old) row }
         requires thread { t < length self.old.threads }
         requires place { (thread_at self.old t).pc < 65535 }
         requires runs { runs (thread_at self.old t).status ≡ true }
-        ensures ok { IfOk result (λ event. record { scene = self.new; event = event }
-            ≡ outcome_of_data_row row t self.old) }
+        ensures ok { IfOk result (λ event. outcome_of_data_row row t self.old
+            ≡ Some (record { scene = self.new; event = event })) }
         ensures err { OnErr result (self.new ≡ self.old) }
         ensures memory { IsErr result → may_grow row (thread_at self.old t) ≡ true }
     {
         match row {
             Row::Out { value } => Ok(alone(self.players[t].out(value)?)),
+            Row::Lds { into, cell } => {
+                let number = self.numbers[cell as usize];
+                Ok(alone(self.players[t].answer(into, number)))
+            }
+            Row::Sts { from, cell } => Ok(self.store(from, cell, t)),
+            Row::SelfNumber { into } => Ok(alone(self.players[t].answer(into, t as i32))),
+            Row::Intr { thread } => Ok(self.interrupt(thread as usize, t)),
+            Row::Intrd { into } => Ok(alone(self.players[t].take_interrupt(into))),
             _ => unreachable!(),
         }
+    }
+
+    /// `sts`.
+    fn store(&mut self, from: Reg, cell: u16, t: usize) -> Event
+        requires cell { cell < 32 }
+        requires thread { t < length self.old.threads }
+        requires place { (thread_at self.old t).pc < 65535 }
+        ensures { record { scene = self.new; event = result } ≡ outcome_of_store from cell t self.old }
+    {
+        self.numbers[cell as usize] = self.players[t].register(from);
+        alone(self.players[t].done())
+    }
+
+    /// `intr`.
+    fn interrupt(&mut self, other: usize, t: usize) -> Event
+        requires other { other < length self.old.threads }
+        requires thread { t < length self.old.threads }
+        requires place { (thread_at self.old t).pc < 65535 }
+        ensures { record { scene = self.new; event = result } ≡ outcome_of_interrupt other t self.old }
+    {
+        self.players[other].interrupt();
+        alone(self.players[t].done())
     }
 }

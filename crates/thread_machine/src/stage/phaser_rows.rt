@@ -1,7 +1,7 @@
-ghost use Rattle.std.specs.Prelude.{◌≡◌, ◌<◌, length};
+ghost use Rattle.std.specs.Prelude.{◌≡◌, ◌<◌, length, true, Some, is_some};
 ghost use Rattle.thread_machine.specs.Scene.{thread_at};
 ghost use Rattle.thread_machine.specs.PhaserRows.{turn_of_met, mark_of_met, outcome_of_arrival, outcome_of_phaser_row};
-ghost use Rattle.thread_machine.specs.Program.{IsPhaserRow, counts_of};
+ghost use Rattle.thread_machine.specs.Program.{IsNamed, counts_of};
 
 use crate::event::{Event, Mark, What};
 use crate::phaser::Met;
@@ -41,10 +41,12 @@ fn mark(root: u8, met: Met) -> Mark
 impl Stage {
     /// The rows that register at a phaser, arrive or wait.
     pub(super) fn phaser_row(&mut self, row: Row, t: usize) -> Event
-        requires row { IsPhaserRow (counts_of self.old) row }
+        requires ready { is_some (outcome_of_phaser_row row t self.old) ≡ true }
+        requires named { IsNamed (counts_of self.old) row }
         requires thread { t < length self.old.threads }
         requires place { (thread_at self.old t).pc < 65535 }
-        ensures { record { scene = self.new; event = result } ≡ outcome_of_phaser_row row t self.old }
+        ensures { outcome_of_phaser_row row t self.old
+            ≡ Some (record { scene = self.new; event = result }) }
     {
         match row {
             Row::Parr { into, phaser } => self.arrival(false, into, phaser, t),

@@ -1,21 +1,14 @@
-use Rattle.std.proofs.Common.{◌∙◌, ap, sym, arith}
-use Rattle.std.specs.Prelude.{◌||◌}
-use Rattle.std.proofs.lemmas.List.Folds.{list_any_at, list_any_more}
-use Rattle.thread_machine.specs.Scene.{no_thread}
-use Rattle.thread_machine.specs.Ready.{may_step, is_ready}
+use Rattle.std.proofs.Common.{◌∙◌, sym, rules, arith}
+use Rattle.thread_machine.proofs.Readiness.{one_more, one_ready, none_ready}
 use Rattle.thread_machine.proofs.stage.Stage.some_ready.Goals as goal
 
 pub loop-t-preserved : goal.loop-t-preserved
 loop-t-preserved c =
-    let scene = c.args.self.now in
-    let rows = c.args.rows.now in
-    list_any_more (may_step rows scene) scene.threads c.loop-t.t no_thread (omega arith)
-    ∙ ap (λ before. before || is_ready rows c.loop-t.t scene) c.loop-t.invariant
-    ∙ sym c.is_ready.ensures
-    ∙ c.if-is_ready.false
+    one_more c.args.rows.now c.loop-t.t c.args.self.now c.loop-t.invariant (sym c.is_ready.ensures ∙ c.if-is_ready.false)
 
 pub returns-then-is_ready : goal.returns-then-is_ready
 returns-then-is_ready c =
-    let scene = c.args.self.now in
-    sym (list_any_at (may_step c.args.rows.now scene) scene.threads c.loop-t.t no_thread (omega arith)
-    (sym c.is_ready.ensures ∙ c.if-is_ready.true))
+    sym (one_ready c.args.rows.now c.loop-t.t c.args.self.now (search rules) (sym c.is_ready.ensures ∙ c.if-is_ready.true))
+
+pub returns : goal.returns
+returns c = sym (none_ready c.args.rows.now c.args.self.now (λ k within. c.loop-t.invariant k (omega (arith, within))))
