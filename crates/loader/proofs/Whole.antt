@@ -1,0 +1,151 @@
+-- Where an image has no fault, the program that it declares has what is true of each.
+use Rattle.std.proofs.Common.{◌≡◌, ℕ, ◌+◌, ◌-◌, ◌<◌, ◌≤◌, ltb, Bool, true, false, List, [], ◌∷◌, length, get_or, map, All, Option, Some, None, unwrap_or, refl, sym, ap, subst, ◌∙◌, arith}
+use Rattle.std.proofs.lemmas.Bool.{ltb-true}
+use Rattle.std.proofs.lemmas.List.{length-map}
+use Rattle.std.proofs.lemmas.List.Elements.{All-map}
+use Rattle.instruction_table.specs.declared.row.Row.{Row}
+use Rattle.row_code.specs.declared.phasers.DeclaredPolicy.{DeclaredPolicy}
+use Rattle.row_code.specs.declared.phasers.DeclaredPolicy.TheVariants as declared
+use Rattle.row_code.specs.declared.phasers.DeclaredPhaser.{DeclaredPhaser}
+use Rattle.row_code.specs.declared.barriers.DeclaredBarrier.{DeclaredBarrier}
+use Rattle.row_code.specs.declared.threads.DeclaredThread.{DeclaredThread}
+use Rattle.row_code.specs.declared.image.Image.{Image}
+use Rattle.loader.specs.declared.counts.Counts.{Counts}
+use Rattle.loader.specs.declared.load_fault.LoadFault.{LoadFault}
+use Rattle.loader.specs.declared.load_fault.LoadFault.TheVariants as fault
+use Rattle.loader.specs.declared.load_fault.Place.{Place}
+use Rattle.loader.specs.declared.load_fault.Place.TheVariants as place
+use Rattle.loader.specs.declared.named.Named.{Named}
+use Rattle.loader.specs.declared.named.Named.TheVariants as named
+use Rattle.loader.specs.Named.{named_by, stops}
+use Rattle.tier_tree.specs.Stored.{Stored}
+use Rattle.loader.specs.Declarations.{row_in, routine_row, new_barrier, action_row, declared_origin, AreDeclared}
+use Rattle.loader.specs.Program.{Program, IsThere, IsNamed, IsNewBarrier, IsProgram, row_at}
+use Rattle.loader.specs.Fault.{unless, earliest, earliest_in, target_fault, routine_fault, listed_phaser_fault, action_fault, barrier_fault, thread_fault, named_fault, row_fault, last_fault, counts_in}
+use Rattle.loader.proofs.Search.{none_left, none_in}
+
+-- a check that found no fault has passed its test
+pub passed : (test : Bool) (f : LoadFault) → unless test f ≡ None → test ≡ true
+passed true f e = refl
+passed false f e = absurd (cc)
+
+target_there : (rows : ℕ) (place : Place) (row : ℕ) → target_fault rows place row ≡ None → row < rows
+target_there rows place row e = ltb-true row rows (passed (ltb row rows) (fault.Target place) e)
+
+named_there : (counts : Counts) (n : ℕ) (thing : Named) → named_fault counts n thing ≡ None → IsThere counts thing
+named_there counts n named.Nothing e = tt
+named_there counts n (named.Target row) e = target_there counts.rows (place.Row n) row e
+named_there counts n (named.Cell cell) e = ltb-true cell 32 (passed (ltb cell 32) (fault.NoSuchCell n) e)
+named_there counts n (named.Thread thread) e =
+    ltb-true thread counts.threads (passed (ltb thread counts.threads) (fault.NoSuchThread n) e)
+named_there counts n (named.Phaser phaser) e =
+    ltb-true phaser counts.phasers (passed (ltb phaser counts.phasers) (fault.NoSuchPhaser n) e)
+named_there counts n (named.Barrier barrier) e =
+    ltb-true barrier counts.barriers (passed (ltb barrier counts.barriers) (fault.NoSuchBarrier n) e)
+
+-- each row names what is there
+pub rows_named : (counts : Counts) (rows : List Row) → earliest_in (row_fault counts) 0 rows ≡ None → All (IsNamed counts) rows
+rows_named counts rows e = λ i d lt.
+    named_there counts (0 + i) (named_by (get_or rows i d)) (none_in (row_fault counts) 0 rows e i d lt)
+
+-- each thread begins at a row
+pub threads_begin : (rows : ℕ) (threads : List DeclaredThread) → earliest_in (thread_fault rows) 0 threads ≡ None
+    → All (λ (thread : DeclaredThread). thread.first_row < rows) threads
+threads_begin rows threads e = λ i d lt.
+    target_there rows (place.Thread (0 + i)) (get_or threads i d).first_row (none_in (thread_fault rows) 0 threads e i d lt)
+
+-- so there is a row
+pub some_row : (rows : ℕ) (threads : List DeclaredThread) → 0 < length threads
+    → All (λ (thread : DeclaredThread). thread.first_row < rows) threads → 0 < rows
+some_row rows threads some begin =
+    let one = begin 0 (record { first_row = 0 }) some in
+    omega arith
+
+routine_there : (rows n : ℕ) (policy : DeclaredPolicy) → 0 < rows → routine_fault rows n policy ≡ None → row_in policy < rows
+routine_there rows n declared.Default some e = some
+routine_there rows n declared.Never some e = some
+routine_there rows n (declared.Until phase) some e = some
+routine_there rows n (declared.Routine row) some e = target_there rows (place.Phaser n) row e
+
+-- each phaser has a row for its routine
+pub routines_there : (rows : ℕ) (phasers : List DeclaredPhaser) → 0 < rows
+    → earliest_in (listed_phaser_fault rows phasers) 0 phasers ≡ None → All (λ row. row < rows) (map routine_row phasers)
+routines_there rows phasers some e =
+    All-map (λ row. row < rows) routine_row phasers (λ i d lt.
+    routine_there rows (0 + i) (get_or phasers i d).policy some
+    (none_left (routine_fault rows (0 + i) (get_or phasers i d).policy) _ (none_in (listed_phaser_fault rows phasers) 0 phasers e i d lt)).0)
+
+action_there : (rows n : ℕ) (action : Option ℕ) → 0 < rows → action_fault rows n action ≡ None → unwrap_or action 0 < rows
+action_there rows n None some e = some
+action_there rows n (Some row) some e = target_there rows (place.Barrier n) row e
+
+-- each barrier has a row for its action
+pub actions_there : (rows : ℕ) (barriers : List DeclaredBarrier) → 0 < rows
+    → earliest_in (barrier_fault rows) 0 barriers ≡ None → All (λ row. row < rows) (map action_row barriers)
+actions_there rows barriers some e =
+    All-map (λ row. row < rows) action_row barriers (λ i d lt.
+    action_there rows (0 + i) (get_or barriers i d).action some
+    (none_left (unless _ (fault.BarrierParties (0 + i))) (action_fault rows (0 + i) (get_or barriers i d).action)
+    (none_in (barrier_fault rows) 0 barriers e i d lt)).1)
+
+-- each barrier is new
+pub barriers_new : (barriers : List DeclaredBarrier) → All IsNewBarrier (map new_barrier barriers)
+barriers_new barriers = All-map IsNewBarrier new_barrier barriers (λ i d lt. refl)
+
+-- no thread goes on past the last row
+pub last_stops : (rows : List Row) → last_fault rows ≡ None → stops (row_at rows (length rows - 1)) ≡ true
+last_stops rows e = passed (stops (row_at rows (length rows - 1))) fault.FallsOff e
+
+-- the program that an image declares, with its phasers in this forest
+abbrev pub declared_by : Image → List Stored → Program
+declared_by image forest = record {
+  rows = image.rows;
+  threads = image.threads;
+  phasers = forest;
+  routines = map routine_row image.phasers;
+  barriers = map new_barrier image.barriers;
+  actions = map action_row image.barriers;
+}
+
+pub whole : (image : Image) (forest : List Stored) → length image.rows ≤ 65535 → 0 < length image.threads → length image.threads ≤ 64
+    → length image.barriers ≤ 64 → earliest_in (listed_phaser_fault (length image.rows) image.phasers) 0 image.phasers ≡ None
+    → earliest_in (barrier_fault (length image.rows)) 0 image.barriers ≡ None
+    → earliest (earliest_in (thread_fault (length image.rows)) 0 image.threads
+    ∷ earliest_in (row_fault (counts_in image)) 0 image.rows ∷ last_fault image.rows ∷ []) ≡ None
+    → AreDeclared (length image.phasers) image.phasers forest → IsProgram (declared_by image forest)
+whole image forest few some few_threads few_barriers phasers barriers code declared =
+    let threads = none_left (earliest_in (thread_fault (length image.rows)) 0 image.threads) _ code in
+    let rows = none_left (earliest_in (row_fault (counts_in image)) 0 image.rows) _ threads.1 in
+    let last = none_left (last_fault image.rows) None rows.1 in
+    let begin = threads_begin (length image.rows) image.threads threads.0 in
+    let row = some_row (length image.rows) image.threads some begin in
+    let counts : ℕ → ℕ → Counts = λ phasers barriers. record {
+      rows = length image.rows;
+      threads = length image.threads;
+      phasers = phasers;
+      barriers = barriers;
+    } in
+    let same : counts (length image.phasers) (length image.barriers) ≡ counts (length forest) (length (map new_barrier image.barriers)) =
+    ap (λ n. counts n (length image.barriers)) (sym declared.many)
+    ∙ ap (counts (length forest)) (sym (length-map image.barriers new_barrier)) in
+    record {
+      code = record {
+        few = omega arith;
+        named = subst (λ c. All (IsNamed c) image.rows) same (rows_named (counts_in image) image.rows rows.0);
+        last = last_stops image.rows last.0;
+        routines = routines_there (length image.rows) image.phasers row phasers;
+        actions = actions_there (length image.rows) image.barriers row barriers;
+        all_routines = length-map image.phasers routine_row ∙ sym declared.many;
+        all_actions = length-map image.barriers action_row ∙ sym (length-map image.barriers new_barrier);
+      };
+      threads = record { some = some; few = few_threads; begin = begin };
+      phasers = record {
+        fresh = declared.fresh;
+        ends = declared.ends;
+        stands = (declared_origin image.phasers, (λ root. refl), declared.origin);
+      };
+      barriers = record {
+        few = omega (arith, length-map image.barriers new_barrier);
+        fresh = barriers_new image.barriers;
+      };
+    }

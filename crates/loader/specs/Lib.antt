@@ -1,0 +1,5 @@
+pub mod Named
+pub mod Declarations
+pub mod Program
+pub mod Fault
+pub mod Fields

@@ -1,0 +1,72 @@
+ghost use Rattle.std.specs.Prelude.{◌≡◌, ◌≢◌, ◌≤◌, length, map, None, Some, IfOk, IfErr, OnOk};
+ghost use Rattle.loader.specs.Declarations.{new_barrier, action_row};
+ghost use Rattle.loader.specs.Fault.{action_fault, barrier_fault, earliest_in};
+
+use crate::load_fault::{LoadFault, Place};
+use crate::row_checks::target_fault;
+use cyclic_barrier::Barrier;
+use row_code::DeclaredBarrier;
+use std::alloc::{AllocError, Global};
+
+fn action_row(barrier: &DeclaredBarrier) -> u16
+    ensures { result ≡ action_row barrier.now }
+{
+    match barrier.action {
+        Some(row) => row,
+        None => 0,
+    }
+}
+
+/// The row that each barrier's action begins at; 0 where it has none.
+pub fn action_rows(alloc: Global, barriers: &[DeclaredBarrier]) -> Result<Vec<u16>, AllocError>
+    ensures { IfOk result (λ rows. rows.items ≡ map action_row barriers.now) }
+{
+    barriers
+        .iter()
+        .map(|barrier| action_row(barrier))
+        .collect(alloc)
+}
+
+/// Whether the row of barrier `n`'s action is there.
+fn action_fault(rows: usize, n: u8, action: Option<u16>) -> Option<LoadFault>
+    ensures { result ≡ action_fault rows n action }
+{
+    match action {
+        Some(row) => target_fault(rows, Place::Barrier(n), row),
+        None => None,
+    }
+}
+
+/// A new barrier of parties, whose action's row is there.
+fn make(rows: usize, n: u8, barrier: DeclaredBarrier) -> Result<Barrier, LoadFault>
+    ensures fault { IfErr result (λ fault. barrier_fault rows n barrier ≡ Some fault) }
+    ensures none { OnOk result (barrier_fault rows n barrier ≡ None) }
+    ensures made { IfOk result (λ made. made ≡ new_barrier barrier) }
+{
+    let Some(made) = Barrier::new(barrier.parties, barrier.action.is_some()) else {
+        return Err(LoadFault::BarrierParties(n));
+    };
+    match action_fault(rows, n, barrier.action) {
+        Some(fault) => Err(fault),
+        None => Ok(made),
+    }
+}
+
+/// Makes the barriers one after the other.
+pub fn make_all(
+    alloc: Global,
+    rows: usize,
+    barriers: &[DeclaredBarrier],
+) -> Result<Vec<Barrier>, LoadFault>
+    requires { length barriers.now ≤ 64 }
+    ensures fault { IfErr result (λ fault. fault ≢ LoadFault.Memory
+        → earliest_in (barrier_fault rows) 0 barriers.now ≡ Some fault) }
+    ensures none { OnOk result (earliest_in (barrier_fault rows) 0 barriers.now ≡ None) }
+    ensures made { IfOk result (λ made. made.items ≡ map new_barrier barriers.now) }
+{
+    let mut made = Vec::with_capacity(alloc, barriers.len())?;
+    for (n, barrier) in barriers.iter().enumerate() {
+        made.push(make(rows, n as u8, *barrier)?)?;
+    }
+    Ok(made)
+}

@@ -1,0 +1,57 @@
+ghost use Rattle.std.specs.Prelude.{◌≡◌};
+ghost use Rattle.loader.specs.declared.load_fault.LoadFault.TheVariants.{Memory};
+
+use std::alloc::{AllocError, AllocFailed};
+use tier_tree::DeclareFault;
+
+/// What names a row that isn't there, by its number.
+#[derive(Clone, Copy, Debug, PartialEq, Eq)]
+pub enum Place {
+    Row(u16),
+    Thread(u8),
+    /// By its routine.
+    Phaser(u8),
+    /// By its action.
+    Barrier(u8),
+}
+
+/// Why an image is refused: the first fault in the order in which `load` checks.
+#[derive(Clone, Copy, Debug, PartialEq, Eq)]
+pub enum LoadFault {
+    /// This place names a row that isn't there.
+    Target(Place),
+    /// The last row is none of `halt`, `jmp`, `ret` and `throw`: a thread could go on past it.
+    FallsOff,
+    /// The row of this number names a phaser that isn't there.
+    NoSuchPhaser(u16),
+    /// The row of this number names a barrier that isn't there.
+    NoSuchBarrier(u16),
+    /// The row of this number names a thread that isn't there.
+    NoSuchThread(u16),
+    /// The row of this number names a cell above 31.
+    NoSuchCell(u16),
+    /// The phaser of this number can't be declared behind those before it.
+    Declare(u8, DeclareFault),
+    /// The barrier of this number has no parties.
+    BarrierParties(u8),
+    /// There is no thread.
+    NoThread,
+    /// Memory was refused.
+    Memory,
+}
+
+impl From<AllocError> for LoadFault {
+    ghost from_gives = { λ _ e. e ≡ Memory };
+
+    fn from(_e: AllocError) -> LoadFault {
+        LoadFault::Memory
+    }
+}
+
+impl<T: Drop> From<AllocFailed<T>> for LoadFault {
+    ghost from_gives = { λ _ e. e ≡ Memory };
+
+    fn from(_e: AllocFailed<T>) -> LoadFault {
+        LoadFault::Memory
+    }
+}

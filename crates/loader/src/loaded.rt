@@ -1,0 +1,102 @@
+ghost use Rattle.std.specs.Prelude.{◌≡◌, IfOk};
+ghost use Rattle.loader.specs.Program.{IsProgram};
+
+use cyclic_barrier::Barrier;
+use instruction_table::Row;
+use row_code::DeclaredThread;
+use std::alloc::{AllocError, Global};
+use std::marker::Model;
+use tier_tree::Forest;
+
+mod loading;
+
+pub use loading::load;
+
+/// A program that passed all checks, with its phasers and barriers as they are before its first
+/// step. `load` makes it, and nothing changes it.
+#[derive(Drop)]
+pub struct Loaded {
+    rows: Vec<Row>,
+    threads: Vec<DeclaredThread>,
+    phasers: Forest,
+    routines: Vec<u16>,
+    barriers: Vec<Barrier>,
+    actions: Vec<u16>,
+}
+
+impl Model for Loaded {
+    ghost use Rattle.loader.specs.Program.{Program};
+
+    ghost Value = { Program };
+
+    ghost use Rattle.loader.specs.Fields.{program_of, IsProgramIn};
+
+    ghost view = { program_of };
+
+    ghost invariant = { IsProgramIn };
+}
+
+impl Loaded {
+    /// The rows, by number.
+    pub fn rows(&self) -> &[Row]
+        ensures { result.now ≡ self.now.rows }
+    {
+        self.rows.as_slice()
+    }
+
+    /// The threads, by number, each with the row that it begins at.
+    pub fn threads(&self) -> &[DeclaredThread]
+        ensures { result.now ≡ self.now.threads }
+    {
+        self.threads.as_slice()
+    }
+
+    /// The phasers, before anybody has arrived.
+    pub fn phasers(&self) -> &Forest
+        ensures { result.now ≡ self.now.phasers }
+    {
+        &self.phasers
+    }
+
+    /// The row that each phaser's routine begins at; 0 where it has none. A child's is never gone to.
+    pub fn routines(&self) -> &[u16]
+        ensures { result.now ≡ self.now.routines }
+    {
+        self.routines.as_slice()
+    }
+
+    /// The barriers, before anybody has come.
+    pub fn barriers(&self) -> &[Barrier]
+        ensures { result.now ≡ self.now.barriers }
+    {
+        self.barriers.as_slice()
+    }
+
+    /// The row that each barrier's action begins at; 0 where it has none.
+    pub fn actions(&self) -> &[u16]
+        ensures { result.now ≡ self.now.actions }
+    {
+        self.actions.as_slice()
+    }
+
+    /// The same program again.
+    pub fn copy(&self, alloc: Global) -> Result<Loaded, AllocError>
+        ensures { IfOk result (λ copy. copy ≡ self.now) }
+    {
+        Ok(Loaded {
+            rows: Vec::from_slice(alloc, self.rows.as_slice())?,
+            threads: Vec::from_slice(alloc, self.threads.as_slice())?,
+            phasers: self.phasers.copy(alloc)?,
+            routines: Vec::from_slice(alloc, self.routines.as_slice())?,
+            barriers: Vec::from_slice(alloc, self.barriers.as_slice())?,
+            actions: Vec::from_slice(alloc, self.actions.as_slice())?,
+        })
+    }
+
+    /// A law: what is true of every program that was loaded. Nothing runs.
+    pub fn each_program_is_whole(&self)
+        ensures { IsProgram self.now }
+    {
+        let _ = &self.rows;
+    }
+}

@@ -1,0 +1,77 @@
+ghost use Rattle.std.specs.Prelude.{◌≡◌, ◌≢◌, ◌∷◌, [], None, Some, IfOk, IfErr, OnOk, length};
+ghost use Rattle.loader.specs.Program.{IsProgramOf};
+ghost use Rattle.loader.specs.Fault.{first_fault, counts_in, earliest, earliest_in};
+ghost use Rattle.loader.specs.Fault.{thread_fault, row_fault, last_fault};
+
+use super::Loaded;
+use crate::counts::Counts;
+use crate::load_fault::LoadFault;
+use crate::row_checks::{last_fault, row_fault, thread_fault};
+use crate::{barriers, phasers};
+use row_code::Image;
+use std::alloc::Global;
+
+/// How many there are of each thing in the image.
+fn counts_in(image: &Image) -> Counts
+    ensures { result ≡ counts_in image.now }
+{
+    Counts {
+        rows: image.rows.as_slice().len(),
+        threads: image.threads.as_slice().len(),
+        phasers: image.phasers.as_slice().len(),
+        barriers: image.barriers.as_slice().len(),
+    }
+}
+
+/// The first fault of the threads and the rows.
+fn code_fault(image: &Image) -> Option<LoadFault>
+    ensures { result ≡ earliest (earliest_in (thread_fault (length image.now.rows)) 0 image.now.threads
+        ∷ earliest_in (row_fault (counts_in image.now)) 0 image.now.rows
+        ∷ last_fault image.now.rows ∷ []) }
+{
+    let rows = image.rows.as_slice();
+    let fault = thread_fault(rows.len(), image.threads.as_slice());
+    if fault.is_some() {
+        return fault;
+    }
+    let fault = row_fault(counts_in(image), rows);
+    if fault.is_some() {
+        return fault;
+    }
+    last_fault(rows)
+}
+
+/// Checks the image and makes the program that it declares. There must be a thread; then the phasers
+/// are checked and declared in their order, a routine's row before its phaser; then the barriers are
+/// checked and made; then the threads' rows and what each row names are looked for; and last the last
+/// row must be one from which no thread goes on. The first fault is answered. `Memory` comes where
+/// the growth is refused.
+pub fn load(alloc: Global, image: Image) -> Result<Loaded, LoadFault>
+    ensures fault { IfErr result (λ fault. fault ≢ LoadFault.Memory
+        → first_fault image ≡ Some fault) }
+    ensures none { OnOk result (first_fault image ≡ None) }
+    ensures loaded { IfOk result (IsProgramOf image) }
+{
+    if image.threads.as_slice().is_empty() {
+        return Err(LoadFault::NoThread);
+    }
+    let rows = image.rows.as_slice().len();
+    let phasers = phasers::declare_all(alloc, rows, image.phasers.as_slice())?;
+    let barriers = barriers::make_all(alloc, rows, image.barriers.as_slice())?;
+    if let Some(fault) = code_fault(&image) {
+        return Err(fault);
+    }
+    let routines = phasers::routine_rows(alloc, image.phasers.as_slice())?;
+    let actions = barriers::action_rows(alloc, image.barriers.as_slice())?;
+    Ok(Loaded {
+        rows: image.rows.into_vec(),
+        threads: image.threads.into_vec(),
+        phasers,
+        routines,
+        barriers,
+        actions,
+    })
+}
+
+#[cfg(test)]
+mod tests;

@@ -1,0 +1,82 @@
+ghost use Rattle.std.specs.Prelude.{◌≡◌, ◌<◌, ◌≤◌, length};
+ghost use Rattle.loader.specs.Fault.{target_fault, thread_fault, named_fault, row_fault};
+ghost use Rattle.loader.specs.Fault.{last_fault, earliest_in};
+
+use crate::counts::Counts;
+use crate::load_fault::{LoadFault, Place};
+use crate::named::{Named, named_by, stops};
+use instruction_table::Row;
+use row_code::DeclaredThread;
+
+/// How many cells there are.
+const CELLS: u16 = 32;
+
+/// Whether the row is there.
+pub fn target_fault(rows: usize, place: Place, row: u16) -> Option<LoadFault>
+    ensures { result ≡ target_fault rows place row }
+{
+    if usize::from(row) < rows {
+        None
+    } else {
+        Some(LoadFault::Target(place))
+    }
+}
+
+/// Whether the thing that row `n` names is there.
+fn named_fault(counts: Counts, n: u16, named: Named) -> Option<LoadFault>
+    ensures { result ≡ named_fault counts n named }
+{
+    match named {
+        Named::Nothing => None,
+        Named::Target(row) => target_fault(counts.rows, Place::Row(n), row),
+        Named::Cell(cell) if cell >= CELLS => Some(LoadFault::NoSuchCell(n)),
+        Named::Thread(thread) if usize::from(thread) >= counts.threads => {
+            Some(LoadFault::NoSuchThread(n))
+        }
+        Named::Phaser(phaser) if usize::from(phaser) >= counts.phasers => {
+            Some(LoadFault::NoSuchPhaser(n))
+        }
+        Named::Barrier(barrier) if usize::from(barrier) >= counts.barriers => {
+            Some(LoadFault::NoSuchBarrier(n))
+        }
+        _ => None,
+    }
+}
+
+/// The first fault of the threads.
+pub fn thread_fault(rows: usize, threads: &[DeclaredThread]) -> Option<LoadFault>
+    requires { length threads.now ≤ 64 }
+    ensures { result ≡ earliest_in (thread_fault rows) 0 threads.now }
+{
+    for (n, thread) in threads.iter().enumerate() {
+        let fault = target_fault(rows, Place::Thread(n as u8), thread.first_row);
+        if fault.is_some() {
+            return fault;
+        }
+    }
+    None
+}
+
+/// The first fault of the rows, but for the last one's.
+pub fn row_fault(counts: Counts, rows: &[Row]) -> Option<LoadFault>
+    requires { length rows.now < 65536 }
+    ensures { result ≡ earliest_in (row_fault counts) 0 rows.now }
+{
+    for (n, row) in rows.iter().enumerate() {
+        let fault = named_fault(counts, n as u16, named_by(*row));
+        if fault.is_some() {
+            return fault;
+        }
+    }
+    None
+}
+
+/// Whether a thread could go on past the last row.
+pub fn last_fault(rows: &[Row]) -> Option<LoadFault>
+    ensures { result ≡ last_fault rows.now }
+{
+    match rows.last() {
+        Some(row) if !stops(*row) => Some(LoadFault::FallsOff),
+        _ => None,
+    }
+}
