@@ -1,4 +1,4 @@
-ghost use Rattle.std.specs.Prelude.{◌≡◌, ◌+◌, ◌<◌, ◌||◌, ◌++◌, ◌∷◌, [], IfOk, List, map, option_copied, option_map};
+ghost use Rattle.std.specs.Prelude.{◌≡◌, ◌+◌, ◌<◌, ◌||◌, ◌++◌, ◌∷◌, [], IfErr, IfOk, List, map, option_copied, option_map};
 ghost use Rattle.instruction_table.specs.declared.shape.OperandKind.{OperandKind};
 ghost use Rattle.line_reader.specs.declared.statement.Line.{Line};
 ghost use Rattle.assembler.specs.Draft.{IsKept, counted, named_with, number_there, places};
@@ -158,33 +158,20 @@ fn place_behind(counts: &Counts, statement: &Statement<&[u8]>) -> Place
     }
 }
 
-/// The names with one more, where there is one.
-fn named_with<'a>(
-    names: IndexMap<&'a [u8], Place, NameHash>,
+/// Adds a name, where there is one: none where memory is refused.
+fn add_name<'a>(
+    names: &mut IndexMap<&'a [u8], Place, NameHash>,
     name: Option<&'a [u8]>,
     place: Place,
-) -> Result<IndexMap<&'a [u8], Place, NameHash>, AllocError>
-    ensures { IfOk result (λ with. (q : Borrowed) → places with q
-        ≡ named_with (option_map name_seen name.entry) place (places names.entry) q) }
+) -> Result<(), AllocError>
+    ensures added { IfOk result (λ _. (q : Borrowed) → places names.new q
+        ≡ named_with (option_map name_seen name.entry) place (places names.old) q) }
+    ensures kept { IfErr result (λ _. (q : Borrowed) → places names.new q ≡ places names.old q) }
 {
-    let mut names = names;
     if let Some(name) = name {
         names.insert(name, place)?;
     }
-    Ok(names)
-}
-
-/// The lines with one more.
-fn with_last<'a>(
-    lines: Vec<Line<&'a [u8]>>,
-    line: Line<&'a [u8]>,
-) -> Result<Vec<Line<&'a [u8]>>, AllocError>
-    ensures { IfOk result (λ with. map line_seen with.items
-        ≡ map line_seen lines.entry.items ++ (line_seen line.entry ∷ [])) }
-{
-    let mut lines = lines;
-    lines.push(line)?;
-    Ok(lines)
+    Ok(())
 }
 
 /// The number of a place that is of this kind.
@@ -266,26 +253,23 @@ impl<'a> Draft<'a> {
         }
     }
 
-    /// The draft with one line more, which may follow those so far.
-    pub fn with_line(
-        self,
-        number: u64,
-        statement: Statement<&'a [u8]>,
-    ) -> Result<Draft<'a>, AllocError>
-        requires { Follows self (statement_seen statement) }
-        ensures { IfOk result (λ draft. draft
-            ≡ self.entry ++ (line_seen (record { number = number; statement = statement.entry }) ∷ [])) }
+    /// Adds a line, which may follow those so far: none where memory is refused.
+    pub fn push(&mut self, number: u64, statement: Statement<&'a [u8]>) -> Result<(), AllocError>
+        requires { Follows self.old (statement_seen statement) }
+        ensures { IfOk result (λ _. self.new
+            ≡ self.old ++ (line_seen (record { number = number; statement = statement.entry }) ∷ [])) }
     {
+        let name = name_in(&statement);
         let place = place_behind(&self.counts, &statement);
         let counts = counted_with(self.counts, &statement);
         let has_code = code_with(self.has_code, &statement);
-        let names = named_with(self.names, name_in(&statement), place)?;
-        let lines = with_last(self.lines, Line { number, statement })?;
-        Ok(Draft {
-            lines,
-            names,
-            counts,
-            has_code,
-        })
+        self.lines.push(Line { number, statement })?;
+        if let Err(refused) = add_name(&mut self.names, name, place) {
+            self.lines.pop();
+            return Err(refused);
+        }
+        self.counts = counts;
+        self.has_code = has_code;
+        Ok(())
     }
 }

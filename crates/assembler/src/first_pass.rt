@@ -23,22 +23,22 @@ fn first_line(text: &[u8]) -> (&[u8], &[u8])
     }
 }
 
-/// The draft with what the line of this number says.
-fn line_read<'a>(
+/// Adds what the line of this number says.
+fn read_line<'a>(
     alloc: Global,
-    draft: Draft<'a>,
+    draft: &mut Draft<'a>,
     number: u64,
     line: &'a [u8],
-) -> Result<Draft<'a>, AsmFault>
-    ensures read { AnswersAt (λ draft. draft) result
-        (behind draft.entry number (line_behind draft.entry line.now)) }
+) -> Result<(), AsmFault>
+    ensures read { AnswersAt (λ _. draft.new) result
+        (behind draft.old number (line_behind draft.old line.now)) }
     ensures line { IfErr result (λ e. e.line ≡ number) }
 {
-    match line_behind(alloc, &draft, line) {
+    match line_behind(alloc, &*draft, line) {
         Err(kind) => Err(AsmFault { line: number, kind }),
-        Ok(None) => Ok(draft),
-        Ok(Some(said)) => match draft.with_line(number, said) {
-            Ok(draft) => Ok(draft),
+        Ok(None) => Ok(()),
+        Ok(Some(said)) => match draft.push(number, said) {
+            Ok(()) => Ok(()),
             Err(_) => Err(AsmFault {
                 line: number,
                 kind: AsmFaultKind::Memory,
@@ -57,10 +57,9 @@ pub fn lines_read(alloc: Global, text: &[u8]) -> Result<(Draft<'_>, u64), AsmFau
     while !rest.is_empty() {
         let (line, after) = first_line(rest);
         number += 1;
-        draft = match line_read(alloc, draft, number, line) {
-            Ok(draft) => draft,
-            Err(fault) => return Err(fault),
-        };
+        if let Err(fault) = read_line(alloc, &mut draft, number, line) {
+            return Err(fault);
+        }
         rest = after;
     }
     Ok((draft, number))

@@ -1,9 +1,8 @@
 -- The operands of a row by their places, and one after the other: the same.
-use Rattle.std.proofs.Common.{◌≡◌, ℕ, suc, ◌+◌, ◌≤◌, List, [], ◌∷◌, length, map, Option, Some, None, Result, Ok, Err, refl, ◌∙◌, arith}
+use Rattle.std.proofs.Common.{◌≡◌, ℕ, ◌≤◌, List, [], ◌∷◌, length, map, Result, Ok, Err, refl, arith}
 use Rattle.std.specs.Prelude.{option_map}
 use Rattle.std.specs.List.{slice_get}
 use Rattle.std.proofs.lemmas.Option.{slice_get-map}
-use Rattle.std.proofs.lemmas.List.{length-map}
 use Rattle.instruction_table.specs.declared.shape.OperandKind.{OperandKind}
 use Rattle.line_reader.specs.declared.asm_fault.AsmFaultKind.{AsmFaultKind}
 use Rattle.line_reader.specs.declared.asm_fault.AsmFaultKind.TheVariants as fault

@@ -1,7 +1,7 @@
 -- How the words of a line are read, and what is wrong with them: the first of the checks, in the order
 -- in which they stand here.
 use Rattle.std.specs.Prelude.{ℕ, ◌-◌, ◌==◌, ◌||◌, not, nat_lt, int_lt, if◌then◌else◌, Bool, true, false, ℤ, pos, negsuc, List, [], ◌∷◌, length, take, codes, bytes_eq, find, Option, Some, None, Result, Ok, Err}
-use Rattle.std.specs.List.{list_all, slice_get}
+use Rattle.std.specs.List.{slice_get}
 use Rattle.instruction_table.specs.declared.register.Reg.{Reg}
 use Rattle.instruction_table.specs.declared.register.Reg.TheVariants.{R0, R1, R2, R3, R4, R5, R6, R7}
 use Rattle.instruction_table.specs.declared.shape.OperandKind.{OperandKind}
@@ -19,10 +19,8 @@ use Rattle.line_reader.specs.declared.symbolic_phaser.SymbolicPolicy.TheVariants
 use Rattle.line_reader.specs.declared.symbolic_phaser.SymbolicPhaser.{SymbolicPhaser}
 use Rattle.line_reader.specs.declared.symbolic_barrier.SymbolicBarrier.{SymbolicBarrier}
 use Rattle.line_reader.specs.declared.symbolic_thread.SymbolicThread.{SymbolicThread}
-use Rattle.line_reader.specs.declared.statement.Line.{Line}
 use Rattle.line_reader.specs.declared.statement.Statement.{Statement}
 use Rattle.line_reader.specs.declared.statement.Statement.TheVariants as statement
-use Rattle.line_reader.specs.Words.{is_allowed, words_of}
 use Rattle.line_reader.specs.Names.{is_name}
 use Rattle.line_reader.specs.Numbers.{is_number, digits_in, value_in}
 use Rattle.line_reader.specs.Symbols.{Name}

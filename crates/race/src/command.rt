@@ -15,7 +15,8 @@ use std::thread::Threads;
 
 /// `parties` threads call `arriveAndAwaitAdvance` `rounds` times each on one shared phaser of as many parties. Writes
 /// the line `phase A parties B unarrived C` of the closed phaser to `output`, and answers the exit status: 0 where all
-/// went well, 4 with the line `memory` or `spawn` on `errors`, 5 with `write`.
+/// went well, 4 with the line `memory` or `spawn` on `errors`, 5 with `write`. It asks nothing of `parties` and
+/// `rounds`: the command line keeps them to 1 to 16 and 1 to 1000000. Neither port is flushed.
 pub fn race_cmd<R: Threads + Wait + Sync, K: Sink, E: Sink>(
     rt: &R,
     alloc: Global,

@@ -1,5 +1,5 @@
 -- Numbers whose digits come one by one.
-use Rattle.std.proofs.Common.{◌≡◌, ◌∙◌, ◌≢◌, ◌⊎◌, inl, inr, ◌+◌, ◌-◌, ◌*◌, ◌<◌, ◌≤◌, ◌==◌, ◌&&◌, not, if◌then◌else◌, cond, ℕ, Bool, true, false, List, [], ◌∷◌, length, drop, ap, sym, subst, arith}
+use Rattle.std.proofs.Common.{◌≡◌, ◌∙◌, ◌⊎◌, inl, inr, ◌+◌, ◌-◌, ◌*◌, ◌<◌, ◌≤◌, cond, ℕ, Bool, true, List, [], ◌∷◌, length, drop, ap, arith}
 use Rattle.std.specs.Prelude.{Some, None}
 use Rattle.std.specs.Char.{is_ascii_digit, digit_value}
 use Rattle.std.specs.Str.Parse.{digits_value_after}
@@ -7,16 +7,12 @@ use Rattle.std.proofs.lemmas.List.Sums.{take_while-cons}
 use Rattle.std.proofs.lemmas.Bool.Decides.{nat_tests}
 use Rattle.thread_machine.specs.declared.choice.Choice.{Choice}
 use Rattle.schedule_reader.specs.declared.fault.ScheduleFault.TheVariants as fault
-use Rattle.schedule_reader.specs.Schedule.{Faulty, choice_of, digits_of, reading_of, reading_after_letter, reading_after_star, reading_of_thread, reading_of_count, reading_by_thread, reading_by_times}
+use Rattle.schedule_reader.specs.Schedule.{Faulty, choice_of, digits_of, reading_of_thread, reading_of_count, reading_by_thread, reading_by_times}
 use Rattle.schedule_reader.specs.Places.{number_by, thread_by, times_by, thread_from, times_from}
 
 -- the digits of a part that begins with a digit
 pub digits_of-digit : (b : ℕ) (part : List ℕ) → is_ascii_digit b ≡ true → digits_of (b ∷ part) ≡ b ∷ digits_of part
 digits_of-digit b part digit = take_while-cons is_ascii_digit b part ∙ ap (λ t. cond t (b ∷ digits_of part) []) digit
-
--- and of one that doesn't
-digits_of-other : (b : ℕ) (part : List ℕ) → is_ascii_digit b ≡ false → digits_of (b ∷ part) ≡ []
-digits_of-other b part other = take_while-cons is_ascii_digit b part ∙ ap (λ t. cond t (b ∷ digits_of part) []) other
 
 digit_value-digit : (b : ℕ) → is_ascii_digit b ≡ true → digit_value b ≡ b - 48
 digit_value-digit b digit = grind (arith, nat_tests)
@@ -88,50 +84,6 @@ times-too_far at choice digits number b part digit above =
     ∙ ap (λ n. reading_of_count (at + 1 - (digits + 1)) choice (digits + 1 + length ds) (drop (length ds) part) n) (too_far digits number 10 1000000000 b part above)
     ∙ ap (λ n. Faulty (fault.Repeat n)) start
 
--- no digit comes next
-thread-other : (at : ℕ) (expiry : Bool) (digits number b : ℕ) (part : List ℕ) → is_ascii_digit b ≡ false → digits ≤ 2 → number ≤ 63
-    → thread_from at expiry digits number (b ∷ part) ≡ reading_by_thread (at - digits) (choice_of expiry number) digits (b ∷ part)
-thread-other at expiry digits number b part other few small =
-    let count : digits + 0 ≡ digits = omega arith in
-    ap (λ ms. thread_by (at - digits) expiry (digits + length ms) (digits_value_after 10 number ms) (drop (length ms) (b ∷ part))) (digits_of-other b part other)
-    ∙ ap (λ n. thread_by (at - digits) expiry n number (b ∷ part)) count
-    ∙ ap (λ n. reading_of_thread (at - digits) expiry digits (b ∷ part) n) (number_by-some digits number 2 63 few small)
-
-pub thread-star : (at : ℕ) (expiry : Bool) (digits number b : ℕ) (part : List ℕ) → is_ascii_digit b ≡ false → digits ≤ 2 → number ≤ 63 → digits ≤ at
-    → digits ≢ 0 → b ≡ 42
-    → thread_from at expiry digits number (b ∷ part) ≡ times_from (at + 1) (choice_of expiry number) 0 0 part
-thread-star at expiry digits number b part other few small within some star =
-    let test : ((b == 42) && not (digits == 0)) ≡ true = grind (arith, nat_tests) in
-    let choice = choice_of expiry number in
-    let ds = digits_of part in
-    let start : at - digits + digits + 1 ≡ at + 1 - 0 = omega arith in
-    let count : length ds ≡ 0 + length ds = omega arith in
-    thread-other at expiry digits number b part other few small
-    ∙ ap (λ t. if t then reading_after_star (at - digits + digits + 1) choice part else Faulty (fault.Byte (at - digits + digits))) test
-    ∙ ap (λ n. times_by n choice (length ds) (digits_value_after 10 0 ds) (drop (length ds) part)) start
-    ∙ ap (λ n. times_by (at + 1 - 0) choice n (digits_value_after 10 0 ds) (drop (length ds) part)) count
-
-pub thread-byte : (at : ℕ) (expiry : Bool) (digits number b : ℕ) (part : List ℕ) → is_ascii_digit b ≡ false → digits ≤ 2 → number ≤ 63 → digits ≤ at
-    → (digits ≡ 0) ⊎ (b ≢ 42)
-    → thread_from at expiry digits number (b ∷ part) ≡ Faulty (fault.Byte at)
-thread-byte at expiry digits number b part other few small within wrong =
-    let test : ((b == 42) && not (digits == 0)) ≡ false = grind (arith, nat_tests) in
-    let choice = choice_of expiry number in
-    let start : at - digits + digits ≡ at = omega arith in
-    thread-other at expiry digits number b part other few small
-    ∙ ap (λ t. if t then reading_after_star (at - digits + digits + 1) choice part else Faulty (fault.Byte (at - digits + digits))) test
-    ∙ ap (λ n. Faulty (fault.Byte n)) start
-
-pub times-byte : (at : ℕ) (choice : Choice) (digits number b : ℕ) (part : List ℕ) → is_ascii_digit b ≡ false → digits ≤ 10 → number ≤ 1000000000 → digits ≤ at
-    → times_from at choice digits number (b ∷ part) ≡ Faulty (fault.Byte at)
-times-byte at choice digits number b part other few small within =
-    let count : digits + 0 ≡ digits = omega arith in
-    let start : at - digits + digits ≡ at = omega arith in
-    ap (λ ms. times_by (at - digits) choice (digits + length ms) (digits_value_after 10 number ms) (drop (length ms) (b ∷ part))) (digits_of-other b part other)
-    ∙ ap (λ n. times_by (at - digits) choice n number (b ∷ part)) count
-    ∙ ap (λ n. reading_of_count (at - digits) choice digits (b ∷ part) n) (number_by-some digits number 10 1000000000 few small)
-    ∙ ap (λ n. Faulty (fault.Byte n)) start
-
 -- nothing comes next
 pub thread-end : (at : ℕ) (expiry : Bool) (digits number : ℕ) → digits ≤ 2 → number ≤ 63
     → thread_from at expiry digits number [] ≡ reading_by_thread (at - digits) (choice_of expiry number) digits []
@@ -146,25 +98,3 @@ times-end at choice digits number few small =
     let count : digits + 0 ≡ digits = omega arith in
     ap (λ n. times_by (at - digits) choice n number []) count
     ∙ ap (λ n. reading_of_count (at - digits) choice digits [] n) (number_by-some digits number 10 1000000000 few small)
-
--- a number's begin
-begins : (at : ℕ) (expiry : Bool) (part : List ℕ) → reading_after_letter at expiry part ≡ thread_from at expiry 0 0 part
-begins at expiry part =
-    let ds = digits_of part in
-    let start : at ≡ at - 0 = omega arith in
-    let count : length ds ≡ 0 + length ds = omega arith in
-    ap (λ n. thread_by n expiry (length ds) (digits_value_after 10 0 ds) (drop (length ds) part)) start
-    ∙ ap (λ n. thread_by (at - 0) expiry n (digits_value_after 10 0 ds) (drop (length ds) part)) count
-
-pub begins-turn : (at b : ℕ) (part : List ℕ) → b ≡ 116 → reading_of at (b ∷ part) ≡ thread_from (at + 1) false 0 0 part
-begins-turn at b part is = subst (λ v. reading_of at (v ∷ part) ≡ thread_from (at + 1) false 0 0 part) (sym is) (begins (at + 1) false part)
-
-pub begins-expiry : (at b : ℕ) (part : List ℕ) → b ≡ 120 → reading_of at (b ∷ part) ≡ thread_from (at + 1) true 0 0 part
-begins-expiry at b part is = subst (λ v. reading_of at (v ∷ part) ≡ thread_from (at + 1) true 0 0 part) (sym is) (begins (at + 1) true part)
-
-pub begins-wrong : (at b : ℕ) (part : List ℕ) → b ≢ 116 → b ≢ 120 → reading_of at (b ∷ part) ≡ Faulty (fault.Byte at)
-begins-wrong at b part no_turn no_expiry =
-    let turn : (b == 116) ≡ false = grind (arith, nat_tests) in
-    let expiry : (b == 120) ≡ false = grind (arith, nat_tests) in
-    ap (λ t. if t then reading_after_letter (at + 1) false part else (if b == 120 then reading_after_letter (at + 1) true part else Faulty (fault.Byte at))) turn
-    ∙ ap (λ t. if t then reading_after_letter (at + 1) true part else Faulty (fault.Byte at)) expiry

@@ -453,19 +453,6 @@ stays-runs old bytes piece f runs has is =
     adds-by (open_schedule bytes) (open_schedule (bytes ++ piece)) (Err f) runs runs [] (faulty f) (sym (append-nil runs))
     (fault_open old bytes piece f has is ∙ same_runs (open_schedule bytes).runs (faulty f)) (inr refl)
 
-pub stays-answer : (old : Progress) (bytes piece : List ℕ) (f : ScheduleFault) → HasRead old bytes → old.fault ≡ Some f
-    → (◌≡◌ {A = Result (Unit {0}) ScheduleFault} (Err f) (Err fault.Memory)) ⊎ (◌≡◌ {A = Result (Unit {0}) ScheduleFault} (Err f) (answer_of (open_schedule (bytes ++ piece))))
-stays-answer old bytes piece f has is =
-    answers-by (open_schedule (bytes ++ piece)) (Err f) (open_schedule bytes).runs (faulty f) (fault_open old bytes piece f has is) (inr refl)
-
-pub stays-stream : (old : Progress) (bytes piece : List ℕ) (f : ScheduleFault) → HasRead old bytes → old.fault ≡ Some f
-    → HasRead (record { read = old.read + length piece; place = old.place; fault = Some f }) (bytes ++ piece)
-stays-stream old bytes piece f has is = record {
-  read = read-sum old bytes piece has.read;
-  rest = λ finished rest. fault_stays old bytes piece rest f finished has is
-      ∙ ap (λ rs. with_runs rs (faulty f)) (sym (append-nil (open_schedule bytes).runs) ∙ sym (ap (λ (s : Schedule). s.runs) (fault_open old bytes piece f has is)));
-}
-
 -- the end of a finished stream
 ended : (old : Progress) (bytes : List ℕ) (result : Result (Unit {0}) ScheduleFault) (before after : List Run) → HasRead old bytes → old.fault ≡ None
     → (takes : Takes result before after (λ (more : Schedule). piece_with old.place old.read [] more) (λ more (none : Unit {0}). more))

@@ -1,5 +1,5 @@
--- Where a reader stands in a stream, and what the bytes that are left make of it. Nobody has to believe this: it is what
--- proofs go by, and a reader's contracts hand it on from call to call.
+-- Where a reader stands in a stream, and what the bytes that are left make of it. Nobody has to
+-- believe this: it is what proofs go by, and a reader's contracts hand it on from call to call.
 use Rattle.std.specs.Prelude.{◌≡◌, ◌≤◌, ℕ, ◌+◌, ◌-◌, ◌==◌, ◌||◌, ◌⊎◌, nat_lt, if◌then◌else◌, Bool, true, false, List, [], ◌∷◌, ◌++◌, length, drop, Option, Some, None, Result, Ok, Err}
 use Rattle.std.specs.List.{slice_split}
 use Rattle.std.specs.Str.Parse.{digits_value_after}
@@ -11,29 +11,35 @@ use Rattle.schedule_reader.specs.declared.place.Place.{Place}
 use Rattle.schedule_reader.specs.declared.place.Place.TheVariants as place
 use Rattle.schedule_reader.specs.Schedule.{Reading, Faulty, Schedule, is_blank, digits_of, whole, reading_of, reading_of_thread, reading_of_count, faulty, no_runs, schedule_with, schedule_with_piece, open_schedule_of, last_schedule, schedule_in, schedule_of, open_schedule}
 
--- a number of so many digits, none where there are more digits or the number is larger than is allowed
+-- a number of so many digits, none where there are more digits or the number is larger than is
+-- allowed
 abbrev pub number_by : ℕ → ℕ → ℕ → ℕ → Option ℕ
-number_by count value most_digits most = if nat_lt most_digits count || nat_lt most value then None else Some value
+number_by count value most_digits most =
+    if nat_lt most_digits count || nat_lt most value then None else Some value
 
 -- a thread's number that began at this offset, by its digits and what follows them
 abbrev pub thread_by : ℕ → Bool → ℕ → ℕ → List ℕ → Reading
-thread_by start expiry count value rest = reading_of_thread start expiry count rest (number_by count value 2 63)
+thread_by start expiry count value rest =
+    reading_of_thread start expiry count rest (number_by count value 2 63)
 
 -- the same, of the number of times
 abbrev pub times_by : ℕ → Choice → ℕ → ℕ → List ℕ → Reading
-times_by start choice count value rest = reading_of_count start choice count rest (number_by count value 10 1000000000)
+times_by start choice count value rest =
+    reading_of_count start choice count rest (number_by count value 10 1000000000)
 
 -- a token whose rest, in the thread's number, stands at this offset
 abbrev pub thread_from : ℕ → Bool → ℕ → ℕ → List ℕ → Reading
 thread_from at expiry digits number part =
     let more = digits_of part in
-    thread_by (at - digits) expiry (digits + length more) (digits_value_after 10 number more) (drop (length more) part)
+    thread_by (at - digits) expiry (digits + length more) (digits_value_after 10 number more)
+    (drop (length more) part)
 
 -- the same, in the number of times
 abbrev pub times_from : ℕ → Choice → ℕ → ℕ → List ℕ → Reading
 times_from at choice digits number part =
     let more = digits_of part in
-    times_by (at - digits) choice (digits + length more) (digits_value_after 10 number more) (drop (length more) part)
+    times_by (at - digits) choice (digits + length more) (digits_value_after 10 number more)
+    (drop (length more) part)
 
 -- the piece whose rest stands at this offset, by the place before it
 abbrev pub piece_from : Place → ℕ → List ℕ → Reading
@@ -112,10 +118,12 @@ IsLeft (Ok x) left schedule = schedule ≡ left x
 IsLeft (Err f) left schedule = (f ≡ fault.Memory) ⊎ (schedule ≡ faulty f)
 
 -- runs were added to a list, the first of each of these schedules, of which this is left
-pub record Takes {X I : Type 0} (result : Result X ScheduleFault) (before after : List Run) (start : I → Schedule) (left : I → X → Schedule) : Type 0 where
+pub record Takes {X I : Type 0} (result : Result X ScheduleFault) (before after : List Run)
+    (start : I → Schedule) (left : I → X → Schedule) : Type 0 where
   pub added : List Run
   pub list : after ≡ before ++ added
-  pub schedules : (i : I) → (rest : Schedule) × ((start i ≡ with_runs added rest) × IsLeft result (left i) rest)
+  pub schedules : (i : I)
+      → (rest : Schedule) × ((start i ≡ with_runs added rest) × IsLeft result (left i) rest)
 
 -- a reader: how many bytes it was given, where it stands, and its fault
 pub record Progress : Type 0 where
@@ -132,8 +140,10 @@ abbrev pub rest_schedule : Progress → Bool → List ℕ → Schedule
 rest_schedule reader finished rest =
     rest_by_fault reader.fault (schedule_from finished reader.place reader.read rest)
 
--- the reader stands behind this stream: whatever comes, the runs so far and what the rest adds are the whole schedule
+-- the reader stands behind this stream: whatever comes, the runs so far and what the rest adds are
+-- the whole schedule
 pub record HasRead (reader : Progress) (bytes : List ℕ) : Type 0 where
   pub read : reader.read ≡ length bytes
   pub rest : (finished : Bool) (rest : List ℕ)
-      → schedule_of finished (bytes ++ rest) ≡ with_runs (open_schedule bytes).runs (rest_schedule reader finished rest)
+      → schedule_of finished (bytes ++ rest)
+      ≡ with_runs (open_schedule bytes).runs (rest_schedule reader finished rest)

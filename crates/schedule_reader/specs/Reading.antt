@@ -13,9 +13,10 @@ answer_by (Some fault) = Err fault
 abbrev pub answer_of : Schedule → Result (Unit {0}) ScheduleFault
 answer_of schedule = answer_by schedule.fault
 
--- a list got just the runs that the longer stream's schedule has more than the shorter one's; where memory was wanting,
--- some are missing at the end
-pub record Adds (result : Result (Unit {0}) ScheduleFault) (shorter longer : Schedule) (before after : List Run) : Type 0 where
+-- a list got just the runs that the longer stream's schedule has more than the shorter one's; where
+-- memory was wanting, some are missing at the end
+pub record Adds (result : Result (Unit {0}) ScheduleFault) (shorter longer : Schedule)
+    (before after : List Run) : Type 0 where
   pub added : List Run
   pub missing : List Run
   pub list : after ≡ before ++ added

@@ -1,5 +1,5 @@
--- What a schedule's bytes mean: tokens `tN` or `tN*K`, turns of thread N, and `xN` or `xN*K`, expiries of its timed wait,
--- between blanks; K is how often.
+-- What a schedule's bytes mean: tokens `tN` or `tN*K`, turns of thread N, and `xN` or `xN*K`,
+-- expiries of its timed wait, between blanks; K is how often.
 use Rattle.std.specs.Prelude.{ℕ, ◌+◌, ◌≤◌, ◌==◌, ◌||◌, ◌&&◌, not, nat_lt, if◌then◌else◌, Bool, true, false, List, [], ◌∷◌, length, drop, replicate, flat_map, take_while, Option, Some, None, Result, Ok, Err}
 use Rattle.std.specs.List.{slice_split}
 use Rattle.std.specs.Char.{is_ascii_digit}
@@ -13,7 +13,8 @@ use Rattle.schedule_reader.specs.declared.fault.ScheduleFault.TheVariants as fau
 abbrev pub is_blank : ℕ → Bool
 is_blank byte = (byte == 32) || (byte == 9) || (byte == 13) || (byte == 10)
 
--- what a piece between blanks is: a token; faulty by the bytes that are there; or no token yet, and faulty if it ends here
+-- what a piece between blanks is: a token; faulty by the bytes that are there; or no token yet, and
+-- faulty if it ends here
 pub data Reading : Type 0 where
   Token : Run → Reading
   Faulty : ScheduleFault → Reading
@@ -31,7 +32,8 @@ run_of choice times = record { choice = choice; times = times }
 abbrev pub digits_of : List ℕ → List ℕ
 digits_of part = take_while is_ascii_digit part
 
--- the number that they spell, none where there are more digits or the number is larger than is allowed
+-- the number that they spell, none where there are more digits or the number is larger than is
+-- allowed
 abbrev pub number_within : List ℕ → ℕ → ℕ → Option ℕ
 number_within part most_digits most =
     let number = digits_value 10 (digits_of part) in
@@ -59,8 +61,8 @@ reading_after_star at choice part =
     let count = length (digits_of part) in
     reading_of_count at choice count (drop count part) (number_within part 10 1000000000)
 
--- by how many digits the thread has, and what follows them: nothing, the star, or a byte that can't stand there; 42 is
--- the star
+-- by how many digits the thread has, and what follows them: nothing, the star, or a byte that can't
+-- stand there; 42 is the star
 abbrev pub reading_by_thread : ℕ → Choice → ℕ → List ℕ → Reading
 reading_by_thread at choice count [] =
     if count == 0 then Unfinished (fault.Byte at) else Token (run_of choice 1)

@@ -5,7 +5,8 @@ pub enum ScheduleFault {
     Byte(u64),
     /// The thread's number, which begins at this offset, has a third digit or is above 63.
     Number(u64),
-    /// The count, which begins at this offset, has an eleventh digit, is above 1,000,000,000 or is 0.
+    /// The count, which begins at this offset, has an eleventh digit, is above 1,000,000,000 or is
+    /// 0.
     Repeat(u64),
     /// Out of memory.
     Memory,

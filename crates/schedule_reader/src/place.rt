@@ -1,6 +1,6 @@
 ghost use Rattle.std.specs.Prelude.{◌≡◌, ◌+◌, ◌<◌, ◌≤◌, ◌^◌, List, ◌∷◌, [], ℕ, IfOk, IfSome, ◌≢◌, true, false, Err};
 ghost use Rattle.std.specs.Char.{is_ascii_digit};
-ghost use Rattle.schedule_reader.specs.Schedule.{Schedule, is_blank, choice_of, reading_of};
+ghost use Rattle.schedule_reader.specs.Schedule.{Schedule, IsRun, is_blank, choice_of, reading_of};
 ghost use Rattle.schedule_reader.specs.declared.fault.ScheduleFault.TheVariants.{Memory};
 ghost use Rattle.schedule_reader.specs.declared.place.Place.TheVariants as place;
 ghost use Rattle.schedule_reader.specs.Places.{IsPlace, IsInside, reading_left, ended_with, spent, thread_from, times_from, piece_from, piece_with};
@@ -14,7 +14,8 @@ const LAST_THREAD: u16 = 63;
 /// How often a token can name its choice at most.
 const MOST_TIMES: u64 = 1_000_000_000;
 
-/// Where a reader stands, by numbers alone. The offset at which a number begins is counted back from the byte at hand.
+/// Where a reader stands, by numbers alone. The offset at which a number begins is counted back
+/// from the byte at hand.
 #[derive(Clone, Copy)]
 pub enum Place {
     /// Between tokens.
@@ -83,6 +84,7 @@ impl Place {
         requires place { IsPlace at self }
         ensures piece { (more : Schedule) → piece_with self at [] more ≡ ended_with result more }
         ensures spent { IfOk result (λ run. IfSome run (λ _. spent self ≡ 2)) }
+        ensures spelled { IfOk result (λ run. IfSome run IsRun) }
         ensures memory { result ≢ Err Memory }
     {
         match self {
@@ -222,6 +224,7 @@ fn end_thread(at: u64, expiry: bool, digits: u8, number: u8) -> Result<Option<Ru
     ensures piece { (more : Schedule) → piece_with (place.Thread expiry digits number) at [] more
         ≡ ended_with result more }
     ensures spent { IfOk result (λ run. IfSome run (λ _. digits ≢ 0)) }
+    ensures spelled { IfOk result (λ run. IfSome run IsRun) }
     ensures memory { result ≢ Err Memory }
 {
     if digits == 0 {
@@ -241,8 +244,10 @@ fn end_times(at: u64, choice: Choice, digits: u8, number: u32) -> Result<Option<
     requires digits { digits ≤ 10 }
     requires number { number ≤ 1000000000 }
     requires place { digits ≤ at }
+    requires thread { choice.thread ≤ 63 }
     ensures piece { (more : Schedule) → piece_with (place.Times choice digits number) at [] more
         ≡ ended_with result more }
+    ensures spelled { IfOk result (λ run. IfSome run IsRun) }
     ensures memory { result ≢ Err Memory }
 {
     if digits == 0 {

@@ -1,8 +1,8 @@
-ghost use Rattle.std.specs.Prelude.{◌≡◌, ◌≢◌, ◌⊎◌, ◌+◌, ◌*◌, ◌/◌, ◌<◌, ◌≤◌, List, ◌∷◌, [], ◌++◌, ℕ, Bool, length, IfOk, IfErr, OnOk, IsErr, Err, Ok, Some, None};
+ghost use Rattle.std.specs.Prelude.{◌≡◌, ◌≢◌, ◌⊎◌, ◌+◌, ◌*◌, ◌/◌, ◌<◌, ◌≤◌, List, ◌∷◌, [], ◌++◌, ℕ, Bool, length, IfOk, IfErr, OnOk, IsErr, All, Err, Ok, Some, None};
 ghost use Rattle.std.specs.Vec.{vec_len, vec_capacity};
 ghost use Rattle.schedule_reader.specs.declared.fault.ScheduleFault.TheVariants.{Memory};
 ghost use Rattle.schedule_reader.specs.declared.place.Place.TheVariants.{Between};
-ghost use Rattle.schedule_reader.specs.Schedule.{Schedule, open_schedule, finished_schedule};
+ghost use Rattle.schedule_reader.specs.Schedule.{Schedule, IsRun, open_schedule, finished_schedule};
 ghost use Rattle.schedule_reader.specs.Reading.{Adds, answer_of};
 ghost use Rattle.schedule_reader.specs.Places.{IsPlace, HasRead, Takes, spent, piece_with, schedule_from};
 
@@ -11,8 +11,8 @@ use crate::place::{Place, is_blank};
 use crate::run::Run;
 use std::marker::Model;
 
-/// Reads one schedule, a stream of bytes that comes in pieces. A token is whole when the blank after it, or `finish`, has
-/// come. After a fault every call answers that fault.
+/// Reads one schedule, a stream of bytes that comes in pieces. A token is whole when the blank
+/// after it, or `finish`, has come. After a fault every call answers that fault.
 #[derive(Drop)]
 pub struct Reader {
     read: u64,
@@ -55,8 +55,8 @@ impl Reader {
         self.read
     }
 
-    /// Takes the stream's next bytes, and adds the runs of the tokens that are whole with them. A list with room for a
-    /// run for every three bytes and two bytes more takes no memory.
+    /// Takes the stream's next bytes, and adds the runs of the tokens that are whole with them. A
+    /// list with room for a run for every three bytes and two bytes more takes no memory.
     pub fn feed(&mut self, piece: &[u8], runs: &mut Vec<Run>) -> Result<(), ScheduleFault>
         requires { self.old.read + length piece.now < 9223372036854775807 }
         ensures runs { (bytes : List ℕ) → HasRead self.old bytes
@@ -71,6 +71,7 @@ impl Reader {
         ensures err { IfErr result (λ fault. self.new.fault ≡ Some fault) }
         ensures stays { (fault : ScheduleFault) → self.old.fault ≡ Some fault
             → (result ≡ Err fault) × (runs.new ≡ runs.old) }
+        ensures spelled { All IsRun runs.old.items → All IsRun runs.new.items }
         ensures few { length runs.new.items
             ≤ length runs.old.items + (length piece.now + 2) / 3 }
         ensures room { vec_len runs.old + (length piece.now + 2) / 3 ≤ vec_capacity runs.old
@@ -93,8 +94,8 @@ impl Reader {
         }
     }
 
-    /// Ends the stream, and adds the run of its last token where that wasn't whole before. A list with room for one run
-    /// takes no memory.
+    /// Ends the stream, and adds the run of its last token where that wasn't whole before. A list
+    /// with room for one run takes no memory.
     pub fn finish(self, runs: &mut Vec<Run>) -> Result<(), ScheduleFault>
         ensures runs { (bytes : List ℕ) → HasRead self bytes
             → Adds result (open_schedule bytes) (finished_schedule bytes)
@@ -103,6 +104,7 @@ impl Reader {
             ⊎ (result ≡ answer_of (finished_schedule bytes)) }
         ensures stays { (fault : ScheduleFault) → self.fault ≡ Some fault
             → (result ≡ Err fault) × (runs.new ≡ runs.old) }
+        ensures spelled { All IsRun runs.old.items → All IsRun runs.new.items }
         ensures few { length runs.new.items ≤ length runs.old.items + 1 }
         ensures room { vec_len runs.old < vec_capacity runs.old → self.fault ≡ None
             → result ≢ Err Memory }
@@ -127,6 +129,7 @@ fn read_bytes(
         (λ (stream : Bool × List ℕ). schedule_from stream.0 place at (piece.now ++ stream.1))
         (λ stream next. schedule_from stream.0 next (at + length piece.now) stream.1) }
     ensures place { IfOk result (λ next. IsPlace (at + length piece.now) next) }
+    ensures spelled { All IsRun runs.old.items → All IsRun runs.new.items }
     ensures few { 3 * length runs.new.items
         ≤ 3 * length runs.old.items + spent place + length piece.now }
     ensures room { 3 * vec_len runs.old + spent place + length piece.now
@@ -151,6 +154,7 @@ fn read_byte(place: Place, at: u64, byte: u8, runs: &mut Vec<Run>) -> Result<Pla
         (λ (stream : Bool × List ℕ). schedule_from stream.0 place at (byte ∷ stream.1))
         (λ stream next. schedule_from stream.0 next (at + 1) stream.1) }
     ensures place { IfOk result (λ next. IsPlace (at + 1) next) }
+    ensures spelled { All IsRun runs.old.items → All IsRun runs.new.items }
     ensures few { IfOk result (λ next. 3 * length runs.new.items + spent next
         ≤ 3 * length runs.old.items + spent place + 1) }
     ensures few_err { 3 * length runs.new.items
@@ -174,6 +178,7 @@ fn end_token(place: Place, at: u64, runs: &mut Vec<Run>) -> Result<(), ScheduleF
     requires place { IsPlace at place }
     ensures takes { Takes result runs.old.items runs.new.items
         (λ (more : Schedule). piece_with place at [] more) (λ more _. more) }
+    ensures spelled { All IsRun runs.old.items → All IsRun runs.new.items }
     ensures few { 3 * length runs.new.items ≤ 3 * length runs.old.items + spent place + 1 }
     ensures one { length runs.new.items ≤ length runs.old.items + 1 }
     ensures capacity { vec_capacity runs.old ≤ vec_capacity runs.new }

@@ -8,7 +8,8 @@ use crate::run::Run;
 use std::alloc::{AllocError, Global};
 use std::fmt::Write;
 
-/// The text of these runs: a token for each, one space between them. A reader reads it as just these runs.
+/// The text of these runs: a token for each, one space between them. A reader reads it as just
+/// these runs.
 pub fn write_schedule(alloc: Global, runs: &[Run]) -> Result<String, AllocError>
     requires { All IsRun runs.now }
     ensures text { IfOk result (λ text. string_bytes text ≡ schedule_text runs.now) }

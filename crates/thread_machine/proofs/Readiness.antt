@@ -135,5 +135,5 @@ pub none_ready : (rows : List Row) (scene : Scene) → ((k : ℕ) → k < length
 none_ready rows scene none =
     let many = length scene.threads in
     list_any_none (λ n. is_ready rows n scene) (range_with_len 0 many) (λ k d within.
-        let there : k < many = subst (λ n. k < n) (length-range_with_len 0 many) within in
-        ap (λ n. is_ready rows n scene) (nth many k d there) ∙ none k there)
+    let there : k < many = subst (λ n. k < n) (length-range_with_len 0 many) within in
+    ap (λ n. is_ready rows n scene) (nth many k d there) ∙ none k there)

@@ -190,7 +190,7 @@ interrupted_pc scene other t there =
     let before = thread_at scene other in
     sym (get_or-map (λ (thread : ThreadState). thread.pc) (slice_set scene.threads other (interrupted before)) t no_thread)
     ∙ ap (λ list. get_or list t 0) (map-set_same (λ (thread : ThreadState). thread.pc) scene.threads other (interrupted before) no_thread
-        (pc_interrupted (is_finished before.status) before))
+    (pc_interrupted (is_finished before.status) before))
     ∙ get_or-map (λ (thread : ThreadState). thread.pc) scene.threads t no_thread
 
 -- `intr`: the other thread first, then thread t
@@ -200,7 +200,7 @@ sound_interrupt rows scene other t sound named there next =
     let before = thread_at scene other in
     let after : Scene = with_thread (interrupted before) other scene in
     let still : IsSound rows after = sound_set rows scene other (interrupted before) scene.phasers sound
-        (placed_interrupted (length rows) (is_finished before.status) before (placed_at rows scene other sound named)) refl in
+    (placed_interrupted (length rows) (is_finished before.status) before (placed_at rows scene other sound named)) refl in
     let within : t < length after.threads = subst (λ n. t < n) (sym (length-set scene.threads other (interrupted before))) there in
     let same : (thread_at after t).pc ≡ (thread_at scene t).pc = interrupted_pc scene other t named in
     sound_turn rows after t (turn_of_done (thread_at after t)) still

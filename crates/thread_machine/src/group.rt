@@ -32,7 +32,8 @@ pub fn group_of(row: Row) -> Group
         | Row::Beq { .. }
         | Row::Bne { .. }
         | Row::Blt { .. } => Group::Own,
-        Row::Call { .. } | Row::Ret | Row::Try { .. } | Row::Endtry | Row::Throw { .. } => Group::Calls,
+        Row::Call { .. } | Row::Ret | Row::Try { .. } | Row::Endtry | Row::Throw { .. } =>
+            Group::Calls,
         Row::Out { .. }
         | Row::Lds { .. }
         | Row::Sts { .. }

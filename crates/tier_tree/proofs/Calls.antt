@@ -8,7 +8,9 @@ use Rattle.packed_phaser.specs.Word.{record_of, fields_of}
 use Rattle.tier_tree.specs.declared.registered.Registered.{Registered}
 use Rattle.tier_tree.specs.declared.arrived.Arrived.{Arrived}
 use Rattle.tier_tree.specs.Forest.{PhaserState, phaser_at, flat_at, root_at}
-use Rattle.tier_tree.specs.Registration.{registration, after_registration}
+use Rattle.std.specs.Prelude.{ℤ}
+use Rattle.tier_tree.specs.declared.registered.Registered.TheVariants as registered_answer
+use Rattle.tier_tree.specs.Registration.{registration, after_registration, joined, joins, joins_along, registered_by}
 use Rattle.tier_tree.specs.Arrival.{Arrives, arrival}
 use Rattle.tier_tree.specs.PhaseEnd.{after_turn, after_force}
 use Rattle.tier_tree.specs.Sound.{places_of}
@@ -31,10 +33,20 @@ use Rattle.tier_tree.proofs.Lines.{registration-places, arrival-places, turn-pla
 use Rattle.tier_tree.proofs.Stands.{stands_after_arrival}
 use Rattle.tier_tree.proofs.Joined.{stands_registered}
 use Rattle.tier_tree.proofs.Turned.{stands_after_turn, stands_after_force}
-use Rattle.tier_tree.proofs.Shown.{top_at, length-shown, flat_shown, root_shown, top_there, top-top, present-phase}
+use Rattle.tier_tree.proofs.Shown.{top_at, length-shown, flat_shown, root_shown, top_there, top-top, present-phase, present-ended}
 use Rattle.tier_tree.proofs.Changed.{there_shown}
 use Rattle.tier_tree.proofs.Kept.{keeps_places, registration-ends, arrival-ends, force-ends}
 use Rattle.tier_tree.proofs.Turning.{IsFull, turning}
+
+-- a counted registration of somebody joins all along the line
+pub joined_all : (ps after : List PhaserState) (id count : ℕ) (line : List ℕ) (answer : Registered) (phase : ℤ)
+    → answer ≡ registration id count ps → answer ≡ registered_answer.At phase → 0 < count → line ≡ (phaser_at ps id).line
+    → after ≡ joined (joins_along line count ps) ps → after ≡ after_registration id count ps
+joined_all ps after id count line answer phase is at some line_is joins_is =
+    let none : (count == 0) ≡ false = grind (arith, nat_tests, some) in
+    joins_is ∙ ap (λ (l : List ℕ). joined (joins_along l count ps) ps) line_is
+    ∙ ap (λ (t : Bool). joined (if t then [] else joins_along (phaser_at ps id).line count ps) ps) (sym none)
+    ∙ ap (λ (r : Registered). registered_by r (joins id count ps) ps) (sym at ∙ is)
 
 -- a slice of all phasers, written back
 pub written_back : (P : List Stored → List Stored → Type 0) (items given now written : List Stored) (n : ℕ) → given ≡ items → items ≡ now
@@ -132,7 +144,7 @@ arrived_turning items given now written id leave answer value view stored there 
     turning id (length written) leave (phasers_of given) (phasers_of written) answer sound.places (there_shown given id within)
     (omega (arith, small, many)) (all_full given (root_at (phasers_of given) id) small) is
 
--- all phasers of a tree are in its root's phase
+-- all phasers of a tree are in its root's phase, and terminated with it
 pub one_phase : (forest : List Stored) → IsStored forest → HaveOnePhase (phasers_of forest)
 one_phase forest stored id there =
     let many = length-shown forest in
@@ -144,8 +156,12 @@ one_phase forest stored id there =
     let up : flat_at (phasers_of forest) (root_at (phasers_of forest) id) ≡ present t t =
     ap (flat_at (phasers_of forest)) root_is ∙ flat_shown forest (top_at forest id) below
     ∙ ap (λ (n : ℕ). present (kept_flat (stored_at forest n)) t) (top-top forest id stored within) in
-    ap (λ (f : Flat). f.phase) own ∙ present-phase t (kept_flat (stored_at forest id)) ∙ sym (present-phase t t)
-    ∙ sym (ap (λ (f : Flat). f.phase) up)
+    record {
+      phase = ap (λ (f : Flat). f.phase) own ∙ present-phase t (kept_flat (stored_at forest id)) ∙ sym (present-phase t t)
+          ∙ sym (ap (λ (f : Flat). f.phase) up);
+      ended = ap (λ (f : Flat). f.ended) own ∙ present-ended t (kept_flat (stored_at forest id)) (stored.live id within)
+          ∙ sym (present-ended t t (λ live. live)) ∙ sym (ap (λ (f : Flat). f.ended) up);
+    }
 
 -- a declaration
 pub declared_ends : (parent : Option PhaserId) (parties : ℕ) (policy : Policy) (phase : ℕ) (before after : List PhaserState)

@@ -11,7 +11,7 @@ use Rattle.tier_tree.specs.declared.id.PhaserId.{PhaserId}
 use Rattle.tier_tree.specs.Declaration.{declared, has_parent, IsFreshAbove, IsFresh}
 use Rattle.tier_tree.specs.Forest.{PhaserState, no_phaser, phaser_at, flat_at, root_at}
 use Rattle.tier_tree.specs.Sound.{Place, place_of, IsForest}
-use Rattle.tier_tree.specs.Stored.{Stored, no_stored, stored_at, kept_flat, top_of, present, shown, phasers_of, behind, IsNear, IsStored, place_in, ChangedOnly, ChangedAt}
+use Rattle.tier_tree.specs.Stored.{Stored, no_stored, stored_at, kept_flat, top_of, present, shown, phasers_of, behind, IsNear, IsLive, IsStored, place_in, ChangedOnly, ChangedAt}
 use Rattle.tier_tree.specs.Undo.{Kept, kept_at, saved_of, with_kept, restored}
 use Rattle.tier_tree.proofs.Lines.{line_within, forest_declared}
 use Rattle.tier_tree.proofs.Safe.{linked, line_own, root-parent, last_of, last-more}
@@ -269,10 +269,20 @@ pushed parent parties policy phase items now after node shown_is place word none
           ∙ ap (λ (p : ℕ). behind p (kept_flat (stored_at more (top_of node))).phase) new_is.phase ∙ behind-self _ in
           omega (arith, zero_is)
     ] in
+    let live : IsLive more = λ k here alive. elim (cases_lt k (length now)) as (λ _. (kept_flat (stored_at more k)).ended ≡ false) [
+      | inl within ↦
+          ap (λ (s : Stored). (kept_flat s).ended) (old k within)
+          ∙ stored.live k within (ap (λ (s : Stored). (kept_flat s).ended) (sym (old_top k within)) ∙ alive)
+      | inr past ↦
+          let same : k ≡ length now = omega (arith, past, here, longer) in
+          ap (λ (m : ℕ). (kept_flat (stored_at more m)).ended) same ∙ ap (λ (s : Stored). (kept_flat s).ended) last
+          ∙ ap (λ (f : Flat). f.ended) word
+    ] in
     subst (λ (ss : List Stored). Pushes now ss new) (sym all) (record {
       shows = shows;
       stored = record {
         places = subst IsForest (sym shows) (forest_declared parent parties policy phase ps (omega (arith, few, many)) there stored.places);
         near = near;
+        live = live;
       };
     })

@@ -11,7 +11,7 @@ use Rattle.phase_number.specs.Phase.{next_phase}
 use Rattle.tier_tree.specs.Forest.{PhaserState, no_phaser, phaser_at, flat_at, root_of, root_at, with_flat}
 use Rattle.tier_tree.specs.PhaseEnd.{follow, in_step, terminated, after_turn}
 use Rattle.tier_tree.specs.Sound.{Place, places_of}
-use Rattle.tier_tree.specs.Stored.{Stored, no_stored, stored_at, kept_flat, top_of, present, shown, phasers_of, behind, IsNear, IsStored, place_in, ChangedOnly}
+use Rattle.tier_tree.specs.Stored.{Stored, no_stored, stored_at, kept_flat, top_of, present, shown, phasers_of, behind, IsNear, IsLive, IsStored, place_in, ChangedOnly}
 use Rattle.tier_tree.proofs.Lines.{root_within, forest_kept, with_flat-places, turn-places, terminated-places}
 use Rattle.tier_tree.proofs.Turned.{root-root}
 use Rattle.tier_tree.proofs.Stands.{same-is, other-is}
@@ -36,6 +36,16 @@ present-phase top own = by_case top.ended (own.phase == top.phase) refl
     by_case true same is = refl
     by_case false true is = grind (arith, nat_tests, is)
     by_case false false is = refl
+
+-- terminated with the root, where the own word isn't before it
+pub present-ended : (top own : Flat) → (top.ended ≡ false → own.ended ≡ false) → (present top own).ended ≡ top.ended
+present-ended top own live = by_case top.ended (own.phase == top.phase) live
+  where
+    by_case : (ended same : Bool) → (ended ≡ false → own.ended ≡ false)
+        → (if ended then force (renew top.phase own) else (if same then own else renew top.phase own)).ended ≡ ended
+    by_case true same live = refl
+    by_case false true live = live refl
+    by_case false false live = refl
 
 pub present-parties : (top own : Flat) → (present top own).parties ≡ own.parties
 present-parties top own = by_case top.ended (own.phase == top.phase)
@@ -153,6 +163,7 @@ record IsSteadyPut (forest : List Stored) (i : ℕ) (w : ℕ) (now : List Stored
       × ((kept_flat (stored_at now (top_at forest n))).ended ≡ (kept_flat (stored_at forest (top_at forest n))).ended)
   live : (kept_flat (stored_at forest (top_at forest i))).ended ≡ false
   phase : (record_of w).phase ≡ (kept_flat (stored_at forest (top_at forest i))).phase
+  own : (record_of w).ended ≡ false
 
 steady_put : (forest : List Stored) (i w : ℕ) → IsStored forest → i < length forest
     → (record_of w).phase ≡ (flat_at (phasers_of forest) i).phase → (flat_at (phasers_of forest) i).ended ≡ false → (record_of w).ended ≡ false
@@ -185,6 +196,7 @@ steady_put forest i w stored there phase before live =
           ];
       live = live_top;
       phase = same;
+      own = live;
     }
 
 put_shows : (forest : List Stored) (i w : ℕ) (now : List Stored) → IsStored forest → i < length forest → IsSteadyPut forest i w now
@@ -270,6 +282,20 @@ put_near forest i w now stored there steady n here =
           omega (arith, near, same, ends)
     ]
 
+put_live : (forest : List Stored) (i w : ℕ) (now : List Stored) → IsStored forest → i < length forest → IsSteadyPut forest i w now → IsLive now
+put_live forest i w now stored there steady n here alive =
+    let put = steady.put in
+    let many = put.many in
+    let within : n < length forest = omega (arith, many, here) in
+    let up = top-put forest i (record (stored_at forest i) { word = w }) now put n in
+    elim (cases_eq n i) as (λ _. (kept_flat (stored_at now n)).ended ≡ false) [
+      | inl is ↦
+          ap (λ (m : ℕ). (kept_flat (stored_at now m)).ended) is ∙ ap (λ (s : Stored). (kept_flat s).ended) put.own ∙ steady.own
+      | inr other ↦
+          ap (λ (s : Stored). (kept_flat s).ended) (put.others n other)
+          ∙ stored.live n within (sym (steady.top n within).1 ∙ ap (λ (m : ℕ). (kept_flat (stored_at now m)).ended) (sym up) ∙ alive)
+    ]
+
 pub record Puts (forest : List Stored) (i w : ℕ) (now : List Stored) : Type 0 where
   pub shows : phasers_of now ≡ with_flat (phasers_of forest) i (record_of w)
   pub stored : IsStored now
@@ -287,6 +313,7 @@ puts forest i w now is stored there phase before live =
       stored = record {
         places = forest_kept (phasers_of forest) (phasers_of now) (ap places_of shows ∙ with_flat-places (phasers_of forest) i (record_of w)) stored.places;
         near = put_near forest i w now stored there steady;
+        live = put_live forest i w now stored there steady;
       };
       only = only_put forest i (record (stored_at forest i) { word = w }) now steady.put;
     }
@@ -647,6 +674,30 @@ top_near forest root w count now stored there changed step n here =
           omega (arith, kept, count_is, goal)
     ]
 
+-- nor is a word terminated before the root's
+top_live : (forest : List Stored) (root w count : ℕ) (now : List Stored) → IsStored forest → IsTopPut forest root w count now
+    → ((record_of w).ended ≡ false → (kept_flat (stored_at forest root)).ended ≡ false) → IsLive now
+top_live forest root w count now stored changed step n here alive =
+    let put = changed.put in
+    let x : Stored = record (stored_at forest root) { word = w; ends = count } in
+    let many = put.many in
+    let within : n < length forest = omega (arith, many, here) in
+    let up = top-put forest root x now put n in
+    elim (cases_eq n root) as (λ _. (kept_flat (stored_at now n)).ended ≡ false) [
+      | inl is ↦
+          let own : top_at now n ≡ n = up ∙ ap (top_at forest) is ∙ changed.top ∙ sym is in
+          ap (λ (m : ℕ). (kept_flat (stored_at now m)).ended) (sym own) ∙ alive
+      | inr other ↦
+          let above : (kept_flat (stored_at now (top_at forest n))).ended ≡ false = ap (λ (m : ℕ). (kept_flat (stored_at now m)).ended) (sym up) ∙ alive in
+          ap (λ (s : Stored). (kept_flat s).ended) (put.others n other)
+          ∙ stored.live n within (elim (cases_eq (top_at forest n) root) as (λ _. (kept_flat (stored_at forest (top_at forest n))).ended ≡ false) [
+            | inl under ↦
+                ap (λ (m : ℕ). (kept_flat (stored_at forest m)).ended) under
+                ∙ step (sym (ap (λ (s : Stored). (kept_flat s).ended) put.own) ∙ ap (λ (m : ℕ). (kept_flat (stored_at now m)).ended) (sym under) ∙ above)
+            | inr apart ↦ sym (ap (λ (s : Stored). (kept_flat s).ended) (put.others (top_at forest n) apart)) ∙ above
+          ])
+    ]
+
 pub record Changes (root : ℕ) (forest now : List Stored) (after : List PhaserState) : Type 0 where
   pub shows : phasers_of now ≡ after
   pub stored : IsStored now
@@ -672,6 +723,9 @@ turns forest root w ends d x is stored there is_root live few is_word =
     ap (λ (f : Flat). f.phase) is_word ∙ ap (λ (f : Flat). next_phase f.phase) (flat_shown forest root there)
     ∙ ap next_phase (present-phase (kept_flat (stored_at forest (top_at forest root))) (kept_flat (stored_at forest root)))
     ∙ ap (λ (m : ℕ). next_phase (kept_flat (stored_at forest m)).phase) changed.top in
+    let live_root : (kept_flat (stored_at forest root)).ended ≡ false = ap (λ (m : ℕ). (kept_flat (stored_at forest m)).ended) (sym changed.top)
+    ∙ present_live (kept_flat (stored_at forest (top_at forest root))) (kept_flat (stored_at forest root))
+    (ap (λ (f : Flat). f.ended) (sym (flat_shown forest root there)) ∙ live) in
     record {
       shows = shows;
       stored = record {
@@ -679,6 +733,7 @@ turns forest root w ends d x is stored there is_root live few is_word =
         near = top_near forest root w ((stored_at forest root).ends + 1) now stored there changed (λ p near.
             subst (λ (q : ℕ). behind p q ≤ (stored_at forest root).ends + 1) (sym phase_is)
             (behind_next p (kept_flat (stored_at forest root)).phase (stored_at forest root).ends near));
+        live = top_live forest root w ((stored_at forest root).ends + 1) now stored changed (λ _. live_root);
       };
       only = only_put forest root new now changed.put;
     }
@@ -696,12 +751,14 @@ forces forest root w d x is stored there is_root is_word =
     subst (IsTopPut forest root w (stored_at forest root).ends) (sym now_is) (top_put forest root w (stored_at forest root).ends stored there is_root) in
     let shows = forced_shows forest root w now stored there is_word changed in
     let phase_is : (record_of w).phase ≡ (kept_flat (stored_at forest root)).phase = ap (λ (f : Flat). f.phase) is_word in
+    let ended : (record_of w).ended ≡ true = ap (λ (f : Flat). f.ended) is_word in
     record {
       shows = shows;
       stored = record {
         places = forest_kept (phasers_of forest) (phasers_of now) (ap places_of shows ∙ terminated-places root (phasers_of forest)) stored.places;
         near = top_near forest root w (stored_at forest root).ends now stored there changed (λ p near.
             subst (λ (q : ℕ). behind p q ≤ (stored_at forest root).ends) (sym phase_is) near);
+        live = top_live forest root w (stored_at forest root).ends now stored changed (λ alive. absurd (cc (alive, ended)));
       };
       only = only_put forest root new now changed.put;
     }

@@ -51,7 +51,11 @@ AddsPlace before after =
 abbrev pub KeepsEnds : List PhaserState → List PhaserState → Type 0
 KeepsEnds before after = (id : ℕ) → (phaser_at after id).ends ≡ (phaser_at before id).ends
 
--- each phaser shows the phase of its root
+-- the phaser of this number is in its root's phase, and terminated where its root is
+pub record FollowsRoot (id : ℕ) (phasers : List PhaserState) : Type 0 where
+  pub phase : (flat_at phasers id).phase ≡ (flat_at phasers (root_at phasers id)).phase
+  pub ended : (flat_at phasers id).ended ≡ (flat_at phasers (root_at phasers id)).ended
+
+-- each phaser is
 abbrev pub HaveOnePhase : List PhaserState → Type 0
-HaveOnePhase phasers = (id : ℕ) → id < length phasers
-    → (flat_at phasers id).phase ≡ (flat_at phasers (root_at phasers id)).phase
+HaveOnePhase phasers = (id : ℕ) → id < length phasers → FollowsRoot id phasers

@@ -1,5 +1,5 @@
 -- A forest as it is stored: the word of a child may be that of an earlier phase.
-use Rattle.std.specs.Prelude.{◌≡◌, ◌≢◌, ℕ, ◌+◌, ◌-◌, ◌<◌, ◌≤◌, ◌==◌, nat_le, if◌then◌else◌, List, [], length, map, slice_index_or, All}
+use Rattle.std.specs.Prelude.{◌≡◌, ◌≢◌, ℕ, ◌+◌, ◌-◌, ◌<◌, ◌≤◌, ◌==◌, nat_le, false, if◌then◌else◌, List, [], length, map, slice_index_or, All}
 use Rattle.packed_phaser.specs.declared.policy.Policy.{Policy}
 use Rattle.packed_phaser.specs.declared.policy.Policy.TheVariants as policy
 use Rattle.packed_phaser.specs.Flat.{Flat, renew, force}
@@ -78,7 +78,15 @@ IsNear forest =
     (kept_flat (stored_at forest (top_of (stored_at forest id)))).phase
     ≤ (stored_at forest (top_of (stored_at forest id))).ends
 
+-- no word of a tree is terminated before that of its root is
+abbrev pub IsLive : List Stored → Type 0
+IsLive forest =
+    (id : ℕ) → id < length forest
+    → (kept_flat (stored_at forest (top_of (stored_at forest id)))).ended ≡ false
+    → (kept_flat (stored_at forest id)).ended ≡ false
+
 -- what stays true of a forest; nobody has to believe it
 pub record IsStored (forest : List Stored) : Type 0 where
   pub places : IsForest (phasers_of forest)
   pub near : IsNear forest
+  pub live : IsLive forest

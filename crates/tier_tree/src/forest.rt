@@ -184,8 +184,8 @@ impl Forest {
 
 /// Laws: what is true of every forest. Nothing runs.
 impl Forest {
-    /// At most 64 phasers, in lines that lead up to roots, and no word too far behind: what
-    /// `restore` asks for, and the lemmas of a crate above.
+    /// At most 64 phasers, in lines that lead up to roots, no word too far behind and none
+    /// terminated before its root: what `restore` asks for, and the lemmas of a crate above.
     pub fn is_forest(&self)
         ensures { IsStored self.now }
     {

@@ -1,7 +1,9 @@
-ghost use Rattle.std.specs.Prelude.{◌≤◌, ◌<◌, length};
+ghost use Rattle.std.specs.Prelude.{◌≤◌, ◌<◌, All, length};
+ghost use Rattle.schedule_reader.specs.Schedule.{IsRun};
 
 use super::*;
-use std::alloc::Global;
+use crate::writing::write_schedule;
+use std::alloc::{AllocError, Global};
 use std::process::Abort;
 use std::test::Fail;
 
@@ -65,8 +67,8 @@ fn is_same(runs: &[Run], tokens: &[(bool, u8, u32)]) -> bool {
         })
 }
 
-/// Whether a stream that comes in three pieces, of which some may be empty, is read as these tokens and this answer; a
-/// fault is told by the call that meets it and by each later one.
+/// Whether a stream that comes in three pieces, of which some may be empty, is read as these tokens
+/// and this answer; a fault is told by the call that meets it and by each later one.
 fn reads(
     alloc: Global,
     pieces: (&[u8], &[u8], &[u8]),
@@ -126,6 +128,50 @@ fn faults_on_both_sides_of_each_limit(rt: HostRuntime) {
     for (text, fault) in &FAULTS {
         check_cuts(&rt, rt.alloc(), text.as_bytes(), &[], Err(*fault));
     }
+}
+
+/// Texts, and what is written of their runs.
+const WRITTEN: [(&str, &str); 6] = [
+    ("", ""),
+    ("\tt3\r\n", "t3"),
+    ("t1*1 t1", "t1 t1"),
+    ("x05*0000000002\nt63", "x5*2 t63"),
+    ("t63*1000000000 x0 x10*10", "t63*1000000000 x0 x10*10"),
+    ("t0*999999999\tt09 x62*1", "t0*999999999 t9 x62"),
+];
+
+/// Adds the runs of a whole text to a list.
+fn read_text(text: &[u8], runs: &mut Vec<Run>) -> Result<(), ScheduleFault>
+    requires { length text.now < 1000 }
+    ensures { All IsRun runs.old.items → All IsRun runs.new.items }
+{
+    let mut reader = Reader::new();
+    reader.feed(text, runs)?;
+    reader.finish(runs)
+}
+
+/// Whether a text's runs are written as this text, and that is read as the same runs.
+fn is_written_as(alloc: Global, text: &[u8], written: &str) -> Result<bool, AllocError>
+    requires { length text.now < 1000 }
+{
+    let mut runs = Vec::new(alloc);
+    let first = read_text(text, &mut runs);
+    let back = write_schedule(alloc, runs.as_slice())?;
+    let mut again = Vec::new(alloc);
+    if back.len() >= 1000 {
+        return Ok(false);
+    }
+    let second = read_text(back.as_bytes(), &mut again);
+    Ok(first.is_ok() && second.is_ok() && back.as_str() == written && again == runs)
+}
+
+#[test]
+fn what_was_read_is_written_and_read_back(rt: HostRuntime) -> Result<(), Fail> {
+    for (text, written) in &WRITTEN {
+        assert!(rt; text.len() < 1000);
+        assert!(rt; is_written_as(rt.alloc(), text.as_bytes(), written)?);
+    }
+    Ok(())
 }
 
 #[test]

@@ -446,18 +446,37 @@ fn calls_and_handlers(rt: HostRuntime) -> Result<(), Fail> {
         Steps {
             rows: &[Row::Try { handler: 2 }, Row::Ret, Row::Halt],
             threads: &[0],
-            steps: &[(0, What::Done), (0, What::Throws(7)), (0, What::Catches(7)), (0, What::Ends)],
+            steps: &[
+                (0, What::Done),
+                (0, What::Throws(7)),
+                (0, What::Catches(7)),
+                (0, What::Ends),
+            ],
         },
         Steps {
             rows: &[Row::Call { target: 1 }, Row::Endtry, Row::Halt],
             threads: &[0],
-            steps: &[(0, What::Done), (0, What::Throws(7)), (0, What::Unwinds), (0, What::Dies(7))],
+            steps: &[
+                (0, What::Done),
+                (0, What::Throws(7)),
+                (0, What::Unwinds),
+                (0, What::Dies(7)),
+            ],
         },
         // a handler that was taken off
         Steps {
-            rows: &[Row::Try { handler: 0 }, Row::Endtry, Row::Throw { code: Reg::R0 }],
+            rows: &[
+                Row::Try { handler: 0 },
+                Row::Endtry,
+                Row::Throw { code: Reg::R0 },
+            ],
             threads: &[0],
-            steps: &[(0, What::Done), (0, What::Done), (0, What::Throws(0)), (0, What::Dies(0))],
+            steps: &[
+                (0, What::Done),
+                (0, What::Done),
+                (0, What::Throws(0)),
+                (0, What::Dies(0)),
+            ],
         },
     ];
     for walk in &walks {
@@ -468,65 +487,63 @@ fn calls_and_handlers(rt: HostRuntime) -> Result<(), Fail> {
 
 #[test]
 fn jumps_cells_and_interrupts(rt: HostRuntime) -> Result<(), Fail> {
-    let compared = [
-        Row::Ldi {
-            into: Reg::R0,
-            value: 1,
-        },
-        Row::Beq {
-            left: Reg::R0,
-            right: Reg::R1,
-            target: 12,
-        },
-        Row::Bne {
-            left: Reg::R0,
-            right: Reg::R1,
-            target: 4,
-        },
-        Row::Ret,
-        Row::Blt {
-            left: Reg::R1,
-            right: Reg::R0,
-            target: 6,
-        },
-        Row::Ret,
-        Row::Blt {
-            left: Reg::R0,
-            right: Reg::R1,
-            target: 12,
-        },
-        Row::Beq {
-            left: Reg::R1,
-            right: Reg::R2,
-            target: 9,
-        },
-        Row::Ret,
-        Row::Bne {
-            left: Reg::R1,
-            right: Reg::R2,
-            target: 12,
-        },
-        Row::Jmp { target: 13 },
-        Row::Halt,
-        Row::Ret,
-        Row::Jmp { target: 11 },
-    ];
-    let done = (0, What::Done);
     let walks = [
         // each jump taken and not, the last one back
         Steps {
-            rows: &compared,
+            rows: &[
+                Row::Ldi {
+                    into: Reg::R0,
+                    value: 1,
+                },
+                Row::Beq {
+                    left: Reg::R0,
+                    right: Reg::R1,
+                    target: 12,
+                },
+                Row::Bne {
+                    left: Reg::R0,
+                    right: Reg::R1,
+                    target: 4,
+                },
+                Row::Ret,
+                Row::Blt {
+                    left: Reg::R1,
+                    right: Reg::R0,
+                    target: 6,
+                },
+                Row::Ret,
+                Row::Blt {
+                    left: Reg::R0,
+                    right: Reg::R1,
+                    target: 12,
+                },
+                Row::Beq {
+                    left: Reg::R1,
+                    right: Reg::R2,
+                    target: 9,
+                },
+                Row::Ret,
+                Row::Bne {
+                    left: Reg::R1,
+                    right: Reg::R2,
+                    target: 12,
+                },
+                Row::Jmp { target: 13 },
+                Row::Halt,
+                Row::Ret,
+                Row::Jmp { target: 11 },
+            ],
             threads: &[0],
             steps: &[
                 (0, What::Value(1)),
-                done,
-                done,
-                done,
-                done,
-                done,
-                done,
-                done,
-                done,
+                (0, What::Done),
+                (0, What::Done),
+                (0, What::Done),
+                (0, What::Done),
+                (0, What::Done),
+                (0, What::Done),
+                (0, What::Done),
+                (0, What::Done),
                 (0, What::Ends),
             ],
         },
@@ -604,7 +621,12 @@ fn jumps_cells_and_interrupts(rt: HostRuntime) -> Result<(), Fail> {
 #[test]
 fn an_ended_thread_is_not_interrupted(rt: HostRuntime) -> Result<(), Fail> {
     let walk = Walk {
-        rows: &[Row::Halt, Row::Intr { thread: 0 }, Row::Intr { thread: 2 }, Row::Halt],
+        rows: &[
+            Row::Halt,
+            Row::Intr { thread: 0 },
+            Row::Intr { thread: 2 },
+            Row::Halt,
+        ],
         threads: &[0, 1, 0],
         phasers: &[],
         events: &[

@@ -1,5 +1,6 @@
-ghost use Rattle.std.specs.Prelude.{◌≡◌, ◌<◌, length, true, Some, is_some, IsErr, IfOk, OnErr};
-ghost use Rattle.thread_machine.specs.Scene.{thread_at};
+ghost use Rattle.std.specs.Prelude.{◌≡◌, ◌<◌, length, pos, true, Some, is_some, IsErr, IfOk, OnErr};
+ghost use Rattle.thread_machine.specs.Thread.{turn_of_out, turn_of_answer, turn_of_intrd};
+ghost use Rattle.thread_machine.specs.Scene.{thread_at, cell_at, outcome_of_turn};
 ghost use Rattle.thread_machine.specs.DataRows.{outcome_of_store, outcome_of_interrupt, outcome_of_data_row};
 ghost use Rattle.thread_machine.specs.Step.{runs, may_grow};
 ghost use Rattle.thread_machine.specs.Program.{IsNamed, counts_of};
@@ -23,17 +24,58 @@ impl Stage {
         ensures memory { IsErr result → may_grow row (thread_at self.old t) ≡ true }
     {
         match row {
-            Row::Out { value } => Ok(alone(self.players[t].out(value)?)),
-            Row::Lds { into, cell } => {
-                let number = self.numbers[cell as usize];
-                Ok(alone(self.players[t].answer(into, number)))
-            }
+            Row::Out { value } => self.out(value, t),
+            Row::Lds { into, cell } => Ok(self.load(into, cell, t)),
             Row::Sts { from, cell } => Ok(self.store(from, cell, t)),
-            Row::SelfNumber { into } => Ok(alone(self.players[t].answer(into, t as i32))),
+            Row::SelfNumber { into } => Ok(self.own_number(into, t)),
             Row::Intr { thread } => Ok(self.interrupt(thread as usize, t)),
-            Row::Intrd { into } => Ok(alone(self.players[t].take_interrupt(into))),
+            Row::Intrd { into } => Ok(self.take_interrupt(into, t)),
             _ => unreachable!(),
         }
+    }
+
+    /// `out`.
+    fn out(&mut self, value: Reg, t: usize) -> Result<Event, AllocError>
+        requires thread { t < length self.old.threads }
+        requires place { (thread_at self.old t).pc < 65535 }
+        ensures ok { IfOk result (λ event. record { scene = self.new; event = event }
+            ≡ outcome_of_turn (turn_of_out value (thread_at self.old t)) t self.old) }
+        ensures err { OnErr result (self.new ≡ self.old) }
+        ensures memory { IsErr result → length (thread_at self.old t).output < 4096 }
+    {
+        Ok(alone(self.players[t].out(value)?))
+    }
+
+    /// `lds`.
+    fn load(&mut self, into: Reg, cell: u16, t: usize) -> Event
+        requires cell { cell < 32 }
+        requires thread { t < length self.old.threads }
+        requires place { (thread_at self.old t).pc < 65535 }
+        ensures { record { scene = self.new; event = result }
+            ≡ outcome_of_turn (turn_of_answer into (cell_at self.old cell) (thread_at self.old t)) t self.old }
+    {
+        let number = self.numbers[cell as usize];
+        alone(self.players[t].answer(into, number))
+    }
+
+    /// `self`.
+    fn own_number(&mut self, into: Reg, t: usize) -> Event
+        requires thread { t < length self.old.threads }
+        requires place { (thread_at self.old t).pc < 65535 }
+        ensures { record { scene = self.new; event = result }
+            ≡ outcome_of_turn (turn_of_answer into (pos t) (thread_at self.old t)) t self.old }
+    {
+        alone(self.players[t].answer(into, t as i32))
+    }
+
+    /// `intrd`.
+    fn take_interrupt(&mut self, into: Reg, t: usize) -> Event
+        requires thread { t < length self.old.threads }
+        requires place { (thread_at self.old t).pc < 65535 }
+        ensures { record { scene = self.new; event = result }
+            ≡ outcome_of_turn (turn_of_intrd into (thread_at self.old t)) t self.old }
+    {
+        alone(self.players[t].take_interrupt(into))
     }
 
     /// `sts`.

@@ -43,7 +43,7 @@ loop-rest-preserved c =
     let left = sym before.left ∙ c.first_line.ensures.lines in
     let within = one_left texts k line more left in
     record {
-      met = one_more texts k c.loop-rest.draft c.in-Ok.draft line more before.met left c.in-Ok.ensures.read;
+      met = one_more texts k c.loop-rest.draft c.read_line.new.draft line more before.met left c.in_default.ensures.read;
       left = sym (one_less texts k line more left);
       count = omega (arith, within);
       room = omega (arith, before.room, c.first_line.ensures.shorter);

@@ -10,6 +10,7 @@ loop-byte-init c = record {
   offset = omega arith;
   place = c.requires.place;
   takes = takes-plain _ _ _ _ (λ stream. refl);
+  spelled = λ all. all;
   few = omega arith;
   room = omega arith;
 }
@@ -22,6 +23,7 @@ loop-byte-preserved c = record {
       c.args.runs.now.items c.loop-byte.runs.items c.read_byte.new.runs.items (Ok c.in-Ok.place)
       (λ stream q. schedule_from stream.0 q (c.loop-byte.offset + 1) stream.1)
       c.loop-byte-test.true c.loop-byte.invariant.takes c.in-Ok.ensures.takes;
+  spelled = λ all. c.in-Ok.ensures.spelled (c.loop-byte.invariant.spelled all);
   few = omega (arith, c.loop-byte.invariant.few, c.in-Ok.ensures.few);
   room = omega (arith, c.loop-byte.invariant.room, c.in-Ok.ensures.capacity);
 }

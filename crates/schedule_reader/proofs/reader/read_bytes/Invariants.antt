@@ -1,6 +1,7 @@
 use Rattle.std.proofs.Common.{◌≡◌, ◌+◌, ◌*◌, ◌≤◌, ◌++◌, ℕ, Bool, List, length, drop}
-use Rattle.std.specs.Prelude.{Ok}
+use Rattle.std.specs.Prelude.{All, Ok}
 use Rattle.std.specs.Vec.{vec_capacity}
+use Rattle.schedule_reader.specs.Schedule.{IsRun}
 use Rattle.schedule_reader.specs.Places.{IsPlace, Takes, spent, schedule_from}
 use Rattle.schedule_reader.proofs.reader.read_bytes.Given as goal
 
@@ -12,6 +13,7 @@ invariant-loop-byte l = record {
   takes : Takes (Ok l.next) l.initial.runs.items l.runs.items
       (λ (stream : Bool × List ℕ). schedule_from stream.0 l.fn.place l.fn.at (l.piece ++ stream.1))
       (λ stream next. schedule_from stream.0 next l.offset (drop l.byte-index l.piece ++ stream.1));
+  spelled : All IsRun l.initial.runs.items → All IsRun l.runs.items;
   few : 3 * length l.runs.items + spent l.next ≤ 3 * length l.initial.runs.items + spent l.fn.place + l.byte-index;
   room : vec_capacity l.initial.runs ≤ vec_capacity l.runs;
 }

@@ -19,3 +19,9 @@ returns-in-Turning-clause-only c =
     c.is_forest-in-Turning.ensures c.requires.there
     (c.in-Turning.ensures.turning.1 ∙ root_shown c.args.forest.now c.args.id.0 c.requires.there) c.arrive-answer.ensures.only
     c.finish_turn.ensures.only
+
+pub returns-in_default-clause-only : goal.returns-in_default-clause-only
+returns-in_default-clause-only c = c.arrive-answer.ensures.only
+
+pub returns-in_default-clause-many : goal.returns-in_default-clause-many
+returns-in_default-clause-many c = c.arrive-answer.ensures.many

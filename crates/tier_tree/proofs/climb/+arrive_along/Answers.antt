@@ -1,6 +1,6 @@
 use Rattle.packed_phaser.specs.Word.{record_of}
 use Rattle.tier_tree.specs.Stored.{phasers_of}
-use Rattle.tier_tree.proofs.Shown.{only_more}
+use Rattle.tier_tree.proofs.Shown.{only_more, only_same}
 use Rattle.tier_tree.proofs.Times.{climb_ready}
 use Rattle.tier_tree.proofs.climb.+arrive_along.Goals as goal
 
@@ -20,3 +20,8 @@ pub returns-else-is_empty-clause-only : goal.returns-else-is_empty-clause-only
 returns-else-is_empty-clause-only t c =
     only_more c.args.line.now c.in-Some.above.now _ c.args.nodes.now c.arrive_along-climb.new.nodes c.count_child.new.nodes
     c.in-Some.ensures.cases.0 c.arrive_along-climb.ensures.only c.count_child.ensures.only
+
+pub returns-in-Counted-clause-only : goal.returns-in-Counted-clause-only
+returns-in-Counted-clause-only t c =
+    only_more c.args.line.now c.in-Some.above.now _ c.args.nodes.now c.args.nodes.now c.set_word.new.nodes c.in-Some.ensures.cases.0
+    (only_same c.in-Some.above.now c.args.nodes.now) c.set_word.ensures.only
