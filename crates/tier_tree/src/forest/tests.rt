@@ -168,31 +168,85 @@ fn children_arrive_and_leave_with_their_parties(rt: HostRuntime) -> Result<(), F
     Ok(())
 }
 
-/// Phase ends that a child lags behind, by up to 5 phases and then by 1 after its use.
-#[test]
-fn a_lagging_child_is_shown_in_its_trees_phase(rt: HostRuntime) -> Result<(), Fail> {
-    let plans = [root(1), child(0, 1), child(0, 1)];
-    let mut forest = planted(rt.alloc(), &plans)?;
-    for phase in 0..5 {
-        for step in &[
+/// Whether all of this comes true, one call after the other.
+fn all_come_true(forest: &mut Forest, steps: &[Step]) -> bool {
+    for step in steps {
+        if !comes_true(forest, *step) {
+            return false;
+        }
+    }
+    true
+}
+
+/// Whether three arrivals at phaser 0 end each of these phases, and its tree is held in between.
+fn three_end_each(forest: &mut Forest, from: i32, to: i32) -> bool {
+    for phase in from..to {
+        let steps = [
             Step::Arrives(0, Arrived::At(phase)),
             Step::Arrives(0, Arrived::At(phase)),
             Step::Arrives(0, turns(phase, 3)),
             Step::Asks(0, 1, Registered::Held),
             Step::Arrives(1, Arrived::NotThere),
             Step::Finishes(0, false),
-        ] {
-            assert!(rt; comes_true(&mut forest, *step), "in phase {phase}");
+        ];
+        if !all_come_true(forest, &steps) {
+            return false;
         }
     }
-    for step in &[
+    true
+}
+
+/// Two children lag behind by 5 phases; then one of them by 10, and the other, never used, by 15.
+#[test]
+fn a_lagging_child_is_shown_in_its_trees_phase(rt: HostRuntime) -> Result<(), Fail> {
+    let mut forest = planted(rt.alloc(), &[root(1), child(0, 1), child(0, 1)])?;
+    let first = [
         Step::Shows(1, 5, 1, 0),
         Step::Arrives(1, Arrived::At(5)),
         Step::Shows(0, 5, 3, 1),
-        Step::Shows(2, 5, 1, 0),
-    ] {
-        assert!(rt; comes_true(&mut forest, *step));
+        Step::Arrives(0, Arrived::At(5)),
+        Step::Arrives(0, turns(5, 3)),
+        Step::Finishes(0, false),
+    ];
+    let then = [
+        Step::Shows(1, 15, 1, 0),
+        Step::Shows(2, 15, 1, 0),
+        Step::Arrives(2, Arrived::At(15)),
+        Step::Shows(0, 15, 3, 1),
+    ];
+    assert!(rt; three_end_each(&mut forest, 0, 5) && all_come_true(&mut forest, &first));
+    assert!(rt; three_end_each(&mut forest, 6, 15) && all_come_true(&mut forest, &then));
+    Ok(())
+}
+
+/// 64 phasers in one tree of 8 levels: 9 lines of 7 below the root, a party in the last of each.
+#[test]
+fn a_full_forest(rt: HostRuntime) -> Result<(), Fail> {
+    let mut plans = [root(0); 64];
+    for id in 1..64u8 {
+        let above = if id % 7 == 1 { 0 } else { id - 1 };
+        plans[id as usize] = child(above, if id % 7 == 0 { 1 } else { 0 });
     }
+    let mut forest = planted(rt.alloc(), &plans)?.copy(rt.alloc())?;
+    for line in 1..9u8 {
+        assert!(rt; comes_true(&mut forest, Step::Arrives(line * 7, Arrived::At(0))));
+    }
+    let last = [
+        Step::Shows(7, 0, 1, 1),
+        Step::Arrives(63, turns(0, 9)),
+        Step::Finishes(0, false),
+        Step::Shows(63, 1, 1, 0),
+        Step::Shows(0, 1, 9, 0),
+    ];
+    assert!(rt; all_come_true(&mut forest, &last));
+    Ok(())
+}
+
+#[test]
+fn a_full_forest_takes_no_more(rt: HostRuntime) -> Result<(), Fail> {
+    let mut forest = planted(rt.alloc(), &[root(0); 64])?;
+    let answer = forest.declare(None, 0, Policy::Default, Phase::prevailing(0));
+    assert!(rt; answer.err() == Some(DeclareFault::TooManyPhasers));
     Ok(())
 }
 
