@@ -92,20 +92,6 @@ pub record Changes (first more less more_left less_left : ℕ) (before after : L
   pub ended : (id : ℕ) → (flat_at after id).ended ≡ (flat_at before id).ended
   pub good : (id : ℕ) → IsGood (root_at before id) id (flat_at before id) → IsGood (root_at before id) id (flat_at after id)
 
--- a phaser isn't its own parent
-pub not-own : (phasers : List PhaserState) (i : ℕ) → IsForest phasers → i < length phasers → is_under i (phaser_at phasers i).line ≡ false
-not-own phasers i sound there =
-    elim (linked phasers i sound there) as (λ _. is_under i (phaser_at phasers i).line ≡ false) [
-      | inl top ↦ ap (is_under i) top
-      | inr child ↦
-          let below : child.0 < i = child.1 in
-          let within : child.0 < length phasers = omega (arith, below, there) in
-          let own = line_own phasers child.0 sound within in
-          let whole : (phaser_at phasers i).line ≡ i ∷ child.0 ∷ own.0 = child.2 ∙ ap (λ (l : List ℕ). i ∷ l) own.1 in
-          let other : (child.0 == i) ≡ false = grind (arith, nat_tests, below) in
-          ap (is_under i) whole ∙ other
-    ]
-
 -- where no parent counts it otherwise, only the phaser itself changes
 simple : (phasers : List PhaserState) (i less : ℕ) (flat : Flat) → i < length phasers
     → ((id : ℕ) → children has_joined id (with_flat phasers i flat) ≡ children has_joined id phasers)

@@ -1,6 +1,6 @@
 -- What a call promises of the whole forest, from what it makes of the slice of phasers.
-use Rattle.std.proofs.Common.{◌≡◌, ◌∙◌, ℕ, ◌-◌, ◌<◌, ◌==◌, Bool, true, false, List, [], ◌∷◌, ◌++◌, length, take, drop, ap, refl, sym, subst, arith, if◌then◌else◌}
-use Rattle.std.specs.Prelude.{◌&&◌, not}
+use Rattle.std.proofs.Common.{◌≡◌, ◌∙◌, ℕ, zero, suc, ◌-◌, ◌<◌, ◌==◌, Bool, true, false, List, [], ◌∷◌, ◌++◌, length, map, take, drop, ap, refl, sym, subst, arith, if◌then◌else◌}
+use Rattle.std.specs.Prelude.{◌&&◌, not, slice_set}
 use Rattle.std.proofs.lemmas.List.{take_at}
 use Rattle.std.proofs.lemmas.Bool.Decides.{nat_tests}
 use Rattle.packed_phaser.specs.Flat.{Flat}
@@ -14,7 +14,7 @@ use Rattle.tier_tree.specs.Registration.{registration, after_registration, joine
 use Rattle.tier_tree.specs.Arrival.{Arrives, arrival}
 use Rattle.tier_tree.specs.PhaseEnd.{after_turn, after_force}
 use Rattle.tier_tree.specs.Sound.{places_of}
-use Rattle.tier_tree.specs.Stored.{Stored, stored_at, kept_flat, present, phasers_of, IsStored}
+use Rattle.tier_tree.specs.Stored.{Stored, stored_at, kept_flat, present, shown, phasers_of, place_in, IsStored}
 use Rattle.tier_tree.specs.Answer.{IfTurning, Turns, KeepsPlaces, KeepsEnds, HaveOnePhase}
 use Rattle.tier_tree.specs.Origin.{Origin, StandsFor, Carries, origin_after_registration, after_arrival, after_phase_end}
 use Rattle.tier_tree.specs.declared.id.PhaserId.{PhaserId}
@@ -191,6 +191,28 @@ stands_empty origin = record {
 pub restored-many : (saved : List Kept) (forest : List Stored) → length (restored saved forest) ≡ length forest
 restored-many [] forest = refl
 restored-many (kept ∷ others) forest = restored-many others (with_kept kept forest) ∙ length-set forest kept.id _
+
+-- in the same places
+set-places : (forest : List Stored) (id word ends : ℕ)
+    → map place_in (slice_set forest id (record (stored_at forest id) { word = word; ends = ends })) ≡ map place_in forest
+set-places [] id word ends = refl
+set-places (s ∷ forest) zero word ends = refl
+set-places (s ∷ forest) (suc id) word ends = ap (λ (places : List Place). place_in s ∷ places) (set-places forest id word ends)
+
+restored-places : (saved : List Kept) (forest : List Stored) → map place_in (restored saved forest) ≡ map place_in forest
+restored-places [] forest = refl
+restored-places (kept ∷ others) forest =
+    restored-places others (with_kept kept forest) ∙ set-places forest kept.id kept.word kept.ends
+
+shown-places : (all forest : List Stored) → map place_of (map (shown all) forest) ≡ map place_in forest
+shown-places all [] = refl
+shown-places all (s ∷ forest) = ap (λ (places : List Place). place_in s ∷ places) (shown-places all forest)
+
+pub written_places : (saved : List Kept) (given written : List Stored) → written ≡ restored saved given
+    → KeepsPlaces (phasers_of given) (phasers_of written)
+written_places saved given written is =
+    keeps_places (phasers_of given) (phasers_of written)
+    (shown-places written written ∙ ap (map place_in) is ∙ restored-places saved given ∙ sym (shown-places given given))
 
 pub written_many : (saved : List Kept) (given written : List Stored) → written ≡ restored saved given → length written ≡ length given
 written_many saved given written is = ap length is ∙ restored-many saved given

@@ -89,12 +89,6 @@ as_taken : (count : ℕ) (phasers mid : List PhaserState) (i : ℕ) → flat_at 
 as_taken count phasers mid i kept live some room idle =
     ap (λ (g : Flat). flat_by (register count g) g) kept ∙ taken count (flat_at phasers i) live some room idle
 
-zero_or_more : (parties : ℕ) (ended turned : Bool) → ended ≡ false → turned ≡ false
-    → (if ended then false else (if turned then false else parties == 0)) ≡ true → parties ≡ 0
-zero_or_more parties true turned live idle empty = absurd (cc)
-zero_or_more parties false true live idle empty = absurd (cc)
-zero_or_more parties false false live idle empty = grind (arith, nat_tests, empty)
-
 join_by : (empty : Bool) (above : List ℕ) (i count : ℕ) (phasers : List PhaserState) → IsForest phasers → i < length phasers
     → (phaser_at phasers i).line ≡ i ∷ above → AllGood phasers → (flat_at phasers i).ended ≡ false → 0 < count
     → is_empty (flat_at phasers i) ≡ empty → Above above phasers

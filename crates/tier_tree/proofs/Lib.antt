@@ -14,3 +14,4 @@ pub mod Changed
 pub mod Kept
 pub mod Turning
 pub mod Calls
+pub mod Trees

@@ -1,6 +1,6 @@
 -- The calls change no line.
-use Rattle.std.proofs.Common.{inl, inr, ◌≡◌, ◌∙◌, ℕ, zero, suc, ◌+◌, ◌-◌, ◌<◌, ◌≤◌, ◌==◌, Bool, true, false, List, [], ◌∷◌, ◌++◌, map, take, drop, get_or, length, ap, refl, sym, subst, arith, if◌then◌else◌}
-use Rattle.std.proofs.lemmas.List.{length-map, get_or_read, take_at, length_push, get_or_append_left, get_or_push, map-append}
+use Rattle.std.proofs.Common.{inl, inr, ◌≡◌, ◌∙◌, ℕ, zero, suc, ◌+◌, ◌-◌, ◌<◌, ◌==◌, Bool, true, false, List, [], ◌∷◌, ◌++◌, map, get_or, length, ap, refl, sym, subst, arith, if◌then◌else◌}
+use Rattle.std.proofs.lemmas.List.{length-map, length_push, get_or_append_left, get_or_push, map-append}
 use Rattle.std.proofs.lemmas.List.Elements.{All-weaker, All-cons, All-nil}
 use Rattle.std.proofs.lemmas.Bool.Decides.{nat_tests}
 use Rattle.std.proofs.lemmas.Bool.{cases_lt}
@@ -156,23 +156,6 @@ root_within phasers id sound there =
     subst (λ (n : ℕ). root_at phasers id < n) many
     (subst (λ (l : List ℕ). slice_index_or l (length l - 1) 0 < length (places_of phasers)) same root)
 
--- the same for a line that was read from a list which shows the forest
-pub line_read : (items now : List PhaserState) (id : ℕ) (phaser : PhaserState) (line : List ℕ) → items ≡ now → line ≡ phaser.line
-    → phaser ≡ get_or items id phaser → IsForest items → id < length now → All (λ (above : ℕ). above < length now) line
-line_read items now id phaser line shown is read sound there =
-    let within : id < length items = subst (λ (ps : List PhaserState). id < length ps) (sym shown) there in
-    let same : line ≡ (phaser_at items id).line = is ∙ ap (λ (p : PhaserState). p.line) (get_or_read items id phaser within read no_phaser) in
-    subst (λ (ps : List PhaserState). All (λ (above : ℕ). above < length ps) line) shown
-    (subst (λ (l : List ℕ). All (λ (above : ℕ). above < length items) l) (sym same) (line_within items id sound within))
-
--- a slice of all phasers, written back
-pub forest_back : (items given written : List PhaserState) (n : ℕ) → given ≡ items → length given ≡ n
-    → places_of written ≡ places_of given → IsForest items → IsForest (take n (written ++ drop (length written) items))
-forest_back items given written n is many same sound =
-    let count : length written ≡ n = sym (length-places written) ∙ ap length same ∙ length-places given ∙ many in
-    subst IsForest (sym (take_at written (drop (length written) items) n count))
-    (forest_kept items written (same ∙ ap places_of is) sound)
-
 pub climbed_same : (line : List ℕ) (leave : Bool) (phasers after : List PhaserState) (c : Climb)
     → record { phasers = after; climb = c } ≡ climbed line leave phasers → places_of after ≡ places_of phasers
 climbed_same line leave phasers after c is =
@@ -280,15 +263,3 @@ forest_declared (Some parent) parties policy phase phasers few there sound =
       ap (λ (n : ℕ). n ∷ (phaser_at phasers parent.0).line) (sym many)
           ∙ ap (λ (p : Place). length (places_of phasers) ∷ p.line) (place_at-places phasers parent.0),
     )))
-
-pub forest_pushed : (parent : Option PhaserId) (parties : ℕ) (policy : Policy) (phase : ℕ) (items now after : List PhaserState) (node : PhaserState)
-    → items ≡ now → node ≡ declared parent parties policy phase now → after ≡ items ++ node ∷ [] → length now < 64
-    → has_parent parent now ≡ true → IsForest items → IsForest after
-forest_pushed parent parties policy phase items now after node shown new is few there sound =
-    let same : after ≡ now ++ declared parent parties policy phase now ∷ [] =
-    is ∙ ap (λ (p : PhaserState). items ++ p ∷ []) new
-    ∙ ap (λ (ps : List PhaserState). ps ++ declared parent parties policy phase now ∷ []) shown in
-    subst IsForest (sym same) (forest_declared parent parties policy phase now few there (subst IsForest shown sound))
-
-pub few_phasers : (items given : List PhaserState) → given ≡ items → IsForest items → length given ≤ 64
-few_phasers items given is sound = let many = length-places items in let same = ap length is in let few = sound.few in omega (arith, many, same, few)

@@ -12,3 +12,4 @@ pub mod Answer
 pub mod Undo
 pub mod Origin
 pub mod Law
+pub mod Trees

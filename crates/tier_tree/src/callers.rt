@@ -17,10 +17,11 @@ use std::alloc::Global;
 
 // A party arrives, and the phase that this may complete ends at once: everybody who registered
 // directly in the tree has arrived by then, unless a stray came.
-fn arrive_through(forest: &mut Forest, id: PhaserId, ends: bool) -> Arrived
+pub fn arrive_through(forest: &mut Forest, id: PhaserId, ends: bool) -> Arrived
     requires there { id.0 < length forest.old }
     requires few { (phaser_at (phasers_of forest.old) (root_at (phasers_of forest.old) id.0)).ends
         < 2147483647 }
+    ensures answer { result ≡ (arrival id.0 false (phasers_of forest.old)).answer }
     ensures safe { (origin : Origin) → StandsFor (phasers_of forest.old) origin
         → IfTurning result (λ root.
         (after_arrival result id.0 (root_at (phasers_of forest.old) id.0) false origin).stray root.0
@@ -52,7 +53,8 @@ pub fn undo_two(
     requires other { other.0 < length forest.old }
     requires few { (phaser_at (phasers_of forest.old) (root_at (phasers_of forest.old) id.0)).ends
         < 2147483647 }
-    ensures { forest.new ≡ forest.old }
+    ensures answer { result.0 ≡ (arrival id.0 false (phasers_of forest.old)).answer }
+    ensures back { forest.new ≡ forest.old }
 {
     forest.is_forest();
     let first = forest.save(id);

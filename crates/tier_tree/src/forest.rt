@@ -175,6 +175,8 @@ impl Forest {
     pub fn restore(&mut self, saved: &Saved)
         requires { IsStored (restored saved.now self.old) }
         ensures forest { self.new ≡ restored saved.now self.old }
+        ensures many { length self.new ≡ length self.old }
+        ensures places { KeepsPlaces (phasers_of self.old) (phasers_of self.new) }
         ensures undone { (id : ℕ) (before : List Stored) → saved.now ≡ saved_of id before
             → ChangedAt id before self.old → self.new ≡ before }
     {

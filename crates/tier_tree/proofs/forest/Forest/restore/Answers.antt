@@ -1,7 +1,8 @@
 use Rattle.std.proofs.Common.{◌≡◌, List}
-use Rattle.tier_tree.specs.Stored.{Stored, ChangedAt}
+use Rattle.tier_tree.specs.Answer.{KeepsPlaces}
+use Rattle.tier_tree.specs.Stored.{Stored, ChangedAt, phasers_of}
 use Rattle.tier_tree.proofs.Changed.{restored_call}
-use Rattle.tier_tree.proofs.Calls.{written_back, written_many}
+use Rattle.tier_tree.proofs.Calls.{written_back, written_many, written_places}
 use Rattle.tier_tree.proofs.forest.Forest.restore.Goals as goal
 
 pub returns-clause-undone : goal.returns-clause-undone
@@ -11,3 +12,10 @@ returns-clause-undone c id before kept changed =
     (written_many c.args.saved.now c.as_mut_slice.result.now c.put_back_all.new.nodes c.put_back_all.ensures)
     (λ moved. restored_call id before c.as_mut_slice.result.now c.put_back_all.new.nodes c.args.saved.now c.put_back_all.ensures kept moved)
     changed
+
+pub returns-clause-places : goal.returns-clause-places
+returns-clause-places c =
+    written_back (λ (before after : List Stored). KeepsPlaces (phasers_of before) (phasers_of after)) c.self.inside.nodes.items c.as_mut_slice.result.now
+    c.args.self.now c.put_back_all.new.nodes c.self.inside.nodes.len c.as_mut_slice.ensures.value c.self.view_is c.as_mut_slice.ensures.len
+    (written_many c.args.saved.now c.as_mut_slice.result.now c.put_back_all.new.nodes c.put_back_all.ensures)
+    (written_places c.args.saved.now c.as_mut_slice.result.now c.put_back_all.new.nodes c.put_back_all.ensures)

@@ -1,0 +1,360 @@
+-- What the calls keep of the trees that a caller carries.
+use Rattle.std.proofs.Common.{inl, inr, ◌≡◌, ◌≢◌, ◌∙◌, ℕ, zero, suc, ◌+◌, ◌<◌, ◌≤◌, ◌==◌, Bool, true, false, List, [], ◌∷◌, length, map, get_or, ap, refl, sym, subst, arith, if◌then◌else◌}
+use Rattle.std.specs.Prelude.{◌||◌, slice_set}
+use Rattle.std.proofs.lemmas.Bool.{cases_eq, cases_lt}
+use Rattle.std.proofs.lemmas.List.{get_or_past}
+use Rattle.packed_phaser.specs.Flat.{Flat, Joins, JoinsLate, MustWait, Overfull, Arrival, Counts, Turns, ComesLate, IsUnregistered, arrive, register, advance, view_of}
+use Rattle.tier_tree.specs.declared.arrived.Arrived.{Arrived}
+use Rattle.tier_tree.specs.declared.arrived.Arrived.TheVariants as arrived
+use Rattle.tier_tree.specs.declared.registered.Registered.{Registered}
+use Rattle.tier_tree.specs.declared.registered.Registered.TheVariants as registered
+use Rattle.tier_tree.specs.declared.climb.Climb.{Climb}
+use Rattle.tier_tree.specs.declared.climb.Climb.TheVariants as climb
+use Rattle.tier_tree.specs.declared.id.PhaserId.{PhaserId}
+use Rattle.tier_tree.specs.Forest.{PhaserState, no_phaser, phaser_at, flat_at, root_at, root_of}
+use Rattle.tier_tree.specs.Registration.{Join, joins, joined, flat_by, registration, registered_by, after_registration}
+use Rattle.tier_tree.specs.Arrival.{Arrives, Climbed, is_top, passed_on, with_child, climbed_by, climbed, arrival_by, arrival}
+use Rattle.tier_tree.specs.PhaseEnd.{after_turn, after_force, follow, in_step}
+use Rattle.tier_tree.specs.Sound.{Place, place_of, places_of}
+use Rattle.tier_tree.specs.Stored.{Stored, phasers_of, IsStored}
+use Rattle.tier_tree.specs.Answer.{IfTurning, KeepsPlaces}
+use Rattle.tier_tree.specs.Answer.{Turns as TurnsRoot}
+use Rattle.tier_tree.specs.Origin.{Origin, StandsFor, origin_after_registration, after_arrival, after_phase_end}
+use Rattle.tier_tree.specs.Trees.{is_pending, AreTrees, CanTurn, StaysPending, KeepsTrees, EndsPhase}
+use Rattle.tier_tree.proofs.Lines.{root_within, registration-places, arrival-places, turn-places, force-places, forest_kept, length-places, place_at-places}
+use Rattle.tier_tree.proofs.Balance.{flat-other}
+use Rattle.tier_tree.proofs.Stands.{same-is, stands_after_arrival}
+use Rattle.tier_tree.proofs.Joined.{stands_registered}
+use Rattle.tier_tree.proofs.Turned.{turn_change, force_change, stands_after_turn, stands_after_force}
+use Rattle.tier_tree.proofs.Kept.{keeps_places, registration-ends, arrival-ends, force-ends}
+use Rattle.tier_tree.proofs.Turning.{IsFull, turning}
+
+-- of a turned phaser all have arrived
+abbrev pub AreFull : List PhaserState → Type 0
+AreFull phasers = (id : ℕ) → IsFull (flat_at phasers id)
+
+-- whoever isn't there is no pending phaser
+absent : (phasers : List PhaserState) (id : ℕ) → length phasers ≤ id → is_pending (flat_at phasers id) ≡ false
+absent phasers id past = ap (λ (p : PhaserState). is_pending p.flat) (get_or_past phasers id no_phaser past)
+
+unturned : (phasers : List PhaserState) (id : ℕ) → length phasers ≤ id → (flat_at phasers id).turned ≡ false
+unturned phasers id past = ap (λ (p : PhaserState). p.flat.turned) (get_or_past phasers id no_phaser past)
+
+pending_there : (phasers : List PhaserState) (id : ℕ) → is_pending (flat_at phasers id) ≡ true → id < length phasers
+pending_there phasers id is = elim (cases_lt id (length phasers)) as (λ _. id < length phasers) [
+  | inl there ↦ there
+  | inr past ↦ (let none = absent phasers id past in absurd (cc (none, is)))
+]
+
+pub full_of : (phasers : List PhaserState) (origin : Origin) → StandsFor phasers origin → AreFull phasers
+full_of phasers origin stands id turned = elim (cases_lt id (length phasers)) as (λ _. (flat_at phasers id).arrived ≡ (flat_at phasers id).parties) [
+  | inl there ↦ ((stands.steady id there).turned turned).1
+  | inr past ↦ (let none = unturned phasers id past in absurd (cc (none, turned)))
+]
+
+-- what is true of each phaser and another in its place
+put : (P : PhaserState → PhaserState → Type 0) → ((x : PhaserState) → P x x) → (phasers : List PhaserState) (i : ℕ) (new : PhaserState)
+    → P (phaser_at phasers i) new → (q : ℕ) → P (phaser_at phasers q) (phaser_at (slice_set phasers i new) q)
+put P same [] i new is q = same no_phaser
+put P same (x ∷ phasers) zero new is zero = is
+put P same (x ∷ phasers) zero new is (suc q) = same (phaser_at phasers q)
+put P same (x ∷ phasers) (suc i) new is zero = same x
+put P same (x ∷ phasers) (suc i) new is (suc q) = put P same phasers i new is q
+
+-- a registration makes no phaser pending, and leaves none so
+join_pending : (ended none over turned : Bool) (f more : Flat) (view phase : _) → more.turned ≡ f.turned → more.ended ≡ f.ended
+    → is_pending (flat_by (if ended then JoinsLate view else (if none then Joins f phase
+    else (if over then Overfull else (if turned then MustWait
+    else Joins more phase)))) f) ≡ is_pending f
+join_pending true none over turned f more view phase t e = refl
+join_pending false true over turned f more view phase t e = refl
+join_pending false false true turned f more view phase t e = refl
+join_pending false false false true f more view phase t e = refl
+join_pending false false false false f more view phase t e = rw (t, e) refl
+
+joined_pending : (all : List Join) (phasers : List PhaserState) (q : ℕ) → is_pending (flat_at (joined all phasers) q) ≡ is_pending (flat_at phasers q)
+joined_pending [] phasers q = refl
+joined_pending (join ∷ others) phasers q =
+    let after = joined others phasers in
+    let f = flat_at after join.id in
+    put (λ (x y : PhaserState). is_pending y.flat ≡ is_pending x.flat) (λ x. refl) after join.id
+    (record (phaser_at after join.id) { flat = flat_by (register join.count f) f })
+    (join_pending f.ended (join.count == 0) _ f.turned f (record f { parties = f.parties + join.count }) _ _ refl refl) q
+    ∙ joined_pending others phasers q
+
+by_pending : (r : Registered) (all : List Join) (phasers : List PhaserState) (q : ℕ)
+    → is_pending (flat_at (registered_by r all phasers) q) ≡ is_pending (flat_at phasers q)
+by_pending (registered.At phase) all phasers q = joined_pending all phasers q
+by_pending (registered.Dead view) all phasers q = refl
+by_pending registered.Held all phasers q = refl
+by_pending registered.TooMany all phasers q = refl
+
+pub registration-pending : (id count : ℕ) (phasers : List PhaserState) (q : ℕ)
+    → is_pending (flat_at (after_registration id count phasers) q) ≡ is_pending (flat_at phasers q)
+registration-pending id count phasers q = by_pending (registration id count phasers) (joins id count phasers) phasers q
+
+-- a pending phaser refuses an arrival
+refuses : (leave : Bool) (f : Flat) (turned ended : Bool) → f.turned ≡ turned → f.ended ≡ ended → (turned || ended) ≡ true
+    → IsFull f → (i : ℕ) (top : Bool) (onward : Bool → Climbed) (phasers : List PhaserState)
+    → (climbed_by (arrive leave f) i top onward phasers).phasers ≡ phasers
+refuses leave f turned true t e some full i top onward phasers = rw e refl
+refuses leave f true false t e some full i top onward phasers =
+    let all : (f.arrived == f.parties) ≡ true = rw (full t) (same-is f.parties) in
+    rw (e, all) refl
+refuses leave f false false t e some full i top onward phasers = absurd (cc (some))
+
+child_pending : (c : Climb) (i : ℕ) (flat : Flat) (above : List PhaserState) (r : ℕ) → r ≢ i → is_pending (flat_at above r) ≡ true
+    → is_pending (flat_at (with_child i flat c above).phasers r) ≡ true
+child_pending climb.Counted i flat above r apart is = ap is_pending (flat-other above i (passed_on flat) r apart) ∙ is
+child_pending climb.Turned i flat above r apart is = ap is_pending (flat-other above i (passed_on flat) r apart) ∙ is
+child_pending climb.Refused i flat above r apart is = is
+
+other_pending : (a : Arrival) (i : ℕ) (top : Bool) (onward : Bool → Climbed) (phasers : List PhaserState) (r : ℕ) → r ≢ i
+    → is_pending (flat_at phasers r) ≡ true → ((leaves : Bool) → is_pending (flat_at (onward leaves).phasers r) ≡ true)
+    → is_pending (flat_at (climbed_by a i top onward phasers).phasers r) ≡ true
+other_pending (Counts flat) i top onward phasers r apart is rest = ap is_pending (flat-other phasers i flat r apart) ∙ is
+other_pending (Turns flat) i true onward phasers r apart is rest = ap is_pending (flat-other phasers i flat r apart) ∙ is
+other_pending (Turns flat) i false onward phasers r apart is rest =
+    let above = onward (flat.parties == 0) in child_pending above.climb i flat above.phasers r apart (rest (flat.parties == 0))
+other_pending (ComesLate view) i top onward phasers r apart is rest = is
+other_pending IsUnregistered i top onward phasers r apart is rest = is
+
+-- whoever is pending stays so while others arrive
+climbed_pending : (line : List ℕ) (leave : Bool) (phasers : List PhaserState) (r : ℕ) → AreFull phasers
+    → is_pending (flat_at phasers r) ≡ true → is_pending (flat_at (climbed line leave phasers).phasers r) ≡ true
+climbed_pending [] leave phasers r full is = is
+climbed_pending (i ∷ above) leave phasers r full is =
+    let f = flat_at phasers i in
+    let onward : Bool → Climbed = λ leaves. climbed above leaves phasers in
+    elim (cases_eq r i) as (λ _. is_pending (flat_at (climbed_by (arrive leave f) i (is_top above) onward phasers).phasers r) ≡ true) [
+      | inl same ↦
+          let some : is_pending f ≡ true = ap (λ (n : ℕ). is_pending (flat_at phasers n)) (sym same) ∙ is in
+          ap (λ (ps : List PhaserState). is_pending (flat_at ps r))
+          (refuses leave f f.turned f.ended refl refl some (full i) i (is_top above) onward phasers) ∙ is
+      | inr apart ↦
+          other_pending (arrive leave f) i (is_top above) onward phasers r apart is
+          (λ leaves. climbed_pending above leaves phasers r full is)
+    ]
+
+arrival_by-pending : (ended : Bool) (c : Climb) (id : ℕ) (after phasers : List PhaserState) (view : _) (r : ℕ)
+    → is_pending (flat_at phasers r) ≡ true → is_pending (flat_at after r) ≡ true
+    → let a : Arrives = if ended then record { phasers = phasers; answer = arrived.Dead view } else arrival_by c id after phasers in
+    is_pending (flat_at a.phasers r) ≡ true
+arrival_by-pending true c id after phasers view r before now = before
+arrival_by-pending false climb.Counted id after phasers view r before now = now
+arrival_by-pending false climb.Turned id after phasers view r before now = now
+arrival_by-pending false climb.Refused id after phasers view r before now = before
+
+pub arrival_pending : (id : ℕ) (leave : Bool) (phasers : List PhaserState) (r : ℕ) → AreFull phasers
+    → StaysPending r phasers (arrival id leave phasers).phasers
+arrival_pending id leave phasers r full is =
+    let all = climbed (phaser_at phasers id).line leave phasers in
+    arrival_by-pending (flat_at phasers id).ended all.climb id all.phasers phasers (view_of (flat_at phasers id)) r is
+    (climbed_pending (phaser_at phasers id).line leave phasers r full is)
+
+pub force_pending : (id : ℕ) (phasers : List PhaserState) (r : ℕ) → StaysPending r phasers (after_force id phasers)
+force_pending id phasers r is =
+    let there = pending_there phasers r is in
+    let change = force_change id phasers in
+    elim (cases_eq (root_at phasers r) (root_at phasers id)) as (λ _. is_pending (flat_at (after_force id phasers) r) ≡ true) [
+      | inl inside ↦ ap is_pending (change.inside r there inside).1
+      | inr outside ↦ ap is_pending (change.apart r there outside) ∙ is
+    ]
+
+pub turn_pending : (root : ℕ) (ends : Bool) (phasers : List PhaserState) → CanTurn root phasers → (other : ℕ) → other ≢ root
+    → root_at phasers other ≡ other → StaysPending other phasers (after_turn root ends phasers)
+turn_pending root ends phasers can other apart top is =
+    ap is_pending ((turn_change root ends phasers can.there can.top).apart other (pending_there phasers other is) (λ same. apart (sym top ∙ same))) ∙ is
+
+-- as many phasers are there as before
+many_same : (phasers after : List PhaserState) → places_of after ≡ places_of phasers → length after ≡ length phasers
+many_same phasers after same = sym (length-places after) ∙ ap length same ∙ length-places phasers
+
+-- each phaser keeps its policy
+pub policy_same : (before after : List PhaserState) → KeepsPlaces before after → (id : ℕ) → (phaser_at after id).policy ≡ (phaser_at before id).policy
+policy_same before after keeps id =
+    ap (λ (p : Place). p.policy) (place_at-places after id ∙ ap (λ (ps : List Place). get_or ps id (place_of no_phaser)) keeps.places
+    ∙ sym (place_at-places before id))
+
+-- one more phase end may be counted
+pub more_ends : (most : ℕ) (phasers : List PhaserState) → AreTrees most phasers → AreTrees (most + 1) phasers
+more_ends most phasers trees =
+    record { forest = trees.forest; stands = trees.stands; ends = λ id. (let few = trees.ends id in omega (arith, few)) }
+
+pub more_trees : (most : ℕ) (before after : List PhaserState) → KeepsTrees most before after → KeepsTrees (most + 1) before after
+more_trees most before after keeps =
+    record { places = keeps.places; many = keeps.many; trees = more_ends most after keeps.trees; pending = keeps.pending }
+
+-- nothing is done
+pub trees_same : (most : ℕ) (phasers : List PhaserState) → AreTrees most phasers → KeepsTrees most phasers phasers
+trees_same most phasers trees =
+    record { places = keeps_places phasers phasers refl; many = refl; trees = trees; pending = λ root top is. is }
+
+-- a registration
+pub trees_registered : (most id count : ℕ) (phasers : List PhaserState) → AreTrees most phasers → id < length phasers
+    → KeepsTrees most phasers (after_registration id count phasers)
+trees_registered most id count phasers trees there =
+    let after = after_registration id count phasers in
+    let same = registration-places id count phasers in
+    let answer = registration id count phasers in
+    record {
+      places = keeps_places phasers after same;
+      many = many_same phasers after same;
+      trees = record {
+        forest = forest_kept phasers after same trees.forest;
+        stands = (
+          origin_after_registration answer id count trees.stands.0,
+          stands_registered id count phasers after trees.stands.0 answer trees.forest there refl refl trees.stands.1,
+        );
+        ends = λ n. (let few = trees.ends n in let e = registration-ends id count phasers n in omega (arith, few, e));
+      };
+      pending = λ root top is. registration-pending id count phasers root ∙ is;
+    }
+
+-- an arrival
+pub trees_arrived : (most id : ℕ) (leave : Bool) (phasers : List PhaserState) → AreTrees most phasers → id < length phasers
+    → KeepsTrees most phasers (arrival id leave phasers).phasers
+trees_arrived most id leave phasers trees there =
+    let all : Arrives = arrival id leave phasers in
+    let same = arrival-places id leave phasers in
+    record {
+      places = keeps_places phasers all.phasers same;
+      many = many_same phasers all.phasers same;
+      trees = record {
+        forest = forest_kept phasers all.phasers same trees.forest;
+        stands = (
+          after_arrival all.answer id (root_at phasers id) leave trees.stands.0,
+          stands_after_arrival phasers trees.stands.0 id leave all trees.forest there refl trees.stands.1,
+        );
+        ends = λ n. (let few = trees.ends n in let e = arrival-ends id leave phasers n in omega (arith, few, e));
+      };
+      pending = λ root top. arrival_pending id leave phasers root (full_of phasers trees.stands.0 trees.stands.1);
+    }
+
+-- a termination
+pub trees_forced : (most id : ℕ) (phasers : List PhaserState) → AreTrees most phasers → id < length phasers
+    → KeepsTrees most phasers (after_force id phasers)
+trees_forced most id phasers trees there =
+    let after = after_force id phasers in
+    let same = force-places id phasers in
+    record {
+      places = keeps_places phasers after same;
+      many = many_same phasers after same;
+      trees = record {
+        forest = forest_kept phasers after same trees.forest;
+        stands = (trees.stands.0, stands_after_force id phasers after trees.stands.0 trees.forest there refl trees.stands.1);
+        ends = λ n. (let few = trees.ends n in let e = force-ends id phasers n in omega (arith, few, e));
+      };
+      pending = λ root top. force_pending id phasers root;
+    }
+
+-- the count of phase ends grows by one at the root
+if-ends : (here : Bool) (x : PhaserState) (flat : Flat) → (if here then record x { flat = flat } else x).ends ≡ x.ends
+if-ends true x flat = refl
+if-ends false x flat = refl
+
+in_step-ends : (root phase : ℕ) (ended : Bool) (phasers : List PhaserState) (n : ℕ)
+    → (phaser_at (map (in_step root phase ended) phasers) n).ends ≡ (phaser_at phasers n).ends
+in_step-ends root phase ended [] n = refl
+in_step-ends root phase ended (x ∷ phasers) zero = if-ends (root_of x == root) x (follow phase ended x.flat)
+in_step-ends root phase ended (x ∷ phasers) (suc n) = in_step-ends root phase ended phasers n
+
+pub turn-ends : (root most : ℕ) (ends : Bool) (phasers : List PhaserState) → ((id : ℕ) → (phaser_at phasers id).ends ≤ most)
+    → (id : ℕ) → (phaser_at (after_turn root ends phasers) id).ends ≤ most + 1
+turn-ends root most ends phasers few id =
+    let before = phaser_at phasers root in
+    let flat = advance ends before.flat in
+    let moved = map (in_step root flat.phase flat.ended) phasers in
+    let others : (phaser_at moved id).ends ≤ most + 1 =
+    (let kept = in_step-ends root flat.phase flat.ended phasers id in let f = few id in omega (arith, kept, f)) in
+    let own : before.ends + 1 ≤ most + 1 = (let f = few root in omega (arith, f)) in
+    put (λ (x y : PhaserState). x.ends ≤ most + 1 → y.ends ≤ most + 1) (λ x h. h) moved root
+    (record before { flat = flat; ends = before.ends + 1 }) (λ h. own) id others
+
+-- a phase end
+pub trees_turned : (most root : ℕ) (ends : Bool) (phasers : List PhaserState) → AreTrees most phasers → CanTurn root phasers
+    → EndsPhase root most phasers (after_turn root ends phasers)
+trees_turned most root ends phasers trees can =
+    let after = after_turn root ends phasers in
+    let same = turn-places root ends phasers in
+    record {
+      places = keeps_places phasers after same;
+      many = many_same phasers after same;
+      trees = record {
+        forest = forest_kept phasers after same trees.forest;
+        stands = (
+          after_phase_end root phasers trees.stands.0,
+          stands_after_turn root ends phasers after trees.stands.0 trees.forest can.there can.top can.live refl trees.stands.1,
+        );
+        ends = turn-ends root most ends phasers trees.ends;
+      };
+      pending = turn_pending root ends phasers can;
+    }
+
+pub if_turning : (answer : Arrived) (P : PhaserId → Type 0) → IfTurning answer P
+    → (root : PhaserId) (phase : _) (parties : ℕ) → answer ≡ arrived.Turning root phase parties → P root
+if_turning (arrived.At at) P told root phase parties is = absurd (cc (is))
+if_turning (arrived.Turning own at count) P told root phase parties is =
+    let same : own ≡ root = cc (is) in subst P same told
+if_turning (arrived.Dead view) P told root phase parties is = absurd (cc (is))
+if_turning arrived.NotThere P told root phase parties is = absurd (cc (is))
+
+turning_gives : (answer : Arrived) (P Q : PhaserId → Type 0) → ((root : PhaserId) → P root → Q root) → IfTurning answer P → IfTurning answer Q
+turning_gives (arrived.At at) P Q gives told = tt
+turning_gives (arrived.Turning own at count) P Q gives told = gives own told
+turning_gives (arrived.Dead view) P Q gives told = tt
+turning_gives arrived.NotThere P Q gives told = tt
+
+-- who turns a root found it not pending, and its phase can be ended
+pub arrived_can_turn : (most id : ℕ) (leave : Bool) (phasers : List PhaserState) → AreTrees most phasers → most < 2147483647 → id < length phasers
+    → IfTurning (arrival id leave phasers).answer (λ root. (root.0 ≡ root_at phasers id) × (is_pending (flat_at phasers root.0) ≡ false)
+    × CanTurn root.0 (arrival id leave phasers).phasers)
+arrived_can_turn most id leave phasers trees few there =
+    let all : Arrives = arrival id leave phasers in
+    let many = many_same phasers all.phasers (arrival-places id leave phasers) in
+    turning_gives all.answer
+    (λ root. (root.0 < length phasers) × (root.0 ≡ root_at phasers id) × TurnsRoot root.0 phasers all.phasers)
+    (λ root. (root.0 ≡ root_at phasers id) × (is_pending (flat_at phasers root.0) ≡ false) × CanTurn root.0 all.phasers)
+    (λ root told. (
+      told.1,
+      ap (λ (t : Bool). t || (flat_at phasers root.0).ended) told.2.unturned_before ∙ told.2.live_before,
+      record {
+        there = (let within = told.0 in omega (arith, many, within));
+        top = told.2.top;
+        turned = told.2.turned;
+        live = told.2.live;
+        ends = (let kept = arrival-ends id leave phasers root.0 in let below = trees.ends root.0 in omega (arith, kept, below, few));
+      },
+    ))
+    (turning id (length phasers) leave phasers all.phasers all.answer trees.forest there (root_within phasers id trees.forest there)
+    (full_of phasers trees.stands.0 trees.stands.1 (root_at phasers id)) refl)
+
+-- an arrival that is the last of its tree, and the end of the phase with it
+pub trees_turned_at_once : (most id : ℕ) (leave ends : Bool) (phasers : List PhaserState) (root : PhaserId) (phase : _) (parties : ℕ)
+    → AreTrees most phasers → most < 2147483647 → id < length phasers → (arrival id leave phasers).answer ≡ arrived.Turning root phase parties
+    → KeepsTrees (most + 1) phasers (after_turn root.0 ends (arrival id leave phasers).phasers)
+trees_turned_at_once most id leave ends phasers root phase parties trees few there is =
+    let all : Arrives = arrival id leave phasers in
+    let first = trees_arrived most id leave phasers trees there in
+    let told = if_turning all.answer (λ own. (own.0 ≡ root_at phasers id) × (is_pending (flat_at phasers own.0) ≡ false) × CanTurn own.0 all.phasers)
+    (arrived_can_turn most id leave phasers trees few there) root phase parties is in
+    let second = trees_turned most root.0 ends all.phasers first.trees told.2 in
+    let after = after_turn root.0 ends all.phasers in
+    let same : places_of after ≡ places_of phasers = second.places.places ∙ first.places.places in
+    record {
+      places = keeps_places phasers after same;
+      many = second.many ∙ first.many;
+      trees = second.trees;
+      pending = λ other top was. elim (cases_eq other root.0) as (λ _. is_pending (flat_at after other) ≡ true) [
+        | inl own ↦
+            let none : is_pending (flat_at phasers other) ≡ false = ap (λ (n : ℕ). is_pending (flat_at phasers n)) own ∙ told.1 in
+            absurd (cc (none, was))
+        | inr apart ↦ second.pending other apart (first.places.roots other ∙ top) (first.pending other top was)
+      ];
+    }
+
+-- a forest in which no phase has ended
+pub trees_begin : (forest : List Stored) (origin : Origin) → IsStored forest → StandsFor (phasers_of forest) origin
+    → ((id : ℕ) → (phaser_at (phasers_of forest) id).ends ≡ 0) → AreTrees 0 (phasers_of forest)
+trees_begin forest origin stored stands none =
+    record { forest = stored.places; stands = (origin, stands); ends = λ id. (let e = none id in omega (arith, e)) }
