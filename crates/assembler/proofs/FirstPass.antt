@@ -4,7 +4,7 @@ use Rattle.std.proofs.lemmas.List.{length-take, length-drop, drop-drop, take-tak
 use Rattle.line_reader.specs.declared.asm_fault.AsmFault.{AsmFault}
 use Rattle.line_reader.specs.declared.statement.Line.{Line}
 use Rattle.line_reader.specs.Symbols.{Name}
-use Rattle.line_reader.specs.Reading.{◌>>=◌}
+use Rattle.row_code.specs.Answers.{◌>>=◌}
 use Rattle.assembler.specs.Reading.{line_behind}
 use Rattle.assembler.specs.Passes.{behind, lines_read}
 use Rattle.assembler.proofs.ReadLines.{lines_read-middle}

@@ -12,7 +12,7 @@ use Rattle.line_reader.specs.Words.{lines_of}
 use Rattle.line_reader.specs.Symbols.{Name}
 use Rattle.assembler.specs.Statements.{EachFollows}
 use Rattle.assembler.specs.Meaning.{are_known, image_of, SayInOrder, StandsFor}
-use Rattle.line_reader.specs.Reading.{◌>>=◌}
+use Rattle.row_code.specs.Answers.{◌>>=◌}
 use Rattle.assembler.specs.Reading.{line_behind}
 use Rattle.assembler.specs.Answers.{AnswersAt, FailsAt}
 use Rattle.assembler.specs.Passes.{behind, lines_read, first_unknown, looked_up, assembled}

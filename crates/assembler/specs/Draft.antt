@@ -6,6 +6,7 @@ use Rattle.instruction_table.specs.declared.shape.OperandKind.{OperandKind}
 use Rattle.instruction_table.specs.declared.shape.OperandKind.TheVariants as kind
 use Rattle.assembler.specs.declared.draft.Counts.{Counts}
 use Rattle.assembler.specs.declared.draft.Place.{Place}
+use Rattle.assembler.specs.declared.name_hash.NameKey.{NameKey}
 use Rattle.line_reader.specs.declared.statement.Line.{Line}
 use Rattle.line_reader.specs.Symbols.{Name}
 use Rattle.line_reader.specs.Seen.{Borrowed}
@@ -26,8 +27,9 @@ number_there k None = None
 number_there k (Some place) = if is_kind k place.kind then Some place.number else None
 
 -- what a map has at each name
-abbrev pub places : {S : Type 0} → IndexMap Borrowed Place S → Borrowed → Option Place
-places names name = get (λ a b. bytes_eq a.now b.now) names name
+abbrev pub places : {S : Type 0} → IndexMap NameKey Place S → Borrowed → Option Place
+places names name =
+    get (λ a b. bytes_eq a.bytes.now b.bytes.now) names (record { bytes = name })
 
 -- names by what they name, counts and whether there is code are those of the lines
 pub record IsKept (lines : List (Line Name)) (names : Borrowed → Option Place) (counts : Counts)

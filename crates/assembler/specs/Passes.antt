@@ -9,7 +9,7 @@ use Rattle.line_reader.specs.declared.statement.Statement.{Statement}
 use Rattle.line_reader.specs.Words.{lines_of}
 use Rattle.line_reader.specs.Symbols.{Name}
 use Rattle.assembler.specs.Meaning.{are_known, image_of}
-use Rattle.line_reader.specs.Reading.{◌>>=◌}
+use Rattle.row_code.specs.Answers.{◌>>=◌}
 use Rattle.assembler.specs.Reading.{line_behind}
 
 -- the lines before, and what the line of this number says behind them

@@ -9,7 +9,8 @@ use Rattle.line_reader.specs.declared.statement.Statement.{Statement}
 use Rattle.line_reader.specs.declared.statement.Statement.TheVariants as statement
 use Rattle.line_reader.specs.Words.{is_allowed, words_of}
 use Rattle.line_reader.specs.Symbols.{Name}
-use Rattle.line_reader.specs.Reading.{◌>>=◌, check, name_at, row_at, is_directive, directive_at, is_label, before_last}
+use Rattle.row_code.specs.Answers.{◌>>=◌}
+use Rattle.line_reader.specs.Reading.{check, name_at, row_at, is_directive, directive_at, is_label, before_last}
 use Rattle.assembler.specs.Statements.{name_in, is_new, has_code, has_room}
 
 -- a directive behind these lines: it comes before all code, with a new name, while there is room

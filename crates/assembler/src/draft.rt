@@ -7,7 +7,7 @@ ghost use Rattle.assembler.specs.Statements.{Follows, adds, has_code, has_room, 
 ghost use Rattle.line_reader.specs.Symbols.{Name};
 ghost use Rattle.line_reader.specs.Seen.{Borrowed, line_seen, name_seen, reference_seen, statement_seen};
 
-use crate::name_hash::NameHash;
+use crate::name_hash::{NameHash, NameKey};
 use indexmap::IndexMap;
 use instruction_table::OperandKind;
 use line_reader::reference::Reference;
@@ -36,7 +36,7 @@ pub struct Counts {
 #[derive(Drop)]
 pub struct Draft<'a> {
     lines: Vec<Line<&'a [u8]>>,
-    names: IndexMap<&'a [u8], Place, NameHash>,
+    names: IndexMap<NameKey<'a>, Place, NameHash>,
     counts: Counts,
     has_code: bool,
 }
@@ -160,7 +160,7 @@ fn place_behind(counts: &Counts, statement: &Statement<&[u8]>) -> Place
 
 /// Adds a name, where there is one: none where memory is refused.
 fn add_name<'a>(
-    names: &mut IndexMap<&'a [u8], Place, NameHash>,
+    names: &mut IndexMap<NameKey<'a>, Place, NameHash>,
     name: Option<&'a [u8]>,
     place: Place,
 ) -> Result<(), AllocError>
@@ -169,7 +169,7 @@ fn add_name<'a>(
     ensures kept { IfErr result (λ _. (q : Borrowed) → places names.new q ≡ places names.old q) }
 {
     if let Some(name) = name {
-        names.insert(name, place)?;
+        names.insert(NameKey { bytes: name }, place)?;
     }
     Ok(())
 }
@@ -227,7 +227,7 @@ impl<'a> Draft<'a> {
     pub fn is_given(&self, name: &[u8]) -> bool
         ensures { result ≡ is_given name.now self.now }
     {
-        self.names.get(&name).is_some()
+        self.names.get(&NameKey { bytes: name }).is_some()
     }
 
     /// Whether there is room for what a statement adds.
@@ -249,7 +249,7 @@ impl<'a> Draft<'a> {
     {
         match reference {
             Reference::Numbered(number) => Some(*number),
-            Reference::Named(name) => number_there(kind, self.names.get(name)),
+            Reference::Named(name) => number_there(kind, self.names.get(&NameKey { bytes: *name })),
         }
     }
 

@@ -1,7 +1,9 @@
-ghost use Rattle.std.specs.Prelude.{◌≡◌};
+ghost use Rattle.std.specs.Prelude.{◌≡◌, [], ◌∷◌, bytes_eq};
+ghost use Rattle.std.proofs.Common.{rules};
+ghost use Rattle.std.specs.Cmp.Rules.{comparing, hashing};
 ghost use Rattle.std.specs.Hash.DefaultHasher.{initial, write};
 
-use std::hash::{BuildHasher, DefaultHasher, Hasher};
+use std::hash::{BuildHasher, DefaultHasher, Hash, Hasher};
 
 /// Hashes each name behind the whole text that it stands in.
 ///
@@ -31,5 +33,35 @@ impl BuildHasher for NameHash {
 
     fn build_hasher(&self) -> DefaultHasher {
         self.behind_text
+    }
+}
+
+/// A name as the map of names has it: its bytes are hashed in one piece.
+#[derive(Clone, Copy)]
+pub struct NameKey<'a> {
+    pub bytes: &'a [u8],
+}
+
+impl<'a> PartialEq for NameKey<'a> {
+    ghost eq = { λ a b. bytes_eq a.bytes.now b.bytes.now };
+
+    ghost laws = { Prim.search (comparing, rules) };
+
+    fn eq(&self, other: &NameKey<'a>) -> bool {
+        self.bytes == other.bytes
+    }
+}
+
+impl<'a> Eq for NameKey<'a> {
+    ghost laws = { Prim.search (comparing, rules) };
+}
+
+impl<'a> Hash for NameKey<'a> {
+    ghost hash_input = { λ name. name.bytes.now ∷ [] };
+
+    ghost respects_eq = { Prim.search (hashing, rules) };
+
+    fn hash<H: Hasher>(&self, state: &mut H) {
+        state.write(self.bytes);
     }
 }

@@ -1,8 +1,7 @@
 ghost use Rattle.std.specs.Prelude.{◌≡◌, map, option_map};
 ghost use Rattle.line_reader.specs.Seen.{seen};
-ghost use Rattle.assembler.specs.Answers.{Answers};
 ghost use Rattle.line_reader.specs.Reading.{before_last, is_label};
-ghost use Rattle.assembler.specs.Reading.{directive_behind, labelled_behind, line_behind, row_behind, statement_behind, words_behind};
+ghost use Rattle.assembler.specs.Reading.{directive_behind, labelled_behind, row_behind, statement_behind};
 ghost use Rattle.assembler.specs.Statements.{is_new};
 ghost use Rattle.line_reader.specs.Seen.{name_seen, statement_seen};
 
@@ -13,11 +12,6 @@ use line_reader::label::{before_last, is_label};
 use line_reader::name::name_at;
 use line_reader::statement::Statement;
 use line_reader::symbolic_row::row_at;
-use line_reader::words::{are_allowed, words_of};
-use std::alloc::Global;
-
-/// The most bytes that a line holds.
-const LONGEST_LINE: usize = 256;
 
 /// Whether the name that a statement gives, if any, is new.
 fn is_new(draft: &Draft, name: Option<&[u8]>) -> bool
@@ -93,7 +87,7 @@ fn labelled_behind<'a>(
 
 /// Reads a line of one word or more behind the lines so far.
 #[tactic(auto, unfolding(crate::specs::Reading::statement_behind))]
-fn statement_behind<'a>(
+pub fn statement_behind<'a>(
     draft: &Draft<'a>,
     word: &'a [u8],
     words: &[&'a [u8]],
@@ -112,38 +106,4 @@ fn statement_behind<'a>(
     } else {
         row_behind(draft, None, word, words)
     }
-}
-
-/// Reads the words of a line behind the lines so far.
-#[tactic(auto, unfolding(crate::specs::Reading::words_behind))]
-fn words_behind<'a>(
-    draft: &Draft<'a>,
-    words: &[&'a [u8]],
-) -> Result<Option<Statement<&'a [u8]>>, AsmFaultKind>
-    ensures { seen (option_map statement_seen) result
-        ≡ words_behind draft.now (map name_seen words.now) }
-{
-    match words {
-        [] => Ok(None),
-        [word, operands @ ..] => Ok(Some(statement_behind(draft, *word, operands)?)),
-    }
-}
-
-/// Reads a line behind the lines so far: `None` where it says nothing.
-#[tactic(auto, unfolding(crate::specs::Reading::line_behind))]
-pub fn line_behind<'a>(
-    alloc: Global,
-    draft: &Draft<'a>,
-    line: &'a [u8],
-) -> Result<Option<Statement<&'a [u8]>>, AsmFaultKind>
-    ensures { Answers (option_map statement_seen) result (line_behind draft.now line.now) }
-{
-    if !are_allowed(line) {
-        return Err(AsmFaultKind::BadByte);
-    }
-    if line.len() > LONGEST_LINE {
-        return Err(AsmFaultKind::LongLine);
-    }
-    let words = words_of(alloc, line)?;
-    words_behind(draft, &words)
 }

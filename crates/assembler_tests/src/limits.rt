@@ -49,15 +49,21 @@ fn a_line_holds_256_bytes_and_a_name_32(rt: HostRuntime) -> Result<(), Fail> {
     Ok(())
 }
 
-/// A text of so many lines of each kind: phasers, barriers, threads, cells and rows.
-fn text_of(alloc: Global, counts: [u32; 5]) -> Result<String, AllocError> {
-    let [phasers, barriers, threads, cells, rows] = counts;
+/// What a line of each kind begins and ends with: phasers, barriers, threads, cells and rows.
+const KINDS: [(&'static str, &'static str); 5] = [
+    (".phaser p", " 1\n"),
+    (".barrier b", " 1\n"),
+    (".thread t", " #0\n"),
+    (".cell c", "\n"),
+    ("l", ": halt\n"),
+];
+
+/// A text of so many lines of each kind.
+fn text_of(alloc: Global, counts: &[u32]) -> Result<String, AllocError> {
     let mut text = String::new(alloc);
-    add_lines(&mut text, ".phaser p", phasers, " 1\n")?;
-    add_lines(&mut text, ".barrier b", barriers, " 1\n")?;
-    add_lines(&mut text, ".thread t", threads, " #0\n")?;
-    add_lines(&mut text, ".cell c", cells, "\n")?;
-    add_lines(&mut text, "l", rows, ": halt\n")?;
+    for (kind, count) in KINDS.iter().zip(counts) {
+        add_lines(&mut text, kind.0, *count, kind.1)?;
+    }
     Ok(text)
 }
 
@@ -70,7 +76,9 @@ fn add_lines(text: &mut String, begin: &str, count: u32, end: &str) -> Result<()
 }
 
 /// Counts of lines, a line behind them, and the line and the kind of the fault, where there is one.
-const COUNTS: [([u32; 5], &'static str, u64, Option<AsmFaultKind>); 17] = [
+type Counted = ([u32; 5], &'static str, u64, Option<AsmFaultKind>);
+
+const COUNTS: [Counted; 9] = [
     ([64, 64, 64, 32, 64], "", 0, None),
     ([64, 0, 0, 0, 0], "", 0, None),
     ([65, 0, 0, 0, 0], "", 65, Some(TooMany)),
@@ -80,7 +88,10 @@ const COUNTS: [([u32; 5], &'static str, u64, Option<AsmFaultKind>); 17] = [
     ([1, 1, 1, 1, 65535], "", 0, None),
     ([0, 0, 0, 0, 65536], "", 65536, Some(TooMany)),
     ([0, 0, 0, 0, 65537], "", 65536, Some(TooMany)),
-    // one too many is the last fault of its line
+];
+
+/// The same, where one too many is the last fault of its line.
+const LAST_FAULTS: [Counted; 8] = [
     ([64, 0, 0, 0, 0], ".phaser p64 1 x", 65, Some(BadOption)),
     ([64, 0, 0, 0, 0], ".phaser p0 1", 65, Some(NameTwice)),
     ([0, 0, 0, 32, 0], ".cell 9", 33, Some(BadName)),
@@ -96,23 +107,40 @@ const COUNTS: [([u32; 5], &'static str, u64, Option<AsmFaultKind>); 17] = [
     ),
 ];
 
+/// The lines that are counted, with the one behind them.
+fn counted_text(alloc: Global, counts: &[u32], last: &str) -> Result<String, AllocError> {
+    let mut text = text_of(alloc, counts)?;
+    text.push_str(last)?;
+    Ok(text)
+}
+
 /// Whether a text has this fault, or none.
-fn is_counted(alloc: Global, text: &str, line: u64, fault: Option<AsmFaultKind>) -> bool {
+fn has_fault(alloc: Global, text: &str, line: u64, fault: Option<AsmFaultKind>) -> bool {
     match fault {
         None => assemble(alloc, text.as_bytes()).is_ok(),
         Some(kind) => is_refused(alloc, text.as_bytes(), line, kind),
     }
 }
 
+/// Whether a text of these lines has the fault, or none.
+fn is_counted(alloc: Global, counted: &Counted) -> Result<bool, AllocError> {
+    let (counts, last, line, fault) = counted;
+    let text = counted_text(alloc, counts, *last)?;
+    Ok(has_fault(alloc, &text, *line, *fault))
+}
+
 #[test]
 fn there_are_64_objects_32_cells_and_65535_rows(rt: HostRuntime) -> Result<(), Fail> {
-    for (counts, last, line, fault) in &COUNTS {
-        let mut text = text_of(rt.alloc(), *counts)?;
-        text.push_str(*last)?;
-        assert!(rt;
-            is_counted(rt.alloc(), &text, *line, *fault),
-            "{last} {line}"
-        );
+    for counted in &COUNTS {
+        assert!(rt; is_counted(rt.alloc(), counted)?);
+    }
+    Ok(())
+}
+
+#[test]
+fn one_too_many_is_the_last_fault_of_its_line(rt: HostRuntime) -> Result<(), Fail> {
+    for counted in &LAST_FAULTS {
+        assert!(rt; is_counted(rt.alloc(), counted)?);
     }
     Ok(())
 }

@@ -1,2 +1,3 @@
 pub mod TableLemmas
 pub mod Wrapping
+pub mod WordSlots

@@ -1,11 +1,8 @@
-use Rattle.std.proofs.Common.{◌≡◌, ℕ, zero, suc, ◌+◌, ◌<◌, ◌≤◌, nat_lt, Bool, true, false, cond, not, ◌&&◌, ◌==◌, List, [], ◌∷◌, length, Some, unwrap_or, IfSome, All, slice_index_or, bytes_eq, refl, ap, sym, ◌∙◌, arith, rules, add-one, zero-add, drop-cons}
+use Rattle.std.proofs.Common.{◌≡◌, ℕ, zero, suc, ◌+◌, ◌<◌, ◌≤◌, nat_lt, Bool, true, false, cond, not, ◌&&◌, ◌==◌, List, [], ◌∷◌, length, Some, unwrap_or, IfSome, All, slice_index_or, bytes_eq, refl, ap, sym, ◌∙◌, arith, rules, zero-add}
 use Rattle.std.proofs.lemmas.Bool.Decides.{nat_tests}
 use Rattle.std.proofs.lemmas.Grind.{common_steps}
 use Rattle.std.proofs.lemmas.List.{get_or_default}
 use Rattle.instruction_table.specs.Table.{Entry, no_entry, entry_named, table}
-
--- a list from one place on is the element there, and the list from the next place on
-pub ruleset steps = (drop-cons, add-one)
 
 -- a test: no entry has this word
 abbrev pub lacks : List Entry → List ℕ → Bool
@@ -27,7 +24,7 @@ abbrev pub are_short : List Entry → Bool
 are_short [] = true
 are_short (e ∷ es) = nat_lt (length e.operands) 5 && are_short es
 
-same_word : (word : List ℕ) → bytes_eq word word ≡ true
+pub same_word : (word : List ℕ) → bytes_eq word word ≡ true
 same_word word = search rules
 
 -- an entry of a list that lacks a word has another word
@@ -58,7 +55,7 @@ short-at (x ∷ xs) zero d short within = grind (arith, nat_tests, common_steps,
 short-at (x ∷ xs) (suc j) d short within = grind (arith, common_steps, short-at xs j d)
 
 -- what a look-up finds is an entry
-found_is_entry : (P : Entry → Type 0) (es : List Entry) (word : List ℕ) → All P es → IfSome (entry_named es word) P
+pub found_is_entry : (P : Entry → Type 0) (es : List Entry) (word : List ℕ) → All P es → IfSome (entry_named es word) P
 found_is_entry P [] word each = tt
 found_is_entry P (x ∷ xs) word each =
     let rest : All P xs = λ k d within. each (suc k) d (omega (arith, within)) in
@@ -66,7 +63,7 @@ found_is_entry P (x ∷ xs) word each =
     [ true ↦ each 0 x (omega arith) | false ↦ found_is_entry P xs word rest ]
 
 -- the instruction table passes both tests
-table_distinct : are_distinct table ≡ true
+pub table_distinct : are_distinct table ≡ true
 table_distinct = refl
 
 pub table_placed : are_placed 0 table ≡ true

@@ -1,4 +1,4 @@
-use Rattle.std.specs.Prelude.{ℕ, List, [], ◌∷◌, codes, bytes_eq, find, Option, slice_index_or}
+use Rattle.std.specs.Prelude.{ℕ, List, [], ◌∷◌, codes, bytes_eq, find, Option, Some, None, if◌then◌else◌, slice_index_or}
 use Rattle.std.specs.Borrow.{Bor}
 use Rattle.instruction_table.specs.declared.row.Row.{Row}
 use Rattle.instruction_table.specs.declared.shape.OperandKind.{OperandKind}
@@ -74,6 +74,11 @@ entry_listed line = entry line.0 line.1.now line.2.now
 -- the entry with this word, if there is one: the first, where there were more
 abbrev pub entry_named : List Entry → List ℕ → Option Entry
 entry_named entries word = find (λ e. bytes_eq e.word word) entries
+
+-- an entry that was looked up, where it has this word
+abbrev pub filled_by : List ℕ → Option Entry → Option Entry
+filled_by word None = None
+filled_by word (Some e) = if bytes_eq e.word word then Some e else None
 
 -- stands for what lies past the table's end, where no row's entry is looked for
 abbrev pub no_entry : Entry

@@ -1,6 +1,6 @@
 ghost use Rattle.std.specs.Prelude.{◌≡◌, ◌<◌, ◌≤◌, All, IfSome, Some, map, option_map, length, slice_index_or, slice_get};
 ghost use Rattle.instruction_table.specs.Row.{opcode_of};
-ghost use Rattle.instruction_table.specs.Table.{no_entry, entry_listed, entry_of, entry_named, table, entry_for};
+ghost use Rattle.instruction_table.specs.Table.{Entry, no_entry, entry_listed, filled_by, entry_of, entry_named, table, entry_for};
 
 use crate::row::{Row, opcode};
 use crate::shape::OperandKind::{Barrier, Cell, Number, Phaser, Register, Target, Thread};
@@ -66,16 +66,53 @@ fn shape_listed(listed: Listed) -> Shape
     }
 }
 
-#[tactic(auto, using(crate::proofs::TableLemmas::steps))]
-fn shape_in(entries: &[Listed], word: &[u8]) -> Option<Shape>
-    ensures { option_map entry_of result ≡ entry_named (map entry_listed entries.now) word.now }
+/// For each slot the place of the entry whose word has it; 255 where no word has it. Words of two
+/// entries have two slots.
+const PLACES: [u8; 128] = [
+    255, 255, 255, 255, 255, 255, 255, 36, 255, 31, 255, 33, 13, 255, 255, 255, 255, 16, 255, 34,
+    255, 27, 255, 255, 255, 2, 255, 6, 255, 255, 17, 14, 255, 255, 255, 22, 255, 23, 255, 255, 19,
+    255, 255, 255, 7, 255, 255, 255, 255, 26, 35, 41, 255, 0, 12, 255, 1, 4, 15, 255, 255, 255, 5,
+    25, 40, 255, 32, 255, 255, 255, 24, 28, 9, 255, 255, 255, 255, 255, 21, 255, 255, 255, 10, 255,
+    255, 255, 11, 255, 255, 255, 255, 255, 255, 18, 255, 255, 255, 255, 255, 255, 255, 8, 255, 255,
+    255, 20, 37, 255, 3, 255, 255, 255, 255, 30, 39, 255, 255, 255, 255, 255, 255, 38, 255, 255,
+    255, 255, 255, 29,
+];
+
+/// The place of the entry that has this word, where there is one. It is found by the word's slot,
+/// which is made of its length and three of its letters.
+fn place_of(word: &[u8]) -> u8
+    ensures { (e : Entry) → entry_named table word.now ≡ Some e → result ≡ e.opcode }
 {
-    for entry in entries {
-        if entry.1.as_bytes() == word {
-            return Some(shape_listed(*entry));
+    match word {
+        [first, second, .., last] => {
+            let letters = usize::from(*first) + 5 * usize::from(*second) + 13 * usize::from(*last);
+            PLACES[(word.len() + letters) % 128]
         }
+        _ => 255,
     }
-    None
+}
+
+/// The shape at this place, where there is one that has this word.
+fn shape_there(entries: &[Listed], place: u8, word: &[u8]) -> Option<Shape>
+    ensures { option_map entry_of result
+        ≡ filled_by word.now (slice_get (map entry_listed entries.now) place) }
+{
+    match entries.get(usize::from(place)) {
+        Some(listed) => {
+            if listed.1.as_bytes() == word {
+                Some(shape_listed(*listed))
+            } else {
+                None
+            }
+        }
+        None => None,
+    }
+}
+
+fn shape_named(word: &[u8]) -> Option<Shape>
+    ensures { option_map entry_of result ≡ entry_named table word.now }
+{
+    shape_there(&TABLE, place_of(word), word)
 }
 
 fn shape_at(entries: &[Listed], place: u8) -> Shape
@@ -95,7 +132,7 @@ pub fn shape_of(word: &[u8]) -> Option<Shape>
     ensures place { IfSome result (λ s. slice_index_or table s.opcode no_entry ≡ entry_of s) }
     ensures short { IfSome result (λ s. length s.operands.now ≤ 4) }
 {
-    shape_in(&TABLE, word)
+    shape_named(word)
 }
 
 /// The row's shape: what `shape_of` answers to its word.

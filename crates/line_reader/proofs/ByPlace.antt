@@ -11,7 +11,8 @@ use Rattle.line_reader.specs.declared.symbolic_row.Operand.TheVariants as operan
 use Rattle.line_reader.specs.declared.symbolic_row.SymbolicRow.{SymbolicRow}
 use Rattle.line_reader.specs.Symbols.{Name}
 use Rattle.line_reader.specs.Spelling.{with_operands}
-use Rattle.line_reader.specs.Reading.{◌>>=◌, operand_at, row_of_kinds}
+use Rattle.row_code.specs.Answers.{◌>>=◌}
+use Rattle.line_reader.specs.Reading.{operand_at, row_of_kinds}
 use Rattle.line_reader.specs.Seen.{Borrowed, name_seen}
 
 abbrev Read : Type 0

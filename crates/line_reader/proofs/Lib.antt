@@ -1,4 +1,5 @@
 pub mod Steps
+pub mod Extended
 pub mod Places
 pub mod Digits
 pub mod Registers

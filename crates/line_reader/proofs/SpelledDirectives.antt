@@ -13,7 +13,8 @@ use Rattle.line_reader.specs.declared.statement.Statement.TheVariants as stateme
 use Rattle.line_reader.specs.Names.{is_name}
 use Rattle.line_reader.specs.Symbols.{Name}
 use Rattle.line_reader.specs.Spelling.{greatest_int, greatest_number, SpellsReference, SpellsParties, SpellReference, SpellFirstPhase, SpellPolicy, Spell}
-use Rattle.line_reader.specs.Reading.{◌>>=◌, name_at, number_at, count_at, reference_at, argument_at, reference_option_at, first_phase_at, policy_at, end_at, phaser_at, barrier_at, thread_at, cell_at, is_directive, directive_at}
+use Rattle.row_code.specs.Answers.{◌>>=◌}
+use Rattle.line_reader.specs.Reading.{name_at, number_at, count_at, reference_at, argument_at, reference_option_at, first_phase_at, policy_at, end_at, phaser_at, barrier_at, thread_at, cell_at, is_directive, directive_at}
 use Rattle.line_reader.proofs.Steps.{bind_ok, bound, done, ok_is, by_test, is_bytes}
 use Rattle.line_reader.proofs.SpelledNumbers.{name_takes, name_again, number_takes, number_again, count_takes, count_again, reference_takes, reference_again}
 

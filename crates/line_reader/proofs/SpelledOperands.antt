@@ -16,7 +16,8 @@ use Rattle.line_reader.specs.declared.symbolic_row.Operand.TheVariants as operan
 use Rattle.line_reader.specs.declared.symbolic_row.SymbolicRow.{SymbolicRow}
 use Rattle.line_reader.specs.Symbols.{Name}
 use Rattle.line_reader.specs.Spelling.{least_int, greatest_int, greatest_number, register_word, IsObject, SpellsOperand, SpellOperands, SpellRow}
-use Rattle.line_reader.specs.Reading.{◌>>=◌, registers, found_or, number_at, reference_at, register_at, operand_at, row_at}
+use Rattle.row_code.specs.Answers.{◌>>=◌}
+use Rattle.line_reader.specs.Reading.{registers, found_or, number_at, reference_at, register_at, operand_at, row_at}
 use Rattle.line_reader.proofs.ByPlace.{operands_at, rowed, by_place}
 use Rattle.line_reader.proofs.Steps.{bind_ok, bound, ok_is, check_ok, by_test, is_bytes}
 use Rattle.line_reader.proofs.SpelledNumbers.{number_takes, number_again, reference_takes, reference_again}

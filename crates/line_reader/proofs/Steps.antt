@@ -2,7 +2,8 @@
 use Rattle.std.proofs.Common.{◌≡◌, ℕ, Bool, true, false, cond, not, ◌&&◌, ◌||◌, List, bytes_eq, Result, Ok, Err, refl}
 use Rattle.std.proofs.lemmas.Slice.Eq.{bytes_eq-Decides}
 use Rattle.line_reader.specs.declared.asm_fault.AsmFaultKind.{AsmFaultKind}
-use Rattle.line_reader.specs.Reading.{◌>>=◌, check}
+use Rattle.row_code.specs.Answers.{◌>>=◌}
+use Rattle.line_reader.specs.Reading.{check}
 
 -- the value of a step that did not fail
 pub bind_ok : {A B : Type 0} (r : Result A AsmFaultKind) (f : A → Result B AsmFaultKind) (y : B) →

@@ -7,6 +7,7 @@ use Rattle.instruction_table.specs.declared.register.Reg.TheVariants.{R0, R1, R2
 use Rattle.instruction_table.specs.declared.shape.OperandKind.{OperandKind}
 use Rattle.instruction_table.specs.declared.shape.OperandKind.TheVariants as kind
 use Rattle.instruction_table.specs.Table.{table, entry_named}
+use Rattle.row_code.specs.Answers.{◌>>=◌}
 use Rattle.line_reader.specs.declared.asm_fault.AsmFaultKind.{AsmFaultKind}
 use Rattle.line_reader.specs.declared.asm_fault.AsmFaultKind.TheVariants as fault
 use Rattle.line_reader.specs.declared.reference.Reference.{Reference}
@@ -25,12 +26,6 @@ use Rattle.line_reader.specs.Names.{is_name}
 use Rattle.line_reader.specs.Numbers.{is_number, digits_in, value_in}
 use Rattle.line_reader.specs.Symbols.{Name}
 use Rattle.line_reader.specs.Spelling.{least_int, greatest_int, greatest_number, register_word}
-
--- what is read or checked next, where nothing failed before it
-infixl 10 ◌>>=◌
-abbrev pub ◌>>=◌ : {A B E : Type 0} → Result A E → (A → Result B E) → Result B E
-(Ok x) >>= f = f x
-(Err e) >>= f = Err e
 
 -- nothing, where a check is met, else its fault
 abbrev pub check : Bool → AsmFaultKind → Result (Unit {0}) AsmFaultKind
@@ -159,11 +154,9 @@ abbrev pub end_at : List (List ℕ) → Result (Unit {0}) AsmFaultKind
 end_at [] = Ok tt
 end_at (word ∷ rest) = Err fault.BadOption
 
--- the operands of each directive
-unfoldable pub phaser_at : List (List ℕ) → Result (SymbolicPhaser Name) AsmFaultKind
-phaser_at (name ∷ parties ∷ options) = do
-  name ← name_at name
-  parties ← count_at 65535 parties
+-- a phaser from its name, its parties and the words behind them
+abbrev pub phaser_with : Name → ℕ → List (List ℕ) → Result (SymbolicPhaser Name) AsmFaultKind
+phaser_with name parties options = do
   parent ← reference_option_at (codes "parent") 63 options
   phase ← first_phase_at parent.1
   policy ← policy_at phase.1
@@ -175,6 +168,13 @@ phaser_at (name ∷ parties ∷ options) = do
     first_phase = phase.0;
     policy = policy.0;
   })
+
+-- the operands of each directive
+unfoldable pub phaser_at : List (List ℕ) → Result (SymbolicPhaser Name) AsmFaultKind
+phaser_at (name ∷ parties ∷ options) = do
+  name ← name_at name
+  parties ← count_at 65535 parties
+  phaser_with name parties options
 phaser_at _ = Err fault.OperandCount
 
 unfoldable pub barrier_at : List (List ℕ) → Result (SymbolicBarrier Name) AsmFaultKind

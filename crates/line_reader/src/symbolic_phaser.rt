@@ -1,6 +1,6 @@
 ghost use Rattle.std.specs.Prelude.{◌≡◌, map};
 ghost use Rattle.line_reader.specs.Seen.{seen};
-ghost use Rattle.line_reader.specs.Reading.{first_phase_at, phaser_at, policy_at};
+ghost use Rattle.line_reader.specs.Reading.{first_phase_at, phaser_at, phaser_with, policy_at};
 ghost use Rattle.line_reader.specs.Seen.{name_seen, phaser_seen, policy_seen};
 
 use crate::argument::{end_at, phase_argument, reference_argument, reference_option_at};
@@ -76,16 +76,15 @@ fn policy_at<'a, 'w>(
     }
 }
 
-/// Reads the operands of `.phaser`.
-#[tactic(auto, unfolding(crate::specs::Reading::phaser_at))]
-pub fn phaser_at<'a>(words: &[&'a [u8]]) -> Result<SymbolicPhaser<&'a [u8]>, AsmFaultKind>
-    ensures { seen phaser_seen result ≡ phaser_at (map name_seen words.now) }
+/// Reads the options of a phaser of this name and so many parties.
+fn phaser_with<'a>(
+    name: &'a [u8],
+    parties: u16,
+    options: &[&'a [u8]],
+) -> Result<SymbolicPhaser<&'a [u8]>, AsmFaultKind>
+    ensures { seen phaser_seen result
+        ≡ phaser_with name.now parties (map name_seen options.now) }
 {
-    let [name, parties, options @ ..] = words else {
-        return Err(AsmFaultKind::OperandCount);
-    };
-    let name = name_at(*name)?;
-    let parties = count_at(u16::MAX, *parties)?;
     let (parent, rest) = reference_option_at("parent", LAST_PHASER, options)?;
     let (first_phase, rest) = first_phase_at(rest)?;
     let (policy, rest) = policy_at(rest)?;
@@ -97,4 +96,17 @@ pub fn phaser_at<'a>(words: &[&'a [u8]]) -> Result<SymbolicPhaser<&'a [u8]>, Asm
         first_phase,
         policy,
     })
+}
+
+/// Reads the operands of `.phaser`.
+#[tactic(auto, unfolding(crate::specs::Reading::phaser_at))]
+pub fn phaser_at<'a>(words: &[&'a [u8]]) -> Result<SymbolicPhaser<&'a [u8]>, AsmFaultKind>
+    ensures { seen phaser_seen result ≡ phaser_at (map name_seen words.now) }
+{
+    let [name, parties, options @ ..] = words else {
+        return Err(AsmFaultKind::OperandCount);
+    };
+    let name = name_at(*name)?;
+    let parties = count_at(u16::MAX, *parties)?;
+    phaser_with(name, parties, options)
 }

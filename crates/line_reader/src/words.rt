@@ -3,7 +3,7 @@ ghost use Rattle.std.specs.List.{before_first, list_all, position, position_or_l
 ghost use Rattle.line_reader.specs.Seen.{name_seen};
 ghost use Rattle.line_reader.specs.Words.{begins_comment, is_allowed, is_blank, is_line_end, words_of};
 
-use std::alloc::{AllocError, Global};
+use std::alloc::AllocError;
 
 /// Space, tab and CR.
 pub fn is_blank(byte: u8) -> bool
@@ -22,7 +22,7 @@ pub fn is_line_end(byte: u8) -> bool
 fn is_allowed(byte: u8) -> bool
     ensures { result ≡ is_allowed byte }
 {
-    byte == b'\t' || byte == b'\r' || (31 < byte && byte < 127)
+    (31 < byte && byte < 127) || byte == b'\t' || byte == b'\r'
 }
 
 /// Whether a line may hold each of its bytes, those of its comment among them.
@@ -58,13 +58,13 @@ pub fn before_comment(line: &[u8]) -> &[u8]
     &line[..length_before(b';', line)]
 }
 
-/// The words of a line.
-pub fn words_of(alloc: Global, line: &[u8]) -> Result<Vec<&[u8]>, AllocError>
-    ensures { IfOk result (λ words. map name_seen words.items ≡ words_of line.now) }
+/// Puts the words of a line in the place of what the list held.
+pub fn read_words<'a>(words: &mut Vec<&'a [u8]>, line: &'a [u8]) -> Result<(), AllocError>
+    ensures { IfOk result (λ _. map name_seen words.new.items ≡ words_of line.now) }
 {
     let pieces = before_comment(line).split(|byte| is_blank(*byte));
-    let words = pieces.filter(|piece| !piece.is_empty()).collect(alloc)?;
-    Ok(words)
+    words.clear();
+    words.extend(pieces.filter(|piece| !piece.is_empty()))
 }
 
 /// Whether a word is this one.

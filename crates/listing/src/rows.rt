@@ -1,6 +1,7 @@
 // The lines of the rows.
-ghost use Rattle.std.specs.Prelude.{◌≡◌, ◌++◌, OnOk, map};
+ghost use Rattle.std.specs.Prelude.{◌≡◌, ◌++◌, OnOk, All, map};
 ghost use Rattle.std.specs.List.{flat_map};
+ghost use Rattle.row_code.specs.RowFields.{IsRow};
 ghost use Rattle.listing.specs.Listing.{line_text, operand_words, row_words, spaced};
 
 use crate::pieces::{push_count, push_value};
@@ -42,7 +43,8 @@ fn push_operands(
 
 #[tactic(auto, using(crate::proofs::ListedTexts::option_steps))]
 fn push_row(text: &mut Vec<u8>, row: Row) -> Result<(), AllocError>
-    ensures { OnOk result (text.new.items ≡ text.old.items ++ line_text (row_words row)) }
+    ensures text { OnOk result (text.new.items ≡ text.old.items ++ line_text (row_words row)) }
+    ensures fits { IsRow row }
 {
     let shape = row_shape(row);
     let fields = fields_of(row);
@@ -54,7 +56,9 @@ fn push_row(text: &mut Vec<u8>, row: Row) -> Result<(), AllocError>
 
 #[tactic(auto, using(crate::proofs::ListedTexts::text_steps))]
 pub(crate) fn push_rows(text: &mut Vec<u8>, rows: &[Row]) -> Result<(), AllocError>
-    ensures { OnOk result (text.new.items ≡ text.old.items ++ flat_map line_text (map row_words rows.now)) }
+    ensures text { OnOk result (text.new.items
+        ≡ text.old.items ++ flat_map line_text (map row_words rows.now)) }
+    ensures fits { OnOk result (All IsRow rows.now) }
 {
     for row in rows {
         push_row(text, *row)?;

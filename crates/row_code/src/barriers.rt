@@ -1,6 +1,5 @@
-ghost use Rattle.std.specs.Prelude.{◌≡◌, ◌↔◌, ◌≤◌, length, All, IsTrue, IsOk, IfOk, IfErr, OnOk, List};
+ghost use Rattle.std.specs.Prelude.{◌≡◌, ◌↔◌, ◌≤◌, length, IsOk, IfOk, IfErr, List};
 ghost use Rattle.row_code.specs.declared.barriers.DeclaredBarrier.{DeclaredBarrier};
-ghost use Rattle.row_code.specs.Barriers.{IsBarrier, AreBarriers};
 
 use std::marker::Model;
 
@@ -23,25 +22,7 @@ impl Model for Barriers {
 
     ghost view = { λ b. b.entries.items };
 
-    ghost invariant = { λ b. AreBarriers b.entries.items };
-}
-
-fn barrier_fits(barrier: DeclaredBarrier)
-    ensures { IsBarrier barrier }
-{
-    let _parties = barrier.parties;
-    match barrier.action {
-        None => {}
-        Some(_row) => {}
-    }
-}
-
-fn each_fits(barriers: &[DeclaredBarrier])
-    ensures { All IsBarrier barriers.now }
-{
-    for barrier in barriers {
-        barrier_fits(*barrier);
-    }
+    ghost invariant = { λ b. length b.entries.items ≤ 64 };
 }
 
 impl Barriers {
@@ -50,18 +31,16 @@ impl Barriers {
         ensures made { IfOk result (λ made. made ≡ barriers.items) }
         ensures back { IfErr result (λ back. back ≡ barriers) }
         ensures room { IsOk result ↔ (length barriers.items ≤ 64) }
-        ensures fits { OnOk result (AreBarriers barriers.items) }
     {
         if barriers.len() > 64 {
             return Err(barriers);
         }
-        each_fits(&barriers);
         Ok(Barriers { entries: barriers })
     }
 
     pub fn as_slice(&self) -> &[DeclaredBarrier]
         ensures barriers { result.now ≡ self.now }
-        ensures fits { AreBarriers self.now }
+        ensures fits { length self.now ≤ 64 }
     {
         &self.entries
     }
@@ -69,7 +48,7 @@ impl Barriers {
     /// The barriers in the memory that was taken for them.
     pub fn into_vec(self) -> Vec<DeclaredBarrier>
         ensures barriers { result.items ≡ self }
-        ensures fits { AreBarriers self }
+        ensures fits { length self ≤ 64 }
     {
         self.entries
     }

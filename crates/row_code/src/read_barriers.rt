@@ -1,5 +1,5 @@
-ghost use Rattle.std.specs.Prelude.{◌≡◌, ◌+◌, ◌*◌, ◌^◌, ◌<◌, ◌≤◌, length, IfOk};
-ghost use Rattle.row_code.specs.Barriers.{AreBarriers};
+ghost use Rattle.std.specs.Prelude.{◌≡◌, ◌+◌, ◌*◌, ◌^◌, ◌<◌, ◌≤◌, length, All, IfOk, IfSome};
+ghost use Rattle.row_code.specs.Barriers.{IsBarrier, AreBarriers};
 ghost use Rattle.row_code.specs.Answers.{Answers};
 ghost use Rattle.row_code.specs.Reading.{is_memory, action_at, barrier_at, barrier_entry, entries};
 
@@ -11,7 +11,8 @@ use std::alloc::Global;
 #[tactic(auto, unfolding(crate::specs::Reading::action_at))]
 fn action_at(at: usize, flag: u16, value: i32) -> Result<Option<u16>, ImageFault>
     requires { at + 2 < 2 ^ 64 }
-    ensures { result ≡ action_at at flag value }
+    ensures read { result ≡ action_at at flag value }
+    ensures fits { IfOk result (λ action. IfSome action (λ row. row < 65536)) }
 {
     match flag {
         0 => {
@@ -27,7 +28,8 @@ fn action_at(at: usize, flag: u16, value: i32) -> Result<Option<u16>, ImageFault
 fn barrier_at(at: usize, bytes: &[u8]) -> Result<DeclaredBarrier, ImageFault>
     requires size { length bytes.now ≡ 8 }
     requires place { at + 8 < 2 ^ 64 }
-    ensures { result ≡ barrier_at at bytes.now }
+    ensures read { result ≡ barrier_at at bytes.now }
+    ensures fits { IfOk result (λ barrier. IsBarrier barrier) }
 {
     let action = action_at(at + 2, u16_at(bytes, 2), i32_at(bytes, 4))?;
     let parties = u16_at(bytes, 0);
@@ -45,6 +47,7 @@ fn entries_at(
     ensures read { Answers is_memory (λ v. v.items) result
         (entries 8 (barrier_entry start) 0 count bytes.now) }
     ensures count { IfOk result (λ v. length v.items ≡ count) }
+    ensures fits { IfOk result (λ v. All IsBarrier v.items) }
 {
     let mut barriers = Vec::with_capacity(alloc, usize::from(count))?;
     let mut rest = bytes;

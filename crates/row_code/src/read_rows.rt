@@ -1,4 +1,5 @@
-ghost use Rattle.std.specs.Prelude.{◌≡◌, ◌*◌, ◌<◌, ◌≤◌, length, IfOk};
+ghost use Rattle.std.specs.Prelude.{◌≡◌, ◌*◌, ◌<◌, ◌≤◌, length, All, IfOk, IfSome};
+ghost use Rattle.row_code.specs.RowFields.{IsRow};
 ghost use Rattle.row_code.specs.Rows.{AreRows};
 ghost use Rattle.row_code.specs.Answers.{Answers};
 ghost use Rattle.row_code.specs.Reading.{is_memory, row_or, row_at, rows_at, entries};
@@ -10,7 +11,9 @@ use instruction_table::{Row, is_timed};
 use std::alloc::Global;
 
 fn row_or(timed: bool, n: u16, found: Option<Row>) -> Result<Row, ImageFault>
-    ensures { result ≡ row_or timed n found }
+    requires { IfSome found (λ row. IsRow row) }
+    ensures read { result ≡ row_or timed n found }
+    ensures fits { IfOk result (λ row. IsRow row) }
 {
     match found {
         Some(row) if timed || !is_timed(row) => Ok(row),
@@ -20,7 +23,8 @@ fn row_or(timed: bool, n: u16, found: Option<Row>) -> Result<Row, ImageFault>
 
 fn row_at(timed: bool, n: u16, bytes: &[u8]) -> Result<Row, ImageFault>
     requires { length bytes.now ≡ 8 }
-    ensures { result ≡ row_at timed n bytes.now }
+    ensures read { result ≡ row_at timed n bytes.now }
+    ensures fits { IfOk result (λ row. IsRow row) }
 {
     let bytes = [
         bytes[0], bytes[1], bytes[2], bytes[3], bytes[4], bytes[5], bytes[6], bytes[7],
@@ -33,6 +37,7 @@ fn entries_at(alloc: Global, timed: bool, count: u16, bytes: &[u8]) -> Result<Ve
     ensures read { Answers is_memory (λ v. v.items) result
         (entries 8 (row_at timed) 0 count bytes.now) }
     ensures count { IfOk result (λ v. length v.items ≡ count) }
+    ensures fits { IfOk result (λ v. All IsRow v.items) }
 {
     let mut rows = Vec::with_capacity(alloc, usize::from(count))?;
     let mut rest = bytes;

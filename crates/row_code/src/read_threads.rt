@@ -1,5 +1,5 @@
-ghost use Rattle.std.specs.Prelude.{◌≡◌, ◌+◌, ◌*◌, ◌^◌, ◌<◌, ◌≤◌, length, IfOk};
-ghost use Rattle.row_code.specs.Threads.{AreThreads};
+ghost use Rattle.std.specs.Prelude.{◌≡◌, ◌+◌, ◌*◌, ◌^◌, ◌<◌, ◌≤◌, length, All, IfOk};
+ghost use Rattle.row_code.specs.Threads.{IsThread, AreThreads};
 ghost use Rattle.row_code.specs.Answers.{Answers};
 ghost use Rattle.row_code.specs.Reading.{is_memory, thread_at, thread_entry, entries};
 
@@ -11,7 +11,8 @@ use std::alloc::Global;
 #[tactic(auto, unfolding(crate::specs::Reading::thread_at))]
 fn thread_at(at: usize, bytes: &[u8]) -> Result<DeclaredThread, ImageFault>
     requires { length bytes.now ≡ 4 }
-    ensures { result ≡ thread_at at bytes.now }
+    ensures read { result ≡ thread_at at bytes.now }
+    ensures fits { IfOk result (λ thread. IsThread thread) }
 {
     let first_row = target_at(at, i32_at(bytes, 0))?;
     Ok(DeclaredThread { first_row })
@@ -28,6 +29,7 @@ fn entries_at(
     ensures read { Answers is_memory (λ v. v.items) result
         (entries 4 (thread_entry start) 0 count bytes.now) }
     ensures count { IfOk result (λ v. length v.items ≡ count) }
+    ensures fits { IfOk result (λ v. All IsThread v.items) }
 {
     let mut threads = Vec::with_capacity(alloc, usize::from(count))?;
     let mut rest = bytes;

@@ -1,9 +1,7 @@
-ghost use Rattle.std.specs.Prelude.{◌≡◌, ◌≤◌, ◌↔◌, length, All, IsOk, IfOk, IfErr, OnOk, List};
+ghost use Rattle.std.specs.Prelude.{◌≡◌, ◌≤◌, ◌↔◌, length, IsOk, IfOk, IfErr, List};
 ghost use Rattle.instruction_table.specs.declared.row.Row.{Row};
-ghost use Rattle.row_code.specs.RowFields.{IsRow};
-ghost use Rattle.row_code.specs.Rows.{AreRows, has_timed_row};
+ghost use Rattle.row_code.specs.Rows.{has_timed_row};
 
-use crate::fields::fields_of;
 use instruction_table::{Row, is_timed};
 use std::marker::Model;
 
@@ -21,16 +19,7 @@ impl Model for Rows {
 
     ghost view = { λ r. r.entries.items };
 
-    ghost invariant = { λ r. AreRows r.entries.items };
-}
-
-// Every row in memory is in its ranges, which only the proof needs to know.
-fn each_fits(rows: &[Row])
-    ensures { All IsRow rows.now }
-{
-    for row in rows {
-        fields_of(*row);
-    }
+    ghost invariant = { λ r. length r.entries.items ≤ 65535 };
 }
 
 impl Rows {
@@ -39,12 +28,10 @@ impl Rows {
         ensures made { IfOk result (λ made. made ≡ rows.items) }
         ensures back { IfErr result (λ back. back ≡ rows) }
         ensures room { IsOk result ↔ (length rows.items ≤ 65535) }
-        ensures fits { OnOk result (AreRows rows.items) }
     {
         if rows.len() > MOST_ROWS {
             return Err(rows);
         }
-        each_fits(&rows);
         Ok(Rows { entries: rows })
     }
 
@@ -57,7 +44,7 @@ impl Rows {
 
     pub fn as_slice(&self) -> &[Row]
         ensures rows { result.now ≡ self.now }
-        ensures fits { AreRows self.now }
+        ensures fits { length self.now ≤ 65535 }
     {
         &self.entries
     }
@@ -65,7 +52,7 @@ impl Rows {
     /// The rows in the memory that was taken for them.
     pub fn into_vec(self) -> Vec<Row>
         ensures rows { result.items ≡ self }
-        ensures fits { AreRows self }
+        ensures fits { length self ≤ 65535 }
     {
         self.entries
     }

@@ -1,6 +1,5 @@
-ghost use Rattle.std.specs.Prelude.{◌≡◌, ◌↔◌, ◌≤◌, length, All, IsTrue, IsOk, IfOk, IfErr, OnOk, List};
+ghost use Rattle.std.specs.Prelude.{◌≡◌, ◌↔◌, ◌≤◌, length, IsOk, IfOk, IfErr, List};
 ghost use Rattle.row_code.specs.declared.threads.DeclaredThread.{DeclaredThread};
-ghost use Rattle.row_code.specs.Threads.{IsThread, AreThreads};
 
 use std::marker::Model;
 
@@ -22,21 +21,7 @@ impl Model for Threads {
 
     ghost view = { λ t. t.entries.items };
 
-    ghost invariant = { λ t. AreThreads t.entries.items };
-}
-
-fn thread_fits(thread: DeclaredThread)
-    ensures { IsThread thread }
-{
-    let _row = thread.first_row;
-}
-
-fn each_fits(threads: &[DeclaredThread])
-    ensures { All IsThread threads.now }
-{
-    for thread in threads {
-        thread_fits(*thread);
-    }
+    ghost invariant = { λ t. length t.entries.items ≤ 64 };
 }
 
 impl Threads {
@@ -45,18 +30,16 @@ impl Threads {
         ensures made { IfOk result (λ made. made ≡ threads.items) }
         ensures back { IfErr result (λ back. back ≡ threads) }
         ensures room { IsOk result ↔ (length threads.items ≤ 64) }
-        ensures fits { OnOk result (AreThreads threads.items) }
     {
         if threads.len() > 64 {
             return Err(threads);
         }
-        each_fits(&threads);
         Ok(Threads { entries: threads })
     }
 
     pub fn as_slice(&self) -> &[DeclaredThread]
         ensures threads { result.now ≡ self.now }
-        ensures fits { AreThreads self.now }
+        ensures fits { length self.now ≤ 64 }
     {
         &self.entries
     }
@@ -64,7 +47,7 @@ impl Threads {
     /// The threads in the memory that was taken for them.
     pub fn into_vec(self) -> Vec<DeclaredThread>
         ensures threads { result.items ≡ self }
-        ensures fits { AreThreads self }
+        ensures fits { length self ≤ 64 }
     {
         self.entries
     }

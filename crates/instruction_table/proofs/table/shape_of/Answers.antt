@@ -26,10 +26,10 @@ short word (Some s) is =
     subst (λ o. IfSome o (λ e. length e.operands ≤ 4)) (sym is) (named_is_short word)
 
 pub returns-clause-only : goal.returns-clause-only
-returns-clause-only c = only c.args.word.now c.shape_in.result c.shape_in.ensures
+returns-clause-only c = only c.args.word.now c.shape_named.result c.shape_named.ensures
 
 pub returns-clause-place : goal.returns-clause-place
-returns-clause-place c = placed c.args.word.now c.shape_in.result c.shape_in.ensures
+returns-clause-place c = placed c.args.word.now c.shape_named.result c.shape_named.ensures
 
 pub returns-clause-short : goal.returns-clause-short
-returns-clause-short c = short c.args.word.now c.shape_in.result c.shape_in.ensures
+returns-clause-short c = short c.args.word.now c.shape_named.result c.shape_named.ensures

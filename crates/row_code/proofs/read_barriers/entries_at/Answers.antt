@@ -8,7 +8,7 @@ pub returns-in_err-barrier_at-clause-read : goal.returns-in_err-barrier_at-claus
 returns-in_err-barrier_at-clause-read c =
     let f = c.in_err-barrier_at.field-0.0 in
     let total = entries 8 (barrier_entry c.args.start) 0 c.args.count c.args.bytes.now in
-    let first : barrier_entry c.args.start c.loop-n.n (take 8 c.loop-n.rest.now) ≡ Err f = cc (c.split_at.ensures.front, c.from-in-loop-n.ensures, c.in_err-barrier_at.ensures) in
+    let first : barrier_entry c.args.start c.loop-n.n (take 8 c.loop-n.rest.now) ≡ Err f = cc (c.split_at.ensures.front, c.from-in-loop-n.ensures, c.in_err-barrier_at.ensures.read) in
     let p = err_from_is_err_and c.from_residual-in_err-barrier_at.result c.from_residual-in_err-barrier_at.ensures.1 in
     rw (p.1, p.2) (fails is_memory f total (ends 8 (barrier_entry c.args.start) c.loop-n.barriers.items c.args.count c.loop-n.n c.loop-n.rest.now f total
     c.loop-n-test.true first c.loop-n.invariant.told))
@@ -17,13 +17,14 @@ pub loop-n-preserved : goal.loop-n-preserved
 loop-n-preserved c =
     let p = c.in_ok-barrier_at.field-0 in
     let total = entries 8 (barrier_entry c.args.start) 0 c.args.count c.args.bytes.now in
-    let first : barrier_entry c.args.start c.loop-n.n (take 8 c.loop-n.rest.now) ≡ Ok p = cc (c.split_at.ensures.front, c.from-in-loop-n.ensures, c.in_ok-barrier_at.ensures) in
+    let first : barrier_entry c.args.start c.loop-n.n (take 8 c.loop-n.rest.now) ≡ Ok p = cc (c.split_at.ensures.front, c.from-in-loop-n.ensures, c.in_ok-barrier_at.ensures.read) in
     record {
       told = rw (c.in_ok-push.ensures.items, c.split_at.ensures.back)
           (goes_on 8 (barrier_entry c.args.start) c.loop-n.barriers.items c.args.count c.loop-n.n c.loop-n.rest.now p total
           c.loop-n-test.true first c.loop-n.invariant.told);
       count = search rules;
       size = omega (arith, c.split_at.ensures.back_len, c.loop-n.invariant.size, c.loop-n-test.true);
+      fits = search rules;
     }
 
 pub returns-clause-read : goal.returns-clause-read

@@ -1,5 +1,6 @@
-use Rattle.std.proofs.Common.{◌≡◌, ◌≤◌, ◌*◌, ◌-◌, length}
+use Rattle.std.proofs.Common.{◌≡◌, ◌≤◌, ◌*◌, ◌-◌, length, All}
 use Rattle.row_code.specs.Reading.{barrier_entry, entries}
+use Rattle.row_code.specs.Barriers.{IsBarrier}
 use Rattle.row_code.proofs.Loop.{with_front}
 use Rattle.row_code.proofs.read_barriers.entries_at.Given as goal
 
@@ -9,4 +10,5 @@ invariant-loop-n l = record {
       ≡ entries 8 (barrier_entry l.start) 0 l.count l.bytes;
   count : length l.barriers.items ≡ l.n;
   size : 8 * (l.count - l.n) ≤ length l.rest;
+  fits : All IsBarrier l.barriers.items;
 }

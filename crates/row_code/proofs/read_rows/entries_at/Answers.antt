@@ -1,5 +1,7 @@
 use Rattle.std.proofs.Common.{◌≡◌, take, Ok, Err, arith, rules}
 use Rattle.std.proofs.lemmas.Result.{err_from_is_err_and}
+use Rattle.std.proofs.lemmas.List.Elements.{All-push}
+use Rattle.row_code.specs.RowFields.{IsRow}
 use Rattle.row_code.specs.Reading.{is_memory, row_at, entries}
 use Rattle.row_code.proofs.Loop.{goes_on, ends, is_done, fails}
 use Rattle.row_code.proofs.read_rows.entries_at.Goals as goal
@@ -8,7 +10,7 @@ pub returns-in_err-row_at-clause-read : goal.returns-in_err-row_at-clause-read
 returns-in_err-row_at-clause-read c =
     let f = c.in_err-row_at.field-0.0 in
     let total = entries 8 (row_at c.args.timed) 0 c.args.count c.args.bytes.now in
-    let first : row_at c.args.timed c.loop-n.n (take 8 c.loop-n.rest.now) ≡ Err f = cc (c.split_at.ensures.front, c.in_err-row_at.ensures) in
+    let first : row_at c.args.timed c.loop-n.n (take 8 c.loop-n.rest.now) ≡ Err f = cc (c.split_at.ensures.front, c.in_err-row_at.ensures.read) in
     let p = err_from_is_err_and c.from_residual-in_err-row_at.result c.from_residual-in_err-row_at.ensures.1 in
     rw (p.1, p.2) (fails is_memory f total (ends 8 (row_at c.args.timed) c.loop-n.rows.items c.args.count c.loop-n.n c.loop-n.rest.now f total
     c.loop-n-test.true first c.loop-n.invariant.told))
@@ -17,13 +19,14 @@ pub loop-n-preserved : goal.loop-n-preserved
 loop-n-preserved c =
     let p = c.in_ok-row_at.field-0 in
     let total = entries 8 (row_at c.args.timed) 0 c.args.count c.args.bytes.now in
-    let first : row_at c.args.timed c.loop-n.n (take 8 c.loop-n.rest.now) ≡ Ok p = cc (c.split_at.ensures.front, c.in_ok-row_at.ensures) in
+    let first : row_at c.args.timed c.loop-n.n (take 8 c.loop-n.rest.now) ≡ Ok p = cc (c.split_at.ensures.front, c.in_ok-row_at.ensures.read) in
     record {
       told = rw (c.in_ok-push.ensures.items, c.split_at.ensures.back)
           (goes_on 8 (row_at c.args.timed) c.loop-n.rows.items c.args.count c.loop-n.n c.loop-n.rest.now p total
           c.loop-n-test.true first c.loop-n.invariant.told);
       count = search rules;
       size = omega (arith, c.split_at.ensures.back_len, c.loop-n.invariant.size, c.loop-n-test.true);
+      fits = rw c.in_ok-push.ensures.items (All-push IsRow c.loop-n.rows.items p c.loop-n.invariant.fits c.in_ok-row_at.ensures.fits);
     }
 
 pub returns-clause-read : goal.returns-clause-read

@@ -1,5 +1,6 @@
-use Rattle.std.proofs.Common.{◌≡◌, ◌≤◌, ◌*◌, ◌-◌, length}
+use Rattle.std.proofs.Common.{◌≡◌, ◌≤◌, ◌*◌, ◌-◌, length, All}
 use Rattle.row_code.specs.Reading.{row_at, entries}
+use Rattle.row_code.specs.RowFields.{IsRow}
 use Rattle.row_code.proofs.Loop.{with_front}
 use Rattle.row_code.proofs.read_rows.entries_at.Given as goal
 
@@ -9,4 +10,5 @@ invariant-loop-n l = record {
       ≡ entries 8 (row_at l.timed) 0 l.count l.bytes;
   count : length l.rows.items ≡ l.n;
   size : 8 * (l.count - l.n) ≤ length l.rest;
+  fits : All IsRow l.rows.items;
 }

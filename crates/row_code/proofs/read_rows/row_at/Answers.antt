@@ -4,8 +4,8 @@ use Rattle.row_code.specs.RowOperands.{row_in}
 use Rattle.row_code.proofs.Cells.{of_eight}
 use Rattle.row_code.proofs.read_rows.row_at.Goals as goal
 
-pub returns : goal.returns
+pub returns-clause-read : goal.returns-clause-read
 unfolding row_at
-returns c =
-    c.row_or.ensures
+returns-clause-read c =
+    c.row_or.ensures.read
     ∙ ap (row_or c.args.timed c.args.n) (c.decode.ensures.taken ∙ ap row_in (sym (of_eight c.args.bytes.now c.requires)))

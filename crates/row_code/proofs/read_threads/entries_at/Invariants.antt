@@ -1,5 +1,6 @@
-use Rattle.std.proofs.Common.{◌≡◌, ◌≤◌, ◌*◌, ◌-◌, length}
+use Rattle.std.proofs.Common.{◌≡◌, ◌≤◌, ◌*◌, ◌-◌, length, All}
 use Rattle.row_code.specs.Reading.{thread_entry, entries}
+use Rattle.row_code.specs.Threads.{IsThread}
 use Rattle.row_code.proofs.Loop.{with_front}
 use Rattle.row_code.proofs.read_threads.entries_at.Given as goal
 
@@ -9,4 +10,5 @@ invariant-loop-n l = record {
       ≡ entries 4 (thread_entry l.start) 0 l.count l.bytes;
   count : length l.threads.items ≡ l.n;
   size : 4 * (l.count - l.n) ≤ length l.rest;
+  fits : All IsThread l.threads.items;
 }

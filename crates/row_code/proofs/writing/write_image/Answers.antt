@@ -9,5 +9,5 @@ pub returns-clause-bytes : goal.returns-clause-bytes
 returns-clause-bytes g c =
     let written = g.W.Sink.written in
     let head = subst (Appends (written c.args.sink.now) (written c.push.new.self))
-    (c.head_bytes.ensures ∙ (λ k. magic (c.has_timed.ensures k) ++ count_bytes (c.counts_of.ensures.counts k))) c.in_ok-push.ensures.bytes in
+    (c.head_bytes.ensures ∙ (λ k. magic (c.has_timed.ensures k) ++ count_bytes (c.counts_of.ensures k))) c.in_ok-push.ensures.bytes in
     appends_behind c.write_lists.result _ _ _ _ _ head c.write_lists.ensures.bytes
