@@ -1,0 +1,405 @@
+ghost use Rattle.std.specs.Prelude.{◌≡◌, ◌<◌, ◌≤◌, length, pos, false, IsTrue, IsErr, OnErr, IfOk};
+ghost use Rattle.instruction_table.specs.LocalRows.{is_local_row};
+ghost use Rattle.instruction_table.specs.Registers.{value_in};
+ghost use Rattle.thread_state.specs.Thread.{turn_of_throw, turn_of_answer, turn_of_done, turn_of_wait, turn_of_halt, turn_of_local, turn_of_out};
+ghost use Rattle.thread_state.specs.Thread.{turn_of_interruption, turn_of_barrier_wait, turn_of_call, turn_of_try, turn_of_endtry, turn_of_return};
+ghost use Rattle.thread_state.specs.Thread.{turn_of_advance, turn_of_action, turn_of_pop, turn_of_intrd};
+ghost use Rattle.thread_state.specs.Thread.{new_thread, is_finished, is_full, top_of, with_entry, left_routine, interrupted};
+ghost use Rattle.thread_state.specs.Frame.{is_routine, is_advance};
+ghost use Rattle.std.specs.List.{list_any};
+
+use crate::event::What;
+use crate::frame::Frame;
+use crate::status::Status;
+use instruction_table::{Reg, Regs, Row, local};
+use std::alloc::{AllocError, Global};
+use std::marker::Model;
+
+mod note;
+
+pub use note::ThreadNote;
+
+/// How many entries a stack has room for.
+const STACK_ROOM: usize = 64;
+
+/// How many values a thread may put out.
+const OUTPUT_ROOM: usize = 4096;
+
+/// One thread of the program.
+#[derive(Drop)]
+pub struct Thread {
+    place: u16,
+    values: Regs,
+    entries: Vec<Frame>,
+    state: Status,
+    was_interrupted: bool,
+    put_out: Vec<i32>,
+}
+
+impl Model for Thread {
+    ghost use Rattle.std.specs.Prelude.{◌≤◌, vec_len, vec_capacity};
+    ghost use Rattle.thread_state.specs.Thread.{ThreadState};
+
+    ghost Value = { ThreadState };
+
+    ghost view = { λ thread. record {
+      pc = thread.place;
+      registers = thread.values;
+      stack = thread.entries.items;
+      status = thread.state;
+      interrupted = thread.was_interrupted;
+      output = thread.put_out.items;
+    } };
+
+    ghost invariant = { λ thread. (vec_len thread.entries ≤ 64)
+        × (64 ≤ vec_capacity thread.entries) × (vec_len thread.put_out ≤ 4096) };
+}
+
+impl Thread {
+    /// A thread at its first row. Its stack has all the room that it will ever need.
+    pub fn new(alloc: Global, first: u16) -> Result<Thread, AllocError>
+        ensures { IfOk result (λ thread. thread ≡ new_thread first) }
+    {
+        Ok(Thread {
+            place: first,
+            values: Regs::new(),
+            entries: Vec::with_capacity(alloc, STACK_ROOM)?,
+            state: Status::Runs,
+            was_interrupted: false,
+            put_out: Vec::new(alloc),
+        })
+    }
+
+    /// The same thread, with the same room.
+    pub fn copy(&self, alloc: Global) -> Result<Thread, AllocError>
+        ensures { IfOk result (λ copy. copy ≡ self.now) }
+    {
+        let mut entries = Vec::with_capacity(alloc, STACK_ROOM)?;
+        entries.extend_from_slice(self.entries.as_slice())?;
+        Ok(Thread {
+            place: self.place,
+            values: self.values,
+            entries,
+            state: self.state,
+            was_interrupted: self.was_interrupted,
+            put_out: Vec::from_slice(alloc, self.put_out.as_slice())?,
+        })
+    }
+
+    /// The row that it stands at.
+    pub fn pc(&self) -> u16
+        ensures { result ≡ self.now.pc }
+    {
+        self.place
+    }
+
+    /// What it is doing.
+    pub fn status(&self) -> Status
+        ensures { result ≡ self.now.status }
+    {
+        self.state
+    }
+
+    /// The number in a register.
+    pub fn register(&self, reg: Reg) -> i32
+        ensures { result ≡ value_in self.now.registers reg }
+    {
+        self.values.get(reg)
+    }
+
+    /// Whether it was interrupted.
+    pub fn interrupted(&self) -> bool
+        ensures { result ≡ self.now.interrupted }
+    {
+        self.was_interrupted
+    }
+
+    /// Its stack from the bottom.
+    pub fn stack(&self) -> &[Frame]
+        ensures stack { result.now ≡ self.now.stack }
+        ensures few { length result.now ≤ 64 }
+    {
+        self.entries.as_slice()
+    }
+
+    /// The top entry of its stack.
+    pub fn top(&self) -> Option<Frame>
+        ensures { result ≡ top_of self.now.stack }
+    {
+        self.entries.last().copied()
+    }
+
+    /// Whether its stack has no room for one entry more.
+    pub fn is_full(&self) -> bool
+        ensures { result ≡ is_full self.now }
+    {
+        self.entries.len() == STACK_ROOM
+    }
+
+    /// Whether it runs the advance routine of this root, in whatever calls.
+    pub fn advances(&self, root: u8) -> bool
+        ensures { result ≡ list_any (is_advance root) self.now.stack }
+    {
+        self.entries.iter().any(|frame| frame.is_advance(root))
+    }
+
+    /// What it put out, in order.
+    pub fn output(&self) -> &[i32]
+        ensures values { result.now ≡ self.now.output }
+        ensures few { length result.now ≤ 4096 }
+    {
+        self.put_out.as_slice()
+    }
+
+    /// Whether it has ended or died.
+    pub fn is_finished(&self) -> bool
+        ensures { result ≡ is_finished self.now.status }
+    {
+        matches!(self.state, Status::Ended | Status::Died(_))
+    }
+
+    /// Meets an exception at its row.
+    pub fn throw(&mut self, code: i32) -> What
+        ensures { record { thread = self.new; what = result } ≡ turn_of_throw code self.old }
+    {
+        self.state = Status::Throws(code);
+        What::Throws(code)
+    }
+
+    /// Meets the exception of an interrupted wait, which clears its interrupted status.
+    pub fn take_interruption(&mut self) -> What
+        ensures { record { thread = self.new; what = result } ≡ turn_of_interruption self.old }
+    {
+        self.was_interrupted = false;
+        self.throw(3)
+    }
+
+    /// Puts a row's answer into a register and goes on.
+    pub fn answer(&mut self, into: Reg, value: i32) -> What
+        requires { self.old.pc < 65535 }
+        ensures { record { thread = self.new; what = result } ≡ turn_of_answer into value self.old }
+    {
+        self.values.set(into, value);
+        self.place += 1;
+        self.state = Status::Runs;
+        What::Value(value)
+    }
+
+    /// Goes on from a row that has no answer.
+    pub fn done(&mut self) -> What
+        requires { self.old.pc < 65535 }
+        ensures { record { thread = self.new; what = result } ≡ turn_of_done self.old }
+    {
+        self.place += 1;
+        What::Done
+    }
+
+    /// Begins to wait for the end of a phase.
+    pub fn wait(&mut self, phase: i32) -> What
+        ensures { record { thread = self.new; what = result } ≡ turn_of_wait phase self.old }
+    {
+        self.state = Status::AwaitsPhase(phase);
+        What::Waits
+    }
+
+    /// Begins to wait at a barrier; the index of its arrival.
+    pub fn wait_at_barrier(&mut self, index: u16) -> What
+        ensures { record { thread = self.new; what = result } ≡ turn_of_barrier_wait index self.old }
+    {
+        self.state = Status::AwaitsBarrier(i32::from(index));
+        What::Waits
+    }
+
+    /// `halt`.
+    pub fn halt(&mut self) -> What
+        ensures { record { thread = self.new; what = result } ≡ turn_of_halt self.old }
+    {
+        if self.is_in_routine() {
+            return self.throw(7);
+        }
+        self.state = Status::Ended;
+        What::Ends
+    }
+
+    /// Whether an advance routine or a barrier's action is under way.
+    fn is_in_routine(&self) -> bool
+        ensures { result ≡ list_any is_routine self.now.stack }
+    {
+        self.entries.iter().any(|frame| frame.is_routine())
+    }
+
+    /// A row on registers alone.
+    pub fn local_row(&mut self, row: Row) -> What
+        requires row { IsTrue (is_local_row row) }
+        requires place { self.old.pc < 65535 }
+        ensures { record { thread = self.new; what = result } ≡ turn_of_local row self.old }
+    {
+        let effect = local(row, &self.values, self.place);
+        self.values = effect.registers;
+        self.place = effect.pc;
+        match effect.written {
+            Some(value) => What::Value(value),
+            None => What::Done,
+        }
+    }
+
+    /// `out`.
+    pub fn out(&mut self, from: Reg) -> Result<What, AllocError>
+        requires { self.old.pc < 65535 }
+        ensures ok { IfOk result (λ what.
+            record { thread = self.new; what = what } ≡ turn_of_out from self.old) }
+        ensures err { OnErr result (self.new ≡ self.old) }
+        ensures memory { IsErr result → length self.old.output < 4096 }
+    {
+        if self.put_out.len() == OUTPUT_ROOM {
+            return Ok(self.throw(8));
+        }
+        let value = self.values.get(from);
+        self.put_out.push(value)?;
+        self.place += 1;
+        Ok(What::Out(value))
+    }
+
+    /// `call`.
+    pub fn call(&mut self, target: u16) -> What
+        requires { self.old.pc < 65535 }
+        ensures { record { thread = self.new; what = result } ≡ turn_of_call target self.old }
+    {
+        if self.is_full() {
+            return self.throw(6);
+        }
+        self.enter(Frame::Call(self.place + 1), target)
+    }
+
+    /// `try`.
+    pub fn begin_try(&mut self, handler: u16) -> What
+        requires { self.old.pc < 65535 }
+        ensures { record { thread = self.new; what = result } ≡ turn_of_try handler self.old }
+    {
+        if self.is_full() {
+            return self.throw(6);
+        }
+        self.enter(Frame::Handler(handler), self.place + 1)
+    }
+
+    /// Takes one entry more, and stands at this row.
+    fn enter(&mut self, entry: Frame, row: u16) -> What
+        requires { is_full self.old ≡ false }
+        ensures thread { self.new ≡ with_entry entry row self.old }
+        ensures what { result ≡ What.Done }
+    {
+        if self.entries.push(entry).is_err() {
+            unreachable!()
+        }
+        self.place = row;
+        What::Done
+    }
+
+    /// `endtry`.
+    pub fn end_try(&mut self) -> What
+        requires { self.old.pc < 65535 }
+        ensures { record { thread = self.new; what = result }
+            ≡ turn_of_endtry (top_of self.old.stack) self.old }
+    {
+        match self.entries.last() {
+            Some(Frame::Handler(_)) => {
+                let _ = self.entries.pop();
+                self.done()
+            }
+            _ => self.throw(7),
+        }
+    }
+
+    /// `ret` to the row after a call, whose entry is on top.
+    pub fn return_to(&mut self, row: u16) -> What
+        ensures { record { thread = self.new; what = result } ≡ turn_of_return row self.old }
+    {
+        let _ = self.entries.pop();
+        self.place = row;
+        What::Done
+    }
+
+    /// Enters the advance routine of a root, which begins at the row `first`: it is told the phase that ends and the
+    /// parties that are then registered.
+    pub fn enter_advance(&mut self, root: u8, phase: i32, parties: u16, first: u16) -> What
+        requires { is_full self.old ≡ false }
+        ensures { record { thread = self.new; what = result }
+            ≡ turn_of_advance root phase parties first self.old }
+    {
+        let entry = Frame::Advance(root, self.values, self.place);
+        self.enter(entry, first);
+        self.values.set(Reg::R0, phase);
+        self.values.set(Reg::R1, i32::from(parties));
+        What::Enters
+    }
+
+    /// Enters the action of a barrier, which begins at the row `first`.
+    pub fn enter_action(&mut self, barrier: u8, first: u16) -> What
+        requires { is_full self.old ≡ false }
+        ensures { record { thread = self.new; what = result } ≡ turn_of_action barrier first self.old }
+    {
+        let entry = Frame::Action(barrier, self.values, self.place);
+        self.enter(entry, first);
+        What::Enters
+    }
+
+    /// Is back at the row at which its routine or action began, whose entry is on top, with the registers of then.
+    pub fn leave_routine(&mut self, registers: &Regs, row: u16)
+        ensures { self.new ≡ left_routine registers.now row self.old }
+    {
+        let _ = self.entries.pop();
+        self.values = *registers;
+        self.place = row;
+    }
+
+    /// Is interrupted by a thread: `Thread.interrupt`. No effect once it has ended or died.
+    pub fn interrupt(&mut self)
+        ensures { self.new ≡ interrupted self.old }
+    {
+        if !self.is_finished() {
+            self.was_interrupted = true;
+        }
+    }
+
+    /// `intrd`: `Thread.interrupted`.
+    pub fn take_interrupt(&mut self, into: Reg) -> What
+        requires { self.old.pc < 65535 }
+        ensures { record { thread = self.new; what = result } ≡ turn_of_intrd into self.old }
+    {
+        let status = i32::from(self.was_interrupted);
+        self.was_interrupted = false;
+        self.answer(into, status)
+    }
+
+    /// Pops one entry while an exception looks for its handler.
+    pub fn pop(&mut self, code: i32) -> What
+        ensures { record { thread = self.new; what = result } ≡ turn_of_pop code self.old }
+    {
+        let top = self.entries.pop();
+        match &top {
+            None => {
+                self.state = Status::Died(code);
+                What::Dies(code)
+            }
+            Some(Frame::Call(_)) => What::Unwinds,
+            Some(Frame::Handler(row)) => {
+                self.values.set(Reg::R7, code);
+                self.place = *row;
+                self.state = Status::Runs;
+                What::Catches(code)
+            }
+            Some(Frame::Advance(_, registers, row)) => self.restore(registers, *row),
+            Some(Frame::Action(_, registers, row)) => self.restore(registers, *row),
+        }
+    }
+
+    /// Stands at the row of its routine or action, whose entry is popped, with the registers of then.
+    fn restore(&mut self, registers: &Regs, row: u16) -> What
+        ensures thread { self.new ≡ record self.old { registers = registers.now; pc = row } }
+        ensures what { result ≡ What.Unwinds }
+    {
+        self.values = *registers;
+        self.place = row;
+        What::Unwinds
+    }
+}
