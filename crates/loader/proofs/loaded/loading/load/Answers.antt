@@ -25,5 +25,5 @@ invariant_of-result c =
     let routines = c.in_ok-routines.ensures ∙ ap (map routine_row) c.as_slice-4.ensures.phasers in
     let actions = c.in_ok-actions.ensures ∙ ap (map action_row) c.as_slice-5.ensures.barriers in
     rw (c.into_vec.ensures.rows, c.into_vec-2.ensures.threads, made, routines, actions)
-    (whole image c.in_ok-phasers.phasers c.as_slice-rows.ensures.fits.0 some c.as_slice.ensures.fits.0 c.as_slice-3.ensures.fits.0
+    (whole image c.in_ok-phasers.phasers c.as_slice-rows.ensures.fits some c.as_slice.ensures.fits c.as_slice-3.ensures.fits
     phasers barriers (sym c.code_fault.ensures ∙ c.in_default.is) declared)

@@ -1,0 +1,180 @@
+-- What a sound scene tells of one thread: where it stands, what its top entry names, and at which barrier it waits.
+use Rattle.std.proofs.Common.{inl, inr, ◌≡◌, ◌≢◌, ◌∙◌, ℕ, ℤ, ◌+◌, ◌-◌, ◌<◌, ◌≤◌, Bool, true, false, List, length, ap, refl, subst, arith}
+use Rattle.std.specs.Prelude.{is_some, Option, Some, None, slice_index_or, All}
+use Rattle.std.proofs.lemmas.Option.{slice_get_cases}
+use Rattle.instruction_table.specs.declared.row.Row.{Row}
+use Rattle.instruction_table.specs.declared.row.Row.TheVariants.{Halt, Cawait, Cawaitt}
+use Rattle.instruction_table.specs.declared.register.Reg.{Reg}
+use Rattle.tier_tree.specs.Forest.{flat_at}
+use Rattle.tier_tree.specs.Trees.{is_pending}
+use Rattle.tier_tree.proofs.Stands.{same-is}
+use Rattle.cyclic_barrier.specs.declared.answer.WaitState.{WaitState}
+use Rattle.cyclic_barrier.specs.Waits.{wait_at}
+use Rattle.cyclic_barrier.specs.Barrier.{has_wait}
+use Rattle.loader.specs.declared.counts.Counts.{Counts}
+use Rattle.loader.specs.Named.{stops}
+use Rattle.loader.specs.Program.{Program, IsCode, IsNamed, row_at}
+use Rattle.thread_state.specs.declared.frame.Frame.{Frame}
+use Rattle.thread_state.specs.declared.frame.Frame.TheVariants as frame
+use Rattle.thread_state.specs.declared.status.Status.{Status}
+use Rattle.thread_state.specs.declared.status.Status.TheVariants as status
+use Rattle.thread_state.specs.Frame.{is_advance, is_action}
+use Rattle.thread_state.specs.Thread.{top_of}
+use Rattle.machine_scene.specs.Scene.{Scene, counts_of, no_thread, thread_at, barrier_at, routine_at, action_at}
+use Rattle.machine_scene.specs.Sound.{IsFrame, IsPlaced, IsSound, entries, bit, awaits, is_wait_row, thread_awaits}
+use Rattle.machine_scene.proofs.Entries.{entries-at, entries-pop}
+
+-- a row that doesn't stop has a row after it
+pub next_within : (program : Program) (counts : Counts) (pc : ℕ) → IsCode program counts → pc < length program.rows
+    → stops (row_at program.rows pc) ≡ false → pc + 1 < length program.rows
+next_within program counts pc code within goes =
+    let last : pc ≡ length program.rows - 1 → pc + 1 < length program.rows =
+    λ is. absurd (cc (ap (λ (n : ℕ). stops (row_at program.rows n)) is, code.last, goes)) in
+    grind (arith, last)
+
+-- the same, and the number fits
+pub next_fits : (program : Program) (counts : Counts) (pc : ℕ) → IsCode program counts → pc < length program.rows
+    → stops (row_at program.rows pc) ≡ false → (pc + 1 < length program.rows) × (pc + 1 < 65536)
+next_fits program counts pc code within goes =
+    let next = next_within program counts pc code within goes in
+    let few = code.few in
+    (next, omega (arith, next, few))
+
+-- what the row names is there
+pub named_at : (program : Program) (counts : Counts) (pc : ℕ) → IsCode program counts → pc < length program.rows
+    → IsNamed counts (row_at program.rows pc)
+named_at program counts pc code within = code.named pc Halt within
+
+-- the row of each phaser's routine is there, and that of each barrier's action
+pub routine_within : (program : Program) (scene : Scene) (root : ℕ) → IsCode program (counts_of program scene) → root < length scene.phasers
+    → routine_at program root < length program.rows
+routine_within program scene root code there =
+    let many = code.all_routines in code.routines root 0 (omega (arith, many, there))
+
+pub action_within : (program : Program) (scene : Scene) (b : ℕ) → IsCode program (counts_of program scene) → b < length scene.barriers
+    → action_at program b < length program.rows
+action_within program scene b code there =
+    let many = code.all_actions in code.actions b 0 (omega (arith, many, there))
+
+-- a thread stands at a row, and so do its entries
+pub placed_at : (program : Program) (steps : ℕ) (scene : Scene) (t : ℕ) → IsSound program steps scene → t < length scene.threads
+    → IsPlaced program scene (thread_at scene t)
+placed_at program steps scene t sound there = sound.placed t no_thread there
+
+-- the top entry is one of the stack's
+pub top_is : (program : Program) (scene : Scene) (stack : List Frame) (f : Frame) → All (IsFrame program scene) stack
+    → top_of stack ≡ Some f → IsFrame program scene f
+top_is program scene stack f all is =
+    elim (slice_get_cases stack (length stack - 1)).1 as (λ _. IsFrame program scene f) [
+      | inl read ↦ let same : slice_index_or stack (length stack - 1) read.0 ≡ f = cc (read.2, read.3, is) in
+          subst (IsFrame program scene) same (all (length stack - 1) read.0 read.1)
+      | inr past ↦ absurd (cc (past.1, is))
+    ]
+
+-- the same, of the stack of thread t
+pub top_named : (program : Program) (steps : ℕ) (scene : Scene) (t : ℕ) (f : Frame) → IsSound program steps scene → t < length scene.threads
+    → top_of (thread_at scene t).stack ≡ Some f → IsFrame program scene f
+top_named program steps scene t f sound there is =
+    top_is program scene (thread_at scene t).stack f (placed_at program steps scene t sound there).stack is
+
+true_if : (b : Bool) → 1 ≤ bit b → b ≡ true
+true_if true some = refl
+true_if false some = absurd (omega (arith, some))
+
+-- one entry at the top is among those of all threads
+counted_on_top : (test : Frame → Bool) (scene : Scene) (t : ℕ) (f : Frame) → t < length scene.threads → top_of (thread_at scene t).stack ≡ Some f
+    → test f ≡ true → 1 ≤ entries test scene.threads
+counted_on_top test scene t f there is passes =
+    let one : bit (test f) ≡ 1 = ap bit passes in
+    let popped = entries-pop test (thread_at scene t).stack f is in
+    let among = entries-at test scene.threads t there in
+    omega (arith, one, popped, among)
+
+-- the top entry is that of an advance routine: its root is there and pending, and a row comes after the arrival's
+pub advance_pending : (program : Program) (steps : ℕ) (scene : Scene) (t root row : ℕ) (registers : List ℤ) → IsSound program steps scene
+    → t < length scene.threads → top_of (thread_at scene t).stack ≡ Some (frame.Advance root registers row)
+    → is_pending (flat_at scene.phasers root) ≡ true
+advance_pending program steps scene t root row registers sound there is =
+    let named = top_named program steps scene t (frame.Advance root registers row) sound there is in
+    let some = counted_on_top (is_advance root) scene t (frame.Advance root registers row) there is (same-is root) in
+    let few = sound.advances root named.1.0 named.1.1 in
+    true_if (is_pending (flat_at scene.phasers root)) (omega (arith, some, few))
+
+-- the top entry is that of an action: a thread runs it
+pub action_runs : (program : Program) (steps : ℕ) (scene : Scene) (t b row : ℕ) (registers : List ℤ) → IsSound program steps scene
+    → t < length scene.threads → top_of (thread_at scene t).stack ≡ Some (frame.Action b registers row)
+    → is_some (barrier_at scene b).runner ≡ true
+action_runs program steps scene t b row registers sound there is =
+    let some = counted_on_top (is_action b) scene t (frame.Action b registers row) there is (same-is b) in
+    let few = sound.actions b in
+    true_if (is_some (barrier_at scene b).runner) (omega (arith, some, few))
+
+-- no entry of any stack is that of an action that no thread runs
+pub no_action_entry : (program : Program) (steps : ℕ) (scene : Scene) (b : ℕ) → IsSound program steps scene
+    → (barrier_at scene b).runner ≡ None → entries (is_action b) scene.threads ≡ 0
+no_action_entry program steps scene b sound idle =
+    let few = sound.actions b in
+    let none : bit (is_some (barrier_at scene b).runner) ≡ 0 = ap (λ (r : Option ℕ). bit (is_some r)) idle in
+    omega (arith, few, none)
+
+pub no_action_on_top : (program : Program) (steps : ℕ) (scene : Scene) (t b row : ℕ) (registers : List ℤ) → IsSound program steps scene
+    → t < length scene.threads → (barrier_at scene b).runner ≡ None → top_of (thread_at scene t).stack ≢ Some (frame.Action b registers row)
+no_action_on_top program steps scene t b row registers sound there idle is =
+    let runs = action_runs program steps scene t b row registers sound there is in
+    cc (ap (λ (r : Option ℕ). is_some r) idle, runs)
+
+-- a thread with such a status waits at no barrier
+pub data IsFree : Status → Type 0 where
+  RunsOn : IsFree status.Runs
+  ThrowsOn : (code : ℤ) → IsFree (status.Throws code)
+  AwaitsOn : (phase : ℤ) → IsFree (status.AwaitsPhase phase)
+  EndsOn : IsFree status.Ended
+  DiesOn : (code : ℤ) → IsFree (status.Died code)
+
+pub free_awaits : (b : ℕ) (s : Status) (row : Row) → IsFree s → awaits b s row ≡ false
+free_awaits b _ row RunsOn = refl
+free_awaits b _ row (ThrowsOn code) = refl
+free_awaits b _ row (AwaitsOn phase) = refl
+free_awaits b _ row EndsOn = refl
+free_awaits b _ row (DiesOn code) = refl
+
+not_awaiting : (b : ℕ) (s : Status) (row : Row) → ((index : ℤ) → s ≢ status.AwaitsBarrier index) → awaits b s row ≡ false
+not_awaiting b status.Runs row free = refl
+not_awaiting b (status.Throws code) row free = refl
+not_awaiting b (status.AwaitsPhase phase) row free = refl
+not_awaiting b (status.AwaitsBarrier index) row free = absurd (free index refl)
+not_awaiting b status.Ended row free = refl
+not_awaiting b (status.Died code) row free = refl
+
+none_if : (wait : Option WaitState) → is_some wait ≡ false → wait ≡ None
+none_if None is = refl
+none_if (Some state) is = absurd (cc (is))
+
+-- a thread that awaits no barrier has no wait at any
+pub no_wait : (program : Program) (steps : ℕ) (scene : Scene) (t b : ℕ) → IsSound program steps scene
+    → ((index : ℤ) → (thread_at scene t).status ≢ status.AwaitsBarrier index)
+    → wait_at (barrier_at scene b).waits t ≡ None
+no_wait program steps scene t b sound free =
+    let known : has_wait t (barrier_at scene b) ≡ thread_awaits program b (thread_at scene t) = sound.waits b t in
+    none_if (wait_at (barrier_at scene b).waits t)
+    (known ∙ not_awaiting b (thread_at scene t).status (row_at program.rows (thread_at scene t).pc) free)
+
+-- one that runs has none
+pub no_wait_runs : (program : Program) (steps : ℕ) (scene : Scene) (t b : ℕ) → IsSound program steps scene
+    → (thread_at scene t).status ≡ status.Runs → wait_at (barrier_at scene b).waits t ≡ None
+no_wait_runs program steps scene t b sound runs =
+    none_if (wait_at (barrier_at scene b).waits t)
+    (sound.waits b t ∙ ap (λ (s : Status). awaits b s (row_at program.rows (thread_at scene t).pc)) runs)
+
+-- a thread that awaits a barrier at this row has a wait there
+pub awaited : (program : Program) (steps : ℕ) (scene : Scene) (t b : ℕ) (index : ℤ) (into : Reg) → IsSound program steps scene
+    → (thread_at scene t).status ≡ status.AwaitsBarrier index → row_at program.rows (thread_at scene t).pc ≡ Cawait into b
+    → is_some (wait_at (barrier_at scene b).waits t) ≡ true
+awaited program steps scene t b index into sound waits row =
+    sound.waits b t ∙ ap (λ (s : Status). awaits b s (row_at program.rows (thread_at scene t).pc)) waits ∙ ap (is_wait_row b) row ∙ same-is b
+
+pub awaited_timed : (program : Program) (steps : ℕ) (scene : Scene) (t b : ℕ) (index : ℤ) (into time : Reg) → IsSound program steps scene
+    → (thread_at scene t).status ≡ status.AwaitsBarrier index → row_at program.rows (thread_at scene t).pc ≡ Cawaitt into b time
+    → is_some (wait_at (barrier_at scene b).waits t) ≡ true
+awaited_timed program steps scene t b index into time sound waits row =
+    sound.waits b t ∙ ap (λ (s : Status). awaits b s (row_at program.rows (thread_at scene t).pc)) waits ∙ ap (is_wait_row b) row ∙ same-is b

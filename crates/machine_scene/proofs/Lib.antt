@@ -1,0 +1,26 @@
+pub mod Entries
+pub mod Facts
+pub mod Soundness
+pub mod Plain
+pub mod Routines
+pub mod Barriers
+pub mod Turns
+pub mod Readiness
+pub mod Room
+pub mod Placed
+pub mod OwnRows
+pub mod DataRows
+pub mod CallRows
+pub mod PhaserRows
+pub mod BarrierRows
+pub mod Waits
+pub mod Outcomes
+pub mod Start
+pub mod Threads
+pub mod ReadFacts
+pub mod Reaches
+pub mod Undone
+pub mod UndoneRows
+pub mod Undoing
+pub mod ReadyThreads
+mod WorkedRows

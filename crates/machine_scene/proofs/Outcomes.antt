@@ -1,0 +1,97 @@
+-- Each turn of a thread, and each expiry of a timed wait, leaves a sound scene sound.
+use Rattle.std.proofs.Common.{◌≡◌, ◌∙◌, sym, ℕ, ◌+◌, ◌<◌, length, refl, subst}
+use Rattle.std.specs.Prelude.{Some, None}
+use Rattle.instruction_table.specs.declared.row.Row.{Row}
+use Rattle.loader.specs.Program.{Program, row_at}
+use Rattle.thread_state.specs.declared.status.Status.{Status}
+use Rattle.thread_state.specs.declared.status.Status.TheVariants as status
+use Rattle.thread_state.specs.Thread.{top_of}
+use Rattle.machine_scene.specs.declared.group.Group.{Group}
+use Rattle.machine_scene.specs.declared.group.Group.TheVariants.{Own, Calls, Data, Phasers, Getters, Barriers}
+use Rattle.machine_scene.specs.Scene.{Scene, Outcome, counts_of, thread_at}
+use Rattle.machine_scene.specs.Group.{group_of}
+use Rattle.machine_scene.specs.Outcomes.{outcome_in_group, outcome_in, outcome_of, is_ready, timeout_in, outcome_of_expiry}
+use Rattle.machine_scene.specs.Sound.{IsSound}
+use Rattle.machine_scene.proofs.Facts.{next_within, named_at, placed_at}
+use Rattle.machine_scene.proofs.Plain.{KeepsSound, StandsAt, either}
+use Rattle.machine_scene.proofs.OwnRows.{sound_own_row, sound_getter_row}
+use Rattle.machine_scene.proofs.DataRows.{sound_data_row}
+use Rattle.machine_scene.proofs.CallRows.{sound_call_row, sound_popped}
+use Rattle.machine_scene.proofs.PhaserRows.{sound_phaser_row}
+use Rattle.machine_scene.proofs.BarrierRows.{sound_barrier_row}
+use Rattle.machine_scene.proofs.Waits.{sound_phase_wait, sound_barrier_wait, sound_phase_timeout, sound_barrier_timeout}
+
+-- what is known of thread t in a sound scene
+pub stands_at : (program : Program) (steps t : ℕ) (scene : Scene) (state : Status) → IsSound program steps scene → steps < 2147483647
+    → t < length scene.threads → (thread_at scene t).status ≡ state
+    → StandsAt program steps t scene state (row_at program.rows (thread_at scene t).pc)
+stands_at program steps t scene state sound few there is =
+    let pc = (thread_at scene t).pc in
+    let placed = placed_at program steps scene t sound there in
+    record {
+      sound = sound;
+      few = few;
+      there = there;
+      status = is;
+      at = refl;
+      within = placed.pc;
+      next = next_within program (counts_of program scene) pc sound.code placed.pc;
+      named = named_at program (counts_of program scene) pc sound.code placed.pc;
+    }
+
+sound_in_group : (group : Group) (program : Program) (steps t : ℕ) (scene : Scene) (row : Row) → StandsAt program steps t scene status.Runs row
+    → KeepsSound program (steps + 1) (outcome_in_group group row t program scene)
+sound_in_group Own program steps t scene row stands = sound_own_row row program steps t scene stands
+sound_in_group Calls program steps t scene row stands = sound_call_row row program steps t scene stands
+sound_in_group Data program steps t scene row stands = sound_data_row row program steps t scene stands
+sound_in_group Phasers program steps t scene row stands = sound_phaser_row row program steps t scene stands
+sound_in_group Getters program steps t scene row stands = sound_getter_row row program steps t scene stands
+sound_in_group Barriers program steps t scene row stands = sound_barrier_row row program steps t scene stands
+
+sound_in : (state : Status) (program : Program) (steps t : ℕ) (scene : Scene) (row : Row) → StandsAt program steps t scene state row
+    → KeepsSound program (steps + 1) (outcome_in state row t program scene)
+sound_in status.Runs program steps t scene row stands = sound_in_group (group_of row) program steps t scene row stands
+sound_in (status.Throws code) program steps t scene row stands =
+    sound_popped (top_of (thread_at scene t).stack) code program steps t scene row stands refl
+sound_in (status.AwaitsPhase phase) program steps t scene row stands = sound_phase_wait row phase program steps t scene stands
+sound_in (status.AwaitsBarrier index) program steps t scene row stands = sound_barrier_wait row index program steps t scene stands
+sound_in status.Ended program steps t scene row stands = tt
+sound_in (status.Died code) program steps t scene row stands = tt
+
+timeout_sound_in : (state : Status) (program : Program) (steps t : ℕ) (scene : Scene) (row : Row) → StandsAt program steps t scene state row
+    → KeepsSound program (steps + 1) (timeout_in state row t scene)
+timeout_sound_in status.Runs program steps t scene row stands = tt
+timeout_sound_in (status.Throws code) program steps t scene row stands = tt
+timeout_sound_in (status.AwaitsPhase phase) program steps t scene row stands = sound_phase_timeout row phase program steps t scene stands
+timeout_sound_in (status.AwaitsBarrier index) program steps t scene row stands = sound_barrier_timeout row index program steps t scene stands
+timeout_sound_in status.Ended program steps t scene row stands = tt
+timeout_sound_in (status.Died code) program steps t scene row stands = tt
+
+-- where the turn of thread t has an outcome
+pub sound_outcome : (program : Program) (steps t : ℕ) (scene : Scene) (outcome : Outcome) → IsSound program steps scene
+    → steps < 2147483647 → t < length scene.threads → outcome_of t program scene ≡ Some outcome
+    → IsSound program (steps + 1) outcome.scene
+sound_outcome program steps t scene outcome sound few there is =
+    let thread = thread_at scene t in
+    subst (KeepsSound program (steps + 1)) is
+    (sound_in thread.status program steps t scene (row_at program.rows thread.pc)
+    (stands_at program steps t scene thread.status sound few there refl))
+
+-- where the expiry of its wait has one
+pub sound_timeout : (program : Program) (steps t : ℕ) (scene : Scene) (outcome : Outcome) → IsSound program steps scene
+    → steps < 2147483647 → t < length scene.threads → outcome_of_expiry t program scene ≡ Some outcome
+    → IsSound program (steps + 1) outcome.scene
+sound_timeout program steps t scene outcome sound few there is =
+    let thread = thread_at scene t in
+    subst (KeepsSound program (steps + 1)) is
+    (either (KeepsSound program (steps + 1)) (is_ready t program scene) {a = None} tt
+    (timeout_sound_in thread.status program steps t scene (row_at program.rows thread.pc)
+    (stands_at program steps t scene thread.status sound few there refl)))
+
+-- two sound scenes of a program with as many threads have as much of everything that a row may name
+pub same_counts : (program : Program) (steps most : ℕ) (scene after : Scene) → IsSound program steps scene → IsSound program most after
+    → length after.threads ≡ length scene.threads → counts_of program after ≡ counts_of program scene
+same_counts program steps most scene after sound sound_after threads =
+    let phasers : length after.phasers ≡ length scene.phasers = sym sound_after.code.all_routines ∙ sound.code.all_routines in
+    let barriers : length after.barriers ≡ length scene.barriers = sym sound_after.code.all_actions ∙ sound.code.all_actions in
+    cc (threads, phasers, barriers)

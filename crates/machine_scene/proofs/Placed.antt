@@ -1,0 +1,84 @@
+-- What a turn may count on in a sound scene, said of the scene as it is stored.
+use Rattle.std.proofs.Common.{◌≡◌, ◌∙◌, ℕ, ◌<◌, true, false, length, refl, sym, ap, subst, arith}
+use Rattle.std.specs.Prelude.{is_some, Option, Some, None}
+use Rattle.std.proofs.lemmas.List.{length-map}
+use Rattle.instruction_table.specs.declared.row.Row.{Row}
+use Rattle.tier_tree.specs.Sound.{place_of}
+use Rattle.tier_tree.proofs.Shown.{length-shown}
+use Rattle.cyclic_barrier.specs.declared.answer.WaitState.{WaitState}
+use Rattle.cyclic_barrier.specs.Waits.{wait_at}
+use Rattle.cyclic_barrier.specs.Barrier.{has_wait}
+use Rattle.loader.specs.Program.{Program, IsNamed, row_at}
+use Rattle.thread_state.specs.declared.frame.Frame.{Frame}
+use Rattle.thread_state.specs.declared.frame.Frame.TheVariants as frame
+use Rattle.thread_state.specs.declared.status.Status.{Status}
+use Rattle.thread_state.specs.declared.status.Status.TheVariants as status
+use Rattle.thread_state.specs.Thread.{top_of}
+use Rattle.machine_scene.specs.Scene.{Scene, StoredScene, scene_of, counts_of, thread_at, barrier_at}
+use Rattle.machine_scene.specs.Sound.{IsSound, HasItsWait, StandsAt, IsTop, awaits}
+use Rattle.machine_scene.proofs.Facts.{named_at, placed_at, top_named, advance_pending, action_runs}
+
+none_if : (wait : Option WaitState) → is_some wait ≡ false → wait ≡ None
+none_if None is = refl
+none_if (Some state) is = absurd (cc (is))
+
+-- by the thread's status
+its_wait : (s : Status) (row : Row) (t : ℕ) (scene : Scene) → ((b : ℕ) → has_wait t (barrier_at scene b) ≡ awaits b s row)
+    → HasItsWait s row t scene
+its_wait status.Runs row t scene known = λ b. none_if (wait_at (barrier_at scene b).waits t) (known b)
+its_wait (status.Throws code) row t scene known = λ b. none_if (wait_at (barrier_at scene b).waits t) (known b)
+its_wait (status.AwaitsPhase phase) row t scene known = λ b. none_if (wait_at (barrier_at scene b).waits t) (known b)
+its_wait (status.AwaitsBarrier index) row t scene known = λ b at none.
+    let some : is_some (wait_at (barrier_at scene b).waits t) ≡ true = known b ∙ at in
+    let empty : is_some (wait_at (barrier_at scene b).waits t) ≡ false = ap (λ (w : Option WaitState). is_some w) none in
+    cc (some, empty)
+its_wait status.Ended row t scene known = λ b. none_if (wait_at (barrier_at scene b).waits t) (known b)
+its_wait (status.Died code) row t scene known = λ b. none_if (wait_at (barrier_at scene b).waits t) (known b)
+
+-- what a turn at the thread's row may count on
+pub turn_placed : (program : Program) (row : Row) (t : ℕ) (stored : StoredScene) → IsSound program 2147483646 (scene_of stored)
+    → t < length stored.threads → row ≡ row_at program.rows (thread_at (scene_of stored) t).pc → StandsAt program row t stored
+turn_placed program row t stored sound there is =
+    let scene = scene_of stored in
+    let placed = placed_at program 2147483646 scene t sound there in
+    let many : length scene.phasers ≡ length stored.phasers = length-shown stored.phasers in
+    let places = length-map scene.phasers place_of in
+    let few = sound.trees.forest.few in
+    let rows = sound.code.few in
+    let within = placed.pc in
+    let named : IsNamed (counts_of program scene) row =
+    subst (IsNamed (counts_of program scene)) (sym is) (named_at program (counts_of program scene) (thread_at scene t).pc sound.code placed.pc) in
+    record {
+      named = subst (λ (n : ℕ). IsNamed (record { rows = length program.rows; threads = length stored.threads; phasers = n; barriers = length stored.barriers }) row) many named;
+      few = omega (arith, many, places, few);
+      routines = sound.code.all_routines ∙ many;
+      actions = sound.code.all_actions;
+      ends = λ p. let most = sound.trees.ends p in omega (arith, most);
+      place = omega (arith, rows, within);
+      waits = its_wait (thread_at scene t).status row t scene
+          (λ b. subst (λ (r : Row). has_wait t (barrier_at scene b) ≡ awaits b (thread_at scene t).status r) (sym is) (sound.waits b t));
+    }
+
+-- by the top entry
+top_by : (top : Option Frame) (program : Program) (t : ℕ) (stored : StoredScene) → IsSound program 2147483646 (scene_of stored)
+    → t < length stored.threads → top_of (thread_at (scene_of stored) t).stack ≡ top → IsTop program stored top
+top_by None program t stored sound there is = tt
+top_by (Some (frame.Call row)) program t stored sound there is = tt
+top_by (Some (frame.Handler row)) program t stored sound there is = tt
+top_by (Some (frame.Advance root registers row)) program t stored sound there is =
+    let scene = scene_of stored in
+    let named = top_named program 2147483646 scene t (frame.Advance root registers row) sound there is in
+    let many = length-shown stored.phasers in
+    let within = named.1.0 in (
+      (named.0, omega (arith, many, within)),
+      (named.1.1, advance_pending program 2147483646 scene t root row registers sound there is),
+    )
+top_by (Some (frame.Action b registers row)) program t stored sound there is =
+    let scene = scene_of stored in
+    let named = top_named program 2147483646 scene t (frame.Action b registers row) sound there is in
+    ((named.0, named.1), action_runs program 2147483646 scene t b row registers sound there is)
+
+-- what the top entry of the thread's stack may be counted on for
+pub top_placed : (program : Program) (top : Option Frame) (t : ℕ) (stored : StoredScene) → IsSound program 2147483646 (scene_of stored)
+    → t < length stored.threads → top ≡ top_of (thread_at (scene_of stored) t).stack → IsTop program stored top
+top_placed program top t stored sound there is = top_by top program t stored sound there (sym is)

@@ -1,0 +1,188 @@
+-- Which turns have an outcome.
+use Rattle.std.proofs.Common.{◌≡◌, ◌≢◌, ◌∙◌, ◌+◌, ◌==◌, ℕ, ℤ, pos, Bool, true, false, refl, sym, ap, if◌then◌else◌}
+use Rattle.std.specs.Prelude.{Option, Some, None, is_some, not, ◌&&◌, nat_abs, int_lt}
+use Rattle.instruction_table.specs.declared.row.Row.{Row}
+use Rattle.instruction_table.specs.declared.row.Row.TheVariants.{Halt, Ldi, Mov, Add, Sub, Jmp, Beq, Bne, Blt, Call, Ret, Try, Endtry, Throw, Out, Lds, Sts, SelfNumber, Intr, Intrd, Preg, Pbulk, Parr, Pdereg, Paaa, Pawait, Pawaiti, Pforce, Pphase, Pparties, Parrived, Punarr, Pterm, Pparent, Proot, Cawait, Creset, Cbroken, Cwaiting, Cparties, Pawaitt, Cawaitt}
+use Rattle.instruction_table.specs.declared.register.Reg.{Reg}
+use Rattle.instruction_table.specs.Registers.{value_in}
+use Rattle.tier_tree.specs.declared.registered.Registered.{Registered}
+use Rattle.tier_tree.specs.declared.registered.Registered.TheVariants as registered
+use Rattle.tier_tree.specs.Registration.{registration, after_registration}
+use Rattle.cyclic_barrier.specs.declared.answer.Entered.{Entered}
+use Rattle.cyclic_barrier.specs.declared.answer.WaitState.{WaitState}
+use Rattle.cyclic_barrier.specs.declared.answer.WaitState.TheVariants as state
+use Rattle.cyclic_barrier.specs.Barrier.{BarrierState, Entry, number_waiting, arrive, enter_beside, enter_timed}
+use Rattle.loader.specs.Program.{Program, row_at}
+use Rattle.thread_state.specs.Thread.{turn_of_throw, is_full}
+use Rattle.machine_scene.specs.Scene.{Scene, Outcome, thread_at, barrier_at, with_phasers, with_barrier, outcome_of_turn}
+use Rattle.machine_scene.specs.PhaserRows.{is_own_tree, unless_own, outcome_of_registered, outcome_of_registration, outcome_of_bulk}
+use Rattle.machine_scene.specs.BarrierRows.{is_run_by, is_run_by_another, unless_busy, unless_runner, outcome_of_entered, outcome_of_entry, outcome_of_await_at}
+use Rattle.machine_scene.specs.Waits.{outcome_of_release}
+use Rattle.machine_scene.specs.Outcomes.{outcome_of_row, outcome_of_expiry, timeout_in, is_ready}
+use Rattle.machine_scene.specs.Ready.{is_held, registration_is_held, is_blocked}
+
+-- an outcome that is there either way
+either : (test : Bool) (one other : Option Outcome) → is_some one ≡ true → is_some other ≡ true
+    → is_some (if test then one else other) ≡ true
+either true one other first second = first
+either false one other first second = second
+
+-- a registration is ready but where it is held
+registered_is_ready : (answer : Registered) (into : Reg) (t : ℕ) (scene : Scene)
+    → is_some (outcome_of_registered answer into t scene) ≡ not (is_held answer)
+registered_is_ready (registered.At phase) into t scene = refl
+registered_is_ready (registered.Dead view) into t scene = refl
+registered_is_ready registered.Held into t scene = refl
+registered_is_ready registered.TooMany into t scene = refl
+
+-- by whether the tree is the thread's own, and whether the count is below 0
+held_by : (own below held : Bool) (one two three : Option Outcome) → is_some one ≡ true → is_some two ≡ true → is_some three ≡ not held
+    → is_some (if own then one else (if below then two else three)) ≡ not (not own && (not below && held))
+held_by true below held one two three first second third = first
+held_by false true held one two three first second third = second
+held_by false false held one two three first second third = third
+
+register_is_ready : (into : Reg) (p t : ℕ) (scene : Scene)
+    → is_some (unless_own p t scene (outcome_of_registration into p 1 t scene)) ≡ not (registration_is_held p (pos 1) t scene)
+register_is_ready into p t scene =
+    held_by (is_own_tree p (thread_at scene t) scene) false (is_held (registration p 1 scene.phasers)) _ (Some (outcome_of_turn (turn_of_throw (pos 1) (thread_at scene t)) t scene)) _ refl refl
+    (registered_is_ready (registration p 1 scene.phasers) into t (with_phasers (after_registration p 1 scene.phasers) scene))
+
+bulk_is_ready : (into : Reg) (p : ℕ) (count : ℤ) (t : ℕ) (scene : Scene)
+    → is_some (unless_own p t scene (outcome_of_bulk into p count t scene)) ≡ not (registration_is_held p count t scene)
+bulk_is_ready into p count t scene =
+    let n = nat_abs count in
+    held_by (is_own_tree p (thread_at scene t) scene) (int_lt count (pos 0)) (is_held (registration p n scene.phasers)) _ _ _ refl refl
+    (registered_is_ready (registration p n scene.phasers) into t (with_phasers (after_registration p n scene.phasers) scene))
+
+-- an entry that isn't told to wait for another's action
+abbrev NotBusy : Entered → Type 0
+NotBusy answer = (into : Reg) (b t : ℕ) (program : Program) (scene : Scene) → is_some (outcome_of_entered answer into b t program scene) ≡ true
+
+not_busy_by : (test : Bool) (one other : Entry) → NotBusy one.answer → NotBusy other.answer → NotBusy (if test then one else other).answer
+not_busy_by true one other first second = first
+not_busy_by false one other first second = second
+
+-- who arrives is told at once
+arrived_is_told : (thread : ℕ) (interrupted no_wait : Bool) (barrier : BarrierState)
+    → NotBusy (arrive thread interrupted no_wait barrier).answer
+arrived_is_told thread interrupted no_wait barrier =
+    not_busy_by barrier.broken _ _ (λ into b t program scene. refl)
+    (not_busy_by interrupted _ _ (λ into b t program scene. refl)
+    (not_busy_by (number_waiting barrier + 1 == barrier.parties) _ _
+    (not_busy_by barrier.action _ _ (λ into b t program scene. refl) (λ into b t program scene. refl))
+    (not_busy_by no_wait _ _ (λ into b t program scene. refl) (λ into b t program scene. refl))))
+
+-- by who runs the action: nobody, where neither the thread nor another does
+entered_by : (runner : Option ℕ) (no_wait : Bool) (into : Reg) (b t : ℕ) (program : Program) (scene : Scene)
+    → is_run_by_another t runner ≡ false → is_run_by t runner ≡ false → (barrier_at scene b).runner ≡ runner
+    → is_some (outcome_of_entry no_wait into b t program scene) ≡ true
+entered_by None no_wait into b t program scene free none is =
+    let barrier = barrier_at scene b in
+    let interrupted = (thread_at scene t).interrupted in
+    let same : enter_timed t interrupted no_wait barrier ≡ arrive t interrupted no_wait barrier =
+    ap (λ (r : Option ℕ). enter_beside r t interrupted no_wait barrier) is in
+    ap (λ (e : Entry). is_some (outcome_of_entered e.answer into b t program (with_barrier e.barrier b scene))) same
+    ∙ arrived_is_told t interrupted no_wait barrier into b t program (with_barrier (arrive t interrupted no_wait barrier).barrier b scene)
+entered_by (Some runner) no_wait into b t program scene free none is = absurd (cc (free, none))
+
+-- by whether another runs the action, and whether the thread does
+busy_by : (busy own : Bool) (one two : Option Outcome) → is_some one ≡ true
+    → (busy ≡ false → own ≡ false → is_some two ≡ true) → is_some (if busy then None else (if own then one else two)) ≡ not busy
+busy_by true own one two first second = refl
+busy_by false true one two first second = first
+busy_by false false one two first second = second refl refl
+
+-- an entry that needn't wait for another's action
+await_is_ready : (no_wait : Bool) (into : Reg) (b t : ℕ) (program : Program) (scene : Scene)
+    → is_some (unless_busy b t scene (unless_runner b t scene (outcome_of_await_at no_wait into b t program scene)))
+    ≡ not (is_run_by_another t (barrier_at scene b).runner)
+await_is_ready no_wait into b t program scene =
+    let runner = (barrier_at scene b).runner in
+    busy_by (is_run_by_another t runner) (is_run_by t runner) _ _ refl
+    (λ free none. either ((barrier_at scene b).action && is_full (thread_at scene t)) _ _ refl
+    (entered_by runner no_wait into b t program scene free none refl))
+
+runner_is_ready : (b t : ℕ) (scene : Scene) (outcome : Outcome)
+    → is_some (unless_busy b t scene (unless_runner b t scene (Some outcome))) ≡ not (is_run_by_another t (barrier_at scene b).runner)
+runner_is_ready b t scene outcome =
+    let runner = (barrier_at scene b).runner in
+    busy_by (is_run_by_another t runner) (is_run_by t runner) _ _ refl (λ free none. refl)
+
+busy_is_ready : (b t : ℕ) (scene : Scene) (outcome : Outcome)
+    → is_some (unless_busy b t scene (Some outcome)) ≡ not (is_run_by_another t (barrier_at scene b).runner)
+busy_is_ready b t scene outcome = busy_by (is_run_by_another t (barrier_at scene b).runner) false (Some outcome) (Some outcome) refl (λ free none. refl)
+
+-- a row that throws or does what it does has an outcome
+own_is_ready : (p t : ℕ) (scene : Scene) (outcome : Outcome) → is_some (unless_own p t scene (Some outcome)) ≡ true
+own_is_ready p t scene outcome = either (is_own_tree p (thread_at scene t) scene) _ _ refl refl
+
+-- a row of a running thread has an outcome exactly where it needn't wait
+pub row_is_ready : (row : Row) (t : ℕ) (program : Program) (scene : Scene)
+    → is_some (outcome_of_row row t program scene) ≡ not (is_blocked row t scene)
+row_is_ready Halt t program scene = refl
+row_is_ready (Ldi into value) t program scene = refl
+row_is_ready (Mov into from) t program scene = refl
+row_is_ready (Add into left right) t program scene = refl
+row_is_ready (Sub into left right) t program scene = refl
+row_is_ready (Jmp target) t program scene = refl
+row_is_ready (Beq left right target) t program scene = refl
+row_is_ready (Bne left right target) t program scene = refl
+row_is_ready (Blt left right target) t program scene = refl
+row_is_ready (Call target) t program scene = refl
+row_is_ready Ret t program scene = refl
+row_is_ready (Try handler) t program scene = refl
+row_is_ready Endtry t program scene = refl
+row_is_ready (Throw code) t program scene = refl
+row_is_ready (Out value) t program scene = refl
+row_is_ready (Lds into cell) t program scene = refl
+row_is_ready (Sts from cell) t program scene = refl
+row_is_ready (SelfNumber into) t program scene = refl
+row_is_ready (Intr other) t program scene = refl
+row_is_ready (Intrd into) t program scene = refl
+row_is_ready (Preg into p) t program scene = register_is_ready into p t scene
+row_is_ready (Pbulk into p count) t program scene =
+    bulk_is_ready into p (value_in (thread_at scene t).registers count) t scene
+row_is_ready (Parr into p) t program scene = own_is_ready p t scene _
+row_is_ready (Pdereg into p) t program scene = own_is_ready p t scene _
+row_is_ready (Paaa into p) t program scene = own_is_ready p t scene _
+row_is_ready (Pawait into p phase) t program scene = own_is_ready p t scene _
+row_is_ready (Pawaiti into p phase) t program scene = own_is_ready p t scene _
+row_is_ready (Pawaitt into p phase time) t program scene = own_is_ready p t scene _
+row_is_ready (Pforce p) t program scene = refl
+row_is_ready (Pphase into p) t program scene = refl
+row_is_ready (Pparties into p) t program scene = refl
+row_is_ready (Parrived into p) t program scene = refl
+row_is_ready (Punarr into p) t program scene = refl
+row_is_ready (Pterm into p) t program scene = refl
+row_is_ready (Pparent into p) t program scene = refl
+row_is_ready (Proot into p) t program scene = refl
+row_is_ready (Cawait into b) t program scene = await_is_ready false into b t program scene
+row_is_ready (Cawaitt into b time) t program scene = await_is_ready _ into b t program scene
+row_is_ready (Creset b) t program scene = runner_is_ready b t scene _
+row_is_ready (Cbroken into b) t program scene = busy_is_ready b t scene _
+row_is_ready (Cwaiting into b) t program scene = runner_is_ready b t scene _
+row_is_ready (Cparties into b) t program scene = refl
+
+-- a wait that can't end is unreleased
+pub unreleased : (wait : Option WaitState) (into : Reg) (index : ℤ) (b t : ℕ) (scene : Scene)
+    → is_some (outcome_of_release wait into index b t scene) ≡ false → wait ≢ None → wait ≡ Some state.Waiting
+unreleased None into index b t scene ends there = absurd (there refl)
+unreleased (Some state.Waiting) into index b t scene ends there = refl
+unreleased (Some state.Tripped) into index b t scene ends there = absurd (cc ends)
+unreleased (Some state.Broken) into index b t scene ends there = absurd (cc ends)
+
+-- an expiry that is ready is the timeout, of a thread whose turn isn't
+pub expiry_not_ready : (ready : Bool) (timeout : Option Outcome) → is_some (if ready then None else timeout) ≡ true → ready ≡ false
+expiry_not_ready true timeout some = absurd (cc some)
+expiry_not_ready false timeout some = refl
+
+pub expired : (row : Row) (t : ℕ) (program : Program) (scene : Scene) (outcome : Outcome)
+    → row ≡ row_at program.rows (thread_at scene t).pc → is_some (outcome_of_expiry t program scene) ≡ true
+    → timeout_in (thread_at scene t).status row t scene ≡ Some outcome → outcome_of_expiry t program scene ≡ Some outcome
+expired row t program scene outcome is some timeout =
+    let state = (thread_at scene t).status in
+    let here = row_at program.rows (thread_at scene t).pc in
+    let idle : is_ready t program scene ≡ false = expiry_not_ready (is_ready t program scene) (timeout_in state here t scene) some in
+    ap (λ (ready : Bool). if ready then None else timeout_in state here t scene) idle
+    ∙ ap (λ (r : Row). timeout_in state r t scene) (sym is) ∙ timeout

@@ -1,0 +1,69 @@
+-- The first scene of a loaded program is sound.
+use Rattle.std.proofs.Common.{inl, inr, ◌≡◌, ◌∙◌, ℕ, zero, suc, Bool, false, List, [], ◌∷◌, length, map, replicate, get_or, ap, refl, sym, subst, arith}
+use Rattle.std.specs.Prelude.{is_some, Option, None, All}
+use Rattle.std.proofs.lemmas.Bool.{cases_lt}
+use Rattle.std.proofs.lemmas.List.{length-map, length-replicate, get_or-replicate, get_or_past}
+use Rattle.std.proofs.lemmas.List.Elements.{All-map}
+use Rattle.tier_tree.specs.Stored.{IsStored}
+use Rattle.tier_tree.proofs.Trees.{trees_begin}
+use Rattle.tier_tree.proofs.Shown.{length-shown}
+use Rattle.cyclic_barrier.specs.declared.answer.WaitState.{WaitState}
+use Rattle.cyclic_barrier.specs.Waits.{wait_at}
+use Rattle.cyclic_barrier.specs.Barrier.{BarrierState, has_wait, fresh}
+use Rattle.row_code.specs.declared.threads.DeclaredThread.{DeclaredThread}
+use Rattle.loader.specs.Program.{Program, IsCode, IsProgram, IsNewBarrier, row_at}
+use Rattle.loader.specs.Program.{counts_of as program_counts}
+use Rattle.thread_state.specs.declared.frame.Frame.{Frame}
+use Rattle.thread_state.specs.Frame.{is_advance, is_action}
+use Rattle.machine_scene.specs.Scene.{Scene, counts_of, no_thread, thread_at, starting, first_scene}
+use Rattle.machine_scene.specs.Sound.{IsPlaced, IsSound, entries}
+use Rattle.machine_scene.proofs.Facts.{IsFree, RunsOn, EndsOn, free_awaits}
+
+-- nobody has an entry yet
+no_entries : (test : Frame → Bool) (threads : List DeclaredThread) → entries test (map starting threads) ≡ 0
+no_entries test [] = refl
+no_entries test (thread ∷ threads) = let rest = no_entries test threads in omega (arith, rest)
+
+-- a barrier of the first scene is new, also where there is none
+new_at : (barriers : List BarrierState) (b : ℕ) → All IsNewBarrier barriers → IsNewBarrier (get_or barriers b (fresh 1 false))
+new_at barriers b new = elim (cases_lt b (length barriers)) as (λ _. IsNewBarrier (get_or barriers b (fresh 1 false))) [
+  | inl there ↦ new b (fresh 1 false) there
+  | inr past ↦ subst IsNewBarrier (sym (get_or_past barriers b (fresh 1 false) past)) refl
+]
+
+-- nobody waits at a new barrier
+none_waits : (n t : ℕ) → is_some (wait_at (replicate n None) t) ≡ false
+none_waits n t = elim (cases_lt t n) as (λ _. is_some (wait_at (replicate n None) t) ≡ false) [
+  | inl there ↦ ap is_some (get_or-replicate {A = Option WaitState} n t None None there)
+  | inr past ↦ (let many = length-replicate {A = Option WaitState} n None in
+      ap is_some (get_or_past (replicate {A = Option WaitState} n None) t None (omega (arith, many, past))))
+]
+
+-- the thread of each number runs at its first row, or isn't there
+starts_free : (threads : List DeclaredThread) (t : ℕ) → IsFree (get_or (map starting threads) t no_thread).status
+starts_free [] t = EndsOn
+starts_free (thread ∷ threads) zero = RunsOn
+starts_free (thread ∷ threads) (suc t) = starts_free threads t
+
+pub sound_start : (program : Program) → IsProgram program → IsStored program.phasers → IsSound program 0 (first_scene program)
+sound_start program is stored =
+    let scene : Scene = first_scene program in
+    let heads : length scene.threads ≡ length program.threads = length-map program.threads starting in
+    let same : counts_of program scene ≡ program_counts program = cc (heads, length-shown program.phasers) in
+    let few = is.threads.few in
+    record {
+      code = subst (IsCode program) (sym same) is.code;
+      few_threads = omega (arith, heads, few);
+      few_barriers = is.barriers.few;
+      trees = trees_begin program.phasers is.phasers.stands.0 stored is.phasers.stands.2 is.phasers.ends;
+      placed = All-map (IsPlaced program scene) starting program.threads (λ k d there. record {
+        pc = is.threads.begin k d there;
+        stack = λ j f none. absurd (omega (arith, none));
+      });
+      advances = λ root within top. let none = no_entries (is_advance root) program.threads in omega (arith, none);
+      actions = λ b. let none = no_entries (is_action b) program.threads in omega (arith, none);
+      room = λ b within. ap (λ (g : BarrierState). length g.waits) (new_at program.barriers b is.barriers.fresh)
+          ∙ length-replicate {A = Option WaitState} 64 None;
+      waits = λ b t. ap (has_wait t) (new_at program.barriers b is.barriers.fresh) ∙ none_waits 64 t
+          ∙ sym (free_awaits b (thread_at scene t).status (row_at program.rows (thread_at scene t).pc) (starts_free program.threads t));
+    }

@@ -1,0 +1,134 @@
+-- A turn, or an expiry, that is undone to the word.
+use Rattle.std.proofs.Common.{◌≡◌, ◌∙◌, ℕ, ℤ, ◌<◌, false, List, length, ap, refl, sym, subst, arith}
+use Rattle.std.specs.Prelude.{Some, None, slice_index_or}
+use Rattle.std.proofs.lemmas.List.{length-set}
+use Rattle.instruction_table.specs.declared.row.Row.{Row}
+use Rattle.instruction_table.specs.declared.row.Row.TheVariants.{Intr}
+use Rattle.tier_tree.specs.Stored.{Stored, stored_at, IsStored}
+use Rattle.tier_tree.proofs.Changed.{restored_line}
+use Rattle.cyclic_barrier.specs.Barrier.{BarrierState, fresh}
+use Rattle.loader.specs.Program.{Program, IsNamed, row_at}
+use Rattle.thread_state.specs.declared.event.Event.{Event}
+use Rattle.thread_state.specs.Thread.{ThreadState, top_of}
+use Rattle.thread_state.specs.Undo as own
+use Rattle.machine_scene.specs.declared.reach.Reach.{Reach}
+use Rattle.machine_scene.specs.declared.reach.Reach.TheVariants as reach
+use Rattle.machine_scene.specs.Scene.{StoredScene, scene_of, counts_in, no_thread, thread_at}
+use Rattle.machine_scene.specs.Sound.{IsSound}
+use Rattle.machine_scene.specs.Outcomes.{outcome_in, outcome_of, is_ready, outcome_of_expiry}
+use Rattle.machine_scene.specs.Undo.{Note, IsThere, PhasersWithin, CanPutBack, CanUndo, reach_in, reach_of, touched_by, note_of, undone}
+use Rattle.machine_scene.proofs.Plain.{either}
+use Rattle.machine_scene.proofs.Placed.{turn_placed, top_placed}
+use Rattle.machine_scene.proofs.Reaches.{reach_there}
+use Rattle.machine_scene.proofs.Undone.{GivesBack, BackIf, threads_back, thread_back}
+use Rattle.machine_scene.proofs.UndoneRows.{NamesThread, back_in, back_timeout}
+
+-- the note gives the scene back, and may be used
+pub record IsUndone (note : Note) (old new : StoredScene) : Type 0 where
+  pub undo : undone note new ≡ old
+  pub can : CanUndo note new
+  pub threads : length new.threads ≡ length old.threads
+
+-- a note of this reach
+abbrev noted : Reach → ℕ → StoredScene → Note
+noted reach t stored = record { thread = t; before = own.note_of (thread_at (scene_of stored) t); touched = touched_by reach stored }
+
+made : (old new : StoredScene) → new.cells ≡ old.cells → new.threads ≡ old.threads → new.phasers ≡ old.phasers → new.barriers ≡ old.barriers
+    → new ≡ old
+made old new cells threads phasers barriers =
+    ap (λ (xs : List ℤ). record new { cells = xs }) cells
+    ∙ ap (λ (xs : List ThreadState). record new { cells = old.cells; threads = xs }) threads
+    ∙ ap (λ (xs : List Stored). record new { cells = old.cells; threads = old.threads; phasers = xs }) phasers
+    ∙ ap (λ (xs : List BarrierState). record old { barriers = xs }) barriers
+
+undone_by : (reach : Reach) (t : ℕ) (old new : StoredScene) → GivesBack reach t (scene_of old) (scene_of new)
+    → PhasersWithin reach old.phasers new.phasers → undone (noted reach t old) new ≡ old
+undone_by reach.Nothing t old new gives within = made old _ gives.cells gives.threads within gives.barriers
+undone_by (reach.Cell cell) t old new gives within = made old _ gives.cells gives.threads within gives.barriers
+undone_by (reach.Thread other) t old new gives within = made old _ gives.cells gives.threads within gives.barriers
+undone_by (reach.Tree p) t old new gives within =
+    made old _ gives.cells gives.threads (restored_line (stored_at old.phasers p).line old.phasers new.phasers within) gives.barriers
+undone_by (reach.Barrier b) t old new gives within = made old _ gives.cells gives.threads within gives.barriers
+
+many_back : (t : ℕ) (before after : List ThreadState) → length (thread_back t before after) ≡ length after
+many_back t before after =
+    length-set after t (own.undone (own.note_of (slice_index_or before t no_thread)) (slice_index_or after t no_thread))
+
+many_threads : (reach : Reach) (t : ℕ) (before after : List ThreadState) → threads_back reach t before after ≡ before
+    → length after ≡ length before
+many_threads reach.Nothing t before after back = sym (many_back t before after) ∙ ap length back
+many_threads (reach.Cell cell) t before after back = sym (many_back t before after) ∙ ap length back
+many_threads (reach.Thread other) t before after back =
+    sym (many_back other before after) ∙ sym (many_back t before (thread_back other before after)) ∙ ap length back
+many_threads (reach.Tree p) t before after back = sym (many_back t before after) ∙ ap length back
+many_threads (reach.Barrier b) t before after back = sym (many_back t before after) ∙ ap length back
+
+can_put_back : (reach : Reach) (t : ℕ) (old new : StoredScene) → IsThere reach old → IsStored old.phasers
+    → GivesBack reach t (scene_of old) (scene_of new) → PhasersWithin reach old.phasers new.phasers
+    → CanPutBack (touched_by reach old) new
+can_put_back reach.Nothing t old new there stored gives within = tt
+can_put_back (reach.Cell cell) t old new there stored gives within = there
+can_put_back (reach.Thread other) t old new there stored gives within =
+    let many = many_threads (reach.Thread other) t old.threads new.threads gives.threads in omega (arith, many, there)
+can_put_back (reach.Tree p) t old new there stored gives within =
+    subst IsStored (sym (restored_line (stored_at old.phasers p).line old.phasers new.phasers within)) stored
+can_put_back (reach.Barrier b) t old new there stored gives within =
+    let many : length new.barriers ≡ length old.barriers =
+    sym (length-set new.barriers b (slice_index_or old.barriers b (fresh 1 false))) ∙ ap length gives.barriers in
+    omega (arith, many, there)
+
+undone_within : (reach : Reach) (t : ℕ) (old new : StoredScene) → IsThere reach old → t < length old.threads → IsStored old.phasers
+    → GivesBack reach t (scene_of old) (scene_of new) → PhasersWithin reach old.phasers new.phasers
+    → IsUndone (noted reach t old) old new
+undone_within reach t old new there thread stored gives within =
+    let many = many_threads reach t old.threads new.threads gives.threads in
+    record {
+      undo = undone_by reach t old new gives within;
+      can = record { there = omega (arith, many, thread); touched = can_put_back reach t old new there stored gives within };
+      threads = many;
+    }
+
+names_thread : (row : Row) (program : Program) (stored : StoredScene) → IsNamed (counts_in program stored) row → NamesThread row (scene_of stored)
+names_thread (Intr other) program stored named = named
+names_thread _ program stored named = tt
+
+reached : (program : Program) (t : ℕ) (old : StoredScene) → IsSound program 2147483646 (scene_of old) → t < length old.threads
+    → IsThere (reach_of t program (scene_of old)) old
+reached program t old sound there =
+    let thread = thread_at (scene_of old) t in
+    reach_there thread.status (row_at program.rows thread.pc) (top_of thread.stack) program old
+    (turn_placed program (row_at program.rows thread.pc) t old sound there refl).named
+    (top_placed program (top_of thread.stack) t old sound there refl)
+
+-- a turn, of a thread that stands at this row
+pub turn_undone_at : (row : Row) (program : Program) (t : ℕ) (old new : StoredScene) (event : Event)
+    → row ≡ row_at program.rows (thread_at (scene_of old) t).pc → IsSound program 2147483646 (scene_of old)
+    → t < length old.threads → IsStored old.phasers
+    → outcome_in (thread_at (scene_of old) t).status row t program (scene_of old) ≡ Some (record { scene = scene_of new; event = event })
+    → PhasersWithin (reach_in (thread_at (scene_of old) t).status row (top_of (thread_at (scene_of old) t).stack)) old.phasers new.phasers
+    → IsUndone (note_of t program old) old new
+turn_undone_at row program t old new event at sound there stored is within =
+    let scene = scene_of old in
+    let thread = thread_at scene t in
+    let own_row = row_at program.rows thread.pc in
+    let reach = reach_of t program scene in
+    let named = names_thread own_row program old (turn_placed program own_row t old sound there refl).named in
+    let outcome : outcome_of t program scene ≡ Some (record { scene = scene_of new; event = event }) =
+    ap (λ (r : Row). outcome_in thread.status r t program scene) (sym at) ∙ is in
+    undone_within reach t old new (reached program t old sound there) there stored
+    (subst (BackIf reach t scene) outcome (back_in thread.status own_row t program scene named there))
+    (subst (λ (r : Row). PhasersWithin (reach_in thread.status r (top_of thread.stack)) old.phasers new.phasers) at within)
+
+-- an expiry
+pub expiry_undone : (program : Program) (t : ℕ) (old new : StoredScene) (event : Event) → IsSound program 2147483646 (scene_of old)
+    → t < length old.threads → IsStored old.phasers
+    → outcome_of_expiry t program (scene_of old) ≡ Some (record { scene = scene_of new; event = event })
+    → PhasersWithin (reach_of t program (scene_of old)) old.phasers new.phasers → IsUndone (note_of t program old) old new
+expiry_undone program t old new event sound there stored is within =
+    let scene = scene_of old in
+    let thread = thread_at scene t in
+    let row = row_at program.rows thread.pc in
+    let reach = reach_of t program scene in
+    undone_within reach t old new (reached program t old sound there) there stored
+    (subst (BackIf reach t scene) is
+    (either (BackIf reach t scene) (is_ready t program scene) {a = None} tt (back_timeout thread.status row t scene there))) within

@@ -1,0 +1,520 @@
+-- What every outcome leaves to be undone, row by row.
+use Rattle.std.proofs.Common.{cond, ◌≡◌, ◌∙◌, ℕ, ℤ, pos, ◌+◌, ◌<◌, ◌==◌, ◌++◌, [], ◌∷◌, ◌&&◌, not, Bool, true, false, List, length, ap, refl}
+use Rattle.std.specs.Prelude.{nat_abs, int_lt, is_some, Option, Some, None, slice_set, slice_index_or}
+use Rattle.std.specs.List.{list_any}
+use Rattle.std.specs.Ordering.{int_eq}
+use Rattle.std.proofs.lemmas.List.{set-set, set-get_or, get_or-set_same}
+use Rattle.instruction_table.specs.declared.row.Row.{Row}
+use Rattle.instruction_table.specs.declared.row.Row.TheVariants.{Halt, Ldi, Mov, Add, Sub, Jmp, Beq, Bne, Blt, Call, Ret, Try, Endtry, Throw, Out, Lds, Sts, SelfNumber, Intr, Intrd, Preg, Pbulk, Parr, Pdereg, Paaa, Pawait, Pawaiti, Pforce, Pphase, Pparties, Parrived, Punarr, Pterm, Pparent, Proot, Cawait, Creset, Cbroken, Cwaiting, Cparties, Pawaitt, Cawaitt}
+use Rattle.instruction_table.specs.declared.register.Reg.{Reg}
+use Rattle.instruction_table.specs.Registers.{value_in}
+use Rattle.tier_tree.specs.declared.registered.Registered.{Registered}
+use Rattle.tier_tree.specs.declared.registered.Registered.TheVariants as registered
+use Rattle.tier_tree.specs.declared.arrived.Arrived.{Arrived}
+use Rattle.tier_tree.specs.declared.arrived.Arrived.TheVariants as arrived
+use Rattle.packed_phaser.specs.Flat.{view_of}
+use Rattle.tier_tree.specs.Forest.{PhaserState, flat_at}
+use Rattle.tier_tree.specs.Registration.{registration, after_registration}
+use Rattle.tier_tree.specs.Arrival.{Arrives, arrival}
+use Rattle.tier_tree.specs.PhaseEnd.{after_turn, after_force}
+use Rattle.cyclic_barrier.specs.declared.answer.Entered.{Entered}
+use Rattle.cyclic_barrier.specs.declared.answer.Entered.TheVariants as entered
+use Rattle.cyclic_barrier.specs.declared.answer.WaitState.{WaitState}
+use Rattle.cyclic_barrier.specs.declared.answer.WaitState.TheVariants as state
+use Rattle.cyclic_barrier.specs.Waits.{wait_at}
+use Rattle.cyclic_barrier.specs.Barrier.{BarrierState, Entry, enter_timed, reset, leave, interrupt, expire, end_action}
+use Rattle.loader.specs.Program.{Program}
+use Rattle.thread_state.specs.declared.event.What.TheVariants as what
+use Rattle.thread_state.specs.declared.frame.Frame.{Frame}
+use Rattle.thread_state.specs.declared.frame.Frame.TheVariants as frame
+use Rattle.thread_state.specs.declared.status.Status.{Status}
+use Rattle.thread_state.specs.declared.status.Status.TheVariants as status
+use Rattle.thread_state.specs.Frame.{is_routine}
+use Rattle.thread_state.specs.Thread.{ThreadState, Turn, turn_of_throw, turn_of_interruption, turn_of_answer, turn_of_done, turn_of_wait, turn_of_barrier_wait, turn_of_halt, turn_of_local, turn_of_out, turn_of_call, turn_of_try, turn_of_endtry, turn_of_return, turn_of_advance, turn_of_action, turn_of_popped, turn_of_pop, turn_of_intrd, top_of, with_entry, popped, left_routine, is_full, is_finished, interrupted}
+use Rattle.machine_scene.specs.declared.group.Group.{Group}
+use Rattle.machine_scene.specs.declared.group.Group.TheVariants.{Own, Calls, Data, Phasers, Getters, Barriers}
+use Rattle.machine_scene.specs.declared.manner.Manner.{Manner}
+use Rattle.machine_scene.specs.declared.patience.Patience.{Patience}
+use Rattle.machine_scene.specs.declared.patience.Patience.TheVariants as patience
+use Rattle.machine_scene.specs.declared.reach.Reach.{Reach}
+use Rattle.machine_scene.specs.declared.reach.Reach.TheVariants as reach
+use Rattle.machine_scene.specs.Scene.{Scene, Outcome, no_thread, thread_at, barrier_at, action_at, routine_at, with_thread, with_phasers, with_barrier, with_cell}
+use Rattle.machine_scene.specs.Group.{group_of}
+use Rattle.machine_scene.specs.OwnRows.{outcome_of_own_row}
+use Rattle.machine_scene.specs.CallRows.{outcome_of_routine_end, outcome_of_ret, outcome_of_call_row}
+use Rattle.machine_scene.specs.DataRows.{outcome_of_data_row}
+use Rattle.machine_scene.specs.GetterRows.{outcome_of_getter_row}
+use Rattle.machine_scene.specs.PhaserRows.{is_own_tree, is_past, has_routine, answer_of_policy, turn_of_arrival, turn_of_patience, turn_of_await, unless_own, outcome_of_turning, outcome_of_arrived, outcome_of_arrival, outcome_of_registered, outcome_of_registration, outcome_of_bulk, outcome_of_await, outcome_of_phaser_row}
+use Rattle.machine_scene.specs.BarrierRows.{is_run_by, is_run_by_another, unless_busy, unless_runner, outcome_of_entered, outcome_of_await_at, outcome_of_barrier_row}
+use Rattle.machine_scene.specs.Unwinding.{outcome_of_popped}
+use Rattle.machine_scene.specs.Waits.{outcome_of_awaited, outcome_of_phase_wait, outcome_of_release, outcome_of_barrier_wait, outcome_of_phase_timeout, outcome_of_barrier_timeout}
+use Rattle.machine_scene.specs.Outcomes.{outcome_in_group, outcome_in, timeout_in}
+use Rattle.machine_scene.specs.Undo.{reach_of_entry, reach_of_ret, reach_of_row, reach_of_wait, reach_in}
+use Rattle.machine_scene.proofs.Plain.{either}
+use Rattle.machine_scene.proofs.Turns.{read_same}
+use Rattle.machine_scene.proofs.Undone.{IsBack, GivesBack, BackIf, IsOwn, cells_back, barriers_back, back_same, back_push, back_pop, back_out, back_from, back_alone, back_tree, back_barrier, gate_back, threads_set}
+
+-- turns of one thread
+
+abbrev Undoes : ThreadState → Turn → Type 0
+Undoes before turn = IsBack before turn.thread
+
+same : (before : ThreadState) (turn : Turn) → turn.thread.stack ≡ before.stack → turn.thread.output ≡ before.output → Undoes before turn
+same before turn stack output = back_same before turn.thread stack output
+
+thrown : (before : ThreadState) (code : ℤ) → Undoes before (turn_of_throw code before)
+thrown before code = same before (turn_of_throw code before) refl refl
+
+answered : (before : ThreadState) (into : Reg) (value : ℤ) → Undoes before (turn_of_answer into value before)
+answered before into value = same before (turn_of_answer into value before) refl refl
+
+interruption : (before : ThreadState) → Undoes before (turn_of_interruption before)
+interruption before = same before (turn_of_interruption before) refl refl
+
+waits : (before : ThreadState) (phase : ℤ) → Undoes before (turn_of_wait phase before)
+waits before phase = same before (turn_of_wait phase before) refl refl
+
+arrived_at : (manner : Manner) (phase : ℤ) (before : ThreadState) → Undoes before (turn_of_arrival manner phase before)
+arrived_at manner phase before =
+    either (Undoes before) manner.waits {a = turn_of_wait phase before} {b = turn_of_answer manner.into phase before} (waits before phase)
+    (answered before manner.into phase)
+
+patient : (of : Patience) (phase : ℤ) (before : ThreadState) → Undoes before (turn_of_patience of phase before)
+patient patience.Endless phase before = waits before phase
+patient patience.Interruptible phase before =
+    either (Undoes before) before.interrupted {a = turn_of_interruption before} {b = turn_of_wait phase before} (interruption before)
+    (waits before phase)
+patient (patience.Timed time) phase before =
+    let wait = turn_of_wait phase before in
+    let late = turn_of_throw (pos 5) before in
+    either (Undoes before) before.interrupted {a = turn_of_interruption before} {b = cond (int_lt (pos 0) time) wait late} (interruption before)
+    (either (Undoes before) (int_lt (pos 0) time) {a = wait} {b = late} (waits before phase) (thrown before (pos 5)))
+
+awaits : (of : Patience) (into : Reg) (phase view : ℤ) (before : ThreadState) → Undoes before (turn_of_await of into phase view before)
+awaits of into phase view before =
+    let past = turn_of_answer into view before in
+    let wait = turn_of_patience of phase before in
+    either (Undoes before) (int_lt phase (pos 0)) {a = turn_of_answer into phase before} {b = cond (not (int_eq view phase)) past wait}
+    (answered before into phase)
+    (either (Undoes before) (not (int_eq view phase)) {a = past} {b = wait} (answered before into view) (patient of phase before))
+
+halted : (before : ThreadState) → Undoes before (turn_of_halt before)
+halted before =
+    let ended : Turn = record { thread = record before { status = status.Ended }; what = what.Ends } in
+    either (Undoes before) (list_any is_routine before.stack) {a = turn_of_throw (pos 7) before} {b = ended} (thrown before (pos 7))
+    (same before ended refl refl)
+
+put_out : (from : Reg) (before : ThreadState) → Undoes before (turn_of_out from before)
+put_out from before =
+    let value = value_in before.registers from in
+    let more : Turn = record { thread = record before { output = before.output ++ value ∷ []; pc = before.pc + 1 }; what = what.Out value } in
+    either (Undoes before) (length before.output == 4096) {a = turn_of_throw (pos 8) before} {b = more} (thrown before (pos 8))
+    (back_out before more.thread value refl refl)
+
+called : (target : ℕ) (before : ThreadState) → Undoes before (turn_of_call target before)
+called target before =
+    let more : Turn = record { thread = with_entry (frame.Call (before.pc + 1)) target before; what = what.Done } in
+    either (Undoes before) (is_full before) {a = turn_of_throw (pos 6) before} {b = more} (thrown before (pos 6))
+    (back_push before more.thread (frame.Call (before.pc + 1)) refl refl)
+
+tried : (handler : ℕ) (before : ThreadState) → Undoes before (turn_of_try handler before)
+tried handler before =
+    let more : Turn = record { thread = with_entry (frame.Handler handler) (before.pc + 1) before; what = what.Done } in
+    either (Undoes before) (is_full before) {a = turn_of_throw (pos 6) before} {b = more} (thrown before (pos 6))
+    (back_push before more.thread (frame.Handler handler) refl refl)
+
+pops : (before : ThreadState) (turn : Turn) → turn.thread.stack ≡ (popped before).stack → turn.thread.output ≡ before.output → Undoes before turn
+pops before turn stack output = back_pop before turn.thread stack output
+
+ended_try : (top : Option Frame) (before : ThreadState) → Undoes before (turn_of_endtry top before)
+ended_try None before = thrown before (pos 7)
+ended_try (Some (frame.Call row)) before = thrown before (pos 7)
+ended_try (Some (frame.Handler row)) before = pops before (turn_of_done (popped before)) refl refl
+ended_try (Some (frame.Advance root registers row)) before = thrown before (pos 7)
+ended_try (Some (frame.Action b registers row)) before = thrown before (pos 7)
+
+unwound : (top : Option Frame) (code : ℤ) (before : ThreadState) → Undoes before (turn_of_popped top code before)
+unwound None code before = same before (turn_of_popped None code before) refl refl
+unwound (Some (frame.Call row)) code before = pops before (turn_of_popped (Some (frame.Call row)) code before) refl refl
+unwound (Some (frame.Handler row)) code before = pops before (turn_of_popped (Some (frame.Handler row)) code before) refl refl
+unwound (Some (frame.Advance root registers row)) code before =
+    pops before (turn_of_popped (Some (frame.Advance root registers row)) code before) refl refl
+unwound (Some (frame.Action b registers row)) code before =
+    pops before (turn_of_popped (Some (frame.Action b registers row)) code before) refl refl
+
+-- rows
+
+-- a thread that the row names is there
+abbrev pub NamesThread : Row → Scene → Type 0
+NamesThread (Intr other) scene = other < length scene.threads
+NamesThread _ scene = Unit {0}
+
+alone : (t : ℕ) (scene : Scene) (after : ThreadState) → t < length scene.threads → IsBack (thread_at scene t) after
+    → GivesBack reach.Nothing t scene (with_thread after t scene)
+alone t scene after there back = back_alone reach.Nothing t scene after (λ first last. refl) there back
+
+local : (row : Row) (t : ℕ) (scene : Scene) → t < length scene.threads
+    → GivesBack reach.Nothing t scene (with_thread (turn_of_local row (thread_at scene t)).thread t scene)
+local row t scene there = alone t scene _ there (same (thread_at scene t) (turn_of_local row (thread_at scene t)) refl refl)
+
+back_own_row : (row : Row) (top : Option Frame) (t : ℕ) (scene : Scene) → t < length scene.threads
+    → BackIf (reach_of_row row top) t scene (outcome_of_own_row row t scene)
+back_own_row Halt top t scene there = alone t scene _ there (halted (thread_at scene t))
+back_own_row (Ldi into value) top t scene there = local (Ldi into value) t scene there
+back_own_row (Mov into from) top t scene there = local (Mov into from) t scene there
+back_own_row (Add into left right) top t scene there = local (Add into left right) t scene there
+back_own_row (Sub into left right) top t scene there = local (Sub into left right) t scene there
+back_own_row (Jmp target) top t scene there = local (Jmp target) t scene there
+back_own_row (Beq left right target) top t scene there = local (Beq left right target) t scene there
+back_own_row (Bne left right target) top t scene there = local (Bne left right target) t scene there
+back_own_row (Blt left right target) top t scene there = local (Blt left right target) t scene there
+back_own_row _ top t scene there = tt
+
+-- thread t, back at its arrival, takes the answer of it
+back_at_arrival : (reach : Reach) (t : ℕ) (scene mid : Scene) (left : ThreadState) (into : Reg) (value : ℤ) → IsOwn reach t
+    → t < length scene.threads → left.stack ≡ (popped (thread_at scene t)).stack → left.output ≡ (thread_at scene t).output
+    → mid.threads ≡ slice_set scene.threads t left
+    → cells_back reach scene.cells mid.cells ≡ scene.cells → barriers_back reach scene.barriers mid.barriers ≡ scene.barriers
+    → GivesBack reach t scene (with_thread (turn_of_answer into value (thread_at mid t)).thread t mid)
+back_at_arrival reach t scene mid left into value is_own there stack output threads cells barriers =
+    let turn = turn_of_answer into value (thread_at mid t) in
+    let now : thread_at mid t ≡ left =
+    ap (λ (ts : List ThreadState). slice_index_or ts t no_thread) threads ∙ get_or-set_same scene.threads t left no_thread there in
+    back_from reach t scene mid turn.thread is_own there cells barriers
+    (ap (λ (ts : List ThreadState). slice_set ts t turn.thread) threads ∙ set-set scene.threads t left turn.thread)
+    (pops (thread_at scene t) turn (ap (λ (x : ThreadState). x.stack) now ∙ stack) (ap (λ (x : ThreadState). x.output) now ∙ output))
+
+back_routine_end : (ended : Bool) (manner : Manner) (root : ℕ) (ends : Bool) (t : ℕ) (scene : Scene) (left : ThreadState)
+    → t < length scene.threads → left.stack ≡ (popped (thread_at scene t)).stack → left.output ≡ (thread_at scene t).output
+    → GivesBack (reach.Tree root) t scene (outcome_of_routine_end ended manner root ends t (with_thread left t scene)).scene
+back_routine_end true manner root ends t scene left there stack output =
+    back_at_arrival (reach.Tree root) t scene (with_thread left t scene) left manner.into _ (λ first last. refl) there stack output refl refl refl
+back_routine_end false manner root ends t scene left there stack output =
+    back_at_arrival (reach.Tree root) t scene (with_phasers (after_turn root ends scene.phasers) (with_thread left t scene)) left manner.into _
+    (λ first last. refl) there stack output refl refl refl
+
+back_ret : (top : Option Frame) (t : ℕ) (program : Program) (scene : Scene) → t < length scene.threads
+    → GivesBack (reach_of_ret top) t scene (outcome_of_ret top t program scene).scene
+back_ret None t program scene there = alone t scene _ there (thrown (thread_at scene t) (pos 7))
+back_ret (Some (frame.Call row)) t program scene there =
+    alone t scene _ there (pops (thread_at scene t) (turn_of_return row (thread_at scene t)) refl refl)
+back_ret (Some (frame.Handler row)) t program scene there = alone t scene _ there (thrown (thread_at scene t) (pos 7))
+back_ret (Some (frame.Advance root registers row)) t program scene there =
+    back_routine_end (flat_at scene.phasers root).ended _ root _ t scene (left_routine registers row (thread_at scene t)) there refl refl
+back_ret (Some (frame.Action b registers row)) t program scene there =
+    let left = left_routine registers row (thread_at scene t) in
+    let gate = end_action true (barrier_at scene b) in
+    back_at_arrival (reach.Barrier b) t scene (with_barrier gate b (with_thread left t scene)) left _ (pos 0) (λ first last. refl) there refl refl
+    refl refl (gate_back b scene gate)
+
+back_call_row : (row : Row) (t : ℕ) (program : Program) (scene : Scene) → t < length scene.threads
+    → BackIf (reach_of_row row (top_of (thread_at scene t).stack)) t scene (outcome_of_call_row row t program scene)
+back_call_row (Call target) t program scene there = alone t scene _ there (called target (thread_at scene t))
+back_call_row Ret t program scene there = back_ret (top_of (thread_at scene t).stack) t program scene there
+back_call_row (Try handler) t program scene there = alone t scene _ there (tried handler (thread_at scene t))
+back_call_row Endtry t program scene there = alone t scene _ there (ended_try (top_of (thread_at scene t).stack) (thread_at scene t))
+back_call_row (Throw code) t program scene there = alone t scene _ there (thrown (thread_at scene t) _)
+back_call_row _ t program scene there = tt
+
+-- `sts`
+back_store : (from : Reg) (cell t : ℕ) (scene : Scene) → t < length scene.threads
+    → BackIf (reach.Cell cell) t scene (outcome_of_data_row (Sts from cell) t scene)
+back_store from cell t scene there =
+    back_from (reach.Cell cell) t scene (with_cell (value_in (thread_at scene t).registers from) cell scene) (turn_of_done (thread_at scene t)).thread
+    (λ first last. refl) there (set-set scene.cells cell _ _ ∙ set-get_or scene.cells cell (pos 0)) refl refl
+    (same (thread_at scene t) (turn_of_done (thread_at scene t)) refl refl)
+
+-- `intr`
+marked : (thread : ThreadState) → IsBack thread (interrupted thread)
+marked thread =
+    either (IsBack thread) (is_finished thread.status) {a = thread} {b = record thread { interrupted = true }} (back_same thread thread refl refl)
+    (back_same thread (record thread { interrupted = true }) refl refl)
+
+marked_fields : (thread : ThreadState) → ((interrupted thread).stack ≡ thread.stack) × ((interrupted thread).output ≡ thread.output)
+marked_fields thread =
+    either (λ (after : ThreadState). (after.stack ≡ thread.stack) × (after.output ≡ thread.output)) (is_finished thread.status) {a = thread}
+    {b = record thread { interrupted = true }} (refl, refl) (refl, refl)
+
+back_interrupt : (other t : ℕ) (scene : Scene) → other < length scene.threads → t < length scene.threads
+    → BackIf (reach.Thread other) t scene (outcome_of_data_row (Intr other) t scene)
+back_interrupt other t scene here there =
+    let mark = interrupted (thread_at scene other) in
+    let mid = with_thread mark other scene in
+    let done = (turn_of_done (thread_at mid t)).thread in
+    let back : IsBack (thread_at scene t) done =
+    back_same (thread_at scene t) done
+    (read_same (λ (x : ThreadState). x.stack) scene other mark t here (marked_fields (thread_at scene other)).0)
+    (read_same (λ (x : ThreadState). x.output) scene other mark t here (marked_fields (thread_at scene other)).1) in
+    record {
+      cells = refl;
+      barriers = refl;
+      threads = threads_set scene.threads other t mark done here there (marked (thread_at scene other)) back;
+    }
+
+back_data_row : (row : Row) (top : Option Frame) (t : ℕ) (scene : Scene) → NamesThread row scene → t < length scene.threads
+    → BackIf (reach_of_row row top) t scene (outcome_of_data_row row t scene)
+back_data_row (Out value) top t scene named there = alone t scene _ there (put_out value (thread_at scene t))
+back_data_row (Lds into cell) top t scene named there = alone t scene _ there (answered (thread_at scene t) into _)
+back_data_row (Sts from cell) top t scene named there = back_store from cell t scene there
+back_data_row (SelfNumber into) top t scene named there = alone t scene _ there (answered (thread_at scene t) into _)
+back_data_row (Intr other) top t scene named there = back_interrupt other t scene named there
+back_data_row (Intrd into) top t scene named there =
+    alone t scene _ there (same (thread_at scene t) (turn_of_intrd into (thread_at scene t)) refl refl)
+back_data_row _ top t scene named there = tt
+
+back_getter_row : (row : Row) (top : Option Frame) (t : ℕ) (scene : Scene) → t < length scene.threads
+    → BackIf (reach_of_row row top) t scene (outcome_of_getter_row row t scene)
+back_getter_row (Pphase into p) top t scene there = alone t scene _ there (answered (thread_at scene t) into _)
+back_getter_row (Pparties into p) top t scene there = alone t scene _ there (answered (thread_at scene t) into _)
+back_getter_row (Parrived into p) top t scene there = alone t scene _ there (answered (thread_at scene t) into _)
+back_getter_row (Punarr into p) top t scene there = alone t scene _ there (answered (thread_at scene t) into _)
+back_getter_row (Pterm into p) top t scene there = alone t scene _ there (answered (thread_at scene t) into _)
+back_getter_row (Pparent into p) top t scene there = alone t scene _ there (answered (thread_at scene t) into _)
+back_getter_row (Proot into p) top t scene there = alone t scene _ there (answered (thread_at scene t) into _)
+back_getter_row _ top t scene there = tt
+
+-- rows at phasers
+
+at_tree : (p t : ℕ) (scene : Scene) (phasers : List PhaserState) (after : ThreadState) → t < length scene.threads → IsBack (thread_at scene t) after
+    → GivesBack (reach.Tree p) t scene (with_thread after t (with_phasers phasers scene))
+at_tree p t scene phasers after there back = back_tree p t scene phasers after there back
+
+-- beside the tree
+no_tree : (p t : ℕ) (scene : Scene) (after : ThreadState) → t < length scene.threads → IsBack (thread_at scene t) after
+    → GivesBack (reach.Tree p) t scene (with_thread after t scene)
+no_tree p t scene after there back = back_alone (reach.Tree p) t scene after (λ first last. refl) there back
+
+back_registered : (answer : Registered) (into : Reg) (p t : ℕ) (scene : Scene) (phasers : List PhaserState) → t < length scene.threads
+    → BackIf (reach.Tree p) t scene (outcome_of_registered answer into t (with_phasers phasers scene))
+back_registered (registered.At phase) into p t scene phasers there = at_tree p t scene phasers _ there (answered (thread_at scene t) into phase)
+back_registered (registered.Dead view) into p t scene phasers there = at_tree p t scene phasers _ there (answered (thread_at scene t) into view)
+back_registered registered.TooMany into p t scene phasers there = at_tree p t scene phasers _ there (thrown (thread_at scene t) (pos 1))
+back_registered registered.Held into p t scene phasers there = tt
+
+back_bulk : (into : Reg) (p : ℕ) (count : ℤ) (t : ℕ) (scene : Scene) → t < length scene.threads
+    → BackIf (reach.Tree p) t scene (outcome_of_bulk into p count t scene)
+back_bulk into p count t scene there =
+    either (BackIf (reach.Tree p) t scene) (int_lt count (pos 0)) (no_tree p t scene _ there (thrown (thread_at scene t) (pos 2)))
+    (back_registered (registration p (nat_abs count) scene.phasers) into p t scene (after_registration p (nat_abs count) scene.phasers) there)
+
+back_turning : (answer : Option Bool) (manner : Manner) (p root : ℕ) (phase : ℤ) (t : ℕ) (program : Program) (scene : Scene) (phasers : List PhaserState)
+    → t < length scene.threads
+    → GivesBack (reach.Tree p) t scene (outcome_of_turning answer manner root phase t program (with_phasers phasers scene)).scene
+back_turning (Some ends) manner p root phase t program scene phasers there =
+    at_tree p t scene (after_turn root ends phasers) _ there (answered (thread_at scene t) manner.into _)
+back_turning None manner p root phase t program scene phasers there =
+    let turn = turn_of_advance root phase (flat_at phasers root).parties (routine_at program root) (thread_at scene t) in
+    at_tree p t scene phasers turn.thread there
+    (back_push (thread_at scene t) turn.thread (frame.Advance root (thread_at scene t).registers (thread_at scene t).pc) refl refl)
+
+back_arrived : (answer : Arrived) (manner : Manner) (p t : ℕ) (program : Program) (scene : Scene) (phasers : List PhaserState)
+    → t < length scene.threads
+    → GivesBack (reach.Tree p) t scene (outcome_of_arrived answer manner t program (with_phasers phasers scene)).scene
+back_arrived (arrived.At phase) manner p t program scene phasers there =
+    at_tree p t scene phasers _ there (arrived_at manner phase (thread_at scene t))
+back_arrived (arrived.Turning root phase parties) manner p t program scene phasers there =
+    back_turning (answer_of_policy root.0 (with_phasers phasers scene)) manner p root.0 phase t program scene phasers there
+back_arrived (arrived.Dead view) manner p t program scene phasers there =
+    at_tree p t scene phasers _ there (answered (thread_at scene t) manner.into view)
+back_arrived arrived.NotThere manner p t program scene phasers there = at_tree p t scene phasers _ there (thrown (thread_at scene t) (pos 1))
+
+back_arrival : (manner : Manner) (p t : ℕ) (program : Program) (scene : Scene) → t < length scene.threads
+    → GivesBack (reach.Tree p) t scene (outcome_of_arrival manner p t program scene).scene
+back_arrival manner p t program scene there =
+    let all : Arrives = arrival p manner.leaves scene.phasers in
+    either (λ (outcome : Outcome). GivesBack (reach.Tree p) t scene outcome.scene) (has_routine p scene && is_full (thread_at scene t))
+    (no_tree p t scene _ there (thrown (thread_at scene t) (pos 6))) (back_arrived all.answer manner p t program scene all.phasers there)
+
+-- unless the thread itself runs the tree's routine
+back_unless_own : (reach : Reach) (p t : ℕ) (scene : Scene) (outcome : Option Outcome) → IsOwn reach t → t < length scene.threads
+    → BackIf reach t scene outcome → BackIf reach t scene (unless_own p t scene outcome)
+back_unless_own reach p t scene outcome is_own there back =
+    either (BackIf reach t scene) (is_own_tree p (thread_at scene t) scene) {b = outcome}
+    (back_alone reach t scene (turn_of_throw (pos 1) (thread_at scene t)).thread is_own there (thrown (thread_at scene t) (pos 1))) back
+
+back_asked : (of : Patience) (into : Reg) (p : ℕ) (phase : ℤ) (t : ℕ) (scene : Scene) → t < length scene.threads
+    → BackIf reach.Nothing t scene (unless_own p t scene (Some (outcome_of_await of into p phase t scene)))
+back_asked of into p phase t scene there =
+    back_unless_own reach.Nothing p t scene (Some (outcome_of_await of into p phase t scene)) (λ first last. refl) there
+    (alone t scene _ there (awaits of into phase (view_of (flat_at scene.phasers p)) (thread_at scene t)))
+
+back_phaser_row : (row : Row) (top : Option Frame) (t : ℕ) (program : Program) (scene : Scene) → t < length scene.threads
+    → BackIf (reach_of_row row top) t scene (outcome_of_phaser_row row t program scene)
+back_phaser_row (Preg into p) top t program scene there =
+    back_unless_own (reach.Tree p) p t scene (outcome_of_registration into p 1 t scene) (λ first last. refl) there
+    (back_registered (registration p 1 scene.phasers) into p t scene (after_registration p 1 scene.phasers) there)
+back_phaser_row (Pbulk into p count) top t program scene there =
+    back_unless_own (reach.Tree p) p t scene _ (λ first last. refl) there
+    (back_bulk into p (value_in (thread_at scene t).registers count) t scene there)
+back_phaser_row (Parr into p) top t program scene there =
+    back_unless_own (reach.Tree p) p t scene (Some (outcome_of_arrival _ p t program scene)) (λ first last. refl) there
+    (back_arrival _ p t program scene there)
+back_phaser_row (Pdereg into p) top t program scene there =
+    back_unless_own (reach.Tree p) p t scene (Some (outcome_of_arrival _ p t program scene)) (λ first last. refl) there
+    (back_arrival _ p t program scene there)
+back_phaser_row (Paaa into p) top t program scene there =
+    back_unless_own (reach.Tree p) p t scene (Some (outcome_of_arrival _ p t program scene)) (λ first last. refl) there
+    (back_arrival _ p t program scene there)
+back_phaser_row (Pawait into p phase) top t program scene there =
+    back_asked patience.Endless into p (value_in (thread_at scene t).registers phase) t scene there
+back_phaser_row (Pawaiti into p phase) top t program scene there =
+    back_asked patience.Interruptible into p (value_in (thread_at scene t).registers phase) t scene there
+back_phaser_row (Pawaitt into p phase time) top t program scene there =
+    back_asked (patience.Timed (value_in (thread_at scene t).registers time)) into p (value_in (thread_at scene t).registers phase) t scene there
+back_phaser_row (Pforce p) top t program scene there =
+    at_tree p t scene (after_force p scene.phasers) _ there
+    (same (thread_at scene t) (turn_of_done (thread_at scene t)) refl refl)
+back_phaser_row _ top t program scene there = tt
+
+-- rows at barriers
+
+at_gate : (b t : ℕ) (scene : Scene) (gate : BarrierState) (after : ThreadState) → t < length scene.threads → IsBack (thread_at scene t) after
+    → GivesBack (reach.Barrier b) t scene (with_thread after t (with_barrier gate b scene))
+at_gate b t scene gate after there back = back_barrier b t scene gate after there back
+
+-- beside the barrier
+no_gate : (b t : ℕ) (scene : Scene) (after : ThreadState) → t < length scene.threads → IsBack (thread_at scene t) after
+    → GivesBack (reach.Barrier b) t scene (with_thread after t scene)
+no_gate b t scene after there back = back_alone (reach.Barrier b) t scene after (λ first last. refl) there back
+
+back_entered : (answer : Entered) (into : Reg) (b t : ℕ) (program : Program) (scene : Scene) (gate : BarrierState) → t < length scene.threads
+    → BackIf (reach.Barrier b) t scene (outcome_of_entered answer into b t program (with_barrier gate b scene))
+back_entered (entered.Wait index) into b t program scene gate there =
+    let turn = turn_of_barrier_wait index (thread_at scene t) in at_gate b t scene gate turn.thread there (same (thread_at scene t) turn refl refl)
+back_entered entered.Run into b t program scene gate there =
+    let turn = turn_of_action b (action_at program b) (thread_at scene t) in
+    at_gate b t scene gate turn.thread there
+    (back_push (thread_at scene t) turn.thread (frame.Action b (thread_at scene t).registers (thread_at scene t).pc) refl refl)
+back_entered entered.Tripped into b t program scene gate there = at_gate b t scene gate _ there (answered (thread_at scene t) into (pos 0))
+back_entered entered.Broken into b t program scene gate there = at_gate b t scene gate _ there (thrown (thread_at scene t) (pos 4))
+back_entered entered.Interrupted into b t program scene gate there = at_gate b t scene gate _ there (interruption (thread_at scene t))
+back_entered entered.TimedOut into b t program scene gate there = at_gate b t scene gate _ there (thrown (thread_at scene t) (pos 5))
+back_entered entered.Own into b t program scene gate there = at_gate b t scene gate _ there (thrown (thread_at scene t) (pos 1))
+back_entered entered.Busy into b t program scene gate there = tt
+
+back_await : (no_wait : Bool) (into : Reg) (b t : ℕ) (program : Program) (scene : Scene) → t < length scene.threads
+    → BackIf (reach.Barrier b) t scene (outcome_of_await_at no_wait into b t program scene)
+back_await no_wait into b t program scene there =
+    let all : Entry = enter_timed t (thread_at scene t).interrupted no_wait (barrier_at scene b) in
+    either (BackIf (reach.Barrier b) t scene) ((barrier_at scene b).action && is_full (thread_at scene t))
+    (no_gate b t scene _ there (thrown (thread_at scene t) (pos 6))) (back_entered all.answer into b t program scene all.barrier there)
+
+back_unless_busy : (reach : Reach) (b t : ℕ) (scene : Scene) (outcome : Option Outcome) → BackIf reach t scene outcome
+    → BackIf reach t scene (unless_busy b t scene outcome)
+back_unless_busy reach b t scene outcome back =
+    either (BackIf reach t scene) (is_run_by_another t (barrier_at scene b).runner) {a = None} {b = outcome} tt back
+
+back_unless_runner : (reach : Reach) (b t : ℕ) (scene : Scene) (outcome : Option Outcome) → IsOwn reach t → t < length scene.threads
+    → BackIf reach t scene outcome → BackIf reach t scene (unless_runner b t scene outcome)
+back_unless_runner reach b t scene outcome is_own there back =
+    either (BackIf reach t scene) (is_run_by t (barrier_at scene b).runner) {b = outcome}
+    (back_alone reach t scene (turn_of_throw (pos 1) (thread_at scene t)).thread is_own there (thrown (thread_at scene t) (pos 1))) back
+
+back_barrier_row : (row : Row) (top : Option Frame) (t : ℕ) (program : Program) (scene : Scene) → t < length scene.threads
+    → BackIf (reach_of_row row top) t scene (outcome_of_barrier_row row t program scene)
+back_barrier_row (Cawait into b) top t program scene there =
+    back_unless_busy (reach.Barrier b) b t scene _
+    (back_unless_runner (reach.Barrier b) b t scene _ (λ first last. refl) there (back_await false into b t program scene there))
+back_barrier_row (Cawaitt into b time) top t program scene there =
+    back_unless_busy (reach.Barrier b) b t scene _
+    (back_unless_runner (reach.Barrier b) b t scene _ (λ first last. refl) there (back_await _ into b t program scene there))
+back_barrier_row (Creset b) top t program scene there =
+    back_unless_busy (reach.Barrier b) b t scene _
+    (back_unless_runner (reach.Barrier b) b t scene (Some _) (λ first last. refl) there
+    (at_gate b t scene (reset (barrier_at scene b)) _ there
+    (same (thread_at scene t) (turn_of_done (thread_at scene t)) refl refl)))
+back_barrier_row (Cbroken into b) top t program scene there =
+    back_unless_busy reach.Nothing b t scene (Some _) (alone t scene _ there (answered (thread_at scene t) into _))
+back_barrier_row (Cwaiting into b) top t program scene there =
+    back_unless_busy reach.Nothing b t scene _
+    (back_unless_runner reach.Nothing b t scene (Some _) (λ first last. refl) there (alone t scene _ there (answered (thread_at scene t) into _)))
+back_barrier_row (Cparties into b) top t program scene there = alone t scene _ there (answered (thread_at scene t) into _)
+back_barrier_row _ top t program scene there = tt
+
+-- turns of threads that don't run
+
+back_popped : (top : Option Frame) (code : ℤ) (t : ℕ) (scene : Scene) → t < length scene.threads
+    → GivesBack (reach_of_entry top) t scene (outcome_of_popped top code t scene).scene
+back_popped None code t scene there = alone t scene _ there (unwound (top_of (thread_at scene t).stack) code (thread_at scene t))
+back_popped (Some (frame.Call row)) code t scene there = alone t scene _ there (unwound (top_of (thread_at scene t).stack) code (thread_at scene t))
+back_popped (Some (frame.Handler row)) code t scene there = alone t scene _ there (unwound (top_of (thread_at scene t).stack) code (thread_at scene t))
+back_popped (Some (frame.Advance root registers row)) code t scene there =
+    alone t scene _ there (unwound (top_of (thread_at scene t).stack) code (thread_at scene t))
+back_popped (Some (frame.Action b registers row)) code t scene there =
+    at_gate b t scene (end_action false (barrier_at scene b)) (turn_of_pop code (thread_at scene t)).thread there
+    (unwound (top_of (thread_at scene t).stack) code (thread_at scene t))
+
+back_awaited : (looks : Bool) (into : Reg) (p : ℕ) (phase : ℤ) (t : ℕ) (scene : Scene) → t < length scene.threads
+    → BackIf reach.Nothing t scene (outcome_of_awaited looks into p phase t scene)
+back_awaited looks into p phase t scene there =
+    either (BackIf reach.Nothing t scene) (is_past p phase scene) (alone t scene _ there (answered (thread_at scene t) into _))
+    (either (BackIf reach.Nothing t scene) (looks && (thread_at scene t).interrupted) {b = None}
+    (alone t scene _ there (interruption (thread_at scene t))) tt)
+
+back_phase_wait : (row : Row) (phase : ℤ) (t : ℕ) (scene : Scene) → t < length scene.threads
+    → BackIf reach.Nothing t scene (outcome_of_phase_wait row phase t scene)
+back_phase_wait (Paaa into p) phase t scene there = back_awaited false into p phase t scene there
+back_phase_wait (Pawait into p number) phase t scene there = back_awaited false into p phase t scene there
+back_phase_wait (Pawaiti into p number) phase t scene there = back_awaited true into p phase t scene there
+back_phase_wait (Pawaitt into p number time) phase t scene there = back_awaited true into p phase t scene there
+back_phase_wait _ phase t scene there = tt
+
+back_release : (wait : Option WaitState) (into : Reg) (index : ℤ) (b t : ℕ) (scene : Scene) → t < length scene.threads
+    → BackIf (reach.Barrier b) t scene (outcome_of_release wait into index b t scene)
+back_release (Some state.Tripped) into index b t scene there =
+    at_gate b t scene (leave t (barrier_at scene b)) _ there (answered (thread_at scene t) into index)
+back_release (Some state.Broken) into index b t scene there =
+    at_gate b t scene (leave t (barrier_at scene b)) _ there (thrown (thread_at scene t) (pos 4))
+back_release (Some state.Waiting) into index b t scene there =
+    either (BackIf (reach.Barrier b) t scene) ((thread_at scene t).interrupted && not (is_some (barrier_at scene b).runner)) {b = None}
+    (at_gate b t scene (interrupt t (barrier_at scene b)) _ there (interruption (thread_at scene t))) tt
+back_release None into index b t scene there = tt
+
+back_barrier_wait : (row : Row) (index : ℤ) (t : ℕ) (scene : Scene) → t < length scene.threads
+    → BackIf (reach_of_wait row) t scene (outcome_of_barrier_wait row index t scene)
+back_barrier_wait (Cawait into b) index t scene there = back_release (wait_at (barrier_at scene b).waits t) into index b t scene there
+back_barrier_wait (Cawaitt into b time) index t scene there = back_release (wait_at (barrier_at scene b).waits t) into index b t scene there
+back_barrier_wait _ index t scene there = tt
+
+back_phase_timeout : (row : Row) (t : ℕ) (scene : Scene) → t < length scene.threads
+    → BackIf reach.Nothing t scene (outcome_of_phase_timeout row t scene)
+back_phase_timeout (Pawaitt into p number time) t scene there = alone t scene _ there (thrown (thread_at scene t) (pos 5))
+back_phase_timeout _ t scene there = tt
+
+back_barrier_timeout : (row : Row) (t : ℕ) (scene : Scene) → t < length scene.threads
+    → BackIf (reach_of_wait row) t scene (outcome_of_barrier_timeout row t scene)
+back_barrier_timeout (Cawaitt into b time) t scene there =
+    either (BackIf (reach.Barrier b) t scene) (is_some (barrier_at scene b).runner) {a = None} tt
+    (at_gate b t scene (expire t (barrier_at scene b)) _ there (thrown (thread_at scene t) (pos 5)))
+back_barrier_timeout _ t scene there = tt
+
+-- all of them
+
+back_in_group : (group : Group) (row : Row) (t : ℕ) (program : Program) (scene : Scene) → NamesThread row scene → t < length scene.threads
+    → BackIf (reach_of_row row (top_of (thread_at scene t).stack)) t scene (outcome_in_group group row t program scene)
+back_in_group Own row t program scene named there = back_own_row row (top_of (thread_at scene t).stack) t scene there
+back_in_group Calls row t program scene named there = back_call_row row t program scene there
+back_in_group Data row t program scene named there = back_data_row row (top_of (thread_at scene t).stack) t scene named there
+back_in_group Phasers row t program scene named there = back_phaser_row row (top_of (thread_at scene t).stack) t program scene there
+back_in_group Getters row t program scene named there = back_getter_row row (top_of (thread_at scene t).stack) t scene there
+back_in_group Barriers row t program scene named there = back_barrier_row row (top_of (thread_at scene t).stack) t program scene there
+
+-- the turn of thread t, by its status
+pub back_in : (of : Status) (row : Row) (t : ℕ) (program : Program) (scene : Scene) → NamesThread row scene → t < length scene.threads
+    → BackIf (reach_in of row (top_of (thread_at scene t).stack)) t scene (outcome_in of row t program scene)
+back_in status.Runs row t program scene named there = back_in_group (group_of row) row t program scene named there
+back_in (status.Throws code) row t program scene named there = back_popped (top_of (thread_at scene t).stack) code t scene there
+back_in (status.AwaitsPhase phase) row t program scene named there = back_phase_wait row phase t scene there
+back_in (status.AwaitsBarrier index) row t program scene named there = back_barrier_wait row index t scene there
+back_in status.Ended row t program scene named there = tt
+back_in (status.Died code) row t program scene named there = tt
+
+-- the expiry of its wait
+pub back_timeout : (of : Status) (row : Row) (t : ℕ) (scene : Scene) → t < length scene.threads
+    → BackIf (reach_in of row (top_of (thread_at scene t).stack)) t scene (timeout_in of row t scene)
+back_timeout status.Runs row t scene there = tt
+back_timeout (status.Throws code) row t scene there = tt
+back_timeout (status.AwaitsPhase phase) row t scene there = back_phase_timeout row t scene there
+back_timeout (status.AwaitsBarrier index) row t scene there = back_barrier_timeout row t scene there
+back_timeout status.Ended row t scene there = tt
+back_timeout (status.Died code) row t scene there = tt

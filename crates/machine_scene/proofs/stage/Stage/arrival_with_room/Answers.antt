@@ -1,0 +1,31 @@
+use Rattle.std.proofs.Common.{◌≡◌, ◌∙◌, ◌<◌, false, ap, refl, sym, subst, List, length}
+use Rattle.std.specs.Prelude.{◌&&◌}
+use Rattle.tier_tree.specs.Forest.{PhaserState}
+use Rattle.tier_tree.specs.Stored.{Stored, phasers_of, ChangedAt}
+use Rattle.tier_tree.proofs.Shown.{root_shown}
+use Rattle.tier_tree.proofs.Changed.{changed_then_root}
+use Rattle.thread_state.specs.Thread.{is_full}
+use Rattle.machine_scene.specs.Scene.{Scene, StoredScene, scene_of, thread_at}
+use Rattle.machine_scene.specs.PhaserRows.{has_routine}
+use Rattle.machine_scene.proofs.Room.{room_left}
+use Rattle.machine_scene.proofs.stage.Stage.arrival_with_room.Goals as goal
+
+pub turning-requires-clause-room : goal.turning-requires-clause-room
+turning-requires-clause-room c none =
+    let inside = c.self.inside in
+    let seen : List PhaserState → Scene =
+    λ phasers. record { cells = inside.numbers; threads = inside.players.items; phasers = phasers; barriers = inside.gates.items } in
+    room_left (seen (phasers_of inside.forest)) (seen (phasers_of c.arrive.new.self)) c.args.phaser c.in-Turning.root.0 c.args.t
+    (subst (λ (s : StoredScene). (has_routine c.args.phaser (scene_of s) && is_full (thread_at (scene_of s) c.args.t)) ≡ false)
+    (sym c.self.view_is) c.requires.room)
+    c.arrive.ensures.places c.in-Turning.ensures.turning.1 refl none
+
+pub returns-in-Turning-clause-phasers : goal.returns-in-Turning-clause-phasers
+returns-in-Turning-clause-phasers c =
+    let before = c.self.inside.forest in
+    let after = c.turning.new.self.phasers in
+    let there : c.args.phaser < length before =
+    subst (λ (s : StoredScene). c.args.phaser < length s.phasers) (sym c.self.view_is) c.requires.phaser in
+    subst (λ (phasers : List Stored). ChangedAt c.args.phaser phasers after) (ap (λ (s : StoredScene). s.phasers) c.self.view_is)
+    (changed_then_root before c.arrive.new.self after c.args.phaser c.in-Turning.root.0 c.is_forest.ensures c.is_forest-in-Turning.ensures there
+    (c.in-Turning.ensures.turning.1 ∙ root_shown before c.args.phaser there) c.in-Turning.ensures.only c.turning.ensures.phasers)

@@ -1,0 +1,14 @@
+pub mod Scene
+pub mod Group
+pub mod OwnRows
+pub mod PhaserRows
+pub mod CallRows
+pub mod DataRows
+pub mod GetterRows
+pub mod BarrierRows
+pub mod Unwinding
+pub mod Waits
+pub mod Outcomes
+pub mod Ready
+pub mod Sound
+pub mod Undo

@@ -1,0 +1,108 @@
+-- What a machine keeps true, so that no row meets a missing thing. Nobody has to believe it: it is what proofs go by.
+use Rattle.std.specs.Prelude.{◌≡◌, ◌≢◌, ℕ, ◌+◌, ◌<◌, ◌≤◌, ◌==◌, is_some, Option, Some, None, List, [], ◌∷◌, length, All, count_by, Bool, true, false}
+use Rattle.instruction_table.specs.declared.row.Row.{Row}
+use Rattle.instruction_table.specs.declared.row.Row.TheVariants.{Cawait, Cawaitt}
+use Rattle.tier_tree.specs.Forest.{phaser_at, flat_at, root_at}
+use Rattle.tier_tree.specs.Stored.{phasers_of}
+use Rattle.tier_tree.specs.Trees.{AreTrees, is_pending}
+use Rattle.cyclic_barrier.specs.Waits.{wait_at}
+use Rattle.cyclic_barrier.specs.Barrier.{has_wait}
+use Rattle.loader.specs.Program.{Program, IsCode, IsNamed, row_at}
+use Rattle.thread_state.specs.declared.frame.Frame.{Frame}
+use Rattle.thread_state.specs.declared.frame.Frame.TheVariants as frame
+use Rattle.thread_state.specs.declared.status.Status.{Status}
+use Rattle.thread_state.specs.declared.status.Status.TheVariants as status
+use Rattle.thread_state.specs.Frame.{is_advance, is_action}
+use Rattle.thread_state.specs.Thread.{ThreadState}
+use Rattle.machine_scene.specs.Scene.{Scene, StoredScene, scene_of, counts_of, counts_in, thread_at, barrier_at}
+
+-- a stack entry leads to a row, and names a root or a barrier that is there; past the row at which a routine or an action
+-- began comes another
+abbrev pub IsFrame : Program → Scene → Frame → Type 0
+IsFrame program scene (frame.Call row) = row < length program.rows
+IsFrame program scene (frame.Handler row) = row < length program.rows
+IsFrame program scene (frame.Advance root registers row) =
+    (row + 1 < length program.rows) × ((root < length scene.phasers) × (root_at scene.phasers root ≡ root))
+IsFrame program scene (frame.Action b registers row) = (row + 1 < length program.rows) × (b < length scene.barriers)
+
+-- a thread stands at a row, and so do its stack entries
+pub record IsPlaced (program : Program) (scene : Scene) (thread : ThreadState) : Type 0 where
+  pub pc : thread.pc < length program.rows
+  pub stack : All (IsFrame program scene) thread.stack
+
+-- how many stack entries of all threads pass the test
+abbrev pub entries : (Frame → Bool) → List ThreadState → ℕ
+entries test [] = 0
+entries test (thread ∷ threads) = count_by test thread.stack + entries test threads
+
+abbrev pub bit : Bool → ℕ
+bit true = 1
+bit false = 0
+
+-- the barrier at which a thread at this row waits
+abbrev pub is_wait_row : ℕ → Row → Bool
+is_wait_row b (Cawait into other) = other == b
+is_wait_row b (Cawaitt into other time) = other == b
+is_wait_row b _ = false
+
+-- a thread with this status at this row waits at barrier b
+abbrev pub awaits : ℕ → Status → Row → Bool
+awaits b status.Runs row = false
+awaits b (status.Throws code) row = false
+awaits b (status.AwaitsPhase phase) row = false
+awaits b (status.AwaitsBarrier index) row = is_wait_row b row
+awaits b status.Ended row = false
+awaits b (status.Died code) row = false
+
+abbrev pub thread_awaits : Program → ℕ → ThreadState → Bool
+thread_awaits program b thread = awaits b thread.status (row_at program.rows thread.pc)
+
+-- the program fits its scene and each thread stands in it; of each root's advance routine there is at most one entry on
+-- all stacks, and none unless the root's phase end is pending or the root is terminated; of each barrier's action there is
+-- at most one, and none unless a thread runs it; and the threads that wait at a barrier are those that have a wait there.
+-- No tree has ended more phases than steps were taken
+pub record IsSound (program : Program) (steps : ℕ) (scene : Scene) : Type 0 where
+  pub code : IsCode program (counts_of program scene)
+  pub few_threads : length scene.threads ≤ 64
+  pub few_barriers : length scene.barriers ≤ 64
+  pub trees : AreTrees steps scene.phasers
+  pub placed : All (IsPlaced program scene) scene.threads
+  pub advances : (root : ℕ) → root < length scene.phasers → root_at scene.phasers root ≡ root
+      → entries (is_advance root) scene.threads ≤ bit (is_pending (flat_at scene.phasers root))
+  pub actions : (b : ℕ) → entries (is_action b) scene.threads ≤ bit (is_some (barrier_at scene b).runner)
+  pub room : (b : ℕ) → b < length scene.barriers → length (barrier_at scene b).waits ≡ 64
+  pub waits : (b t : ℕ) → has_wait t (barrier_at scene b) ≡ thread_awaits program b (thread_at scene t)
+
+-- whoever waits at a barrier has a wait at that of its row, and nobody else has one anywhere
+abbrev pub HasItsWait : Status → Row → ℕ → Scene → Type 0
+HasItsWait status.Runs row t scene = (b : ℕ) → wait_at (barrier_at scene b).waits t ≡ None
+HasItsWait (status.Throws code) row t scene = (b : ℕ) → wait_at (barrier_at scene b).waits t ≡ None
+HasItsWait (status.AwaitsPhase phase) row t scene = (b : ℕ) → wait_at (barrier_at scene b).waits t ≡ None
+HasItsWait (status.AwaitsBarrier index) row t scene =
+    (b : ℕ) → is_wait_row b row ≡ true → wait_at (barrier_at scene b).waits t ≢ None
+HasItsWait status.Ended row t scene = (b : ℕ) → wait_at (barrier_at scene b).waits t ≡ None
+HasItsWait (status.Died code) row t scene = (b : ℕ) → wait_at (barrier_at scene b).waits t ≡ None
+
+-- what a turn of thread t at this row may count on
+pub record StandsAt (program : Program) (row : Row) (t : ℕ) (stored : StoredScene) : Type 0 where
+  pub named : IsNamed (counts_in program stored) row
+  pub few : length stored.phasers ≤ 64
+  pub routines : length program.routines ≡ length stored.phasers
+  pub actions : length program.actions ≡ length stored.barriers
+  pub ends : (p : ℕ) → (phaser_at (phasers_of stored.phasers) p).ends < 2147483647
+  pub place : (thread_at (scene_of stored) t).pc < 65535
+  pub waits : HasItsWait (thread_at (scene_of stored) t).status row t (scene_of stored)
+
+-- what the top entry of a stack may be counted on for: a routine's root is there, its phase end is pending or it is
+-- terminated; a thread runs the action; and there is a row past the one at which either began
+abbrev pub IsTop : Program → StoredScene → Option Frame → Type 0
+IsTop program stored None = Unit {0}
+IsTop program stored (Some (frame.Call row)) = Unit {0}
+IsTop program stored (Some (frame.Handler row)) = Unit {0}
+IsTop program stored (Some (frame.Advance root registers row)) =
+    ((row + 1 < length program.rows) × (root < length stored.phasers))
+    × ((root_at (phasers_of stored.phasers) root ≡ root)
+    × (is_pending (flat_at (phasers_of stored.phasers) root) ≡ true))
+IsTop program stored (Some (frame.Action b registers row)) =
+    ((row + 1 < length program.rows) × (b < length stored.barriers))
+    × (is_some (barrier_at (scene_of stored) b).runner ≡ true)

@@ -1,0 +1,34 @@
+use cyclic_barrier::Barrier;
+use std::marker::Model;
+use thread_state::ThreadNote;
+use tier_tree::Saved;
+
+/// What is kept of the one thing beside its own thread that a turn may change.
+#[derive(Drop)]
+pub enum Touched {
+    Nothing,
+    Cell { cell: u16, number: i32 },
+    Thread { thread: u16, before: ThreadNote },
+    Tree(Saved),
+    Barrier { barrier: u16, before: Barrier },
+}
+
+/// What is kept of a stage before a turn, or before the expiry of a wait, so that it can be undone. It has a fixed size.
+#[derive(Drop)]
+pub struct SceneNote {
+    pub(crate) number: u8,
+    pub(crate) own: ThreadNote,
+    pub(crate) beside: Touched,
+}
+
+impl Model for SceneNote {
+    ghost use Rattle.machine_scene.specs.Undo.{Note};
+
+    ghost Value = { Note };
+
+    ghost view = { λ note. record {
+      thread = note.number;
+      before = note.own;
+      touched = note.beside;
+    } };
+}

@@ -1,0 +1,80 @@
+ghost use Rattle.std.specs.Prelude.{◌≡◌};
+ghost use Rattle.machine_scene.specs.Undo.{reach_of_entry, reach_of_ret, reach_of_row, reach_of_wait, reach_in};
+
+use instruction_table::Row;
+use thread_state::{Frame, Status};
+
+/// What a turn may change beside its own thread.
+#[derive(Clone, Copy)]
+pub enum Reach {
+    Nothing,
+    Cell(u16),
+    /// Another thread, or the same.
+    Thread(u16),
+    /// The words of a phaser and of those above it.
+    Tree(u16),
+    Barrier(u16),
+}
+
+/// A pop, by the entry that it pops.
+fn reach_of_entry(top: &Option<Frame>) -> Reach
+    ensures { result ≡ reach_of_entry top.now }
+{
+    match top {
+        Some(Frame::Action(barrier, _, _)) => Reach::Barrier(u16::from(*barrier)),
+        _ => Reach::Nothing,
+    }
+}
+
+/// `ret`, by the top entry.
+fn reach_of_ret(top: &Option<Frame>) -> Reach
+    ensures { result ≡ reach_of_ret top.now }
+{
+    match top {
+        Some(Frame::Advance(root, _, _)) => Reach::Tree(u16::from(*root)),
+        Some(Frame::Action(barrier, _, _)) => Reach::Barrier(u16::from(*barrier)),
+        _ => Reach::Nothing,
+    }
+}
+
+/// A row of a running thread.
+fn reach_of_row(row: Row, top: &Option<Frame>) -> Reach
+    ensures { result ≡ reach_of_row row top.now }
+{
+    match row {
+        Row::Ret => reach_of_ret(top),
+        Row::Sts { cell, .. } => Reach::Cell(cell),
+        Row::Intr { thread } => Reach::Thread(thread),
+        Row::Preg { phaser, .. }
+        | Row::Pbulk { phaser, .. }
+        | Row::Parr { phaser, .. }
+        | Row::Pdereg { phaser, .. }
+        | Row::Paaa { phaser, .. }
+        | Row::Pforce { phaser } => Reach::Tree(phaser),
+        Row::Cawait { barrier, .. } | Row::Cawaitt { barrier, .. } | Row::Creset { barrier } =>
+            Reach::Barrier(barrier),
+        _ => Reach::Nothing,
+    }
+}
+
+/// The end of a wait at a barrier.
+fn reach_of_wait(row: Row) -> Reach
+    ensures { result ≡ reach_of_wait row }
+{
+    match row {
+        Row::Cawait { barrier, .. } | Row::Cawaitt { barrier, .. } => Reach::Barrier(barrier),
+        _ => Reach::Nothing,
+    }
+}
+
+/// By the thread's status.
+pub fn reach_in(status: Status, row: Row, top: &Option<Frame>) -> Reach
+    ensures { result ≡ reach_in status row top.now }
+{
+    match status {
+        Status::Runs => reach_of_row(row, top),
+        Status::Throws(_) => reach_of_entry(top),
+        Status::AwaitsBarrier(_) => reach_of_wait(row),
+        Status::AwaitsPhase(_) | Status::Ended | Status::Died(_) => Reach::Nothing,
+    }
+}

@@ -1,0 +1,176 @@
+ghost use Rattle.std.specs.Prelude.{◌≡◌, ℕ, pos, ◌<◌, ◌&&◌, length, true, false, Some, None, is_some};
+ghost use Rattle.cyclic_barrier.specs.Waits.{wait_at};
+ghost use Rattle.cyclic_barrier.specs.Barrier.{number_waiting};
+ghost use Rattle.loader.specs.Program.{IsNamed};
+ghost use Rattle.thread_state.specs.Thread.{is_full, turn_of_answer};
+ghost use Rattle.machine_scene.specs.Scene.{scene_of, counts_in, thread_at, barrier_at, outcome_of_turn};
+ghost use Rattle.machine_scene.specs.BarrierRows.{is_run_by, unless_busy, unless_runner};
+ghost use Rattle.machine_scene.specs.BarrierRows.{outcome_of_entry, outcome_of_await_at, outcome_of_reset};
+ghost use Rattle.machine_scene.specs.BarrierRows.{outcome_of_barrier_row};
+
+use super::{Stage, alone};
+use cyclic_barrier::Entered;
+use instruction_table::{Reg, Row};
+use loader::Loaded;
+use thread_state::{Event, Mark};
+
+impl Stage {
+    /// The rows at barriers.
+    pub(super) fn barrier_row(&mut self, program: &Loaded, row: Row, t: usize) -> Event
+        requires ready { is_some (outcome_of_barrier_row row t program.now (scene_of self.old)) ≡ true }
+        requires named { IsNamed (counts_in program.now self.old) row }
+        requires actions { length program.now.actions ≡ length self.old.barriers }
+        requires no_wait { (b : ℕ) → wait_at (barrier_at (scene_of self.old) b).waits t ≡ None }
+        requires thread { t < length self.old.threads }
+        requires place { (thread_at (scene_of self.old) t).pc < 65535 }
+        ensures outcome { outcome_of_barrier_row row t program.now (scene_of self.old)
+            ≡ Some (record { scene = scene_of self.new; event = result }) }
+        ensures phasers { self.new.phasers ≡ self.old.phasers }
+    {
+        match row {
+            Row::Cawait { into, barrier } => self.come(program, false, into, barrier, t),
+            Row::Cawaitt {
+                into,
+                barrier,
+                timeout,
+            } => {
+                let no_wait = self.players[t].register(timeout) <= 0;
+                self.come(program, no_wait, into, barrier, t)
+            }
+            Row::Creset { barrier } => self.reset(barrier, t),
+            Row::Cbroken { into, barrier } => {
+                let broken = self.gates[barrier as usize].is_broken();
+                alone(self.players[t].answer(into, i32::from(broken)))
+            }
+            Row::Cwaiting { into, barrier } => self.number_waiting(into, barrier, t),
+            Row::Cparties { into, barrier } => {
+                let parties = self.gates[barrier as usize].parties();
+                alone(self.players[t].answer(into, i32::from(parties)))
+            }
+            _ => unreachable!(),
+        }
+    }
+
+    /// Whether the thread runs the barrier's action.
+    fn is_runner(&self, barrier: u16, t: usize) -> bool
+        requires there { barrier < length self.now.barriers }
+        ensures { result ≡ is_run_by t (barrier_at (scene_of self.now) barrier).runner }
+    {
+        match self.gates[barrier as usize].runner() {
+            Some(runner) => runner as usize == t,
+            None => false,
+        }
+    }
+
+    /// `cawait` and `cawaitt`.
+    fn come(&mut self, program: &Loaded, no_wait: bool, into: Reg, barrier: u16, t: usize) -> Event
+        requires ready { is_some (unless_busy barrier t (scene_of self.old) (unless_runner barrier t (scene_of self.old)
+            (outcome_of_await_at no_wait into barrier t program.now (scene_of self.old)))) ≡ true }
+        requires there { barrier < length self.old.barriers }
+        requires actions { length program.now.actions ≡ length self.old.barriers }
+        requires no_wait { (b : ℕ) → wait_at (barrier_at (scene_of self.old) b).waits t ≡ None }
+        requires thread { t < length self.old.threads }
+        requires place { (thread_at (scene_of self.old) t).pc < 65535 }
+        ensures outcome { unless_busy barrier t (scene_of self.old) (unless_runner barrier t (scene_of self.old)
+            (outcome_of_await_at no_wait into barrier t program.now (scene_of self.old)))
+            ≡ Some (record { scene = scene_of self.new; event = result }) }
+        ensures phasers { self.new.phasers ≡ self.old.phasers }
+    {
+        if self.is_runner(barrier, t) {
+            return alone(self.players[t].throw(1));
+        }
+        if self.gates[barrier as usize].has_action() && self.players[t].is_full() {
+            return alone(self.players[t].throw(6));
+        }
+        self.enter(program, no_wait, into, barrier, t)
+    }
+
+    /// The entry itself.
+    fn enter(&mut self, program: &Loaded, no_wait: bool, into: Reg, barrier: u16, t: usize) -> Event
+        requires ready { is_some (outcome_of_entry no_wait into barrier t program.now (scene_of self.old)) ≡ true }
+        requires there { barrier < length self.old.barriers }
+        requires room { ((barrier_at (scene_of self.old) barrier).action
+            && is_full (thread_at (scene_of self.old) t)) ≡ false }
+        requires actions { length program.now.actions ≡ length self.old.barriers }
+        requires no_wait { (b : ℕ) → wait_at (barrier_at (scene_of self.old) b).waits t ≡ None }
+        requires thread { t < length self.old.threads }
+        requires place { (thread_at (scene_of self.old) t).pc < 65535 }
+        ensures outcome { outcome_of_entry no_wait into barrier t program.now (scene_of self.old)
+            ≡ Some (record { scene = scene_of self.new; event = result }) }
+        ensures phasers { self.new.phasers ≡ self.old.phasers }
+    {
+        let interrupted = self.players[t].interrupted();
+        let entered = self.gates[barrier as usize].enter_timed(t as u8, interrupted, no_wait);
+        let broke = Mark::Broke(barrier as u8);
+        match entered {
+            Entered::Wait(index) => alone(self.players[t].wait_at_barrier(index)),
+            Entered::Run => {
+                let first = program.actions()[barrier as usize];
+                alone(self.players[t].enter_action(barrier as u8, first))
+            }
+            Entered::Tripped => Event {
+                what: self.players[t].answer(into, 0),
+                mark: Mark::Tripped(barrier as u8),
+            },
+            Entered::Broken => alone(self.players[t].throw(4)),
+            Entered::Interrupted => Event {
+                what: self.players[t].take_interruption(),
+                mark: broke,
+            },
+            Entered::TimedOut => Event {
+                what: self.players[t].throw(5),
+                mark: broke,
+            },
+            Entered::Own => alone(self.players[t].throw(1)),
+            Entered::Busy => unreachable!(),
+        }
+    }
+
+    /// `creset`.
+    fn reset(&mut self, barrier: u16, t: usize) -> Event
+        requires ready { is_some (unless_busy barrier t (scene_of self.old) (unless_runner barrier t (scene_of self.old)
+            (Some (outcome_of_reset barrier t (scene_of self.old))))) ≡ true }
+        requires there { barrier < length self.old.barriers }
+        requires thread { t < length self.old.threads }
+        requires place { (thread_at (scene_of self.old) t).pc < 65535 }
+        ensures outcome { unless_busy barrier t (scene_of self.old) (unless_runner barrier t (scene_of self.old)
+            (Some (outcome_of_reset barrier t (scene_of self.old))))
+            ≡ Some (record { scene = scene_of self.new; event = result }) }
+        ensures phasers { self.new.phasers ≡ self.old.phasers }
+    {
+        if self.is_runner(barrier, t) {
+            return alone(self.players[t].throw(1));
+        }
+        let mark = if 0 < self.gates[barrier as usize].number_waiting() {
+            Mark::Broke(barrier as u8)
+        } else {
+            Mark::Nothing
+        };
+        self.gates[barrier as usize].reset();
+        Event {
+            what: self.players[t].done(),
+            mark,
+        }
+    }
+
+    /// `cwaiting`.
+    fn number_waiting(&mut self, into: Reg, barrier: u16, t: usize) -> Event
+        requires ready { is_some (unless_busy barrier t (scene_of self.old) (unless_runner barrier t (scene_of self.old)
+            (Some (outcome_of_turn (turn_of_answer into (pos (number_waiting (barrier_at (scene_of self.old) barrier)))
+            (thread_at (scene_of self.old) t)) t (scene_of self.old))))) ≡ true }
+        requires there { barrier < length self.old.barriers }
+        requires thread { t < length self.old.threads }
+        requires place { (thread_at (scene_of self.old) t).pc < 65535 }
+        ensures outcome { unless_busy barrier t (scene_of self.old) (unless_runner barrier t (scene_of self.old)
+            (Some (outcome_of_turn (turn_of_answer into (pos (number_waiting (barrier_at (scene_of self.old) barrier)))
+            (thread_at (scene_of self.old) t)) t (scene_of self.old))))
+            ≡ Some (record { scene = scene_of self.new; event = result }) }
+        ensures phasers { self.new.phasers ≡ self.old.phasers }
+    {
+        if self.is_runner(barrier, t) {
+            return alone(self.players[t].throw(1));
+        }
+        let waiting = self.gates[barrier as usize].number_waiting();
+        alone(self.players[t].answer(into, i32::from(waiting)))
+    }
+}

@@ -1,0 +1,177 @@
+ghost use Rattle.std.specs.Prelude.{◌≡◌, ◌+◌, ◌<◌, ◌≤◌, length, true, Some, is_some};
+ghost use Rattle.tier_tree.specs.Forest.{phaser_at, flat_at, root_at};
+ghost use Rattle.tier_tree.specs.Stored.{phasers_of, ChangedAt};
+ghost use Rattle.tier_tree.specs.Trees.{is_pending};
+ghost use Rattle.loader.specs.Program.{row_at};
+ghost use Rattle.thread_state.specs.declared.frame.Frame.TheVariants as frame;
+ghost use Rattle.thread_state.specs.Thread.{top_of};
+ghost use Rattle.machine_scene.specs.Scene.{scene_of, thread_at, barrier_at};
+ghost use Rattle.machine_scene.specs.CallRows.{manner_of, outcome_of_routine_end};
+ghost use Rattle.machine_scene.specs.CallRows.{outcome_of_ret, outcome_of_call_row};
+ghost use Rattle.machine_scene.specs.Sound.{IsSound};
+ghost use Rattle.machine_scene.specs.Undo.{PhasersWithin, reach_of_ret, reach_of_row};
+
+use super::{Stage, alone};
+use crate::manner::Manner;
+use instruction_table::{Reg, Regs, Row};
+use loader::Loaded;
+use thread_state::{Event, Frame, Mark};
+use tier_tree::PhaserId;
+
+/// How the arrival at this row is made; a routine or an action begins at no other row.
+fn manner_of(row: Row) -> Manner
+    ensures { result ≡ manner_of row }
+{
+    let (into, leaves, waits) = match row {
+        Row::Parr { into, .. } => (into, false, false),
+        Row::Pdereg { into, .. } => (into, true, false),
+        Row::Paaa { into, .. } | Row::Cawait { into, .. } | Row::Cawaitt { into, .. } => (
+            into, false, true,
+        ),
+        _ => (Reg::R0, false, false),
+    };
+    Manner {
+        into,
+        leaves,
+        waits,
+    }
+}
+
+impl Stage {
+    /// Calls, handlers, thrown exceptions, and the way back.
+    pub(super) fn call_row(&mut self, program: &Loaded, row: Row, t: usize) -> Event
+        requires ready { is_some (outcome_of_call_row row t program.now (scene_of self.old)) ≡ true }
+        requires sound { IsSound program.now 2147483646 (scene_of self.old) }
+        requires thread { t < length self.old.threads }
+        requires place { (thread_at (scene_of self.old) t).pc < 65535 }
+        ensures outcome { outcome_of_call_row row t program.now (scene_of self.old)
+            ≡ Some (record { scene = scene_of self.new; event = result }) }
+        ensures phasers { PhasersWithin (reach_of_row row (top_of (thread_at (scene_of self.old) t).stack))
+            self.old.phasers self.new.phasers }
+    {
+        match row {
+            Row::Call { target } => alone(self.players[t].call(target)),
+            Row::Ret => self.ret(program, t),
+            Row::Try { handler } => alone(self.players[t].begin_try(handler)),
+            Row::Endtry => alone(self.players[t].end_try()),
+            Row::Throw { code } => {
+                let code = self.players[t].register(code);
+                alone(self.players[t].throw(code))
+            }
+            _ => unreachable!(),
+        }
+    }
+
+    /// `ret`, by the top entry.
+    fn ret(&mut self, program: &Loaded, t: usize) -> Event
+        requires sound { IsSound program.now 2147483646 (scene_of self.old) }
+        requires thread { t < length self.old.threads }
+        ensures outcome { record { scene = scene_of self.new; event = result }
+            ≡ outcome_of_ret (top_of (thread_at (scene_of self.old) t).stack) t program.now
+            (scene_of self.old) }
+        ensures phasers { PhasersWithin (reach_of_ret (top_of (thread_at (scene_of self.old) t).stack))
+            self.old.phasers self.new.phasers }
+    {
+        let top = self.players[t].top();
+        self.top_is_placed(program, &top, t);
+        match &top {
+            Some(Frame::Call(row)) => alone(self.players[t].return_to(*row)),
+            Some(Frame::Advance(root, registers, row)) => self.end_routine(
+                program,
+                PhaserId(*root),
+                registers,
+                *row,
+                t,
+            ),
+            Some(Frame::Action(barrier, registers, row)) => self.end_action(
+                program, *barrier, registers, *row, t,
+            ),
+            _ => alone(self.players[t].throw(7)),
+        }
+    }
+
+    /// An advance routine has answered: the phase ends, unless the tree was terminated meanwhile.
+    fn end_routine(
+        &mut self,
+        program: &Loaded,
+        root: PhaserId,
+        registers: &Regs,
+        row: u16,
+        t: usize,
+    ) -> Event
+        requires top { top_of (thread_at (scene_of self.old) t).stack
+            ≡ Some (frame.Advance root.0 registers.now row) }
+        requires row { row + 1 < length program.now.rows }
+        requires rows { length program.now.rows < 65536 }
+        requires there { root.0 < length self.old.phasers }
+        requires root { root_at (phasers_of self.old.phasers) root.0 ≡ root.0 }
+        requires pending { is_pending (flat_at (phasers_of self.old.phasers) root.0) ≡ true }
+        requires ends { (phaser_at (phasers_of self.old.phasers) root.0).ends < 2147483647 }
+        requires thread { t < length self.old.threads }
+        ensures outcome { record { scene = scene_of self.new; event = result }
+            ≡ outcome_of_ret (top_of (thread_at (scene_of self.old) t).stack) t program.now
+            (scene_of self.old) }
+        ensures phasers { ChangedAt root.0 self.old.phasers self.new.phasers }
+    {
+        let terminates = self.players[t].register(Reg::R0) != 0;
+        let manner = manner_of(program.rows()[row as usize]);
+        self.players[t].leave_routine(registers, row);
+        self.routine_ended(manner, root, terminates, t)
+    }
+
+    /// The same, with its thread back at the arrival.
+    #[tactic(auto, using(tier_tree::proofs::Changed::changed_nothing))]
+    fn routine_ended(&mut self, manner: Manner, root: PhaserId, terminates: bool, t: usize) -> Event
+        requires there { root.0 < length self.old.phasers }
+        requires root { root_at (phasers_of self.old.phasers) root.0 ≡ root.0 }
+        requires pending { is_pending (flat_at (phasers_of self.old.phasers) root.0) ≡ true }
+        requires ends { (phaser_at (phasers_of self.old.phasers) root.0).ends < 2147483647 }
+        requires thread { t < length self.old.threads }
+        requires place { (thread_at (scene_of self.old) t).pc < 65535 }
+        ensures outcome { record { scene = scene_of self.new; event = result }
+            ≡ outcome_of_routine_end (flat_at (phasers_of self.old.phasers) root.0).ended manner root.0
+            terminates t (scene_of self.old) }
+        ensures phasers { ChangedAt root.0 self.old.phasers self.new.phasers }
+    {
+        let phase = self.forest.phase_number(root).number();
+        if self.forest.is_terminated(root) {
+            let answer = if manner.waits {
+                self.forest.phase(root)
+            } else {
+                phase
+            };
+            return alone(self.players[t].answer(manner.into, answer));
+        }
+        self.end_phase(manner, root, phase, terminates, t)
+    }
+
+    /// An action has returned: its thread is back at its arrival, and the barrier trips.
+    fn end_action(
+        &mut self,
+        program: &Loaded,
+        barrier: u8,
+        registers: &Regs,
+        row: u16,
+        t: usize,
+    ) -> Event
+        requires top { top_of (thread_at (scene_of self.old) t).stack
+            ≡ Some (frame.Action barrier registers.now row) }
+        requires row { row + 1 < length program.now.rows }
+        requires rows { length program.now.rows < 65536 }
+        requires there { barrier < length self.old.barriers }
+        requires runs { is_some (barrier_at (scene_of self.old) barrier).runner ≡ true }
+        requires thread { t < length self.old.threads }
+        ensures outcome { record { scene = scene_of self.new; event = result }
+            ≡ outcome_of_ret (top_of (thread_at (scene_of self.old) t).stack) t program.now
+            (scene_of self.old) }
+        ensures phasers { self.new.phasers ≡ self.old.phasers }
+    {
+        let manner = manner_of(program.rows()[row as usize]);
+        self.players[t].leave_routine(registers, row);
+        self.gates[barrier as usize].end_action(true);
+        Event {
+            what: self.players[t].answer(manner.into, 0),
+            mark: Mark::Tripped(barrier),
+        }
+    }
+}

@@ -1,0 +1,441 @@
+ghost use Rattle.std.specs.Prelude.{◌≡◌, ℕ, ◌<◌, ◌≤◌, ◌&&◌, length, true, false, Some, None, is_some};
+ghost use Rattle.tier_tree.specs.Forest.{phaser_at, flat_at, root_at};
+ghost use Rattle.tier_tree.specs.Stored.{phasers_of, ChangedAt};
+ghost use Rattle.instruction_table.specs.Registers.{value_in};
+ghost use Rattle.loader.specs.Program.{IsNamed};
+ghost use Rattle.thread_state.specs.Thread.{is_full, top_of};
+ghost use Rattle.machine_scene.specs.Scene.{scene_of, counts_in, thread_at};
+ghost use Rattle.machine_scene.specs.PhaserRows.{turn_of_patience, turn_of_await, turn_of_arrival};
+ghost use Rattle.machine_scene.specs.PhaserRows.{is_own_tree, unless_own, has_routine, answer_of_policy};
+ghost use Rattle.machine_scene.specs.PhaserRows.{outcome_of_ended_phase, outcome_of_phase_end, outcome_of_turning, outcome_with_room};
+ghost use Rattle.machine_scene.specs.PhaserRows.{outcome_of_arrival, outcome_of_registration, outcome_of_bulk};
+ghost use Rattle.machine_scene.specs.PhaserRows.{outcome_of_await, outcome_of_force, outcome_of_phaser_row};
+ghost use Rattle.machine_scene.specs.Undo.{PhasersWithin, reach_of_row};
+
+use super::{Stage, alone};
+use crate::manner::Manner;
+use crate::patience::Patience;
+use instruction_table::{Reg, Row};
+use loader::Loaded;
+use packed_phaser::Policy;
+use thread_state::{Event, Mark, Thread, What};
+use tier_tree::{Arrived, PhaserId, Registered};
+
+/// A thread whose phase hasn't ended waits, as long as it has the patience.
+fn wait_with(thread: &mut Thread, patience: Patience, phase: i32) -> What
+    ensures { record { thread = thread.new; what = result } ≡ turn_of_patience patience phase thread.old }
+{
+    match patience {
+        Patience::Endless => thread.wait(phase),
+        Patience::Interruptible => {
+            if thread.interrupted() {
+                return thread.take_interruption();
+            }
+            thread.wait(phase)
+        }
+        Patience::Timed(time) => {
+            if thread.interrupted() {
+                return thread.take_interruption();
+            }
+            if 0 < time {
+                thread.wait(phase)
+            } else {
+                thread.throw(5)
+            }
+        }
+    }
+}
+
+/// A thread asks to wait for the end of a phase, and is told the view.
+fn await_phase(thread: &mut Thread, patience: Patience, into: Reg, phase: i32, view: i32) -> What
+    requires { thread.old.pc < 65535 }
+    ensures { record { thread = thread.new; what = result }
+        ≡ turn_of_await patience into phase view thread.old }
+{
+    if phase < 0 {
+        return thread.answer(into, phase);
+    }
+    if view != phase {
+        return thread.answer(into, view);
+    }
+    wait_with(thread, patience, phase)
+}
+
+/// A counted arrival waits for the phase's end, or answers its phase.
+fn arrive_at(thread: &mut Thread, manner: Manner, phase: i32) -> What
+    requires { thread.old.pc < 65535 }
+    ensures { record { thread = thread.new; what = result } ≡ turn_of_arrival manner phase thread.old }
+{
+    if manner.waits {
+        thread.wait(phase)
+    } else {
+        thread.answer(manner.into, phase)
+    }
+}
+
+impl Stage {
+    /// The rows that register at a phaser, arrive, wait or terminate.
+    pub(super) fn phaser_row(&mut self, program: &Loaded, row: Row, t: usize) -> Event
+        requires ready { is_some (outcome_of_phaser_row row t program.now (scene_of self.old)) ≡ true }
+        requires named { IsNamed (counts_in program.now self.old) row }
+        requires few { length self.old.phasers ≤ 64 }
+        requires routines { length program.now.routines ≡ length self.old.phasers }
+        requires ends { (p : ℕ) → (phaser_at (phasers_of self.old.phasers) p).ends < 2147483647 }
+        requires thread { t < length self.old.threads }
+        requires place { (thread_at (scene_of self.old) t).pc < 65535 }
+        ensures outcome { outcome_of_phaser_row row t program.now (scene_of self.old)
+            ≡ Some (record { scene = scene_of self.new; event = result }) }
+        ensures phasers { PhasersWithin (reach_of_row row (top_of (thread_at (scene_of self.old) t).stack))
+            self.old.phasers self.new.phasers }
+    {
+        match row {
+            Row::Preg { into, phaser } => self.register(into, phaser, t),
+            Row::Pbulk {
+                into,
+                phaser,
+                count,
+            } => self.register_many(into, phaser, count, t),
+            Row::Parr { into, phaser } => {
+                let manner = Manner {
+                    into,
+                    leaves: false,
+                    waits: false,
+                };
+                self.arrival_unless_own(program, manner, phaser, t)
+            }
+            Row::Pdereg { into, phaser } => {
+                let manner = Manner {
+                    into,
+                    leaves: true,
+                    waits: false,
+                };
+                self.arrival_unless_own(program, manner, phaser, t)
+            }
+            Row::Paaa { into, phaser } => {
+                let manner = Manner {
+                    into,
+                    leaves: false,
+                    waits: true,
+                };
+                self.arrival_unless_own(program, manner, phaser, t)
+            }
+            Row::Pawait {
+                into,
+                phaser,
+                phase,
+            } => self.await_unless_own(Patience::Endless, into, phaser, phase, t),
+            Row::Pawaiti {
+                into,
+                phaser,
+                phase,
+            } => self.await_unless_own(Patience::Interruptible, into, phaser, phase, t),
+            Row::Pawaitt {
+                into,
+                phaser,
+                phase,
+                timeout,
+            } => {
+                let time = self.players[t].register(timeout);
+                self.await_unless_own(Patience::Timed(time), into, phaser, phase, t)
+            }
+            Row::Pforce { phaser } => self.force(phaser, t),
+            _ => unreachable!(),
+        }
+    }
+
+    /// Whether the thread runs the advance routine of this phaser's tree.
+    pub(super) fn is_own_tree(&self, phaser: u16, t: usize) -> bool
+        requires phaser { phaser < length self.now.phasers }
+        requires few { length self.now.phasers ≤ 64 }
+        requires thread { t < length self.now.threads }
+        ensures { result ≡ is_own_tree phaser (thread_at (scene_of self.now) t) (scene_of self.now) }
+    {
+        let root = self.forest.root(PhaserId(phaser as u8));
+        self.players[t].advances(root.0)
+    }
+
+    /// `preg`.
+    #[tactic(auto, using(tier_tree::proofs::Changed::changed_nothing))]
+    fn register(&mut self, into: Reg, phaser: u16, t: usize) -> Event
+        requires ready { is_some (unless_own phaser t (scene_of self.old)
+            (outcome_of_registration into phaser 1 t (scene_of self.old))) ≡ true }
+        requires phaser { phaser < length self.old.phasers }
+        requires few { length self.old.phasers ≤ 64 }
+        requires thread { t < length self.old.threads }
+        requires place { (thread_at (scene_of self.old) t).pc < 65535 }
+        ensures outcome { unless_own phaser t (scene_of self.old)
+            (outcome_of_registration into phaser 1 t (scene_of self.old))
+            ≡ Some (record { scene = scene_of self.new; event = result }) }
+        ensures phasers { ChangedAt phaser self.old.phasers self.new.phasers }
+    {
+        if self.is_own_tree(phaser, t) {
+            return alone(self.players[t].throw(1));
+        }
+        self.registration(into, phaser, 1, t)
+    }
+
+    /// `pbulk`.
+    #[tactic(auto, using(tier_tree::proofs::Changed::changed_nothing))]
+    fn register_many(&mut self, into: Reg, phaser: u16, count: Reg, t: usize) -> Event
+        requires ready { is_some (unless_own phaser t (scene_of self.old)
+            (outcome_of_bulk into phaser (value_in (thread_at (scene_of self.old) t).registers count) t (scene_of self.old)))
+            ≡ true }
+        requires phaser { phaser < length self.old.phasers }
+        requires few { length self.old.phasers ≤ 64 }
+        requires thread { t < length self.old.threads }
+        requires place { (thread_at (scene_of self.old) t).pc < 65535 }
+        ensures outcome { unless_own phaser t (scene_of self.old)
+            (outcome_of_bulk into phaser (value_in (thread_at (scene_of self.old) t).registers count) t (scene_of self.old))
+            ≡ Some (record { scene = scene_of self.new; event = result }) }
+        ensures phasers { ChangedAt phaser self.old.phasers self.new.phasers }
+    {
+        if self.is_own_tree(phaser, t) {
+            return alone(self.players[t].throw(1));
+        }
+        let count = self.players[t].register(count);
+        if count < 0 {
+            return alone(self.players[t].throw(2));
+        }
+        self.registration(into, phaser, count as u32, t)
+    }
+
+    /// Registers parties.
+    fn registration(&mut self, into: Reg, phaser: u16, count: u32, t: usize) -> Event
+        requires ready { is_some (outcome_of_registration into phaser count t (scene_of self.old)) ≡ true }
+        requires phaser { phaser < length self.old.phasers }
+        requires few { length self.old.phasers ≤ 64 }
+        requires thread { t < length self.old.threads }
+        requires place { (thread_at (scene_of self.old) t).pc < 65535 }
+        ensures outcome { outcome_of_registration into phaser count t (scene_of self.old)
+            ≡ Some (record { scene = scene_of self.new; event = result }) }
+        ensures phasers { ChangedAt phaser self.old.phasers self.new.phasers }
+    {
+        match self.forest.register(PhaserId(phaser as u8), count) {
+            Registered::At(phase) => alone(self.players[t].answer(into, phase)),
+            Registered::Dead(view) => alone(self.players[t].answer(into, view)),
+            Registered::TooMany => alone(self.players[t].throw(1)),
+            Registered::Held => unreachable!(),
+        }
+    }
+
+    /// `parr`, `pdereg` and `paaa`.
+    #[tactic(auto, using(tier_tree::proofs::Changed::changed_nothing))]
+    fn arrival_unless_own(
+        &mut self,
+        program: &Loaded,
+        manner: Manner,
+        phaser: u16,
+        t: usize,
+    ) -> Event
+        requires phaser { phaser < length self.old.phasers }
+        requires few { length self.old.phasers ≤ 64 }
+        requires routines { length program.now.routines ≡ length self.old.phasers }
+        requires ends { (p : ℕ) → (phaser_at (phasers_of self.old.phasers) p).ends < 2147483647 }
+        requires thread { t < length self.old.threads }
+        requires place { (thread_at (scene_of self.old) t).pc < 65535 }
+        ensures outcome { unless_own phaser t (scene_of self.old)
+            (Some (outcome_of_arrival manner phaser t program.now (scene_of self.old)))
+            ≡ Some (record { scene = scene_of self.new; event = result }) }
+        ensures phasers { ChangedAt phaser self.old.phasers self.new.phasers }
+    {
+        if self.is_own_tree(phaser, t) {
+            return alone(self.players[t].throw(1));
+        }
+        self.arrival(program, manner, phaser, t)
+    }
+
+    /// An arrival at a phaser, where a tree with a routine wants room for one stack entry more.
+    #[tactic(auto, using(tier_tree::proofs::Changed::changed_nothing))]
+    fn arrival(&mut self, program: &Loaded, manner: Manner, phaser: u16, t: usize) -> Event
+        requires phaser { phaser < length self.old.phasers }
+        requires few { length self.old.phasers ≤ 64 }
+        requires routines { length program.now.routines ≡ length self.old.phasers }
+        requires ends { (p : ℕ) → (phaser_at (phasers_of self.old.phasers) p).ends < 2147483647 }
+        requires thread { t < length self.old.threads }
+        requires place { (thread_at (scene_of self.old) t).pc < 65535 }
+        ensures outcome { record { scene = scene_of self.new; event = result }
+            ≡ outcome_of_arrival manner phaser t program.now (scene_of self.old) }
+        ensures phasers { ChangedAt phaser self.old.phasers self.new.phasers }
+    {
+        if self.has_routine(phaser) && self.players[t].is_full() {
+            return alone(self.players[t].throw(6));
+        }
+        self.arrival_with_room(program, manner, phaser, t)
+    }
+
+    /// Whether the phaser's tree has an advance routine.
+    fn has_routine(&self, phaser: u16) -> bool
+        requires phaser { phaser < length self.now.phasers }
+        requires few { length self.now.phasers ≤ 64 }
+        ensures { result ≡ has_routine phaser (scene_of self.now) }
+    {
+        let root = self.forest.root(PhaserId(phaser as u8));
+        matches!(self.forest.policy(root), Policy::Routine)
+    }
+
+    /// The arrival itself.
+    fn arrival_with_room(
+        &mut self,
+        program: &Loaded,
+        manner: Manner,
+        phaser: u16,
+        t: usize,
+    ) -> Event
+        requires phaser { phaser < length self.old.phasers }
+        requires few { length self.old.phasers ≤ 64 }
+        requires room { (has_routine phaser (scene_of self.old) && is_full (thread_at (scene_of self.old) t)) ≡ false }
+        requires routines { length program.now.routines ≡ length self.old.phasers }
+        requires ends { (p : ℕ) → (phaser_at (phasers_of self.old.phasers) p).ends < 2147483647 }
+        requires thread { t < length self.old.threads }
+        requires place { (thread_at (scene_of self.old) t).pc < 65535 }
+        ensures outcome { record { scene = scene_of self.new; event = result }
+            ≡ outcome_with_room manner phaser t program.now (scene_of self.old) }
+        ensures phasers { ChangedAt phaser self.old.phasers self.new.phasers }
+    {
+        self.forest.is_forest();
+        match self.forest.arrive(PhaserId(phaser as u8), manner.leaves) {
+            Arrived::At(phase) => alone(arrive_at(&mut self.players[t], manner, phase)),
+            Arrived::Turning { root, phase, .. } => {
+                self.forest.is_forest();
+                self.turning(program, manner, root, phase, t)
+            }
+            Arrived::Dead(view) => alone(self.players[t].answer(manner.into, view)),
+            Arrived::NotThere => alone(self.players[t].throw(1)),
+        }
+    }
+
+    /// An arrival has turned a root: its policy answers, or its routine is entered.
+    #[tactic(auto, using(tier_tree::proofs::Changed::changed_nothing))]
+    fn turning(
+        &mut self,
+        program: &Loaded,
+        manner: Manner,
+        root: PhaserId,
+        phase: i32,
+        t: usize,
+    ) -> Event
+        requires there { root.0 < length self.old.phasers }
+        requires top { root_at (phasers_of self.old.phasers) root.0 ≡ root.0 }
+        requires turned { (flat_at (phasers_of self.old.phasers) root.0).turned ≡ true }
+        requires live { (flat_at (phasers_of self.old.phasers) root.0).ended ≡ false }
+        requires ends { (phaser_at (phasers_of self.old.phasers) root.0).ends < 2147483647 }
+        requires room { answer_of_policy root.0 (scene_of self.old) ≡ None
+            → is_full (thread_at (scene_of self.old) t) ≡ false }
+        requires routines { root.0 < length program.now.routines }
+        requires thread { t < length self.old.threads }
+        requires place { (thread_at (scene_of self.old) t).pc < 65535 }
+        ensures outcome { record { scene = scene_of self.new; event = result }
+            ≡ outcome_of_turning (answer_of_policy root.0 (scene_of self.old)) manner root.0 phase t
+            program.now (scene_of self.old) }
+        ensures phasers { ChangedAt root.0 self.old.phasers self.new.phasers }
+    {
+        let parties = self.forest.parties(root);
+        let answer = self
+            .forest
+            .policy(root)
+            .ends(self.forest.phase_number(root), parties);
+        match answer {
+            Some(terminates) => self.end_phase(manner, root, phase, terminates, t),
+            None => {
+                let first = program.routines()[root.0 as usize];
+                alone(self.players[t].enter_advance(root.0, phase, parties, first))
+            }
+        }
+    }
+
+    /// The phase of a turned root ends, and the arrival that turned it has its answer.
+    pub(super) fn end_phase(
+        &mut self,
+        manner: Manner,
+        root: PhaserId,
+        phase: i32,
+        terminates: bool,
+        t: usize,
+    ) -> Event
+        requires there { root.0 < length self.old.phasers }
+        requires top { root_at (phasers_of self.old.phasers) root.0 ≡ root.0 }
+        requires turned { (flat_at (phasers_of self.old.phasers) root.0).turned ≡ true }
+        requires live { (flat_at (phasers_of self.old.phasers) root.0).ended ≡ false }
+        requires ends { (phaser_at (phasers_of self.old.phasers) root.0).ends < 2147483647 }
+        requires thread { t < length self.old.threads }
+        requires place { (thread_at (scene_of self.old) t).pc < 65535 }
+        ensures outcome { record { scene = scene_of self.new; event = result }
+            ≡ outcome_of_phase_end manner root.0 phase terminates t (scene_of self.old) }
+        ensures phasers { ChangedAt root.0 self.old.phasers self.new.phasers }
+    {
+        self.forest.finish_turn(root, terminates);
+        self.phase_ended(manner, root, phase, t)
+    }
+
+    /// The same, once the phase has ended.
+    fn phase_ended(&mut self, manner: Manner, root: PhaserId, phase: i32, t: usize) -> Event
+        requires there { root.0 < length self.old.phasers }
+        requires thread { t < length self.old.threads }
+        requires place { (thread_at (scene_of self.old) t).pc < 65535 }
+        ensures outcome { record { scene = scene_of self.new; event = result }
+            ≡ outcome_of_ended_phase manner root.0 phase t (scene_of self.old) }
+        ensures phasers { self.new.phasers ≡ self.old.phasers }
+    {
+        let view = self.forest.phase(root);
+        let what = self.players[t].answer(manner.into, if manner.waits { view } else { phase });
+        Event {
+            what,
+            mark: Mark::Phase { root: root.0, view },
+        }
+    }
+
+    /// `pawait`, `pawaiti` and `pawaitt`.
+    fn await_unless_own(
+        &mut self,
+        patience: Patience,
+        into: Reg,
+        phaser: u16,
+        phase: Reg,
+        t: usize,
+    ) -> Event
+        requires phaser { phaser < length self.old.phasers }
+        requires few { length self.old.phasers ≤ 64 }
+        requires thread { t < length self.old.threads }
+        requires place { (thread_at (scene_of self.old) t).pc < 65535 }
+        ensures outcome { unless_own phaser t (scene_of self.old)
+            (Some (outcome_of_await patience into phaser
+            (value_in (thread_at (scene_of self.old) t).registers phase) t (scene_of self.old)))
+            ≡ Some (record { scene = scene_of self.new; event = result }) }
+        ensures phasers { self.new.phasers ≡ self.old.phasers }
+    {
+        if self.is_own_tree(phaser, t) {
+            return alone(self.players[t].throw(1));
+        }
+        let view = self.forest.phase(PhaserId(phaser as u8));
+        let phase = self.players[t].register(phase);
+        alone(await_phase(&mut self.players[t], patience, into, phase, view))
+    }
+
+    /// `pforce`.
+    fn force(&mut self, phaser: u16, t: usize) -> Event
+        requires phaser { phaser < length self.old.phasers }
+        requires few { length self.old.phasers ≤ 64 }
+        requires thread { t < length self.old.threads }
+        requires place { (thread_at (scene_of self.old) t).pc < 65535 }
+        ensures outcome { record { scene = scene_of self.new; event = result }
+            ≡ outcome_of_force phaser t (scene_of self.old) }
+        ensures phasers { ChangedAt phaser self.old.phasers self.new.phasers }
+    {
+        let id = PhaserId(phaser as u8);
+        let ended = self.forest.is_terminated(id);
+        let root = self.forest.root(id);
+        self.forest.force(id);
+        let mark = if ended {
+            Mark::Nothing
+        } else {
+            Mark::Phase {
+                root: root.0,
+                view: self.forest.phase(root),
+            }
+        };
+        Event {
+            what: self.players[t].done(),
+            mark,
+        }
+    }
+}

@@ -1,0 +1,160 @@
+ghost use Rattle.std.specs.Prelude.{◌≡◌, ◌≢◌, ℕ, ℤ, ◌<◌, ◌≤◌, length, true, None, is_some};
+ghost use Rattle.instruction_table.specs.declared.register.Reg.{Reg};
+ghost use Rattle.cyclic_barrier.specs.Waits.{wait_at};
+ghost use Rattle.loader.specs.Program.{IsNamed};
+ghost use Rattle.machine_scene.specs.Scene.{scene_of, counts_in, thread_at, barrier_at};
+ghost use Rattle.machine_scene.specs.BarrierRows.{is_run_by_another};
+ghost use Rattle.machine_scene.specs.Waits.{outcome_of_phase_wait, outcome_of_release, outcome_of_barrier_wait};
+ghost use Rattle.machine_scene.specs.Outcomes.{outcome_in, outcome_of_row, timeout_in};
+ghost use Rattle.machine_scene.specs.Ready.{registration_is_held, is_blocked};
+ghost use Rattle.machine_scene.specs.Sound.{is_wait_row, StandsAt};
+
+use super::Stage;
+use cyclic_barrier::WaitState;
+use instruction_table::Row;
+use loader::Loaded;
+use thread_state::Status;
+use tier_tree::{PhaserId, Registered};
+
+/// Which threads may take a step.
+impl Stage {
+    /// Whether a thread that stands at this row may take a step.
+    pub(super) fn is_ready_at(&self, program: &Loaded, row: Row, t: usize) -> bool
+        requires thread { t < length self.now.threads }
+        requires at { StandsAt program.now row t self.now }
+        ensures { result ≡ is_some (outcome_in (thread_at (scene_of self.now) t).status row t program.now
+            (scene_of self.now)) }
+    {
+        match self.players[t].status() {
+            Status::Runs => self.is_row_ready(program, row, t),
+            Status::Throws(_) => true,
+            Status::AwaitsPhase(phase) => self.is_phase_wait_over(program, row, phase, t),
+            Status::AwaitsBarrier(index) => self.is_barrier_wait_over(program, row, index, t),
+            Status::Ended | Status::Died(_) => false,
+        }
+    }
+
+    /// Whether the row of a running thread can be played.
+    #[tactic(auto, using(crate::proofs::Readiness::row_is_ready))]
+    fn is_row_ready(&self, program: &Loaded, row: Row, t: usize) -> bool
+        requires named { IsNamed (counts_in program.now self.now) row }
+        requires few { length self.now.phasers ≤ 64 }
+        requires thread { t < length self.now.threads }
+        ensures { result ≡ is_some (outcome_of_row row t program.now (scene_of self.now)) }
+    {
+        !self.is_blocked(program, row, t)
+    }
+
+    /// Whether it has to wait.
+    fn is_blocked(&self, program: &Loaded, row: Row, t: usize) -> bool
+        requires named { IsNamed (counts_in program.now self.now) row }
+        requires few { length self.now.phasers ≤ 64 }
+        requires thread { t < length self.now.threads }
+        ensures { result ≡ is_blocked row t (scene_of self.now) }
+    {
+        match row {
+            Row::Preg { phaser, .. } => self.is_held(phaser, 1, t),
+            Row::Pbulk { phaser, count, .. } => self.is_held(
+                phaser,
+                self.players[t].register(count),
+                t,
+            ),
+            Row::Cawait { barrier, .. }
+            | Row::Cawaitt { barrier, .. }
+            | Row::Creset { barrier }
+            | Row::Cbroken { barrier, .. }
+            | Row::Cwaiting { barrier, .. } => self.is_busy(barrier, t),
+            _ => false,
+        }
+    }
+
+    /// Whether a registration would wait for the phase's end.
+    fn is_held(&self, phaser: u16, count: i32, t: usize) -> bool
+        requires phaser { phaser < length self.now.phasers }
+        requires few { length self.now.phasers ≤ 64 }
+        requires thread { t < length self.now.threads }
+        ensures { result ≡ registration_is_held phaser count t (scene_of self.now) }
+    {
+        if self.is_own_tree(phaser, t) || count < 0 {
+            return false;
+        }
+        let answer = self
+            .forest
+            .registration(PhaserId(phaser as u8), count as u32);
+        matches!(answer, Registered::Held)
+    }
+
+    /// Whether another thread runs the barrier's action.
+    fn is_busy(&self, barrier: u16, t: usize) -> bool
+        requires there { barrier < length self.now.barriers }
+        ensures { result ≡ is_run_by_another t (barrier_at (scene_of self.now) barrier).runner }
+    {
+        match self.gates[barrier as usize].runner() {
+            Some(runner) => runner as usize != t,
+            None => false,
+        }
+    }
+
+    /// Whether a wait for a phase can end.
+    fn is_phase_wait_over(&self, program: &Loaded, row: Row, phase: i32, t: usize) -> bool
+        requires named { IsNamed (counts_in program.now self.now) row }
+        requires few { length self.now.phasers ≤ 64 }
+        requires thread { t < length self.now.threads }
+        ensures { result ≡ is_some (outcome_of_phase_wait row phase t (scene_of self.now)) }
+    {
+        match row {
+            Row::Paaa { phaser, .. } | Row::Pawait { phaser, .. } => self.is_past(phaser, phase),
+            Row::Pawaiti { phaser, .. } | Row::Pawaitt { phaser, .. } => self.is_past(phaser, phase)
+                || self.players[t].interrupted(),
+            _ => false,
+        }
+    }
+
+    /// Whether a wait at a barrier can end.
+    fn is_barrier_wait_over(&self, program: &Loaded, row: Row, index: i32, t: usize) -> bool
+        requires named { IsNamed (counts_in program.now self.now) row }
+        requires waits { (b : ℕ) → is_wait_row b row ≡ true
+            → wait_at (barrier_at (scene_of self.now) b).waits t ≢ None }
+        requires thread { t < length self.now.threads }
+        ensures { result ≡ is_some (outcome_of_barrier_wait row index t (scene_of self.now)) }
+    {
+        match row {
+            Row::Cawait { barrier, .. } => self.is_released(barrier, t),
+            Row::Cawaitt { barrier, .. } => self.is_released(barrier, t),
+            _ => false,
+        }
+    }
+
+    /// Whether the thread's wait at the barrier was released, or an interruption ends it.
+    fn is_released(&self, barrier: u16, t: usize) -> bool
+        requires there { barrier < length self.now.barriers }
+        requires waits { wait_at (barrier_at (scene_of self.now) barrier).waits t ≢ None }
+        requires thread { t < length self.now.threads }
+        ensures { (into : Reg) → (index : ℤ) → result
+            ≡ is_some (outcome_of_release (wait_at (barrier_at (scene_of self.now) barrier).waits t)
+            into index barrier t (scene_of self.now)) }
+    {
+        match self.wait_state(barrier, t) {
+            WaitState::Waiting => self.players[t].interrupted()
+                && self.gates[barrier as usize].runner().is_none(),
+            WaitState::Tripped | WaitState::Broken => true,
+        }
+    }
+
+    /// Whether the time of the thread's wait may run out, its turn aside.
+    pub(super) fn has_time(&self, program: &Loaded, row: Row, t: usize) -> bool
+        requires named { IsNamed (counts_in program.now self.now) row }
+        requires thread { t < length self.now.threads }
+        ensures { result ≡ is_some (timeout_in (thread_at (scene_of self.now) t).status row t
+            (scene_of self.now)) }
+    {
+        match self.players[t].status() {
+            Status::AwaitsPhase(_) => matches!(row, Row::Pawaitt { .. }),
+            Status::AwaitsBarrier(_) => match row {
+                Row::Cawaitt { barrier, .. } => self.gates[barrier as usize].runner().is_none(),
+                _ => false,
+            },
+            _ => false,
+        }
+    }
+}

@@ -1,0 +1,79 @@
+ghost use Rattle.std.specs.Prelude.{◌≡◌, ◌<◌, ◌≤◌, length};
+ghost use Rattle.machine_scene.specs.Scene.{scene_of};
+ghost use Rattle.machine_scene.specs.Sound.{IsSound};
+ghost use Rattle.machine_scene.specs.Undo.{IsThere, CanPutBack, CanUndo};
+ghost use Rattle.machine_scene.specs.Undo.{touched_by, with_touched, note_of, undone};
+
+use super::Stage;
+use crate::note::{SceneNote, Touched};
+use crate::reach::{Reach, reach_in};
+use loader::Loaded;
+use tier_tree::PhaserId;
+
+impl Stage {
+    /// What is kept before a thread's turn, or before the expiry of its wait, so that either can be undone.
+    #[tactic(auto, using(crate::proofs::Reaches::reach_there))]
+    pub fn note(&self, program: &Loaded, t: usize) -> SceneNote
+        requires sound { IsSound program.now 2147483646 (scene_of self.now) }
+        requires thread { t < length self.now.threads }
+        ensures { result ≡ note_of t program.now self.now }
+    {
+        let row = self.row_of(program, t);
+        let top = self.players[t].top();
+        self.top_is_placed(program, &top, t);
+        let reach = reach_in(self.players[t].status(), row, &top);
+        SceneNote {
+            number: t as u8,
+            own: self.players[t].note(),
+            beside: self.touched(reach),
+        }
+    }
+
+    /// What is kept of what a turn may change beside its own thread.
+    fn touched(&self, reach: Reach) -> Touched
+        requires there { IsThere reach self.now }
+        requires few { length self.now.phasers ≤ 64 }
+        ensures { result ≡ touched_by reach self.now }
+    {
+        match reach {
+            Reach::Nothing => Touched::Nothing,
+            Reach::Cell(cell) => Touched::Cell {
+                cell,
+                number: self.numbers[cell as usize],
+            },
+            Reach::Thread(thread) => Touched::Thread {
+                thread,
+                before: self.players[thread as usize].note(),
+            },
+            Reach::Tree(phaser) => Touched::Tree(self.forest.save(PhaserId(phaser as u8))),
+            Reach::Barrier(barrier) => Touched::Barrier {
+                barrier,
+                before: self.gates[barrier as usize],
+            },
+        }
+    }
+
+    /// Undoes a turn, or an expiry: all is as it was when the note was taken.
+    pub fn undo(&mut self, note: &SceneNote)
+        requires { CanUndo note.now self.old }
+        ensures { self.new ≡ undone note.now self.old }
+    {
+        self.put_back(&note.beside);
+        self.players[note.number as usize].undo(&note.own);
+    }
+
+    /// Puts back what the turn changed beside its own thread.
+    fn put_back(&mut self, touched: &Touched)
+        requires { CanPutBack touched.now self.old }
+        ensures scene { self.new ≡ with_touched touched.now self.old }
+        ensures threads { length self.new.threads ≡ length self.old.threads }
+    {
+        match touched {
+            Touched::Nothing => {}
+            Touched::Cell { cell, number } => self.numbers[*cell as usize] = *number,
+            Touched::Thread { thread, before } => self.players[*thread as usize].undo(before),
+            Touched::Tree(saved) => self.forest.restore(saved),
+            Touched::Barrier { barrier, before } => self.gates[*barrier as usize] = *before,
+        }
+    }
+}

@@ -1,0 +1,194 @@
+ghost use Rattle.std.specs.Prelude.{◌≡◌, ◌≢◌, ◌<◌, ◌≤◌, ℕ, length, pos, true, false, Some, None, is_some};
+ghost use Rattle.cyclic_barrier.specs.Waits.{wait_at};
+ghost use Rattle.cyclic_barrier.specs.Barrier.{expire};
+ghost use Rattle.thread_state.specs.Thread.{turn_of_throw};
+ghost use Rattle.loader.specs.Program.{IsNamed};
+ghost use Rattle.machine_scene.specs.Scene.{scene_of, counts_in, thread_at, barrier_at, with_barrier, outcome_marked};
+ghost use Rattle.machine_scene.specs.PhaserRows.{is_past};
+ghost use Rattle.machine_scene.specs.Waits.{outcome_of_awaited, outcome_of_phase_wait, outcome_of_release};
+ghost use Rattle.machine_scene.specs.Waits.{outcome_of_barrier_wait, outcome_of_phase_timeout, outcome_of_barrier_timeout};
+ghost use Rattle.machine_scene.specs.Sound.{is_wait_row};
+
+use super::{Stage, alone};
+use cyclic_barrier::WaitState;
+use instruction_table::{Reg, Row};
+use loader::Loaded;
+use thread_state::{Event, Mark};
+use tier_tree::PhaserId;
+
+impl Stage {
+    /// Whether a phase of this number is not the one that the phaser is in.
+    pub(super) fn is_past(&self, phaser: u16, phase: i32) -> bool
+        requires phaser { phaser < length self.now.phasers }
+        requires few { length self.now.phasers ≤ 64 }
+        ensures { result ≡ is_past phaser phase (scene_of self.now) }
+    {
+        self.forest.phase(PhaserId(phaser as u8)) != phase
+    }
+
+    /// Finishes a thread's wait for a phase.
+    pub(super) fn finish_phase_wait(
+        &mut self,
+        program: &Loaded,
+        row: Row,
+        phase: i32,
+        t: usize,
+    ) -> Event
+        requires ready { is_some (outcome_of_phase_wait row phase t (scene_of self.old)) ≡ true }
+        requires named { IsNamed (counts_in program.now self.old) row }
+        requires few { length self.old.phasers ≤ 64 }
+        requires thread { t < length self.old.threads }
+        requires place { (thread_at (scene_of self.old) t).pc < 65535 }
+        ensures outcome { outcome_of_phase_wait row phase t (scene_of self.old)
+            ≡ Some (record { scene = scene_of self.new; event = result }) }
+        ensures phasers { self.new.phasers ≡ self.old.phasers }
+    {
+        match row {
+            Row::Paaa { into, phaser } => self.finish_awaited(false, into, phaser, phase, t),
+            Row::Pawait { into, phaser, .. } => self.finish_awaited(false, into, phaser, phase, t),
+            Row::Pawaiti { into, phaser, .. } => self.finish_awaited(true, into, phaser, phase, t),
+            Row::Pawaitt { into, phaser, .. } => self.finish_awaited(true, into, phaser, phase, t),
+            _ => unreachable!(),
+        }
+    }
+
+    /// By the phase's end first, or by an interruption.
+    fn finish_awaited(&mut self, looks: bool, into: Reg, phaser: u16, phase: i32, t: usize) -> Event
+        requires ready { is_some (outcome_of_awaited looks into phaser phase t (scene_of self.old)) ≡ true }
+        requires phaser { phaser < length self.old.phasers }
+        requires few { length self.old.phasers ≤ 64 }
+        requires thread { t < length self.old.threads }
+        requires place { (thread_at (scene_of self.old) t).pc < 65535 }
+        ensures outcome { outcome_of_awaited looks into phaser phase t (scene_of self.old)
+            ≡ Some (record { scene = scene_of self.new; event = result }) }
+        ensures phasers { self.new.phasers ≡ self.old.phasers }
+    {
+        let view = self.forest.phase(PhaserId(phaser as u8));
+        if view != phase {
+            return alone(self.players[t].answer(into, view));
+        }
+        alone(self.players[t].take_interruption())
+    }
+
+    /// What the thread's wait at the barrier has come to.
+    pub(super) fn wait_state(&self, barrier: u16, t: usize) -> WaitState
+        requires there { barrier < length self.now.barriers }
+        requires waits { wait_at (barrier_at (scene_of self.now) barrier).waits t ≢ None }
+        requires thread { t < length self.now.threads }
+        ensures { Some result ≡ wait_at (barrier_at (scene_of self.now) barrier).waits t }
+    {
+        self.gates[barrier as usize].look(t as u8)
+    }
+
+    /// Finishes a thread's wait at a barrier.
+    pub(super) fn finish_barrier_wait(
+        &mut self,
+        program: &Loaded,
+        row: Row,
+        index: i32,
+        t: usize,
+    ) -> Event
+        requires ready { is_some (outcome_of_barrier_wait row index t (scene_of self.old)) ≡ true }
+        requires named { IsNamed (counts_in program.now self.old) row }
+        requires thread { t < length self.old.threads }
+        requires place { (thread_at (scene_of self.old) t).pc < 65535 }
+        ensures outcome { outcome_of_barrier_wait row index t (scene_of self.old)
+            ≡ Some (record { scene = scene_of self.new; event = result }) }
+        ensures phasers { self.new.phasers ≡ self.old.phasers }
+    {
+        match row {
+            Row::Cawait { into, barrier } => self.finish_release(into, index, barrier, t),
+            Row::Cawaitt { into, barrier, .. } => self.finish_release(into, index, barrier, t),
+            _ => unreachable!(),
+        }
+    }
+
+    /// By what the wait has come to.
+    fn finish_release(&mut self, into: Reg, index: i32, barrier: u16, t: usize) -> Event
+        requires ready { is_some (outcome_of_release (wait_at (barrier_at (scene_of self.old) barrier).waits t)
+            into index barrier t (scene_of self.old)) ≡ true }
+        requires there { barrier < length self.old.barriers }
+        requires thread { t < length self.old.threads }
+        requires place { (thread_at (scene_of self.old) t).pc < 65535 }
+        ensures outcome { outcome_of_release (wait_at (barrier_at (scene_of self.old) barrier).waits t) into index
+            barrier t (scene_of self.old) ≡ Some (record { scene = scene_of self.new; event = result }) }
+        ensures phasers { self.new.phasers ≡ self.old.phasers }
+    {
+        match self.wait_state(barrier, t) {
+            WaitState::Tripped => {
+                self.gates[barrier as usize].leave(t as u8);
+                alone(self.players[t].answer(into, index))
+            }
+            WaitState::Broken => {
+                self.gates[barrier as usize].leave(t as u8);
+                alone(self.players[t].throw(4))
+            }
+            WaitState::Waiting => {
+                self.gates[barrier as usize].interrupt(t as u8);
+                Event {
+                    what: self.players[t].take_interruption(),
+                    mark: Mark::Broke(barrier as u8),
+                }
+            }
+        }
+    }
+
+    /// The time of a thread's wait for a phase runs out.
+    pub(super) fn expire_phase_wait(&mut self, row: Row, t: usize) -> Event
+        requires ready { is_some (outcome_of_phase_timeout row t (scene_of self.old)) ≡ true }
+        requires thread { t < length self.old.threads }
+        ensures outcome { outcome_of_phase_timeout row t (scene_of self.old)
+            ≡ Some (record { scene = scene_of self.new; event = result }) }
+        ensures phasers { self.new.phasers ≡ self.old.phasers }
+    {
+        match row {
+            Row::Pawaitt { .. } => alone(self.players[t].throw(5)),
+            _ => unreachable!(),
+        }
+    }
+
+    /// The time of a thread's wait at a barrier runs out: the barrier breaks.
+    pub(super) fn expire_barrier_wait(
+        &mut self,
+        program: &Loaded,
+        row: Row,
+        index: i32,
+        t: usize,
+    ) -> Event
+        requires ready { is_some (outcome_of_barrier_timeout row t (scene_of self.old)) ≡ true }
+        requires not_ready { is_some (outcome_of_barrier_wait row index t (scene_of self.old)) ≡ false }
+        requires waits { (b : ℕ) → is_wait_row b row ≡ true
+            → wait_at (barrier_at (scene_of self.old) b).waits t ≢ None }
+        requires named { IsNamed (counts_in program.now self.old) row }
+        requires thread { t < length self.old.threads }
+        ensures outcome { outcome_of_barrier_timeout row t (scene_of self.old)
+            ≡ Some (record { scene = scene_of self.new; event = result }) }
+        ensures phasers { self.new.phasers ≡ self.old.phasers }
+    {
+        match row {
+            Row::Cawaitt { into, barrier, .. } => self.expire_at_barrier(into, index, barrier, t),
+            _ => unreachable!(),
+        }
+    }
+
+    /// At the row's barrier, where the thread's wait is unreleased.
+    #[tactic(auto, using(crate::proofs::Readiness::unreleased))]
+    fn expire_at_barrier(&mut self, into: Reg, index: i32, barrier: u16, t: usize) -> Event
+        requires not_ready { is_some (outcome_of_release (wait_at (barrier_at (scene_of self.old) barrier).waits t)
+            into index barrier t (scene_of self.old)) ≡ false }
+        requires waits { wait_at (barrier_at (scene_of self.old) barrier).waits t ≢ None }
+        requires no_runner { (barrier_at (scene_of self.old) barrier).runner ≡ None }
+        requires there { barrier < length self.old.barriers }
+        requires thread { t < length self.old.threads }
+        ensures outcome { record { scene = scene_of self.new; event = result }
+            ≡ outcome_marked (Mark.Broke barrier) (turn_of_throw (pos 5) (thread_at (scene_of self.old) t)) t
+            (with_barrier (expire t (barrier_at (scene_of self.old) barrier)) barrier (scene_of self.old)) }
+        ensures phasers { self.new.phasers ≡ self.old.phasers }
+    {
+        self.gates[barrier as usize].expire(t as u8);
+        Event {
+            what: self.players[t].throw(5),
+            mark: Mark::Broke(barrier as u8),
+        }
+    }
+}
