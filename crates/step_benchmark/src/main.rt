@@ -3,11 +3,13 @@
 #![tactic(auto)]
 
 use instruction_table::{Reg, Row};
-use packed_phaser::{Policy, Word};
-use phase_number::Phase;
+use loader::load;
+use row_code::{
+    Barriers, DeclaredPhaser, DeclaredPolicy, DeclaredThread, Image, Phasers, Rows, Threads,
+};
 use std::alloc::{AllocError, Global};
 use std::io;
-use thread_machine::{Choice, Machine, is_program};
+use thread_machine::{Choice, Machine};
 
 /// Rows of the program but for its last.
 const ROWS: u16 = 65530;
@@ -35,22 +37,46 @@ fn rows(alloc: Global) -> Result<Vec<Row>, AllocError> {
     Ok(rows)
 }
 
+/// The program: its threads begin at the first row, and its phaser has 3 parties.
+fn image(alloc: Global) -> Result<Option<Image>, AllocError> {
+    let mut threads = Vec::new(alloc);
+    for _ in 0..THREADS {
+        threads.push(DeclaredThread { first_row: 0 })?;
+    }
+    let mut phasers = Vec::new(alloc);
+    phasers.push(DeclaredPhaser {
+        parent: None,
+        policy: DeclaredPolicy::Never,
+        parties: 3,
+        first_phase: 0,
+    })?;
+    let rows = rows(alloc)?;
+    let (Ok(phasers), Ok(barriers), Ok(threads), Ok(rows)) = (
+        Phasers::new(phasers),
+        Barriers::new(Vec::new(alloc)),
+        Threads::new(threads),
+        Rows::new(rows),
+    ) else {
+        return Ok(None);
+    };
+    Ok(Some(Image {
+        phasers,
+        barriers,
+        threads,
+        rows,
+    }))
+}
+
 /// Plays each thread's rows, one choice of each thread after another, and answers the effective
 /// steps.
 fn steps_of_round(alloc: Global) -> Result<Option<u32>, AllocError> {
-    let rows = rows(alloc)?;
-    let mut threads = Vec::new(alloc);
-    for _ in 0..THREADS {
-        threads.push(0u16)?;
-    }
-    let mut phasers = Vec::new(alloc);
-    if let Some(phase) = Phase::new(0) {
-        phasers.push((Word::fresh(phase, 3), Policy::Never))?;
-    }
-    if !is_program(rows.as_slice(), threads.as_slice(), phasers.as_slice()) {
+    let Some(image) = image(alloc)? else {
         return Ok(None);
-    }
-    let mut machine = Machine::of_parts(alloc, rows, threads, phasers, 1_000_000_000)?;
+    };
+    let Ok(program) = load(alloc, image) else {
+        return Ok(None);
+    };
+    let mut machine = Machine::new(alloc, program, 1_000_000_000)?;
     for _ in 0..ROWS {
         for thread in 0..THREADS {
             let choice = Choice {

@@ -2,7 +2,7 @@
 use Rattle.std.proofs.Common.{◌≡◌, ◌∙◌, List, [], ◌∷◌, ◌++◌, refl, ap}
 use Rattle.std.specs.Prelude.{Option, Some, None}
 use Rattle.thread_machine.specs.declared.choice.Choice.{Choice}
-use Rattle.thread_machine.specs.declared.event.Event.{Event}
+use Rattle.thread_state.specs.declared.event.Event.{Event}
 use Rattle.thread_machine.specs.declared.fault.StepFault.{StepFault}
 use Rattle.thread_machine.specs.World.{World}
 use Rattle.thread_machine.specs.Step.{refusal_of, played}

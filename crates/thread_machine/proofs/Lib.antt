@@ -1,3 +1,8 @@
 pub mod Executions
 pub mod Readiness
-pub mod Soundness
+pub mod Sound
+pub mod PhaseNumbers
+pub mod PhaseEnds
+pub mod DirectCounts
+pub mod SafeEnds
+mod WorkedCounts

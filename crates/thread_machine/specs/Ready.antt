@@ -1,32 +1,42 @@
--- Which threads may take a step, and when nothing can happen any more.
-use Rattle.std.specs.Prelude.{ℕ, Bool, not, ◌&&◌, List, length, is_some}
+-- Which choices may take a step, and when nothing can happen any more.
+use Rattle.std.specs.Prelude.{ℕ, Bool, not, ◌&&◌, ◌||◌, length, is_some, Option, if◌then◌else◌}
 use Rattle.std.specs.List.{list_any, list_all, range_with_len}
-use Rattle.instruction_table.specs.declared.row.Row.{Row}
+use Rattle.loader.specs.Program.{Program}
+use Rattle.thread_state.specs.Thread.{ThreadState, is_finished}
+use Rattle.machine_scene.specs.Scene.{Scene, Outcome}
+use Rattle.machine_scene.specs.Outcomes.{outcome_of, outcome_of_expiry, is_ready}
 use Rattle.thread_machine.specs.declared.choice.Choice.{Choice}
-use Rattle.thread_machine.specs.World.{ThreadState, Scene, World}
-use Rattle.thread_machine.specs.Thread.{is_finished}
-use Rattle.thread_machine.specs.Outcomes.{outcome_of, outcome_of_choice}
+use Rattle.thread_machine.specs.World.{World}
 
--- thread t is ready: its turn has an outcome
-abbrev pub is_ready : List Row → ℕ → Scene → Bool
-is_ready rows t scene = is_some (outcome_of rows t scene)
+-- a choice: a thread's turn, or the expiry of its timed wait
+abbrev pub outcome_of_choice : Program → Choice → Scene → Option Outcome
+outcome_of_choice program choice scene =
+    if choice.expiry then outcome_of_expiry choice.thread program scene else outcome_of choice.thread program scene
 
--- the choice has one
-abbrev pub is_choice_ready : List Row → Choice → Scene → Bool
-is_choice_ready rows choice scene = is_some (outcome_of_choice rows choice scene)
+-- the choice has an outcome
+abbrev pub is_choice_ready : Program → Choice → Scene → Bool
+is_choice_ready program choice scene = is_some (outcome_of_choice program choice scene)
+
+-- the wait of thread t may run out
+abbrev pub can_expire : ℕ → Program → Scene → Bool
+can_expire t program scene = is_some (outcome_of_expiry t program scene)
 
 -- every thread has ended or died
 abbrev pub all_finished : Scene → Bool
 all_finished scene = list_all (λ (thread : ThreadState). is_finished thread.status) scene.threads
 
--- some thread may take a step
-abbrev pub some_ready : List Row → Scene → Bool
-some_ready rows scene = list_any (λ t. is_ready rows t scene) (range_with_len 0 (length scene.threads))
+-- thread t has a choice that may take a step
+abbrev pub can_go_on : Program → Scene → ℕ → Bool
+can_go_on program scene t = is_ready t program scene || can_expire t program scene
+
+-- some thread has
+abbrev pub some_ready : Program → Scene → Bool
+some_ready program scene = list_any (can_go_on program scene) (range_with_len 0 (length scene.threads))
 
 -- the program is over
 abbrev pub has_ended : World → Bool
 has_ended world = all_finished world.scene
 
--- the program isn't over, and no thread may take a step
+-- the program isn't over, and no choice may take a step
 abbrev pub is_stuck : World → Bool
-is_stuck world = not (all_finished world.scene) && not (some_ready world.rows world.scene)
+is_stuck world = not (all_finished world.scene) && not (some_ready world.program world.scene)

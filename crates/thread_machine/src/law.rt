@@ -1,7 +1,15 @@
 ghost use Rattle.std.specs.Prelude.{◌≡◌, List, [], ◌∷◌, ◌++◌};
+ghost use Rattle.tier_tree.specs.Origin.{Origin, StandsFor};
+ghost use Rattle.tier_tree.specs.Stored.{phasers_of};
+ghost use Rattle.row_code.specs.declared.image.Image.{Image};
+ghost use Rattle.loader.specs.Declarations.{declared_origin};
+ghost use Rattle.loader.specs.Program.{IsProgramOf};
 ghost use Rattle.thread_machine.specs.declared.choice.Choice.{Choice};
 ghost use Rattle.thread_machine.specs.World.{World};
 ghost use Rattle.thread_machine.specs.Execution.{execution, extended};
+ghost use Rattle.thread_machine.specs.DirectCounts.{NoPhaseEndsEarly};
+
+use loader::Loaded;
 
 /// The execution of some choices and one more is that of the first, extended by the choice in the world that they left:
 /// who plays choice by choice has at each moment the execution of the choices so far.
@@ -9,3 +17,16 @@ pub fn one_more_choice_extends_the_execution()
     ensures { (world : World) (choices : List Choice) (choice : Choice)
         → execution world (choices ++ choice ∷ []) ≡ extended (execution world choices) choice }
 {}
+
+/// No phase of a loaded program ends early: whatever was chosen before, where an accepted choice ends a phase, every party
+/// that registered directly with a phaser of the tree has arrived or left, unless a party arrived in that tree that wasn't
+/// registered so. A termination by force ends no phase, so it needs no exception.
+pub fn no_phase_ends_early(program: &Loaded)
+    ensures declared { (image : Image) → IsProgramOf image program.now
+        → NoPhaseEndsEarly program.now (declared_origin image.phasers) }
+    ensures any { (counts : Origin) → StandsFor (phasers_of program.now.phasers) counts
+        → NoPhaseEndsEarly program.now counts }
+{
+    program.each_program_is_whole();
+    program.phasers().is_forest();
+}

@@ -1,33 +1,39 @@
-ghost use Rattle.std.specs.Prelude.{◌≡◌, ◌↔◌, ◌<◌, ◌≤◌, length, map, All, IfOk, OnErr, true, Some, slice_get};
+ghost use Rattle.std.specs.Prelude.{◌≡◌, ◌↔◌, ◌+◌, ◌<◌, ◌≤◌, length, map, IfOk, IfErr, OnOk, OnErr, true, false, Some, None, slice_get};
 ghost use Rattle.std.specs.Option.{option_map};
-ghost use Rattle.packed_phaser.specs.Word.{record_of};
 ghost use Rattle.instruction_table.specs.Registers.{value_in};
-ghost use Rattle.thread_machine.specs.Frame.{entry_of};
-ghost use Rattle.thread_machine.specs.Scene.{thread_at, phaser_at};
-ghost use Rattle.thread_machine.specs.Ready.{is_ready, has_ended, is_stuck};
+ghost use Rattle.tier_tree.specs.Origin.{Origin, StandsFor};
+ghost use Rattle.tier_tree.specs.Stored.{phasers_of};
+ghost use Rattle.thread_state.specs.Frame.{entry_of};
+ghost use Rattle.machine_scene.specs.Scene.{scene_of, first_scene, thread_at, barrier_at, starting};
+ghost use Rattle.machine_scene.specs.Outcomes.{is_ready};
+ghost use Rattle.machine_scene.specs.Undo as scene;
+ghost use Rattle.thread_machine.specs.World.{world_of, first_world};
+ghost use Rattle.thread_machine.specs.Ready.{can_expire, can_go_on, is_choice_ready, has_ended, is_stuck, some_ready};
+ghost use Rattle.thread_machine.specs.DirectCounts.{counts_after, EndsNoPhaseEarly, NumbersStay};
+ghost use Rattle.thread_machine.specs.Sound.{IsMachine};
 ghost use Rattle.thread_machine.specs.Step.{played, refusal_of, puts_out};
-ghost use Rattle.thread_machine.specs.Program.{IsProgram, new_thread, new_phaser, first_world};
+ghost use Rattle.thread_machine.specs.Undo.{undone, CanUndo};
 
 use crate::choice::Choice;
-use crate::event::{Event, Mark, What};
 use crate::fault::StepFault;
-use crate::frame::Entry;
-use crate::phaser::FlatPhaser;
-use crate::stage::Stage;
-use crate::status::Status;
-use crate::thread::Thread;
-use instruction_table::{Reg, Row};
-use packed_phaser::{Policy, Word};
+use crate::undo::Undo;
+use cyclic_barrier::Barrier;
+use instruction_table::Reg;
+use loader::Loaded;
+use machine_scene::Stage;
+use row_code::DeclaredThread;
 use std::alloc::{AllocError, Global};
 use std::marker::Model;
+use thread_state::{Entry, Event, Mark, Status, Thread, What};
+use tier_tree::Forest;
 
 /// How many choices a machine takes in all.
 const MOST_CHOICES: u64 = 1_000_000_000_000;
 
-/// A program with its threads and phasers, and how far it has come.
+/// A loaded program with its threads, cells, phasers and barriers, and how far it has come.
 #[derive(Drop)]
 pub struct Machine {
-    program: Vec<Row>,
+    program: Loaded,
     stage: Stage,
     most: u32,
     chosen: u64,
@@ -35,104 +41,226 @@ pub struct Machine {
 }
 
 impl Model for Machine {
-    ghost use Rattle.std.specs.Prelude.{◌≤◌};
-    ghost use Rattle.thread_machine.specs.World.{World};
-    ghost use Rattle.thread_machine.specs.Sound.{IsSound};
+    ghost use Rattle.thread_machine.specs.World.{StoredWorld};
+    ghost use Rattle.thread_machine.specs.Sound.{IsMachine};
 
-    ghost Value = { World };
+    ghost Value = { StoredWorld };
 
     ghost view = { λ machine. record {
-      rows = machine.program.items;
+      program = machine.program;
       limit = machine.most;
       scene = machine.stage;
       choices = machine.chosen;
       steps = machine.done;
     } };
 
-    ghost invariant = { λ machine. IsSound machine.program.items machine.stage
-        × (machine.done ≤ machine.most) × (machine.chosen ≤ 1000000000000) };
+    ghost invariant = { λ machine. IsMachine (record {
+      program = machine.program;
+      limit = machine.most;
+      scene = machine.stage;
+      choices = machine.chosen;
+      steps = machine.done;
+    }) };
 }
 
-/// Threads at these rows.
-fn new_threads(alloc: Global, firsts: &[u16]) -> Result<Vec<Thread>, AllocError>
-    ensures { IfOk result (λ threads. threads.items ≡ map new_thread firsts.now) }
+/// The threads at their first rows.
+fn new_threads(alloc: Global, declared: &[DeclaredThread]) -> Result<Vec<Thread>, AllocError>
+    ensures { IfOk result (λ threads. threads.items ≡ map starting declared.now) }
 {
-    let mut threads = Vec::with_capacity(alloc, firsts.len())?;
-    for first in firsts {
-        threads.push(Thread::new(alloc, *first)?)?;
+    let mut threads = Vec::with_capacity(alloc, declared.len())?;
+    for thread in declared {
+        threads.push(Thread::new(alloc, thread.first_row)?)?;
     }
     Ok(threads)
 }
 
-/// Phasers of these words and policies.
-fn new_phasers(alloc: Global, parts: &[(Word, Policy)]) -> Result<Vec<FlatPhaser>, AllocError>
-    ensures { IfOk result (λ phasers. phasers.items ≡ map new_phaser parts.now) }
+/// The scene before the first choice.
+fn first_stage(alloc: Global, program: &Loaded) -> Result<Stage, AllocError>
+    ensures stored { IfOk result (λ stage. stage.phasers ≡ program.now.phasers) }
+    ensures scene { IfOk result (λ stage. scene_of stage ≡ first_scene program.now) }
 {
-    let mut phasers = Vec::with_capacity(alloc, parts.len())?;
-    for (word, policy) in parts {
-        phasers.push(FlatPhaser::new(*word, *policy))?;
-    }
-    Ok(phasers)
+    program.each_program_is_whole();
+    let threads = new_threads(alloc, program.threads())?;
+    let forest = program.phasers().copy(alloc)?;
+    let barriers = Vec::from_slice(alloc, program.barriers())?;
+    Ok(Stage::new(threads, forest, barriers))
 }
 
 impl Machine {
-    /// The machine of these rows, of threads that begin at these rows, and of phasers by their words and policies, which
-    /// takes at most `limit` effective steps.
-    pub fn of_parts(
-        alloc: Global,
-        rows: Vec<Row>,
-        threads: Vec<u16>,
-        phasers: Vec<(Word, Policy)>,
-        limit: u32,
-    ) -> Result<Machine, AllocError>
-        requires program { IsProgram rows.items threads.items phasers.items }
-        requires limit { limit ≤ 1000000000 }
-        ensures { IfOk result (λ machine.
-            machine ≡ first_world rows.items threads.items phasers.items limit) }
+    /// The machine of a program, which takes at most `limit` effective steps. Only this takes memory, and a value put
+    /// out.
+    pub fn new(alloc: Global, program: Loaded, limit: u32) -> Result<Machine, AllocError>
+        requires { limit ≤ 1000000000 }
+        ensures { IfOk result (λ machine. world_of machine ≡ first_world program limit) }
     {
-        let threads = new_threads(alloc, threads.as_slice())?;
-        let phasers = new_phasers(alloc, phasers.as_slice())?;
+        program.each_program_is_whole();
+        let stage = first_stage(alloc, &program)?;
+        stage.forest().is_forest();
         Ok(Machine {
-            program: rows,
-            stage: Stage::new(threads, phasers),
+            program,
+            stage,
             most: limit,
             chosen: 0,
             done: 0,
         })
     }
 
-    /// Plays one choice. An idle choice, a turn of a thread that isn't ready or an expiry, only counts as a choice.
-    /// `Memory` comes only at the row `out`.
-    #[tactic(auto, using(crate::proofs::Readiness::idle_choice, crate::proofs::Readiness::ready_choice))]
+    /// The same machine, word for word.
+    pub fn copy(&self, alloc: Global) -> Result<Machine, AllocError>
+        ensures { IfOk result (λ copy. copy ≡ self.now) }
+    {
+        Ok(Machine {
+            program: self.program.copy(alloc)?,
+            stage: self.stage.copy(alloc)?,
+            most: self.most,
+            chosen: self.chosen,
+            done: self.done,
+        })
+    }
+
+    /// Plays one choice. An idle choice, a turn of a thread that isn't ready or an expiry of none, only counts as a
+    /// choice. `Memory` comes only at the row `out`.
     pub fn step(&mut self, choice: Choice) -> Result<Event, StepFault>
         ensures played { IfOk result (λ event.
-            record { world = self.new; event = event } ≡ played self.old choice) }
+            record { world = world_of self.new; event = event } ≡ played (world_of self.old) choice) }
         ensures no_thread { (result ≡ Err StepFault.NoSuchThread)
-            ↔ (refusal_of self.old choice ≡ Some StepFault.NoSuchThread) }
+            ↔ (refusal_of (world_of self.old) choice ≡ Some StepFault.NoSuchThread) }
         ensures limit { (result ≡ Err StepFault.StepLimit)
-            ↔ (refusal_of self.old choice ≡ Some StepFault.StepLimit) }
-        ensures memory { result ≡ Err StepFault.Memory → puts_out self.old choice ≡ true }
+            ↔ (refusal_of (world_of self.old) choice ≡ Some StepFault.StepLimit) }
+        ensures accepted { OnOk result (refusal_of (world_of self.old) choice ≡ None) }
+        ensures memory { result ≡ Err StepFault.Memory → puts_out (world_of self.old) choice ≡ true }
+        ensures threads { length self.new.scene.threads ≡ length self.old.scene.threads }
+        ensures counts { OnOk result ((counts : Origin) → StandsFor (phasers_of self.old.scene.phasers) counts
+            → StandsFor (phasers_of self.new.scene.phasers)
+            (counts_after (world_of self.old) choice (world_of self.new) counts)) }
+        ensures safe { OnOk result ((counts : Origin) → StandsFor (phasers_of self.old.scene.phasers) counts
+            → EndsNoPhaseEarly (world_of self.old) choice (world_of self.new) counts) }
+        ensures numbers { OnOk result (NumbersStay (phasers_of self.old.scene.phasers)
+            (phasers_of self.new.scene.phasers)) }
         ensures err { OnErr result (self.new ≡ self.old) }
     {
-        let t = choice.thread as usize;
-        if t >= self.stage.thread_count() {
+        self.is_sound();
+        match self.accept(choice) {
+            Ok(true) => self.go_on(choice),
+            Ok(false) => Ok(self.stay(choice)),
+            Err(fault) => Err(fault),
+        }
+    }
+
+    /// The same, with what `back` needs to undo it.
+    #[tactic(auto, using(crate::proofs::Sound::idle_undone))]
+    pub fn step_noting(&mut self, choice: Choice) -> Result<(Event, Undo), StepFault>
+        ensures played { IfOk result (λ both.
+            record { world = world_of self.new; event = both.0 } ≡ played (world_of self.old) choice) }
+        ensures undo { IfOk result (λ both. undone both.1 self.new ≡ self.old) }
+        ensures can { IfOk result (λ both. CanUndo both.1 self.new) }
+        ensures no_thread { (result ≡ Err StepFault.NoSuchThread)
+            ↔ (refusal_of (world_of self.old) choice ≡ Some StepFault.NoSuchThread) }
+        ensures limit { (result ≡ Err StepFault.StepLimit)
+            ↔ (refusal_of (world_of self.old) choice ≡ Some StepFault.StepLimit) }
+        ensures accepted { OnOk result (refusal_of (world_of self.old) choice ≡ None) }
+        ensures memory { result ≡ Err StepFault.Memory → puts_out (world_of self.old) choice ≡ true }
+        ensures threads { length self.new.scene.threads ≡ length self.old.scene.threads }
+        ensures err { OnErr result (self.new ≡ self.old) }
+    {
+        self.is_sound();
+        match self.accept(choice) {
+            Ok(true) => self.go_on_noting(choice),
+            Ok(false) => Ok((self.stay(choice), Undo::of_idle())),
+            Err(fault) => Err(fault),
+        }
+    }
+
+    /// Undoes the last choice, by what was kept of it: the machine is the one of before, word for word.
+    pub fn back(&mut self, undo: Undo)
+        requires { CanUndo undo self.old }
+        ensures { self.new ≡ undone undo self.old }
+    {
+        self.chosen -= 1;
+        if let Some(note) = undo.turn() {
+            self.stage.undo(note);
+            self.done = self.done.saturating_sub(1);
+        }
+    }
+
+    /// Whether a choice that isn't refused is an effective step.
+    fn accept(&self, choice: Choice) -> Result<bool, StepFault>
+        ensures ready { IfOk result (λ ready.
+            ready ≡ is_choice_ready self.now.program choice (scene_of self.now.scene)) }
+        ensures there { OnOk result (choice.thread < length self.now.scene.threads) }
+        ensures choices { OnOk result (self.now.choices < 1000000000000) }
+        ensures steps { result ≡ Ok true → self.now.steps < self.now.limit }
+        ensures accepted { OnOk result (refusal_of (world_of self.now) choice ≡ None) }
+        ensures refused { IfErr result (λ fault. refusal_of (world_of self.now) choice ≡ Some fault) }
+    {
+        if choice.thread as usize >= self.stage.thread_count() {
             return Err(StepFault::NoSuchThread);
         }
         if self.chosen == MOST_CHOICES {
             return Err(StepFault::StepLimit);
         }
-        let row = self.stage.row_of(self.program.as_slice(), t);
-        if choice.expiry || !self.stage.is_ready_at(row, t) {
-            self.chosen += 1;
-            return Ok(Event {
-                what: What::Idle,
-                mark: Mark::Nothing,
-            });
+        if !self.is_choice_ready(choice) {
+            return Ok(false);
         }
         if self.done == self.most {
             return Err(StepFault::StepLimit);
         }
-        match self.stage.go_on(self.program.as_slice(), row, t) {
+        Ok(true)
+    }
+
+    /// An idle choice.
+    #[tactic(auto, using(crate::proofs::Readiness::idle_choice))]
+    fn stay(&mut self, choice: Choice) -> Event
+        requires choices { self.old.choices < 1000000000000 }
+        requires idle { is_choice_ready self.old.program choice (scene_of self.old.scene) ≡ false }
+        ensures played { record { world = world_of self.new; event = result } ≡ played (world_of self.old) choice }
+        ensures stored { self.new ≡ record self.old { choices = self.old.choices + 1 } }
+    {
+        self.chosen += 1;
+        Event {
+            what: What::Idle,
+            mark: Mark::Nothing,
+        }
+    }
+
+    /// Whether a choice would not be idle.
+    fn is_choice_ready(&self, choice: Choice) -> bool
+        requires { choice.thread < length self.now.scene.threads }
+        ensures { result ≡ is_choice_ready self.now.program choice (scene_of self.now.scene) }
+    {
+        if choice.expiry {
+            self.can_expire(choice.thread)
+        } else {
+            self.is_ready(choice.thread)
+        }
+    }
+
+    /// An effective step.
+    fn go_on(&mut self, choice: Choice) -> Result<Event, StepFault>
+        requires there { choice.thread < length self.old.scene.threads }
+        requires ready { is_choice_ready self.old.program choice (scene_of self.old.scene) ≡ true }
+        requires steps { self.old.steps < self.old.limit }
+        requires choices { self.old.choices < 1000000000000 }
+        ensures played { IfOk result (λ event.
+            record { world = world_of self.new; event = event } ≡ played (world_of self.old) choice) }
+        ensures undo { OnOk result
+            (undone (Some (scene.note_of choice.thread self.old.program self.old.scene)) self.new ≡ self.old) }
+        ensures can { OnOk result
+            (scene.CanUndo (scene.note_of choice.thread self.old.program self.old.scene) self.new.scene) }
+        ensures counted { OnOk result (0 < self.new.choices) }
+        ensures memory { IfErr result (λ fault. (fault ≡ StepFault.Memory)
+            × (puts_out (world_of self.old) choice ≡ true)) }
+        ensures threads { length self.new.scene.threads ≡ length self.old.scene.threads }
+        ensures err { OnErr result (self.new ≡ self.old) }
+    {
+        let t = choice.thread as usize;
+        if choice.expiry {
+            let event = self.stage.expire(&self.program, t);
+            self.chosen += 1;
+            self.done += 1;
+            return Ok(event);
+        }
+        match self.stage.turn(&self.program, t) {
             Ok(event) => {
                 self.chosen += 1;
                 self.done += 1;
@@ -142,27 +270,92 @@ impl Machine {
         }
     }
 
-    /// Whether a thread may take a step, so that its choice wouldn't be idle.
+    /// The same, with what was kept before it.
+    fn go_on_noting(&mut self, choice: Choice) -> Result<(Event, Undo), StepFault>
+        requires there { choice.thread < length self.old.scene.threads }
+        requires ready { is_choice_ready self.old.program choice (scene_of self.old.scene) ≡ true }
+        requires steps { self.old.steps < self.old.limit }
+        requires choices { self.old.choices < 1000000000000 }
+        ensures played { IfOk result (λ both.
+            record { world = world_of self.new; event = both.0 } ≡ played (world_of self.old) choice) }
+        ensures undo { IfOk result (λ both. undone both.1 self.new ≡ self.old) }
+        ensures can { IfOk result (λ both. CanUndo both.1 self.new) }
+        ensures memory { IfErr result (λ fault. (fault ≡ StepFault.Memory)
+            × (puts_out (world_of self.old) choice ≡ true)) }
+        ensures threads { length self.new.scene.threads ≡ length self.old.scene.threads }
+        ensures err { OnErr result (self.new ≡ self.old) }
+    {
+        self.is_sound();
+        let note = self.stage.note(&self.program, choice.thread as usize);
+        match self.go_on(choice) {
+            Ok(event) => Ok((event, Undo::of_turn(note))),
+            Err(fault) => Err(fault),
+        }
+    }
+
+    /// A law: what is true of every machine. Nothing runs.
+    fn is_sound(&self)
+        ensures { IsMachine self.now }
+    {
+        let _ = &self.most;
+    }
+
+    /// Whether a thread may take a step, so that its turn wouldn't be idle.
     pub fn is_ready(&self, thread: u8) -> bool
         requires { thread < length self.now.scene.threads }
-        ensures { result ≡ is_ready self.now.rows thread self.now.scene }
+        ensures { result ≡ is_ready thread self.now.program (scene_of self.now.scene) }
     {
-        self.stage
-            .is_ready(self.program.as_slice(), thread as usize)
+        self.stage.is_ready(&self.program, thread as usize)
+    }
+
+    /// Whether the time of a thread's wait may run out: it waits at a timed row, its turn isn't ready, and no thread runs
+    /// the action of its barrier.
+    pub fn can_expire(&self, thread: u8) -> bool
+        requires { thread < length self.now.scene.threads }
+        ensures { result ≡ can_expire thread self.now.program (scene_of self.now.scene) }
+    {
+        self.stage.can_expire(&self.program, thread as usize)
     }
 
     /// Whether every thread has ended or died.
     pub fn ended(&self) -> bool
-        ensures { result ≡ has_ended self.now }
+        ensures { result ≡ has_ended (world_of self.now) }
     {
         self.stage.has_ended()
     }
 
-    /// Whether some thread hasn't ended or died, and none is ready: no choice does anything any more.
+    /// Whether some thread hasn't ended or died, and no choice does anything any more.
     pub fn stuck(&self) -> bool
-        ensures { result ≡ is_stuck self.now }
+        ensures { result ≡ is_stuck (world_of self.now) }
     {
-        !self.ended() && !self.stage.some_ready(self.program.as_slice())
+        !self.ended() && !self.some_ready()
+    }
+
+    /// Whether some choice may take a step.
+    fn some_ready(&self) -> bool
+        ensures { result ≡ some_ready self.now.program (scene_of self.now.scene) }
+    {
+        for t in 0..self.thread_count() {
+            if self.can_go_on(t as u8) {
+                return true;
+            }
+        }
+        false
+    }
+
+    /// Whether a thread has a choice that may take a step.
+    fn can_go_on(&self, thread: u8) -> bool
+        requires { thread < length self.now.scene.threads }
+        ensures { result ≡ can_go_on self.now.program (scene_of self.now.scene) thread }
+    {
+        self.is_ready(thread) || self.can_expire(thread)
+    }
+
+    /// The program.
+    pub fn loaded(&self) -> &Loaded
+        ensures { result.now ≡ self.now.program }
+    {
+        &self.program
     }
 
     /// How many threads there are, 1 to 64.
@@ -173,18 +366,33 @@ impl Machine {
         self.stage.thread_count()
     }
 
-    /// How many phasers there are, at most 64.
-    pub fn phaser_count(&self) -> usize
-        ensures count { result ≡ length self.now.scene.phasers }
+    /// The phasers.
+    pub fn forest(&self) -> &Forest
+        ensures { result.now ≡ self.now.scene.phasers }
+    {
+        self.stage.forest()
+    }
+
+    /// How many barriers there are, at most 64.
+    pub fn barrier_count(&self) -> usize
+        ensures count { result ≡ length self.now.scene.barriers }
         ensures few { result ≤ 64 }
     {
-        self.stage.phaser_count()
+        self.stage.barrier_count()
+    }
+
+    /// A barrier.
+    pub fn barrier(&self, number: u8) -> &Barrier
+        requires { number < length self.now.scene.barriers }
+        ensures { result.now ≡ barrier_at (scene_of self.now.scene) number }
+    {
+        self.stage.barrier(number as usize)
     }
 
     /// What a thread is doing.
     pub fn status(&self, thread: u8) -> Status
         requires { thread < length self.now.scene.threads }
-        ensures { result ≡ (thread_at self.now.scene thread).status }
+        ensures { result ≡ (thread_at (scene_of self.now.scene) thread).status }
     {
         self.stage.thread(thread as usize).status()
     }
@@ -192,8 +400,8 @@ impl Machine {
     /// The number of the row that a thread stands at.
     pub fn pc(&self, thread: u8) -> u16
         requires { thread < length self.now.scene.threads }
-        ensures row { result ≡ (thread_at self.now.scene thread).pc }
-        ensures within { result < length self.now.rows }
+        ensures row { result ≡ (thread_at (scene_of self.now.scene) thread).pc }
+        ensures within { result < length self.now.program.rows }
     {
         self.stage.thread(thread as usize).pc()
     }
@@ -201,7 +409,7 @@ impl Machine {
     /// The number in a thread's register.
     pub fn reg(&self, thread: u8, register: Reg) -> i32
         requires { thread < length self.now.scene.threads }
-        ensures { result ≡ value_in (thread_at self.now.scene thread).registers register }
+        ensures { result ≡ value_in (thread_at (scene_of self.now.scene) thread).registers register }
     {
         self.stage.thread(thread as usize).register(register)
     }
@@ -209,7 +417,7 @@ impl Machine {
     /// Whether a thread was interrupted: `Thread.isInterrupted`.
     pub fn interrupted(&self, thread: u8) -> bool
         requires { thread < length self.now.scene.threads }
-        ensures { result ≡ (thread_at self.now.scene thread).interrupted }
+        ensures { result ≡ (thread_at (scene_of self.now.scene) thread).interrupted }
     {
         self.stage.thread(thread as usize).interrupted()
     }
@@ -217,7 +425,7 @@ impl Machine {
     /// How many entries a thread's stack has, at most 64.
     pub fn depth(&self, thread: u8) -> usize
         requires { thread < length self.now.scene.threads }
-        ensures depth { result ≡ length (thread_at self.now.scene thread).stack }
+        ensures depth { result ≡ length (thread_at (scene_of self.now.scene) thread).stack }
         ensures few { result ≤ 64 }
     {
         self.stage.thread(thread as usize).stack().len()
@@ -226,8 +434,8 @@ impl Machine {
     /// An entry of a thread's stack, 0 for the lowest.
     pub fn entry(&self, thread: u8, number: usize) -> Entry
         requires thread { thread < length self.now.scene.threads }
-        requires number { number < length (thread_at self.now.scene thread).stack }
-        ensures { option_map entry_of (slice_get (thread_at self.now.scene thread).stack number)
+        requires number { number < length (thread_at (scene_of self.now.scene) thread).stack }
+        ensures { option_map entry_of (slice_get (thread_at (scene_of self.now.scene) thread).stack number)
             ≡ Some result }
     {
         self.stage.thread(thread as usize).stack()[number].entry()
@@ -236,18 +444,10 @@ impl Machine {
     /// What a thread put out, in order; at most 4096 values.
     pub fn output(&self, thread: u8) -> &[i32]
         requires { thread < length self.now.scene.threads }
-        ensures values { result.now ≡ (thread_at self.now.scene thread).output }
+        ensures values { result.now ≡ (thread_at (scene_of self.now.scene) thread).output }
         ensures few { length result.now ≤ 4096 }
     {
         self.stage.thread(thread as usize).output()
-    }
-
-    /// A phaser's word.
-    pub fn phaser(&self, number: u8) -> Word
-        requires { number < length self.now.scene.phasers }
-        ensures { record_of result ≡ (phaser_at self.now.scene number).flat }
-    {
-        self.stage.phaser(number as usize).word()
     }
 
     /// The numbers in the 32 cells that all threads share.

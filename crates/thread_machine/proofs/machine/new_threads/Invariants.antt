@@ -1,6 +1,6 @@
 use Rattle.std.proofs.Common.{◌≡◌, map, take}
-use Rattle.thread_machine.specs.Program.{new_thread}
+use Rattle.machine_scene.specs.Scene.{starting}
 use Rattle.thread_machine.proofs.machine.new_threads.Given as goal
 
-abbrev pub invariant-loop-first : goal.invariant-loop-first
-invariant-loop-first l = l.threads.items ≡ map new_thread (take l.first-index l.firsts)
+abbrev pub invariant-loop-thread : goal.invariant-loop-thread
+invariant-loop-thread l = l.threads.items ≡ map starting (take l.thread-index l.declared)

@@ -1,0 +1,136 @@
+-- The direct counts beside a call of the trees, and as a phase ends.
+use Rattle.std.proofs.Common.{inl, inr, ◌≡◌, ◌≢◌, ◌∙◌, ℕ, zero, suc, ◌+◌, ◌<◌, ◌==◌, Bool, true, false, List, [], ◌∷◌, length, map, ap, refl, sym, subst, arith, if◌then◌else◌}
+use Rattle.std.specs.Prelude.{not}
+use Rattle.std.proofs.lemmas.Bool.{cases_eq}
+use Rattle.std.proofs.lemmas.List.{length-map, get_or-set_same, get_or-set_other}
+use Rattle.packed_phaser.specs.Flat.{Flat, advance}
+use Rattle.tier_tree.specs.Forest.{PhaserState, no_phaser, phaser_at, root_of, root_at}
+use Rattle.tier_tree.specs.PhaseEnd.{follow, in_step, after_turn}
+use Rattle.tier_tree.specs.Sound.{IsForest}
+use Rattle.tier_tree.specs.Answer.{KeepsPlaces, KeepsEnds}
+use Rattle.tier_tree.specs.Trees.{CanTurn}
+use Rattle.tier_tree.specs.Origin.{Origin, StandsFor, HaveAllArrived, after_phase_end}
+use Rattle.tier_tree.proofs.Stands.{same-is, other-is}
+use Rattle.tier_tree.proofs.Safe.{all_arrived}
+use Rattle.tier_tree.proofs.Turned.{stands_after_turn}
+use Rattle.thread_machine.specs.DirectCounts.{has_ended_phase, NumbersStay, set_back}
+use Rattle.thread_machine.proofs.PhaseNumbers.{KeepsNumbers, turn-number}
+
+-- the same counts
+record AreSame (origin other : Origin) : Type 0 where
+  pub registered : (n : ℕ) → other.registered n ≡ origin.registered n
+  pub unarrived : (n : ℕ) → other.unarrived n ≡ origin.unarrived n
+  pub stray : (n : ℕ) → other.stray n ≡ origin.stray n
+
+stands_same : (phasers : List PhaserState) (origin other : Origin) → AreSame origin other → StandsFor phasers origin
+    → StandsFor phasers other
+stands_same phasers origin other same stands = record {
+  steady = stands.steady;
+  tallied = λ id there clean live.
+      let tally = stands.tallied id there (sym (same.stray (root_at phasers id)) ∙ clean) live in
+      let registered = same.registered id in
+      let unarrived = same.unarrived id in
+      let all = tally.registered in
+      let missing = tally.unarrived in
+      let within = tally.within in
+      record {
+        registered = omega (arith, registered, all);
+        unarrived = omega (arith, unarrived, missing);
+        within = omega (arith, registered, unarrived, within);
+      };
+}
+
+-- with these counts as they are where a phase ends, what follows stands for them, and no phase ends early
+pub record Fares (before after : List PhaserState) (counted : Origin) : Type 0 where
+  pub stands : StandsFor after (set_back before after counted)
+  pub safe : (root : ℕ) → has_ended_phase root before after ≡ true → counted.stray root ≡ false
+      → HaveAllArrived counted root before
+  pub numbers : NumbersStay before after
+
+none_ended : (before after : List PhaserState) → KeepsEnds before after → (root : ℕ) → has_ended_phase root before after ≡ false
+none_ended before after kept root =
+    ap (λ (n : ℕ). not (n == (phaser_at before root).ends)) (kept root) ∙ ap not (same-is (phaser_at before root).ends)
+
+-- no phase ends
+pub fares_on : (before after : List PhaserState) (counted : Origin) → KeepsEnds before after → KeepsNumbers before after
+    → StandsFor after counted → Fares before after counted
+fares_on before after counted kept numbers stands = record {
+  stands = stands_same after counted (set_back before after counted) (record {
+    registered = λ n. refl;
+    unarrived = λ n. ap (λ (b : Bool). if b then counted.registered n else counted.unarrived n)
+        (none_ended before after kept (root_at before n));
+    stray = λ n. refl;
+  }) stands;
+  safe = λ root ended. (let none = none_ended before after kept root in absurd (cc (none, ended)));
+  numbers = λ id none. numbers id;
+}
+
+-- nothing happens
+pub fares_same : (phasers : List PhaserState) (origin : Origin) → StandsFor phasers origin → Fares phasers phasers origin
+fares_same phasers origin stands = fares_on phasers phasers origin (λ id. refl) (λ id. refl) stands
+
+if-ends : (here : Bool) (x : PhaserState) (flat : Flat) → (if here then record x { flat = flat } else x).ends ≡ x.ends
+if-ends true x flat = refl
+if-ends false x flat = refl
+
+in_step-ends : (root phase : ℕ) (ended : Bool) (phasers : List PhaserState) (n : ℕ)
+    → (phaser_at (map (in_step root phase ended) phasers) n).ends ≡ (phaser_at phasers n).ends
+in_step-ends root phase ended [] n = refl
+in_step-ends root phase ended (x ∷ phasers) zero = if-ends (root_of x == root) x (follow phase ended x.flat)
+in_step-ends root phase ended (x ∷ phasers) (suc n) = in_step-ends root phase ended phasers n
+
+-- of the turned root, and of no other
+turn_ended : (root : ℕ) (ends : Bool) (before mid : List PhaserState) → KeepsEnds before mid → root < length mid → (r : ℕ)
+    → has_ended_phase r before (after_turn root ends mid) ≡ (r == root)
+turn_ended root ends before mid kept within r =
+    let own = phaser_at mid root in
+    let flat = advance ends own.flat in
+    let new : PhaserState = record own { flat = flat; ends = own.ends + 1 } in
+    let moved = map (in_step root flat.phase flat.ended) mid in
+    let after = after_turn root ends mid in
+    elim (cases_eq r root) as (λ _. has_ended_phase r before after ≡ (r == root)) [
+      | inl is ↦
+          let many = length-map mid (in_step root flat.phase flat.ended) in
+          let up : (phaser_at after root).ends ≡ own.ends + 1 =
+          ap (λ (p : PhaserState). p.ends) (get_or-set_same moved root new no_phaser (omega (arith, many, within))) in
+          let was = kept root in
+          let apart : (phaser_at after root).ends ≢ (phaser_at before root).ends = λ same. omega (arith, up, was, same) in
+          subst (λ (n : ℕ). has_ended_phase n before after ≡ (n == root)) (sym is)
+          (ap not (other-is (phaser_at after root).ends (phaser_at before root).ends apart) ∙ sym (same-is root))
+      | inr apart ↦
+          let stays : (phaser_at after r).ends ≡ (phaser_at before r).ends =
+          ap (λ (p : PhaserState). p.ends) (get_or-set_other moved root r new no_phaser apart)
+          ∙ in_step-ends root flat.phase flat.ended mid r ∙ kept r in
+          ap (λ (n : ℕ). not (n == (phaser_at before r).ends)) stays ∙ ap not (same-is (phaser_at before r).ends)
+          ∙ sym (other-is r root apart)
+    ]
+
+equal_of : (m n : ℕ) → (m == n) ≡ true → m ≡ n
+equal_of m n is = elim (cases_eq m n) as (λ _. m ≡ n) [
+  | inl same ↦ same
+  | inr apart ↦ (let no = other-is m n apart in absurd (cc (no, is)))
+]
+
+-- the phase of a turned root ends
+pub fares_ended : (root : ℕ) (ends : Bool) (before mid : List PhaserState) (counted : Origin) → IsForest mid → CanTurn root mid
+    → KeepsPlaces before mid → length mid ≡ length before → KeepsEnds before mid → KeepsNumbers before mid → StandsFor mid counted
+    → Fares before (after_turn root ends mid) counted
+fares_ended root ends before mid counted forest can places many kept numbers stands =
+    let after = after_turn root ends mid in
+    record {
+      stands = stands_same after (after_phase_end root mid counted) (set_back before after counted) (record {
+        registered = λ n. refl;
+        unarrived = λ n. ap (λ (b : Bool). if b then counted.registered n else counted.unarrived n)
+            (turn_ended root ends before mid kept can.there (root_at before n) ∙ ap (λ (m : ℕ). m == root) (sym (places.roots n)));
+        stray = λ n. refl;
+      }) (stands_after_turn root ends mid after counted forest can.there can.top can.live refl stands);
+      safe = λ r ended clean.
+          let own : r ≡ root = equal_of r root (sym (turn_ended root ends before mid kept can.there r) ∙ ended) in
+          let all = all_arrived mid counted root forest stands (sym (ap counted.stray own) ∙ clean) can.turned in
+          λ id there tree. all id (omega (arith, many, there)) (places.roots id ∙ tree ∙ own);
+      numbers = λ id none.
+          turn-number root ends mid id can.top
+          (ap (λ (n : ℕ). n == root) (places.roots id)
+          ∙ sym (turn_ended root ends before mid kept can.there (root_at before id)) ∙ none)
+          ∙ numbers id;
+    }

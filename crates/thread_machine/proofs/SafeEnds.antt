@@ -1,0 +1,194 @@
+-- No choice ends a phase early, nor does any in an execution.
+use Rattle.std.proofs.Common.{◌≡◌, ℕ, ◌+◌, ◌<◌, ◌≤◌, Bool, true, false, List, [], ◌∷◌, length, ap, refl, sym, subst, arith, if◌then◌else◌}
+use Rattle.std.specs.Prelude.{◌||◌, ◌&&◌, ◌==◌, nat_le, is_some, Option, Some, None, Result, Ok, Err, IfOk, OnOk}
+use Rattle.std.proofs.lemmas.Bool.Decides.{nat_tests}
+use Rattle.tier_tree.specs.Forest.{PhaserState}
+use Rattle.tier_tree.specs.Origin.{Origin, StandsFor}
+use Rattle.tier_tree.specs.Stored.{IsStored, phasers_of}
+use Rattle.loader.specs.Program.{Program, IsProgram, row_at}
+use Rattle.thread_state.specs.declared.event.Event.{Event}
+use Rattle.machine_scene.specs.Scene.{Scene, Outcome, thread_at}
+use Rattle.machine_scene.specs.Outcomes.{outcome_of, is_ready, timeout_in, outcome_of_expiry}
+use Rattle.machine_scene.specs.Sound.{IsSound}
+use Rattle.machine_scene.proofs.Plain.{either}
+use Rattle.machine_scene.proofs.Outcomes.{stands_at, sound_outcome, sound_timeout}
+use Rattle.machine_scene.proofs.Start.{sound_start}
+use Rattle.thread_machine.specs.declared.choice.Choice.{Choice}
+use Rattle.thread_machine.specs.declared.fault.StepFault.{StepFault}
+use Rattle.thread_machine.specs.declared.fault.StepFault.TheVariants as fault
+use Rattle.thread_machine.specs.World.{World, StoredWorld, world_of, first_world}
+use Rattle.thread_machine.specs.Ready.{outcome_of_choice, is_choice_ready}
+use Rattle.thread_machine.specs.Step.{Played, played, played_by, refusal_of}
+use Rattle.thread_machine.specs.Execution.{execution, execution_by}
+use Rattle.thread_machine.specs.DirectCounts.{with_turn, counts_at_end, counts_after, EndsNoPhaseEarly, NoPhaseEndsEarly, NumbersStay, counts_by, counts_through}
+use Rattle.thread_machine.specs.Sound.{IsMachine}
+use Rattle.thread_machine.proofs.PhaseEnds.{Fares}
+use Rattle.thread_machine.proofs.DirectCounts.{phasers_after, FaresTo, IsAside, aside_fares, timeout_aside, turn_fares}
+
+played_phasers : (outcome : Option Outcome) (world : World) → phasers_after outcome world.scene ≡ (played_by outcome world).world.scene.phasers
+played_phasers (Some outcome) world = refl
+played_phasers None world = refl
+
+by_kind : (expiry : Bool) (scene : Scene) (origin counted : Origin) (late turn : Option Outcome) → FaresTo scene origin late
+    → FaresTo scene counted turn → FaresTo scene (if expiry then origin else counted) (if expiry then late else turn)
+by_kind true scene origin counted late turn a b = a
+by_kind false scene origin counted late turn a b = b
+
+expiry_aside : (t : ℕ) (program : Program) (scene : Scene) → IsAside scene (outcome_of_expiry t program scene)
+expiry_aside t program scene =
+    let thread = thread_at scene t in
+    let row = row_at program.rows thread.pc in
+    either (IsAside scene) (is_ready t program scene) {a = None} {b = timeout_in thread.status row t scene} refl
+    (timeout_aside thread.status row t scene)
+
+-- a choice of a thread that is there
+pub choice_fares : (world : World) (choice : Choice) (origin : Origin) → IsSound world.program world.steps world.scene
+    → world.steps < 2147483647 → choice.thread < length world.scene.threads → StandsFor world.scene.phasers origin
+    → Fares world.scene.phasers (played world choice).world.scene.phasers (counts_at_end world choice origin)
+choice_fares world choice origin sound few there stands =
+    let program = world.program in
+    let scene = world.scene in
+    let t = choice.thread in
+    let thread = thread_at scene t in
+    let row = row_at program.rows thread.pc in
+    subst (λ (phasers : List PhaserState). Fares scene.phasers phasers (counts_at_end world choice origin))
+    (played_phasers (outcome_of_choice program choice scene) world)
+    (by_kind choice.expiry scene origin (with_turn thread.status row t scene origin) (outcome_of_expiry t program scene) (outcome_of t program scene)
+    (aside_fares (outcome_of_expiry t program scene) scene origin (expiry_aside t program scene) stands)
+    (turn_fares thread.status row program world.steps t scene origin
+    (stands_at program world.steps t scene thread.status sound few there refl) stands))
+
+-- what a step of the machine may say of the counts
+pub record Keeps (before : World) (choice : Choice) (after : World) (origin : Origin) : Type 0 where
+  pub counts : StandsFor after.scene.phasers (counts_after before choice after origin)
+  pub safe : EndsNoPhaseEarly before choice after origin
+  pub numbers : NumbersStay before.scene.phasers after.scene.phasers
+
+choice_keeps : (world : World) (choice : Choice) (origin : Origin) → IsSound world.program world.steps world.scene
+    → world.steps < 2147483647 → choice.thread < length world.scene.threads → StandsFor world.scene.phasers origin
+    → Keeps world choice (played world choice).world origin
+choice_keeps world choice origin sound few there stands =
+    let fares = choice_fares world choice origin sound few there stands in
+    record { counts = fares.stands; safe = fares.safe; numbers = fares.numbers }
+
+-- the machine's step
+pub step_keeps : (before after : StoredWorld) (event : Event) (choice : Choice) (origin : Origin) → IsMachine before
+    → choice.thread < length before.scene.threads
+    → record { world = world_of after; event = event } ≡ played (world_of before) choice
+    → StandsFor (phasers_of before.scene.phasers) origin → Keeps (world_of before) choice (world_of after) origin
+step_keeps before after event choice origin machine there is stands =
+    let most = machine.limit in
+    let done = machine.steps in
+    subst (λ (play : Played). Keeps (world_of before) choice play.world origin) (sym is)
+    (choice_keeps (world_of before) choice origin machine.sound (omega (arith, most, done)) there stands)
+
+pub step_result : (result : Result Event StepFault) (before after : StoredWorld) (choice : Choice) → IsMachine before
+    → choice.thread < length before.scene.threads
+    → IfOk result (λ (event : Event). record { world = world_of after; event = event } ≡ played (world_of before) choice)
+    → OnOk result ((origin : Origin) → StandsFor (phasers_of before.scene.phasers) origin → Keeps (world_of before) choice (world_of after) origin)
+step_result (Ok event) before after choice machine there is = λ origin stands. step_keeps before after event choice origin machine there is stands
+step_result (Err refused) before after choice machine there is = tt
+
+pub result_numbers : (result : Result Event StepFault) (before after : StoredWorld) (choice : Choice) → IsMachine before
+    → choice.thread < length before.scene.threads
+    → IfOk result (λ (event : Event). record { world = world_of after; event = event } ≡ played (world_of before) choice)
+    → OnOk result (NumbersStay (phasers_of before.scene.phasers) (phasers_of after.scene.phasers))
+result_numbers (Ok event) before after choice machine there is =
+    let stands = machine.sound.trees.stands in
+    (step_keeps before after event choice stands.0 machine there is stands.1).numbers
+result_numbers (Err refused) before after choice machine there is = tt
+
+-- a world in which a program has come some way, and the counts then
+pub record Goes (world : World) (origin : Origin) : Type 0 where
+  pub sound : IsSound world.program world.steps world.scene
+  pub steps : world.steps ≤ world.limit
+  pub limit : world.limit ≤ 1000000000
+  pub stands : StandsFor world.scene.phasers origin
+
+-- an accepted choice is one of a thread that is there, and while steps are left if it takes one
+accepted_by : (absent over all ready : Bool)
+    → (if absent then Some fault.NoSuchThread else (if over || (all && ready) then Some fault.StepLimit else None)) ≡ None
+    → (absent ≡ false) × (ready ≡ true → all ≡ false)
+accepted_by true over all ready is = absurd (cc (is))
+accepted_by false true all ready is = absurd (cc (is))
+accepted_by false false true true is = absurd (cc (is))
+accepted_by false false true false is = (refl, λ yes. absurd (cc (yes)))
+accepted_by false false false ready is = (refl, λ yes. refl)
+
+less_if : (m n : ℕ) → nat_le m n ≡ false → n < m
+less_if m n is = grind (arith, nat_tests, is)
+
+accepted : (world : World) (choice : Choice) → refusal_of world choice ≡ None
+    → (choice.thread < length world.scene.threads)
+    × (is_choice_ready world.program choice world.scene ≡ true → world.steps < world.limit)
+accepted world choice is =
+    let parts = accepted_by (nat_le (length world.scene.threads) choice.thread) (world.choices == 1000000000000)
+    (nat_le world.limit world.steps) (is_choice_ready world.program choice world.scene) is in
+    (less_if (length world.scene.threads) choice.thread parts.0, λ ready. less_if world.limit world.steps (parts.1 ready))
+
+sound_choice : (expiry : Bool) (program : Program) (steps t : ℕ) (scene : Scene) (outcome : Outcome) → IsSound program steps scene
+    → steps < 2147483647 → t < length scene.threads
+    → (if expiry then outcome_of_expiry t program scene else outcome_of t program scene) ≡ Some outcome
+    → IsSound program (steps + 1) outcome.scene
+sound_choice true program steps t scene outcome sound few there is = sound_timeout program steps t scene outcome sound few there is
+sound_choice false program steps t scene outcome sound few there is = sound_outcome program steps t scene outcome sound few there is
+
+-- after a choice, by its outcome
+goes_by : (outcome : Option Outcome) (world : World) (choice : Choice) (origin other : Origin) → Goes world origin
+    → outcome_of_choice world.program choice world.scene ≡ outcome → choice.thread < length world.scene.threads
+    → (is_choice_ready world.program choice world.scene ≡ true → world.steps < world.limit)
+    → StandsFor (played_by outcome world).world.scene.phasers other → Goes (played_by outcome world).world other
+goes_by (Some outcome) world choice origin other goes is there left stands =
+    let most = goes.limit in
+    let done = goes.steps in
+    let more = left (ap is_some is) in
+    record {
+      sound = sound_choice choice.expiry world.program world.steps choice.thread world.scene outcome goes.sound (omega (arith, most, done)) there is;
+      steps = omega (arith, more);
+      limit = most;
+      stands = stands;
+    }
+goes_by None world choice origin other goes is there left stands =
+    record { sound = goes.sound; steps = goes.steps; limit = goes.limit; stands = stands }
+
+goes_keeps : (world : World) (choice : Choice) (origin : Origin) → Goes world origin → refusal_of world choice ≡ None
+    → Keeps world choice (played world choice).world origin
+goes_keeps world choice origin goes is =
+    let most = goes.limit in
+    let done = goes.steps in
+    choice_keeps world choice origin goes.sound (omega (arith, most, done)) (accepted world choice is).0 goes.stands
+
+-- after an accepted choice
+goes_on : (world : World) (choice : Choice) (origin : Origin) → Goes world origin → refusal_of world choice ≡ None
+    → Goes (played world choice).world (counts_after world choice (played world choice).world origin)
+goes_on world choice origin goes is =
+    let parts = accepted world choice is in
+    goes_by (outcome_of_choice world.program choice world.scene) world choice origin
+    (counts_after world choice (played world choice).world origin) goes refl parts.0 parts.1 (goes_keeps world choice origin goes is).counts
+
+-- after the choices up to the first that is refused
+goes_through_by : (refusal : Option StepFault) (world : World) (choice : Choice) (choices : List Choice) (origin : Origin) → Goes world origin
+    → refusal_of world choice ≡ refusal
+    → ((after : World) (other : Origin) → Goes after other → Goes (execution after choices).world (counts_through after choices other))
+    → Goes (execution_by refusal world choice (λ after. execution after choices)).world
+    (counts_by refusal origin
+    (counts_through (played world choice).world choices (counts_after world choice (played world choice).world origin)))
+goes_through_by (Some fault) world choice choices origin goes is rest = goes
+goes_through_by None world choice choices origin goes is rest =
+    let after = (played world choice).world in
+    rest after (counts_after world choice after origin) (goes_on world choice origin goes is)
+
+goes_through : (choices : List Choice) (world : World) (origin : Origin) → Goes world origin
+    → Goes (execution world choices).world (counts_through world choices origin)
+goes_through [] world origin goes = goes
+goes_through (choice ∷ choices) world origin goes =
+    goes_through_by (refusal_of world choice) world choice choices origin goes refl (λ after other. goes_through choices after other)
+
+-- no accepted choice ends a phase early, whatever was chosen before
+pub no_early_end : (program : Program) (counts : Origin) → IsProgram program → IsStored program.phasers
+    → StandsFor (phasers_of program.phasers) counts → NoPhaseEndsEarly program counts
+no_early_end program counts whole stored stands limit choices choice most is =
+    let first = first_world program limit in
+    (goes_keeps (execution first choices).world choice (counts_through first choices counts)
+    (goes_through choices first counts
+    (record { sound = sound_start program whole stored; steps = omega arith; limit = most; stands = stands })) is).safe

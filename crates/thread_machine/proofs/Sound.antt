@@ -1,0 +1,50 @@
+-- A machine stays one.
+use Rattle.std.proofs.Common.{◌≡◌, ◌+◌, ◌<◌, ◌≤◌, ℕ, arith, sym, subst}
+use Rattle.tier_tree.specs.Stored.{IsStored}
+use Rattle.loader.specs.Program.{Program, IsProgram}
+use Rattle.machine_scene.specs.Scene.{Scene, StoredScene, scene_of, first_scene}
+use Rattle.machine_scene.specs.Sound.{IsSound}
+use Rattle.machine_scene.proofs.Start.{sound_start}
+use Rattle.thread_machine.specs.World.{StoredWorld}
+use Rattle.std.specs.Prelude.{None}
+use Rattle.thread_machine.specs.Sound.{IsMachine}
+use Rattle.thread_machine.specs.Undo.{CanUndo}
+
+-- the world of these parts
+abbrev pub world_with : Program → ℕ → StoredScene → ℕ → ℕ → StoredWorld
+world_with program limit scene choices steps =
+    record { program = program; limit = limit; scene = scene; choices = choices; steps = steps }
+
+-- after an effective step
+pub one_step_more : (program : Program) (limit choices steps : ℕ) (before after : StoredScene)
+    → IsMachine (world_with program limit before choices steps) → steps < limit → choices < 1000000000000
+    → (steps < 2147483646 → IsSound program steps (scene_of before) → IsSound program (steps + 1) (scene_of after))
+    → IsMachine (world_with program limit after (choices + 1) (steps + 1))
+one_step_more program limit choices steps before after machine left more sound =
+    let most = machine.limit in
+    record {
+      sound = sound (omega (arith, left, most)) machine.sound;
+      steps = omega (arith, left);
+      limit = most;
+      choices = omega (arith, more);
+    }
+
+-- before the first choice
+pub machine_starts : (program : Program) (limit : ℕ) (scene : StoredScene) → IsProgram program → IsStored program.phasers
+    → limit ≤ 1000000000 → scene_of scene ≡ first_scene program → IsMachine (world_with program limit scene 0 0)
+machine_starts program limit scene whole stored most is = record {
+  sound = subst (λ (s : Scene). IsSound program 0 s) (sym is) (sound_start program whole stored);
+  steps = omega arith;
+  limit = most;
+  choices = omega arith;
+}
+
+-- an idle choice can be undone
+pub idle_undone : (world after : StoredWorld) → IsMachine world → after ≡ record world { choices = world.choices + 1 } → CanUndo None after
+idle_undone world after machine is =
+    subst (CanUndo None) (sym is) (record {
+      counted = omega arith;
+      scene = tt;
+      machine = let most = machine.choices in
+          record { sound = machine.sound; steps = machine.steps; limit = machine.limit; choices = omega (arith, most) };
+    })
