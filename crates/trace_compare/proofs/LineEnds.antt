@@ -1,0 +1,120 @@
+-- Lines that are put together from their ends, and numbers that are counted up.
+use Rattle.std.proofs.Common.{◌≡◌, ◌∙◌, ◌+◌, ◌-◌, ◌<◌, ◌≤◌, ◌/◌, ◌%◌, ◌^◌, ℕ, List, [], ◌∷◌, ◌++◌, length, get_or, set, drop, refl, ap, sym, arith, length-append, append_assoc, ℤ, pos, int_le, false, unsigned_abs}
+use Rattle.std.proofs.Common.{inl, inr}
+use Rattle.std.proofs.lemmas.Bool.{cases_lt}
+use Rattle.std.proofs.lemmas.List.{length-drop, drop_at, set_at, get_or_at, get_or-drop, drop-set-add, drop-set}
+use Rattle.std.proofs.lemmas.Fmt.{decimal_digit, decimal_step, length-decimal-le}
+use Rattle.std.specs.Fmt.{decimal, signed_decimal}
+use Rattle.itoa.proofs.Decimal.{minus_first}
+use Rattle.std.specs.Prelude.{codes, if◌then◌else◌}
+use Rattle.thread_machine.specs.declared.choice.Choice.{Choice}
+use Rattle.thread_state.specs.declared.event.Event.{Event}
+use Rattle.trace_compare.specs.Lines.{what_text, mark_text, event_text}
+
+-- where a line isn't long, there is room before it for a number of at most 20 digits
+pub room_for_count : (bytes line : List ℕ) (start n : ℕ) → length bytes ≡ 192 → start ≤ 192 → drop start bytes ≡ line
+    → length line + 20 ≤ 192 → n < 2 ^ 64 → length (decimal n) ≤ start
+room_for_count bytes line start n long within is few fits =
+    omega (arith, ap length is, length-drop start bytes, long, few, length-decimal-le 20 n (omega arith) (omega arith) fits)
+
+-- the same, of at most 10 digits and a sign
+pub room_for_value : (bytes line : List ℕ) (start n : ℕ) → length bytes ≡ 192 → start ≤ 192 → drop start bytes ≡ line
+    → length line + 11 ≤ 192 → n < 2 ^ 32 → length (decimal n) + 1 ≤ start
+room_for_value bytes line start n long within is few fits =
+    omega (arith, ap length is, length-drop start bytes, long, few, length-decimal-le 10 n (omega arith) (omega arith) (omega (arith, fits)))
+
+-- how long a line is with a number before it
+pub longer_by_count : (old new : List ℕ) (n k : ℕ) → new ≡ decimal n ++ old → length (decimal n) ≤ k → length new ≤ length old + k
+longer_by_count old new n k is few = omega (arith, ap length is, length-append (decimal n) old, few)
+
+-- a sign before the digits of a number below 0
+pub sign_before : (bytes : List ℕ) (at d : ℕ) (z : ℤ) (rest : List ℕ) → 1 ≤ at → at ≤ length bytes
+    → drop at bytes ≡ decimal d ++ rest → d ≡ unsigned_abs z → int_le (pos 0) z ≡ false
+    → drop (at - 1) (set bytes (at - 1) 45) ≡ signed_decimal z ++ rest
+sign_before bytes at d z rest some within digits is below =
+    drop-set bytes (at - 1) 45 (omega arith)
+    ∙ ap (λ n. 45 ∷ drop n bytes) (omega arith)
+    ∙ ap (λ xs. 45 ∷ xs) digits
+    ∙ ap (λ n. 45 ∷ (decimal n ++ rest)) is
+    ∙ ap (λ xs. xs ++ rest) (minus_first z below)
+
+-- a number's text by its last digit, and the next number's where that isn't a 9
+pub last_digit : (n : ℕ) → n + 1 < 2 ^ 64
+    → (front : List ℕ) × (decimal n ≡ front ++ (48 + n % 10) ∷ [])
+    × (n % 10 < 9 → decimal (n + 1) ≡ front ++ (48 + n % 10 + 1) ∷ [])
+last_digit n fits =
+    elim (cases_lt n 10) as (λ _. (front : List ℕ) × (decimal n ≡ front ++ (48 + n % 10) ∷ [])
+    × (n % 10 < 9 → decimal (n + 1) ≡ front ++ (48 + n % 10 + 1) ∷ [])) [
+      | inl small ↦ (
+        [],
+        decimal_digit n small ∙ ap (λ d. (48 + d) ∷ []) (omega arith),
+        λ more. decimal_digit (n + 1) (omega arith) ∙ ap (λ d. d ∷ []) (omega arith),
+      )
+      | inr large ↦ (
+        decimal (n / 10),
+        decimal_step n large (omega arith),
+        λ more. decimal_step (n + 1) (omega arith) fits
+            ∙ ap (λ t. decimal t ++ (48 + (n + 1) % 10) ∷ []) (omega arith)
+            ∙ ap (λ d. decimal (n / 10) ++ d ∷ []) (omega arith),
+      )
+    ]
+
+-- the number that a line begins with, counted up by one in its last place
+pub counted_up_in : (bytes rest : List ℕ) (start digits n last : ℕ) → digits ≡ length (decimal n)
+    → drop start bytes ≡ decimal n ++ rest → last ≡ get_or bytes (start + digits - 1) 0 → last < 57 → n + 1 < 2 ^ 64
+    → (digits ≡ length (decimal (n + 1)))
+    × (drop start (set bytes (start + digits - 1) (last + 1)) ≡ decimal (n + 1) ++ rest)
+counted_up_in bytes rest start digits n last long is last_is low fits =
+    let split = last_digit n fits in
+    let front = split.0 in
+    let size : digits ≡ length front + 1 = long ∙ ap length split.1 ∙ length-append front _ in
+    let place : start + digits - 1 ≡ start + length front = omega (arith, size) in
+    let text_is : drop start bytes ≡ front ++ (48 + n % 10) ∷ rest =
+    is ∙ ap (λ xs. xs ++ rest) split.1 ∙ append_assoc front _ rest in
+    let last_digit_is : last ≡ 48 + n % 10 =
+    last_is ∙ ap (λ i. get_or bytes i 0) place ∙ sym (get_or-drop start bytes (length front) 0)
+    ∙ ap (λ xs. get_or xs (length front) 0) text_is
+    ∙ get_or_at front (48 + n % 10) rest 0 (length front) refl in
+    let text : decimal (n + 1) ≡ front ++ (last + 1) ∷ [] =
+    split.2 (omega arith) ∙ ap (λ d. front ++ (d + 1) ∷ []) (sym last_digit_is) in
+    let size' : length (decimal (n + 1)) ≡ length front + 1 = ap length text ∙ length-append front _ in (
+      omega (arith, size, size'),
+      ap (λ i. drop start (set bytes i (last + 1))) place
+          ∙ drop-set-add start bytes (length front) (last + 1)
+          ∙ ap (λ xs. set xs (length front) (last + 1)) text_is
+          ∙ set_at front (48 + n % 10) rest (last + 1) (length front) refl
+          ∙ sym (append_assoc front ((last + 1) ∷ []) rest)
+          ∙ ap (λ xs. xs ++ rest) (sym text),
+    )
+
+-- a number that a line begins with ends in the line
+pub within_line : (bytes rest : List ℕ) (start digits n : ℕ) → digits ≡ length (decimal n)
+    → drop start bytes ≡ decimal n ++ rest → length bytes ≡ 192 → start ≤ 192 → start + digits ≤ length bytes
+within_line bytes rest start digits n size is long within =
+    omega (arith, ap length is, length-append (decimal n) rest, length-drop start bytes, size, long, within)
+
+-- the line of a choice whose number is counted up
+pub counted_line : (old new : List ℕ) (step next number pc digits : ℕ) (choice : Choice) (event : Event)
+    → old ≡ event_text step choice pc event → number ≡ step → next ≡ number + 1 → digits ≡ length (decimal step)
+    → new ≡ decimal (number + 1) ++ drop digits old → new ≡ event_text next choice pc event
+counted_line old new step next number pc digits choice event is same one_more size new_is =
+    let letter = (if choice.expiry then codes " x" else codes " t") ++ (decimal choice.thread ++ codes " ") in
+    let end = decimal pc ++ (codes " " ++ (what_text event.what ++ (mark_text event.mark ++ codes "\n"))) in
+    let split : old ≡ decimal step ++ (letter ++ end) = is ∙ append_assoc (decimal step) letter end in
+    new_is
+    ∙ ap (λ xs. decimal (number + 1) ++ drop digits xs) split
+    ∙ ap (λ xs. decimal (number + 1) ++ xs) (drop_at (decimal step) (letter ++ end) digits (sym size))
+    ∙ ap (λ n. decimal n ++ (letter ++ end)) (sym one_more)
+    ∙ sym (append_assoc (decimal next) letter end)
+
+-- what stands behind that number
+pub behind_number : (old : List ℕ) (step number pc digits : ℕ) (choice : Choice) (event : Event)
+    → old ≡ event_text step choice pc event → number ≡ step → digits ≡ length (decimal step)
+    → old ≡ decimal number ++ drop digits old
+behind_number old step number pc digits choice event is same size =
+    let letter = (if choice.expiry then codes " x" else codes " t") ++ (decimal choice.thread ++ codes " ") in
+    let end = decimal pc ++ (codes " " ++ (what_text event.what ++ (mark_text event.mark ++ codes "\n"))) in
+    let split : old ≡ decimal step ++ (letter ++ end) = is ∙ append_assoc (decimal step) letter end in
+    split
+    ∙ ap (λ n. decimal n ++ (letter ++ end)) (sym same)
+    ∙ ap (λ xs. decimal number ++ xs) (sym (ap (drop digits) split ∙ drop_at (decimal step) (letter ++ end) digits (sym size)))

@@ -1,0 +1,120 @@
+-- A trace with the verdict `Same` is the trace of the choices that it names.
+use Rattle.std.proofs.Common.{◌≡◌, ◌∙◌, ◌+◌, ◌<◌, ◌&&◌, ℕ, Bool, true, false, List, [], ◌∷◌, ◌++◌, length, take, drop, cond, Option, Some, None, is_none, refl, ap, sym, arith, append_assoc}
+use Rattle.std.proofs.lemmas.List.{take-append-drop}
+use Rattle.std.proofs.lemmas.List.Splits.{join_with_byte-slice_split}
+use Rattle.std.proofs.lemmas.Slice.Eq.{bytes_eq-Decides}
+use Rattle.std.specs.List.{slice_split, join_with_byte, position_or_len}
+use Rattle.std.specs.Str.{bytes_eq}
+use Rattle.line_reader.specs.Words.{is_line_end}
+use Rattle.thread_machine.specs.declared.choice.Choice.{Choice}
+use Rattle.thread_machine.specs.declared.fault.StepFault.{StepFault}
+use Rattle.thread_machine.specs.World.{World}
+use Rattle.thread_machine.specs.Execution.{execution}
+use Rattle.trace_compare.specs.declared.compare.Verdict.{Verdict}
+use Rattle.trace_compare.specs.declared.compare.Verdict.TheVariants as verdict
+use Rattle.trace_compare.specs.Compare.{after_line, choice_in, choice_verdict, choices_in, choices_of_trace, first_line, is_state_line, is_too_long, lines_verdict, state_verdict, verdict_of, with_choice}
+use Rattle.trace_compare.specs.State.{state_text}
+use Rattle.trace_compare.specs.Trace.{lines_of, trace_of}
+use Rattle.trace_compare.proofs.Plays.{goes_on, stops}
+
+abbrev joined : List (List ℕ) → List ℕ
+joined lines = join_with_byte 10 lines
+
+-- a line before others
+joined-line : (line : List ℕ) (lines : List (List ℕ)) → 0 < length lines
+    → joined (line ∷ lines) ≡ (line ++ 10 ∷ []) ++ joined lines
+joined-line line [] some = absurd (omega (arith, some))
+joined-line line (next ∷ lines) some = sym (append_assoc line (10 ∷ []) (joined (next ∷ lines)))
+
+-- a line that passed
+passed : (long same : Bool) (n : ℕ) (rest : Verdict)
+    → cond long (verdict.NotATrace n) (cond same rest (verdict.Differs n)) ≡ verdict.Same → (same ≡ true) × (rest ≡ verdict.Same)
+passed true same n rest e = let no : ⊥ = cc in absurd no
+passed false true n rest e = (refl, e)
+passed false false n rest e = let no : ⊥ = cc in absurd no
+
+refuted : {P : Type 0} (long : Bool) (n : ℕ) → cond long (verdict.NotATrace n) (verdict.Differs n) ≡ verdict.Same → P
+refuted true n e = let no : ⊥ = cc in absurd no
+refuted false n e = let no : ⊥ = cc in absurd no
+
+-- something is left where the state text is due
+some_state : (text : List ℕ) (n : ℕ) (lines : List (List ℕ)) → state_verdict text n lines ≡ verdict.Same → 0 < length lines
+some_state [] n [] e = let no : ⊥ = cc in absurd no
+some_state (byte ∷ text) n [] e = let no : ⊥ = cc in absurd no
+some_state text n (line ∷ lines) e = omega arith
+
+some_lines : (accepted : Bool) (world : World) (n : ℕ) (lines : List (List ℕ)) → lines_verdict accepted world n lines ≡ verdict.Same
+    → 0 < length lines
+some_lines accepted world n [] e = let no : ⊥ = cc in absurd no
+some_lines accepted world n (line ∷ lines) e = omega arith
+
+-- the state text
+state-joined : (lines : List (List ℕ)) (text : List ℕ) (n : ℕ) → state_verdict text n lines ≡ verdict.Same → joined lines ≡ text
+state-joined [] [] n e = let no : ⊥ = cc in absurd no
+state-joined [] (byte ∷ text) n e = let no : ⊥ = cc in absurd no
+state-joined ([] ∷ []) [] n e = refl
+state-joined ([] ∷ next ∷ lines) [] n e = let no : ⊥ = cc in absurd no
+state-joined ((x ∷ line) ∷ lines) [] n e = refuted (is_too_long (x ∷ line)) n e
+state-joined (line ∷ lines) (byte ∷ text) n e =
+    let whole = byte ∷ text in
+    let p = passed (is_too_long line) (bytes_eq (line ++ (10 ∷ [])) (first_line whole)) n (state_verdict (after_line whole) (n + 1) lines) e in
+    joined-line line lines (some_state (after_line whole) (n + 1) lines p.1)
+    ∙ ap (λ bytes. bytes ++ joined lines) ((bytes_eq-Decides (line ++ (10 ∷ [])) (first_line whole)).0 p.0)
+    ∙ ap (λ bytes. first_line whole ++ bytes) (state-joined lines (after_line whole) (n + 1) p.1)
+    ∙ take-append-drop (position_or_len is_line_end whole + 1) whole
+
+-- what is left of a trace, by whether all choices so far were accepted
+abbrev left_by : Bool → World → List Choice → List ℕ
+left_by true world choices = trace_of world choices
+left_by false world choices = state_text world
+
+left_by-none : (accepted : Bool) (world : World) → state_text world ≡ left_by accepted world []
+left_by-none true world = refl
+left_by-none false world = refl
+
+-- a choice's line before the others
+after_choice : (world : World) (choice : Choice) (choices : List Choice) (refusal : Option StepFault)
+    → (execution world (choice ∷ [])).refusal ≡ refusal
+    → lines_of world (choice ∷ []) ++ left_by (is_none refusal) (execution world (choice ∷ [])).world choices
+    ≡ trace_of world (choice ∷ choices)
+after_choice world choice choices None is =
+    let on = goes_on (choice ∷ []) world choices is in
+    let after = (execution world (choice ∷ [])).world in
+    sym (append_assoc (lines_of world (choice ∷ [])) (lines_of after choices) _)
+    ∙ ap (λ text. text ++ state_text (execution after choices).world) (sym on.0)
+    ∙ ap (λ (w : World). lines_of world (choice ∷ choices) ++ state_text w) (sym on.1)
+after_choice world choice choices (Some fault) is =
+    let end = stops (choice ∷ []) world choices fault is in
+    ap (λ text. text ++ state_text (execution world (choice ∷ [])).world) (sym end.0)
+    ∙ ap (λ (w : World). lines_of world (choice ∷ choices) ++ state_text w) (sym end.1)
+
+-- one line more
+line-joined : (long state : Bool) (named : Option Choice) (accepted : Bool) (world : World) (n : ℕ) (line : List ℕ) (lines : List (List ℕ))
+    → ((a : Bool) (w : World) → lines_verdict a w (n + 1) lines ≡ verdict.Same → joined lines ≡ left_by a w (choices_in lines))
+    → cond long (verdict.NotATrace n) (cond state (state_verdict (state_text world) n (line ∷ lines))
+    (choice_verdict named accepted world n line (λ a w. lines_verdict a w (n + 1) lines))) ≡ verdict.Same
+    → joined (line ∷ lines) ≡ left_by accepted world (cond state [] (with_choice named (choices_in lines)))
+line-joined true state named accepted world n line lines rest e = let no : ⊥ = cc in absurd no
+line-joined false true named accepted world n line lines rest e =
+    state-joined (line ∷ lines) (state_text world) n e ∙ left_by-none accepted world
+line-joined false false None accepted world n line lines rest e = let no : ⊥ = cc in absurd no
+line-joined false false (Some choice) false world n line lines rest e = let no : ⊥ = cc in absurd no
+line-joined false false (Some choice) true world n line lines rest e =
+    let played = execution world (choice ∷ []) in
+    let p = passed false (bytes_eq (line ++ (10 ∷ [])) (lines_of world (choice ∷ []))) n
+    (lines_verdict (is_none played.refusal) played.world (n + 1) lines) e in
+    joined-line line lines (some_lines (is_none played.refusal) played.world (n + 1) lines p.1)
+    ∙ ap (λ bytes. bytes ++ joined lines) ((bytes_eq-Decides (line ++ (10 ∷ [])) (lines_of world (choice ∷ []))).0 p.0)
+    ∙ ap (λ bytes. lines_of world (choice ∷ []) ++ bytes) (rest (is_none played.refusal) played.world p.1)
+    ∙ after_choice world choice (choices_in lines) played.refusal refl
+
+lines-joined : (lines : List (List ℕ)) (accepted : Bool) (world : World) (n : ℕ) → lines_verdict accepted world n lines ≡ verdict.Same
+    → joined lines ≡ left_by accepted world (choices_in lines)
+lines-joined [] accepted world n e = let no : ⊥ = cc in absurd no
+lines-joined (line ∷ lines) accepted world n e =
+    line-joined (is_too_long line) (is_state_line line) (choice_in line) accepted world n line lines
+    (λ a w same. lines-joined lines a w (n + 1) same) e
+
+pub same-trace : (world : World) (trace : List ℕ) → verdict_of world trace ≡ verdict.Same → trace ≡ trace_of world (choices_of_trace trace)
+same-trace world trace e =
+    sym (join_with_byte-slice_split 10 trace) ∙ lines-joined (slice_split is_line_end trace) true world 1 e

@@ -1,0 +1,50 @@
+-- Bytes that are read one piece after another.
+use Rattle.std.proofs.Common.{◌≡◌, ◌∙◌, ◌+◌, ◌<◌, ◌≤◌, ◌++◌, ℕ, List, Option, length, take, ap, subst, append-nil, length-append, arith}
+use Rattle.std.proofs.lemmas.List.{length-take}
+use Rattle.std.proofs.KnownBytes.{Appends-trans, Consumes-trans}
+use Rattle.std.specs.Io.KnownBytes.{Appends, Consumes, IsAtEnd}
+use Rattle.std.specs.Prelude.{Result, Ok, Err, OnOk, None}
+use Rattle.schedule_reader.specs.declared.fault.ScheduleFault.{ScheduleFault}
+use Rattle.schedule_reader.specs.Schedule.{Schedule, finished_schedule, choices_of}
+use Rattle.thread_machine.specs.World.{World}
+use Rattle.thread_machine.specs.declared.choice.Choice.{Choice}
+use Rattle.trace_compare.specs.Playing.{HasPlayed, HasPlayedAll}
+use Rattle.trace_compare.specs.State.{state_text}
+use Rattle.trace_compare.specs.Trace.{lines_of, trace_of}
+
+-- a read of nothing
+pub consumes-none : (a b c : Option (List ℕ)) (bytes buffer : List ℕ) (n : ℕ) → n ≡ 0
+    → Consumes a b bytes → Consumes b c (take n buffer) → Consumes a c bytes
+consumes-none a b c bytes buffer n none first second =
+    subst (Consumes a c) (ap (λ k. bytes ++ take k buffer) none ∙ append-nil bytes)
+    (Consumes-trans a b c bytes (take n buffer) first second)
+
+-- a read gives a byte at least
+pub longer_by_piece : (bytes buffer piece : List ℕ) (n turns : ℕ) → piece ≡ take n buffer → n ≤ length buffer → 0 < n
+    → turns ≤ length bytes → turns + 1 ≤ length (bytes ++ piece)
+longer_by_piece bytes buffer piece n turns is within some many =
+    omega (arith, length-append bytes piece, ap length is, length-take n buffer, within, some, many)
+
+-- a schedule by its fault
+pub schedule_by_fault : (schedule : Schedule) (fault : Option ScheduleFault) → schedule.fault ≡ fault
+    → schedule ≡ record { runs = schedule.runs; fault = fault }
+schedule_by_fault schedule fault is =
+    let make : Option ScheduleFault → Schedule = λ f. record { runs = schedule.runs; fault = f } in ap make is
+
+-- a schedule was played to its end
+pub played-all : {E : Type 0} (result : Result (Unit {0}) E) (first last : World) (bytes : List ℕ) (schedule_before schedule_after old new : Option (List ℕ))
+    → Consumes schedule_before schedule_after bytes → IsAtEnd schedule_after
+    → OnOk result (((finished_schedule bytes).fault ≡ None) × HasPlayed first last (choices_of (finished_schedule bytes).runs) old new)
+    → OnOk result (HasPlayedAll first last schedule_before schedule_after old new)
+played-all (Ok x) first last bytes schedule_before schedule_after old new consumed end p =
+    (bytes, ((finished_schedule bytes).runs, (consumed, end, schedule_by_fault (finished_schedule bytes) None p.0, p.1)))
+played-all (Err e) first last bytes schedule_before schedule_after old new consumed end p = p
+
+-- the lines, and then the state that they leave
+pub traced : (first last : World) (choices : List Choice) (state pushed : List ℕ) (old between new : Option (List ℕ))
+    → HasPlayed first last choices old between → state ≡ state_text last → pushed ≡ state → Appends between new pushed
+    → Appends old new (trace_of first choices)
+traced first last choices state pushed old between new played is same end =
+    subst (λ text. Appends old new (lines_of first choices ++ text))
+    (same ∙ is ∙ ap (λ (world : World). state_text world) played.1)
+    (Appends-trans old between new _ pushed played.0 end)

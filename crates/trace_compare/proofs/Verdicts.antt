@@ -1,0 +1,238 @@
+-- The verdict on lines that are the run's.
+use Rattle.std.proofs.Common.{◌≡◌, ◌∙◌, ◌↔◌, ◌+◌, ◌-◌, ◌<◌, ◌≤◌, ◌&&◌, ℕ, Bool, true, false, List, [], ◌∷◌, ◌++◌, length, drop, Option, Some, None, IsTrue, ◌==◌, zero, suc, refl, ap, sym, subst, arith, is_none, not, cond}
+use Rattle.std.specs.Prelude.{Result, Ok, Err, IfOk}
+use Rattle.trace_compare.specs.declared.compare.Comparison.{Comparison}
+use Rattle.trace_compare.specs.Comparing.{IsOpen, bytes_left, decided, lines_left}
+use Rattle.std.proofs.Common.{inl, inr, take, min}
+use Rattle.std.proofs.Common.{append_assoc, append-nil, length-append}
+use Rattle.std.specs.Prelude.{All}
+use Rattle.std.proofs.Math.Seq.{take-append_seam}
+use Rattle.std.proofs.lemmas.Bool.{cases_lt, lt-ltb}
+use Rattle.std.proofs.lemmas.Bool.Decides.{nat_tests}
+use Rattle.std.proofs.lemmas.List.Elements.{All-append, All-cons, All-head, All-tail}
+use Rattle.std.proofs.lemmas.List.Splits.{slice_split_at, slice_split_none, slice_split-cons_no, length-slice_split}
+use Rattle.std.proofs.lemmas.List.{drop_all, take_all, drop-drop, length-drop}
+use Rattle.std.specs.List.{before_first, after_first, position_or_len, slice_split, onto_first}
+use Rattle.std.specs.Str.{bytes_eq}
+use Rattle.std.proofs.lemmas.Bool.{le-ltb}
+use Rattle.std.proofs.lemmas.Slice.Eq.{bytes_eq-Decides}
+use Rattle.line_reader.specs.Words.{is_line_end}
+use Rattle.thread_machine.specs.declared.choice.Choice.{Choice}
+use Rattle.thread_machine.specs.declared.fault.StepFault.{StepFault}
+use Rattle.thread_machine.specs.World.{World, world_of}
+use Rattle.thread_machine.specs.Execution.{execution}
+use Rattle.trace_compare.specs.declared.compare.Verdict.{Verdict}
+use Rattle.trace_compare.specs.declared.compare.Verdict.TheVariants as verdict
+use Rattle.trace_compare.specs.Compare.{choice_verdict, first_line, after_line, state_verdict, lines_verdict, is_too_long, is_state_line, choice_in}
+use Rattle.trace_compare.specs.Trace.{Plays, lines_of}
+
+of_not : (b : Bool) → not b ≡ false → b ≡ true
+of_not true is = refl
+of_not false is = sym is
+
+same_bytes : (xs ys : List ℕ) → xs ≡ ys → bytes_eq xs ys ≡ true
+same_bytes xs ys same = (bytes_eq-Decides xs ys).1 same
+
+-- bytes that were found to be the same
+pub found_same : (xs ys : List ℕ) (differ : Bool) → differ ≡ not (bytes_eq xs ys) → differ ≡ false → xs ≡ ys
+found_same xs ys differ is none = (bytes_eq-Decides xs ys).0 (of_not (bytes_eq xs ys) (sym is ∙ none))
+
+short_line : (line : List ℕ) → length line ≤ 65536 → is_too_long line ≡ false
+short_line line few = le-ltb 65536 (length line) few
+
+-- a line of the state text
+state-same_by : (byte : ℕ) (text : List ℕ) (n : ℕ) (line : List ℕ) (lines : List (List ℕ)) (long same : Bool)
+    → is_too_long line ≡ long → bytes_eq (line ++ (10 ∷ [])) (first_line (byte ∷ text)) ≡ same → long ≡ false → same ≡ true
+    → state_verdict (byte ∷ text) n (line ∷ lines) ≡ state_verdict (after_line (byte ∷ text)) (n + 1) lines
+state-same_by byte text n line lines long same long_is same_is a b = rw (long_is ∙ a, same_is ∙ b) refl
+
+pub state-same : (text : List ℕ) (n : ℕ) (line : List ℕ) (lines : List (List ℕ)) → 0 < length text → length line ≤ 65536
+    → line ++ (10 ∷ []) ≡ first_line text
+    → state_verdict text n (line ∷ lines) ≡ state_verdict (after_line text) (n + 1) lines
+state-same [] n line lines some few same = absurd (omega (arith, some))
+state-same (byte ∷ text) n line lines some few same =
+    state-same_by byte text n line lines _ _ refl refl (short_line line few) (same_bytes (line ++ (10 ∷ [])) _ same)
+
+-- whether no choice was refused
+none_by : (refusal : Option StepFault) (all : Bool) → (IsTrue all ↔ (refusal ≡ None)) → is_none refusal ≡ all
+none_by None all is = sym (is.1 refl)
+none_by (Some fault) true is = let no : Some fault ≡ None = is.0 refl in let wrong : ⊥ = cc in absurd wrong
+none_by (Some fault) false is = refl
+
+-- the line of a choice
+pub choice-same : (named : Option Choice) (choice : Choice) (accepted more : Bool) (world after : World) (n : ℕ)
+    (line whole text : List ℕ) (rest : Bool → World → Verdict) → named ≡ Some choice → accepted ≡ true
+    → whole ≡ line ++ (10 ∷ []) → whole ≡ text → Plays world after (choice ∷ []) more (Some []) (Some text)
+    → choice_verdict named accepted world n line rest ≡ rest more after
+choice-same named choice accepted more world after n line whole text rest named_is accepted_is whole_is same p =
+    let lines : bytes_eq (line ++ (10 ∷ [])) (lines_of world (choice ∷ [])) ≡ true =
+    same_bytes _ _ (sym whole_is ∙ same ∙ p.lines) in
+    rw (named_is, accepted_is, lines) (ap (λ b. rest b (execution world (choice ∷ [])).world) (none_by _ more p.answer) ∙ ap (λ w. rest more w) (sym p.world))
+
+-- as many bytes as there are
+take_up_to : (bytes : List ℕ) (n m : ℕ) → n ≡ min m (length bytes) → take n bytes ≡ take m bytes
+take_up_to bytes n m is =
+    elim (cases_lt m (length bytes)) as (λ _. take n bytes ≡ take m bytes) [
+      | inl less ↦ ap (λ k. take k bytes) (omega (arith, is, less))
+      | inr more ↦ take_all n bytes (omega (arith, is, more)) ∙ sym (take_all m bytes more)
+    ]
+
+drop_up_to : (bytes : List ℕ) (n m : ℕ) → n ≡ min m (length bytes) → drop n bytes ≡ drop m bytes
+drop_up_to bytes n m is =
+    elim (cases_lt m (length bytes)) as (λ _. drop n bytes ≡ drop m bytes) [
+      | inl less ↦ ap (λ k. drop k bytes) (omega (arith, is, less))
+      | inr more ↦ drop_all n bytes (omega (arith, is, more)) ∙ sym (drop_all m bytes more)
+    ]
+
+pub state-further : (text due : List ℕ) (at first end n : ℕ) (line whole part : List ℕ) (lines : List (List ℕ))
+    → due ≡ drop at text → 0 < length due → length line ≤ 65536 → first ≡ position_or_len is_line_end due
+    → end ≡ min (first + 1) (length due) → whole ≡ line ++ (10 ∷ []) → whole ≡ part → part ≡ take end due
+    → state_verdict (drop at text) n (line ∷ lines) ≡ state_verdict (drop (at + end) text) (n + 1) lines
+state-further text due at first end n line whole part lines due_is some few first_is end_is whole_is part_is taken =
+    let size : end ≡ min (position_or_len is_line_end due + 1) (length due) = end_is ∙ ap (λ k. min (k + 1) (length due)) first_is in
+    ap (λ d. state_verdict d n (line ∷ lines)) (sym due_is)
+    ∙ state-same due n line lines some few (sym whole_is ∙ part_is ∙ taken ∙ take_up_to due end _ size)
+    ∙ ap (λ d. state_verdict d (n + 1) lines)
+    (sym (drop_up_to due end _ size) ∙ ap (drop end) due_is ∙ drop-drop end at text)
+
+-- what was found not to be empty
+pub not_empty : (n : ℕ) (empty : Bool) → empty ≡ (n == 0) → empty ≡ false → 0 < n
+not_empty zero empty is isnt = let wrong : true ≡ false = sym is ∙ isnt in let bad : ⊥ = cc in absurd bad
+not_empty (suc n) empty is isnt = omega arith
+
+-- before the state line
+left-lines : (now : Comparison) (lines : List (List ℕ)) → now.is_state ≡ false
+    → lines_left now lines ≡ lines_verdict now.accepted (world_of now.machine) now.number lines
+left-lines now lines is =
+    ap (λ b. cond b (state_verdict (drop now.at now.text.items) now.number lines) (lines_verdict now.accepted (world_of now.machine) now.number lines)) is
+
+lines-choice : (accepted : Bool) (world : World) (n : ℕ) (line : List ℕ) (lines : List (List ℕ)) (long state : Bool)
+    → is_too_long line ≡ long → is_state_line line ≡ state → long ≡ false → state ≡ false
+    → lines_verdict accepted world n (line ∷ lines)
+    ≡ choice_verdict (choice_in line) accepted world n line (λ accepted after. lines_verdict accepted after (n + 1) lines)
+lines-choice accepted world n line lines long state long_is state_is a b = rw (long_is ∙ a, state_is ∙ b) refl
+
+pub line-choice : {E : Type 0} (result : Result (Option Verdict) E) (before after : Comparison) (line : List ℕ) (lines : List (List ℕ))
+    → before.is_state ≡ false → after.is_state ≡ before.is_state → length line ≤ 65536 → is_state_line line ≡ false
+    → IfOk result (λ v. choice_verdict (choice_in line) before.accepted (world_of before.machine) before.number line
+    (λ accepted world. lines_verdict accepted world (before.number + 1) lines)
+    ≡ decided v (lines_verdict after.accepted (world_of after.machine) after.number lines))
+    → IfOk result (λ v. lines_left before (line ∷ lines) ≡ decided v (lines_left after lines))
+line-choice (Ok v) before after line lines is same few no_state q =
+    left-lines before (line ∷ lines) is
+    ∙ lines-choice before.accepted (world_of before.machine) before.number line lines _ _ refl refl (short_line line few) no_state
+    ∙ q ∙ ap (decided v) (sym (left-lines after lines (same ∙ is)))
+line-choice (Err e) before after line lines is same few no_state q = q
+
+-- not all has come
+pub more_to_come : (state came : Bool) (due line : ℕ) → came ≡ (state && ((due == 0) && (line == 0))) → came ≡ false
+    → state ≡ true → 0 < due + (line + 0)
+more_to_come true came zero zero is isnt state_is = let wrong : true ≡ false = sym is ∙ isnt in let bad : ⊥ = cc in absurd bad
+more_to_come true came (suc due) line is isnt state_is = omega arith
+more_to_come true came zero (suc line) is isnt state_is = omega arith
+more_to_come false came due line is isnt state_is = let bad : ⊥ = cc in absurd bad
+
+-- what stands before a line's LF
+pub before_lf : (whole line : List ℕ) (n : ℕ) → whole ≡ line ++ (10 ∷ []) → n ≡ length whole - 1 → take n whole ≡ line
+before_lf whole line n is n_is =
+    let size : n ≡ length line = omega (arith, n_is, ap length is, length-append line (10 ∷ [])) in
+    ap (take n) is ∙ ap (λ k. take k (line ++ (10 ∷ []))) size ∙ take-append_seam line (10 ∷ [])
+
+-- a line has come whole
+byte-ends_by : (before : Comparison) (line front rest : List ℕ) (byte : ℕ) → All (λ b. is_line_end b ≡ false) line → byte ≡ 10
+    → front ≡ line → bytes_left before line (byte ∷ rest) ≡ lines_left before (front ∷ slice_split is_line_end rest)
+byte-ends_by before line front rest byte one is front_is =
+    ap (λ b. lines_left before (slice_split is_line_end (line ++ (b ∷ rest)))) is
+    ∙ ap (lines_left before) (slice_split_at is_line_end line 10 rest one refl)
+    ∙ ap (λ l. lines_left before (l ∷ slice_split is_line_end rest)) (sym front_is)
+
+pub byte-ends : {E : Type 0} (result : Result (Option Verdict) E) (before after : Comparison) (line front next rest : List ℕ) (byte : ℕ)
+    → All (λ b. is_line_end b ≡ false) line → byte ≡ 10 → front ≡ line → next ≡ []
+    → ((lines : List (List ℕ)) → IsOpen before front lines
+    → IfOk result (λ v. lines_left before (front ∷ lines) ≡ decided v (lines_left after lines)))
+    → IfOk result (λ v. bytes_left before line (byte ∷ rest) ≡ decided v (bytes_left after next rest))
+byte-ends (Ok v) before after line front next rest byte one is front_is none q =
+    byte-ends_by before line front rest byte one is front_is
+    ∙ q (slice_split is_line_end rest) (λ state. omega (arith, length-slice_split is_line_end rest))
+    ∙ ap (λ l. decided v (lines_left after (slice_split is_line_end (l ++ rest)))) (sym none)
+byte-ends (Err e) before after line front next rest byte one is front_is none q = q (slice_split is_line_end rest) (λ state. omega (arith, length-slice_split is_line_end rest))
+
+-- bytes of one line, and what follows them
+onto_first-list : (x : ℕ) (h : List ℕ) (t pieces : List (List ℕ)) → pieces ≡ h ∷ t → onto_first x pieces ≡ (x ∷ h) ∷ t
+onto_first-list x h t pieces is = ap (onto_first x) is
+
+split_some : (ys : List ℕ) → (h : List ℕ) × ((t : List (List ℕ)) × (slice_split is_line_end ys ≡ h ∷ t))
+split_some ys = first_of_some (slice_split is_line_end ys) (omega (arith, length-slice_split is_line_end ys))
+  where
+    first_of_some : (pieces : List (List ℕ)) → 0 < length pieces → (h : List ℕ) × ((t : List (List ℕ)) × (pieces ≡ h ∷ t))
+    first_of_some [] some = absurd (omega (arith, some))
+    first_of_some (h ∷ t) some = (h, (t, refl))
+
+line_and_more : (xs ys : List ℕ) → All (λ b. is_line_end b ≡ false) xs
+    → (h : List ℕ) × ((t : List (List ℕ)) × (slice_split is_line_end (xs ++ ys) ≡ (xs ++ h) ∷ t))
+line_and_more [] ys one = split_some ys
+line_and_more (x ∷ xs) ys one =
+    let (h, (t, is)) = line_and_more xs ys (All-tail (λ b. is_line_end b ≡ false) x xs one) in (
+      h,
+      (
+        t,
+        slice_split-cons_no is_line_end x (xs ++ ys) (All-head (λ b. is_line_end b ≡ false) x xs one)
+            ∙ onto_first-list x (xs ++ h) t _ is,
+      ),
+    )
+
+-- a line that is too long
+long_state : (text : List ℕ) (n : ℕ) (line : List ℕ) (lines : List (List ℕ)) → is_too_long line ≡ true
+    → state_verdict text n (line ∷ lines) ≡ verdict.NotATrace n
+long_state [] n [] lines is = let no : ⊥ = cc in absurd no
+long_state [] n (x ∷ line) lines is = rw is refl
+long_state (byte ∷ text) n line lines is = rw is refl
+
+long_line : (accepted : Bool) (world : World) (n : ℕ) (line : List ℕ) (lines : List (List ℕ)) → is_too_long line ≡ true
+    → lines_verdict accepted world n (line ∷ lines) ≡ verdict.NotATrace n
+long_line accepted world n line lines is = rw is refl
+
+long_by : (state : Bool) (x y v : Verdict) → x ≡ v → y ≡ v → cond state x y ≡ v
+long_by true x y v a b = a
+long_by false x y v a b = b
+
+no_line_end : (byte : ℕ) → (byte ≡ 10 → ⊥) → is_line_end byte ≡ false
+no_line_end byte other = grind (arith, nat_tests, other)
+
+pub byte-too_many : (now : Comparison) (line rest : List ℕ) (byte : ℕ) → All (λ b. is_line_end b ≡ false) line → (byte ≡ 10 → ⊥)
+    → length line ≡ 65536 → bytes_left now line (byte ∷ rest) ≡ verdict.NotATrace now.number
+byte-too_many now line rest byte one other many =
+    let longer = All-append (λ b. is_line_end b ≡ false) line (byte ∷ []) one
+    (All-cons (λ b. is_line_end b ≡ false) byte [] (no_line_end byte other) (λ k d there. absurd (omega (arith, there)))) in
+    let (h, (t, is)) = line_and_more (line ++ byte ∷ []) rest longer in
+    let long = (line ++ byte ∷ []) ++ h in
+    let too_long : is_too_long long ≡ true =
+    lt-ltb 65536 (length long) (omega (arith, length-append (line ++ byte ∷ []) h, length-append line (byte ∷ []), many)) in
+    ap (λ bytes. lines_left now (slice_split is_line_end bytes)) (sym (append_assoc line (byte ∷ []) rest))
+    ∙ ap (lines_left now) is
+    ∙ long_by now.is_state _ _ (verdict.NotATrace now.number)
+    (long_state (drop now.at now.text.items) now.number long t too_long)
+    (long_line now.accepted (world_of now.machine) now.number long t too_long)
+
+-- the last line has no LF
+pub last-line : {E : Type 0} (result : Result Verdict E) (now : Comparison) (line front : List ℕ)
+    → All (λ b. is_line_end b ≡ false) line → front ≡ line
+    → IfOk result (λ v. lines_left now (front ∷ []) ≡ v) → IfOk result (λ v. bytes_left now line [] ≡ v)
+last-line (Ok v) now line front one front_is q =
+    ap (λ bytes. lines_left now (slice_split is_line_end bytes)) (append-nil line)
+    ∙ ap (lines_left now) (slice_split_none is_line_end line one)
+    ∙ ap (λ l. lines_left now (l ∷ [])) (sym front_is) ∙ q
+last-line (Err e) now line front one front_is q = q
+
+-- one piece after others
+pub pieces-decided : {E : Type 0} (result : Result (Option Verdict) E) (v : Option Verdict) (first now after : Comparison)
+    (line next bytes piece rest : List ℕ) → result ≡ Ok v
+    → ((more : List ℕ) → bytes_left first [] (bytes ++ more) ≡ bytes_left now line more)
+    → ((more : List ℕ) → IfOk result (λ w. bytes_left now line (piece ++ more) ≡ decided w (bytes_left after next more)))
+    → bytes_left first [] ((bytes ++ piece) ++ rest) ≡ decided v (bytes_left after next rest)
+pieces-decided {E} result v first now after line next bytes piece rest is before one =
+    ap (bytes_left first []) (append_assoc bytes piece rest)
+    ∙ before (piece ++ rest)
+    ∙ (let P : Result (Option Verdict) E → Type 0 =
+    λ r. IfOk r (λ w. bytes_left now line (piece ++ rest) ≡ decided w (bytes_left after next rest)) in
+    subst P is (one rest))

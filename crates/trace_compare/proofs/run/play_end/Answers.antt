@@ -1,0 +1,32 @@
+use Rattle.std.proofs.Common.{◌≡◌, Err, ap}
+use Rattle.schedule_reader.specs.Schedule.{open_schedule, finished_schedule}
+use Rattle.trace_compare.specs.declared.run.RunFault.TheVariants.{Memory, Schedule}
+use Rattle.trace_compare.proofs.Schedules.{added-plays, added-writes, added-writes_part, end_without_fault, end_with_fault, told_none, told_other}
+use Rattle.trace_compare.proofs.run.play_end.Goals as goal
+
+pub returns-in-Ok-clause-plays : goal.returns-in-Ok-clause-plays
+returns-in-Ok-clause-plays g c = λ first bytes old up.
+    let told = c.finish-told.result in
+    let f = c.finish-told.ensures in
+    let schedule = finished_schedule bytes in
+    let plays = added-plays told (open_schedule bytes) schedule first _ _ _ _ old _ _ _ _ c.requires.empty
+    (told_none told c.in-Ok.ensures.told) (f.runs bytes up.reads) up.plays c.in-Ok.ensures.plays in
+    (end_without_fault told schedule c.in-Ok.ensures.told (f.answer bytes up.reads), (plays.lines, plays.world))
+
+pub returns-in-Err-clause-schedule : goal.returns-in-Err-clause-schedule
+returns-in-Err-clause-schedule g c = λ first bytes old up fault is.
+    let same : c.in-Err.fault ≡ Schedule fault = cc in
+    let s = c.in-Err.ensures.schedule fault (ap Err same) in
+    let told = c.finish-told.result in
+    let f = c.finish-told.ensures in
+    let schedule = finished_schedule bytes in
+    let enough = told_other told fault s.0 s.1 in (
+      end_with_fault told schedule fault s.0 enough (f.answer bytes up.reads),
+      added-writes told (open_schedule bytes) schedule first _ _ old _ _ _ _ c.requires.empty enough (f.runs bytes up.reads) up.plays s.2,
+    )
+
+pub returns-in-Err-clause-memory : goal.returns-in-Err-clause-memory
+returns-in-Err-clause-memory g c = λ first bytes old up is.
+    let same : c.in-Err.fault ≡ Memory = cc in
+    added-writes_part c.finish-told.result (open_schedule bytes) (finished_schedule bytes) first _ _ old _ _ _ _
+    c.requires.empty (c.finish-told.ensures.runs bytes up.reads) up.plays (c.in-Err.ensures.memory (ap Err same))

@@ -1,0 +1,124 @@
+-- What a comparison of a trace with the run that it names says.
+use Rattle.std.specs.Prelude.{◌≡◌, ◌⊎◌, ℕ, ◌+◌, ◌-◌, ◌*◌, ◌==◌, ◌&&◌, nat_lt, nat_le, if◌then◌else◌, Bool, true, false, List, [], ◌∷◌, ◌++◌, length, take, drop, codes, Option, Some, None, is_none}
+use Rattle.std.specs.Char.{is_ascii_digit}
+use Rattle.std.specs.Io.KnownBytes.{Consumes, IsAtEnd}
+use Rattle.std.specs.List.{slice_split, before_first, after_first, list_all, position_or_len}
+use Rattle.std.specs.Str.{bytes_eq}
+use Rattle.line_reader.specs.Words.{is_line_end}
+use Rattle.row_code.specs.declared.image.Image.{Image}
+use Rattle.thread_machine.specs.declared.choice.Choice.{Choice}
+use Rattle.thread_machine.specs.World.{World}
+use Rattle.thread_machine.specs.Execution.{execution}
+use Rattle.trace_compare.specs.declared.compare.Verdict.{Verdict}
+use Rattle.trace_compare.specs.declared.compare.Verdict.TheVariants as verdict
+use Rattle.trace_compare.specs.Start.{Begins}
+use Rattle.trace_compare.specs.State.{state_text}
+use Rattle.trace_compare.specs.Trace.{lines_of}
+
+-- a space
+abbrev pub is_space : ℕ → Bool
+is_space byte = byte == 32
+
+-- the number of a choice: one to 13 digits
+abbrev pub is_step : List ℕ → Bool
+is_step word = nat_lt 0 (length word) && (nat_le (length word) 13 && list_all is_ascii_digit word)
+
+-- a choice of this thread, at most 63, where its digits are digits
+abbrev pub choice_by : Bool → Bool → ℕ → Option Choice
+choice_by expiry are_digits thread =
+    if are_digits && nat_le thread 63 then Some (record { thread = thread; expiry = expiry }) else None
+
+-- a thread's number: one or two digits
+abbrev pub choice_of_digits : Bool → List ℕ → Option Choice
+choice_of_digits expiry (one ∷ []) = choice_by expiry (is_ascii_digit one) (one - 48)
+choice_of_digits expiry (ten ∷ one ∷ []) =
+    choice_by expiry (is_ascii_digit ten && is_ascii_digit one) (10 * (ten - 48) + (one - 48))
+choice_of_digits expiry _ = None
+
+-- `t` or `x` and a thread's number
+abbrev pub choice_named : List ℕ → Option Choice
+choice_named [] = None
+choice_named (letter ∷ digits) =
+    if letter == 116 then choice_of_digits false digits
+    else (if letter == 120 then choice_of_digits true digits else None)
+
+-- the choice that a line names: the number of the choice, a space, the name, and a space or the line's end
+abbrev pub choice_in : List ℕ → Option Choice
+choice_in line =
+    if is_step (before_first is_space line) then choice_named (before_first is_space (after_first is_space line)) else None
+
+-- a line whose first word is `state`
+abbrev pub is_state_line : List ℕ → Bool
+is_state_line line = bytes_eq (before_first is_space line) (codes "state")
+
+-- more bytes than a trace's line has
+abbrev pub is_too_long : List ℕ → Bool
+is_too_long line = nat_lt 65536 (length line)
+
+-- a text's first line with its LF
+abbrev pub first_line : List ℕ → List ℕ
+first_line text = take (position_or_len is_line_end text + 1) text
+
+-- the text behind it
+abbrev pub after_line : List ℕ → List ℕ
+after_line text = drop (position_or_len is_line_end text + 1) text
+
+-- the lines from the state line on, of which the first has this number, by the text that is still due; the last piece is
+-- what follows the last LF
+abbrev pub state_verdict : List ℕ → ℕ → List (List ℕ) → Verdict
+state_verdict [] n [] = verdict.Differs (n - 1)
+state_verdict (byte ∷ text) n [] = verdict.Differs n
+state_verdict [] n ([] ∷ []) = verdict.Same
+state_verdict [] n (line ∷ lines) = if is_too_long line then verdict.NotATrace n else verdict.Differs n
+state_verdict (byte ∷ text) n (line ∷ lines) =
+    if is_too_long line then verdict.NotATrace n
+    else (if bytes_eq (line ++ (10 ∷ [])) (first_line (byte ∷ text))
+    then state_verdict (after_line (byte ∷ text)) (n + 1) lines
+    else verdict.Differs n)
+
+-- a line that names this choice, if it names one: it has to be the run's own line, and no choice may have been refused
+-- before it
+abbrev pub choice_verdict : Option Choice → Bool → World → ℕ → List ℕ → (Bool → World → Verdict) → Verdict
+choice_verdict None accepted world n line rest = verdict.NotATrace n
+choice_verdict (Some choice) accepted world n line rest =
+    let played = execution world (choice ∷ []) in
+    if accepted && bytes_eq (line ++ (10 ∷ [])) (lines_of world (choice ∷ []))
+    then rest (is_none played.refusal) played.world
+    else verdict.Differs n
+
+-- the lines up to the state line, of which the first has this number, and the state behind them
+abbrev pub lines_verdict : Bool → World → ℕ → List (List ℕ) → Verdict
+lines_verdict accepted world n [] = verdict.NotATrace n
+lines_verdict accepted world n (line ∷ lines) =
+    if is_too_long line then verdict.NotATrace n
+    else (if is_state_line line then state_verdict (state_text world) n (line ∷ lines)
+    else choice_verdict (choice_in line) accepted world n line (λ accepted after. lines_verdict accepted after (n + 1) lines))
+
+-- a choice before others, where a line names one
+abbrev pub with_choice : Option Choice → List Choice → List Choice
+with_choice None choices = []
+with_choice (Some choice) choices = choice ∷ choices
+
+-- the choices that lines name, up to the state line
+abbrev pub choices_in : List (List ℕ) → List Choice
+choices_in [] = []
+choices_in (line ∷ lines) = if is_state_line line then [] else with_choice (choice_in line) (choices_in lines)
+
+-- the choices that a trace names
+abbrev pub choices_of_trace : List ℕ → List Choice
+choices_of_trace trace = choices_in (slice_split is_line_end trace)
+
+-- a whole trace beside the run of the program that begins in this world
+abbrev pub verdict_of : World → List ℕ → Verdict
+verdict_of world trace = lines_verdict true world 1 (slice_split is_line_end trace)
+
+-- a trace that begins with these bytes has this verdict: it ends with them, or whatever comes after them makes no difference
+abbrev pub HasVerdict : World → List ℕ → Option (List ℕ) → Verdict → Type 0
+HasVerdict world bytes left v =
+    (IsAtEnd left × (verdict_of world bytes ≡ v)) ⊎ ((rest : List ℕ) → verdict_of world (bytes ++ rest) ≡ v)
+
+-- a trace was read as far as its verdict needs, and this is the verdict
+abbrev pub HasCompared : Image → Option (List ℕ) → Option (List ℕ) → Verdict → Type 0
+HasCompared image before after v =
+    (world : World) × ((bytes : List ℕ)
+    × (Begins image world × Consumes before after bytes × HasVerdict world bytes after v))

@@ -1,0 +1,63 @@
+-- What becomes of an image and a schedule that comes as a stream.
+use Rattle.std.specs.Prelude.{◌≡◌, ◌⊎◌, ◌≤◌, ℕ, List, ◌++◌, length, Option, Some, None}
+use Rattle.std.specs.Io.KnownBytes.{Appends, Consumes, IsAtEnd}
+use Rattle.row_code.specs.declared.image.Image.{Image}
+use Rattle.schedule_reader.specs.declared.fault.ScheduleFault.{ScheduleFault}
+use Rattle.schedule_reader.specs.declared.run.Run.{Run}
+use Rattle.schedule_reader.specs.Schedule.{Schedule, open_schedule, finished_schedule, choices_of}
+use Rattle.thread_machine.specs.World.{World}
+use Rattle.trace_compare.specs.Start.{Begins}
+use Rattle.trace_compare.specs.Trace.{AppendsPartOf, lines_of, trace_of}
+
+-- the trace of an image's program, played from its beginning under this schedule
+abbrev pub IsTraceOf : Image → List ℕ → List ℕ → Type 0
+IsTraceOf image schedule trace =
+    (world : World) × ((runs : List Run)
+    × (Begins image world × (finished_schedule schedule ≡ record { runs = runs; fault = None })
+    × (trace ≡ trace_of world (choices_of runs))))
+
+-- the schedule was read to its end, and the trace was written
+abbrev pub HasRun : Image → Option (List ℕ) → Option (List ℕ) → Option (List ℕ) → Option (List ℕ) → Type 0
+HasRun image schedule_before schedule_after output_before output_after =
+    (schedule : List ℕ) × ((trace : List ℕ)
+    × (Consumes schedule_before schedule_after schedule × IsAtEnd schedule_after × IsTraceOf image schedule trace
+    × Appends output_before output_after trace))
+
+-- runs, and the fault after them
+abbrev pub faulty_after : List Run → ScheduleFault → Schedule
+faulty_after runs fault = record { runs = runs; fault = Some fault }
+
+-- a schedule that begins with these bytes has this fault, and these runs before it: it ends with them, or whatever comes
+-- after them makes no difference
+abbrev pub HasFault : List ℕ → Option (List ℕ) → List Run → ScheduleFault → Type 0
+HasFault bytes left runs fault =
+    (IsAtEnd left × (finished_schedule bytes ≡ faulty_after runs fault))
+    ⊎ ((rest : List ℕ) → finished_schedule (bytes ++ rest) ≡ faulty_after runs fault)
+
+-- the schedule was read up to this fault, and the lines of the choices before it were written
+abbrev pub HasRunToFault : Image → ScheduleFault → Option (List ℕ) → Option (List ℕ) → Option (List ℕ) → Option (List ℕ)
+    → Type 0
+HasRunToFault image fault schedule_before schedule_after output_before output_after =
+    (world : World) × ((bytes : List ℕ) × ((runs : List Run)
+    × (Begins image world × Consumes schedule_before schedule_after bytes × HasFault bytes schedule_after runs fault
+    × Appends output_before output_after (lines_of world (choices_of runs)))))
+
+-- the lines of the choices that were read were written
+abbrev pub HasRunSoFar : Image → Option (List ℕ) → Option (List ℕ) → Option (List ℕ) → Option (List ℕ) → Type 0
+HasRunSoFar image schedule_before schedule_after output_before output_after =
+    (world : World) × ((bytes : List ℕ)
+    × (Begins image world × Consumes schedule_before schedule_after bytes
+    × Appends output_before output_after (lines_of world (choices_of (open_schedule bytes).runs))))
+
+-- nothing was written, or a part of those lines; of the last token too, where the schedule was read to its end
+abbrev pub HasRunInPart : Image → Option (List ℕ) → Option (List ℕ) → Option (List ℕ) → Option (List ℕ) → Type 0
+HasRunInPart image schedule_before schedule_after output_before output_after =
+    (output_after ≡ output_before)
+    ⊎ ((world : World) × ((bytes : List ℕ) × ((schedule : Schedule)
+    × (Begins image world × Consumes schedule_before schedule_after bytes
+    × ((schedule ≡ open_schedule bytes) ⊎ (IsAtEnd schedule_after × (schedule ≡ finished_schedule bytes)))
+    × AppendsPartOf output_before output_after (lines_of world (choices_of schedule.runs))))))
+
+-- a source gave a byte in each of 1,000,000,000 reads
+abbrev pub GivesOnAndOn : Option (List ℕ) → Option (List ℕ) → Type 0
+GivesOnAndOn before after = (bytes : List ℕ) × (Consumes before after bytes × (1000000000 ≤ length bytes))

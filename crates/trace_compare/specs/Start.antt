@@ -1,0 +1,17 @@
+-- How a program begins.
+use Rattle.std.specs.Prelude.{◌≡◌, Some}
+use Rattle.row_code.specs.declared.image.Image.{Image}
+use Rattle.loader.specs.declared.load_fault.LoadFault.{LoadFault}
+use Rattle.loader.specs.Program.{Program, IsProgramOf}
+use Rattle.loader.specs.Fault.{first_fault}
+use Rattle.thread_machine.specs.World.{World, first_world}
+
+-- the world of an image before its first choice: its program is the one that the image declares, and may take at most
+-- 1,000,000,000 effective steps
+abbrev pub Begins : Image → World → Type 0
+Begins image world =
+    (program : Program) × (IsProgramOf image program × (world ≡ first_world program 1000000000))
+
+-- why an image isn't loaded
+abbrev pub IsRefused : LoadFault → Image → Type 0
+IsRefused fault image = first_fault image ≡ Some fault

@@ -1,0 +1,371 @@
+ghost use Rattle.std.specs.Prelude.{◌≡◌, ◌≢◌, ◌⊎◌, IsTrue, Err, ◌==◌, ◌&&◌, ◌<◌, ◌≤◌, ◌+◌, ◌++◌, ◌∷◌, [], List, ℕ, IfOk, OnOk, drop, length, take};
+ghost use Rattle.std.specs.Io.KnownBytes.{Consumes};
+ghost use Rattle.thread_machine.specs.World.{world_of};
+ghost use Rattle.trace_compare.specs.RunText.{GivesOnAndOn};
+ghost use Rattle.trace_compare.specs.Start.{IsRefused};
+ghost use Rattle.trace_compare.specs.Compare.{HasCompared, choice_in, choice_verdict, is_state_line, lines_verdict, state_verdict};
+ghost use Rattle.trace_compare.specs.Comparing.{HasLeft, IsOpen, IsReading, bytes_left, decided, lines_left};
+
+use crate::line_end::LineEnd;
+use crate::play::line_of_choice;
+use crate::start::{StartFault, first_machine};
+use crate::state::state_text;
+use crate::trace_line::{choice_in, is_state_line};
+use byte_ports::Source;
+use line_reader::words::length_before;
+use loader::LoadFault;
+use row_code::Image;
+use std::alloc::{AllocError, Global};
+use thread_machine::Machine;
+
+/// How many bytes of a trace are read at a time.
+const PIECE: usize = 4096;
+
+/// How often a trace is read at most.
+const MOST_READS: u64 = 1_000_000_000;
+
+/// How many bytes a line of a trace has at most, without its LF.
+const MOST_BYTES: usize = 65_536;
+
+/// What a comparison of a trace says.
+#[derive(Clone, Copy, Debug, PartialEq, Eq)]
+pub enum Verdict {
+    /// The trace is that of the choices which its lines name.
+    Same,
+    /// This line, counted from 1, is the first that isn't the run's.
+    Differs { line: u64 },
+    /// This line is the first that is no line of any trace.
+    NotATrace { line: u64 },
+}
+
+/// Why a trace isn't compared.
+#[derive(Clone, Copy, Debug, PartialEq, Eq)]
+pub enum CompareFault {
+    /// The image isn't loaded, for this fault, which isn't `Memory`.
+    Load(LoadFault),
+    /// Out of memory.
+    Memory,
+    /// The trace can't be read.
+    Read,
+}
+
+/// What follows these bytes.
+fn rest_of(text: &[u8], at: usize) -> &[u8]
+    requires { at ≤ length text.now }
+    ensures { result.now ≡ drop at text.now }
+{
+    &text[at..]
+}
+
+/// The first of these bytes.
+fn first_bytes(text: &[u8], count: usize) -> &[u8]
+    requires { count ≤ length text.now }
+    ensures { result.now ≡ take count text.now }
+{
+    &text[..count]
+}
+
+/// A run, as far as the lines of a trace name it.
+#[derive(Drop)]
+struct Comparison {
+    machine: Machine,
+    /// Whether all choices so far were accepted.
+    accepted: bool,
+    /// Whether the state line has come.
+    is_state: bool,
+    /// The state text, once the state line has come, and how much of it has.
+    text: Vec<u8>,
+    at: usize,
+    /// The next line's number.
+    number: u64,
+}
+
+impl Comparison {
+    /// Goes on over a line that names a choice, if it names one. The line is given without its LF and with it.
+    fn take_choice(&mut self, line: &[u8], whole: &[u8]) -> Result<Option<Verdict>, AllocError>
+        requires whole { whole.now ≡ line.now ++ (10 ∷ []) }
+        requires number { self.old.number < 9223372036854775807 }
+        ensures verdict { (lines : List (List ℕ)) → IfOk result (λ verdict. choice_verdict
+            (choice_in line.now) self.old.accepted (world_of self.old.machine) self.old.number line.now
+            (λ accepted after. lines_verdict accepted after (self.old.number + 1) lines)
+            ≡ decided verdict (lines_verdict self.new.accepted (world_of self.new.machine) self.new.number lines)) }
+        ensures text { (self.new.text ≡ self.old.text) × (self.new.at ≡ self.old.at) }
+        ensures stage { self.new.is_state ≡ self.old.is_state }
+        ensures number { self.new.number ≤ self.old.number + 1 }
+    {
+        let Some(choice) = choice_in(line) else {
+            return Ok(Some(Verdict::NotATrace { line: self.number }));
+        };
+        if !self.accepted {
+            return Ok(Some(Verdict::Differs { line: self.number }));
+        }
+        let mut expected = LineEnd::new();
+        let accepted = match line_of_choice(&mut self.machine, choice, &mut expected) {
+            Ok(accepted) => accepted,
+            Err(error) => return Err(error),
+        };
+        if whole != expected.as_slice() {
+            return Ok(Some(Verdict::Differs { line: self.number }));
+        }
+        self.accepted = accepted;
+        self.number += 1;
+        Ok(None)
+    }
+
+    /// Goes on over a line of the state text, behind which something follows or an LF.
+    fn take_state_line(&mut self, line: &[u8], whole: &[u8]) -> Option<Verdict>
+        requires whole { whole.now ≡ line.now ++ (10 ∷ []) }
+        requires number { self.old.number < 9223372036854775807 }
+        requires few { length line.now ≤ 65536 }
+        requires at { self.old.at ≤ length self.old.text.items }
+        ensures verdict { (lines : List (List ℕ))
+            → 0 < length (drop self.old.at self.old.text.items) + (length line.now + length lines)
+            → state_verdict (drop self.old.at self.old.text.items) self.old.number (line.now ∷ lines)
+            ≡ decided result (state_verdict (drop self.new.at self.new.text.items) self.new.number lines) }
+        ensures at { self.new.at ≤ length self.new.text.items }
+        ensures stage { self.new.is_state ≡ self.old.is_state }
+        ensures number { self.new.number ≤ self.old.number + 1 }
+    {
+        let text = self.text.as_slice();
+        let due = rest_of(text, self.at);
+        let end = (length_before(b'\n', due) + 1).min(due.len());
+        if due.is_empty() || whole != first_bytes(due, end) {
+            return Some(Verdict::Differs { line: self.number });
+        }
+        self.at += end;
+        self.number += 1;
+        None
+    }
+
+    /// Goes on over a line, which is given without its LF and with it.
+    fn take_line(
+        &mut self,
+        alloc: Global,
+        line: &[u8],
+        whole: &[u8],
+    ) -> Result<Option<Verdict>, AllocError>
+        requires whole { whole.now ≡ line.now ++ (10 ∷ []) }
+        requires number { self.old.number < 9223372036854775807 }
+        requires few { length line.now ≤ 65536 }
+        requires at { self.old.at ≤ length self.old.text.items }
+        ensures verdict { (lines : List (List ℕ)) → IsOpen self.old line.now lines
+            → IfOk result (λ verdict. lines_left self.old (line.now ∷ lines)
+            ≡ decided verdict (lines_left self.new lines)) }
+        ensures at { self.new.at ≤ length self.new.text.items }
+        ensures number { self.new.number ≤ self.old.number + 1 }
+    {
+        if self.is_state {
+            return Ok(self.take_state_line(line, whole));
+        }
+        if !is_state_line(line) {
+            return self.take_choice(line, whole);
+        }
+        self.text = match state_text(alloc, &self.machine) {
+            Ok(text) => text,
+            Err(error) => return Err(error),
+        };
+        self.at = 0;
+        self.is_state = true;
+        Ok(self.take_state_line(line, whole))
+    }
+
+    /// The verdict where no more lines come.
+    fn end_verdict(&self) -> Verdict
+        requires { self.now.at ≤ length self.now.text.items }
+        ensures { result ≡ lines_left self.now [] }
+    {
+        if !self.is_state {
+            return Verdict::NotATrace { line: self.number };
+        }
+        if rest_of(self.text.as_slice(), self.at).is_empty() {
+            Verdict::Differs {
+                line: self.number.saturating_sub(1),
+            }
+        } else {
+            Verdict::Differs { line: self.number }
+        }
+    }
+
+    /// Whether the whole state text has come, and nothing stands behind it.
+    fn is_whole(&self, line: &[u8]) -> bool
+        requires { self.now.at ≤ length self.now.text.items }
+        ensures { result ≡ (self.now.is_state
+            && ((length (drop self.now.at self.now.text.items) == 0) && (length line.now == 0))) }
+    {
+        if self.is_state && rest_of(self.text.as_slice(), self.at).is_empty() {
+            line.is_empty()
+        } else {
+            false
+        }
+    }
+
+    /// The verdict with what stands behind the last LF.
+    fn end(&mut self, alloc: Global, line: &[u8], whole: &[u8]) -> Result<Verdict, AllocError>
+        requires whole { whole.now ≡ line.now ++ (10 ∷ []) }
+        requires number { self.old.number < 9223372036854775807 }
+        requires few { length line.now ≤ 65536 }
+        requires at { self.old.at ≤ length self.old.text.items }
+        ensures { IfOk result (λ verdict. lines_left self.old (line.now ∷ []) ≡ verdict) }
+    {
+        if self.is_whole(line) {
+            return Ok(Verdict::Same);
+        }
+        match self.take_line(alloc, line, whole) {
+            Ok(Some(verdict)) => Ok(verdict),
+            Ok(None) => Ok(self.end_verdict()),
+            Err(error) => Err(error),
+        }
+    }
+}
+
+/// A line without its LF.
+fn before_lf(whole: &[u8]) -> &[u8]
+    requires { 0 < length whole.now }
+    ensures { (line : List ℕ) → whole.now ≡ line ++ (10 ∷ []) → result.now ≡ line }
+{
+    let length = whole.len() - 1;
+    &whole[..length]
+}
+
+/// Goes on over the next byte of the trace, after those of a line that have come.
+fn take_byte(
+    now: &mut Comparison,
+    alloc: Global,
+    line: &mut Vec<u8>,
+    byte: u8,
+) -> Result<Option<Verdict>, AllocError>
+    requires reading { IsReading now.old line.old.items }
+    requires number { now.old.number < 9223372036854775807 }
+    ensures verdict { (rest : List ℕ) → IfOk result (λ verdict.
+        bytes_left now.old line.old.items (byte ∷ rest)
+        ≡ decided verdict (bytes_left now.new line.new.items rest)) }
+    ensures reading { OnOk result (IsReading now.new line.new.items) }
+    ensures number { now.new.number ≤ now.old.number + 1 }
+{
+    if byte != b'\n' {
+        let length = line.as_slice().len();
+        if length == MOST_BYTES {
+            return Ok(Some(Verdict::NotATrace { line: now.number }));
+        }
+        line.push(byte)?;
+        return Ok(None);
+    }
+    line.push(byte)?;
+    let whole = line.as_slice();
+    let verdict = now.take_line(alloc, before_lf(whole), whole);
+    line.clear();
+    verdict
+}
+
+/// Goes on over a piece of the trace.
+fn take_piece(
+    now: &mut Comparison,
+    alloc: Global,
+    line: &mut Vec<u8>,
+    piece: &[u8],
+) -> Result<Option<Verdict>, AllocError>
+    requires reading { IsReading now.old line.old.items }
+    requires number { now.old.number + length piece.now < 9223372036854775807 }
+    ensures verdict { (rest : List ℕ) → IfOk result (λ verdict.
+        bytes_left now.old line.old.items (piece.now ++ rest)
+        ≡ decided verdict (bytes_left now.new line.new.items rest)) }
+    ensures reading { OnOk result (IsReading now.new line.new.items) }
+    ensures number { now.new.number ≤ now.old.number + length piece.now }
+{
+    for byte in piece {
+        match take_byte(now, alloc, line, *byte) {
+            Ok(None) => {}
+            Ok(Some(verdict)) => return Ok(Some(verdict)),
+            Err(error) => return Err(error),
+        }
+    }
+    Ok(None)
+}
+
+/// The verdict where the trace ends behind these bytes of a line.
+fn last_verdict(
+    now: &mut Comparison,
+    alloc: Global,
+    line: &mut Vec<u8>,
+) -> Result<Verdict, AllocError>
+    requires reading { IsReading now.old line.old.items }
+    requires number { now.old.number < 9223372036854775807 }
+    ensures { IfOk result (λ verdict. bytes_left now.old line.old.items [] ≡ verdict) }
+{
+    line.push(b'\n')?;
+    let whole = line.as_slice();
+    now.end(alloc, before_lf(whole), whole)
+}
+
+/// Goes on to the verdict.
+fn compare_stream<S: Source>(
+    now: &mut Comparison,
+    alloc: Global,
+    line: &mut Vec<u8>,
+    trace: &mut S,
+) -> Result<Verdict, CompareFault>
+    requires line { line.old.items ≡ [] }
+    requires number { now.old.number ≡ 1 }
+    requires at { now.old.at ≤ length now.old.text.items }
+    ensures verdict { IfOk result (λ verdict. (bytes : List ℕ)
+        × (Consumes (S.left trace.old) (S.left trace.new) bytes
+        × HasLeft now.old bytes (S.left trace.new) verdict)) }
+    ensures read { result ≡ Err CompareFault.Read → IsTrue (S.has_failed trace.new)
+        ⊎ GivesOnAndOn (S.left trace.old) (S.left trace.new) }
+    ensures load { (fault : LoadFault) → result ≢ Err (CompareFault.Load fault) }
+{
+    let mut piece = [0u8; PIECE];
+    for _ in 0..MOST_READS {
+        let count = match trace.pull(&mut piece) {
+            Ok(count) => count,
+            Err(_) => return Err(CompareFault::Read),
+        };
+        if count == 0 {
+            return match last_verdict(now, alloc, line) {
+                Ok(verdict) => Ok(verdict),
+                Err(_) => Err(CompareFault::Memory),
+            };
+        }
+        match take_piece(now, alloc, line, &piece[..count]) {
+            Ok(None) => {}
+            Ok(Some(verdict)) => return Ok(verdict),
+            Err(_) => return Err(CompareFault::Memory),
+        }
+    }
+    Err(CompareFault::Read)
+}
+
+/// Compares a trace with the run of an image's program that the trace's lines name, byte for byte, the state too. The verdict
+/// stands at the first line that is no line of a trace, or isn't the run's; what follows that line is not read. A line of the
+/// trace and a line of the run are held at a time, and the state text at the end.
+pub fn compare<S: Source>(
+    alloc: Global,
+    image: Image,
+    trace: &mut S,
+) -> Result<Verdict, CompareFault>
+    ensures verdict { IfOk result (λ verdict.
+        HasCompared image (S.left trace.old) (S.left trace.new) verdict) }
+    ensures load { (fault : LoadFault) → result ≡ Err (CompareFault.Load fault)
+        → IsRefused fault image × (S.left trace.new ≡ S.left trace.old) }
+    ensures read { result ≡ Err CompareFault.Read → IsTrue (S.has_failed trace.new)
+        ⊎ GivesOnAndOn (S.left trace.old) (S.left trace.new) }
+{
+    let machine = match first_machine(alloc, image) {
+        Ok(machine) => machine,
+        Err(StartFault::Load(fault)) => return Err(CompareFault::Load(fault)),
+        Err(StartFault::Memory) => return Err(CompareFault::Memory),
+    };
+    let mut line = match Vec::with_capacity(alloc, MOST_BYTES + 1) {
+        Ok(line) => line,
+        Err(_) => return Err(CompareFault::Memory),
+    };
+    let mut now = Comparison {
+        machine,
+        accepted: true,
+        is_state: false,
+        text: Vec::new(alloc),
+        at: 0,
+        number: 1,
+    };
+    compare_stream(&mut now, alloc, &mut line, trace)
+}

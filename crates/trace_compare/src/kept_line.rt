@@ -1,0 +1,102 @@
+ghost use Rattle.std.specs.Prelude.{◌≡◌, true};
+ghost use Rattle.trace_compare.specs.Lines.{event_text};
+
+use crate::line::put_event;
+use crate::line_end::LineEnd;
+use std::marker::Model;
+use thread_machine::{Choice, Event, Mark, What};
+
+/// Whether two choices are the same.
+fn are_same(one: Choice, other: Choice) -> bool
+    ensures { result ≡ true → one ≡ other }
+{
+    one.thread == other.thread && one.expiry == other.expiry
+}
+
+/// Whether nothing happened.
+fn is_idle(event: &Event) -> bool
+    ensures { result ≡ true → event.now ≡ record { what = What.Idle; mark = Mark.Nothing } }
+{
+    match (event.what, event.mark) {
+        (What::Idle, Mark::Nothing) => true,
+        _ => false,
+    }
+}
+
+/// The line of the last choice. In a row of idle choices of one thread its number is counted up in place.
+#[derive(Drop)]
+pub struct KeptLine {
+    text: LineEnd,
+    digits: usize,
+    step: u64,
+    choice: Choice,
+    pc: u16,
+    event: Event,
+}
+
+impl Model for KeptLine {
+    ghost use Rattle.std.specs.Prelude.{◌≡◌, ◌+◌, ◌≤◌, List, ℕ, length};
+    ghost use Rattle.std.specs.Fmt.{decimal};
+    ghost use Rattle.trace_compare.specs.Lines.{event_text};
+
+    ghost Value = { List ℕ };
+
+    ghost view = { λ line. line.text };
+
+    ghost invariant = { λ line. (line.text ≡ event_text line.step line.choice line.pc line.event)
+        × (line.digits ≡ length (decimal line.step)) × (line.digits ≤ 20)
+        × (length line.text ≤ line.digits + 100) };
+}
+
+impl KeptLine {
+    /// Some line, of no choice.
+    pub fn new() -> KeptLine {
+        let choice = Choice {
+            thread: 0,
+            expiry: false,
+        };
+        let event = Event {
+            what: What::Idle,
+            mark: Mark::Nothing,
+        };
+        let mut text = LineEnd::new();
+        let digits = put_event(&mut text, 0, choice, 0, &event);
+        KeptLine {
+            text,
+            digits,
+            step: 0,
+            choice,
+            pc: 0,
+            event,
+        }
+    }
+
+    /// The line.
+    pub fn as_slice(&self) -> &[u8]
+        ensures { result.now ≡ self.now }
+    {
+        self.text.as_slice()
+    }
+
+    /// Makes it the line of a choice that was played by a thread at this row.
+    pub fn put(&mut self, step: u64, choice: Choice, pc: u16, event: &Event)
+        ensures { self.new ≡ event_text step choice pc event.now }
+    {
+        if 0 < step
+            && step - 1 == self.step
+            && self.pc == pc
+            && are_same(self.choice, choice)
+            && is_idle(&self.event)
+            && is_idle(event)
+        {
+            self.digits = self.text.count_up(step - 1, self.digits);
+            self.step = step;
+            return;
+        }
+        self.digits = put_event(&mut self.text, step, choice, pc, event);
+        self.step = step;
+        self.choice = choice;
+        self.pc = pc;
+        self.event = *event;
+    }
+}

@@ -1,0 +1,114 @@
+// A line that is put together from its end.
+ghost use Rattle.std.specs.Prelude.{◌≡◌, ◌+◌, ◌<◌, ◌≤◌, ◌^◌, List, ℕ, [], ◌++◌, length, drop};
+ghost use Rattle.std.specs.Fmt.{decimal, signed_decimal};
+
+use itoa::write_digits;
+use std::marker::Model;
+
+/// How long a line can be.
+const ROOM: usize = 192;
+
+/// The end of a line, in a room of fixed size: words and numbers come before what is there. So each number's digits are
+/// written where they stay, and no line takes memory.
+#[derive(Drop)]
+pub struct LineEnd {
+    bytes: [u8; ROOM],
+    start: usize,
+}
+
+impl Model for LineEnd {
+    ghost use Rattle.std.specs.Prelude.{◌≤◌, List, ℕ, drop};
+
+    ghost Value = { List ℕ };
+
+    ghost view = { λ line. drop line.start line.bytes };
+
+    ghost invariant = { λ line. line.start ≤ 192 };
+}
+
+impl LineEnd {
+    /// The end of a line of which nothing is there.
+    #[tactic(auto, using(std::proofs::lemmas::List::drop_all))]
+    pub fn new() -> LineEnd
+        ensures { result ≡ [] }
+    {
+        LineEnd {
+            bytes: [0; ROOM],
+            start: ROOM,
+        }
+    }
+
+    /// The same again, of another line.
+    pub fn clear(&mut self)
+        ensures { self.new ≡ [] }
+    {
+        self.start = ROOM;
+    }
+
+    /// What is there.
+    pub fn as_slice(&self) -> &[u8]
+        ensures { result.now ≡ self.now }
+    {
+        &self.bytes[self.start..]
+    }
+
+    /// Puts a word before it.
+    #[inline(always)]
+    pub fn put_word(&mut self, word: &[u8])
+        requires { length self.old + length word.now ≤ 192 }
+        ensures text { self.new ≡ word.now ++ self.old }
+        ensures length { length self.new ≡ length word.now + length self.old }
+    {
+        let start = self.start - word.len();
+        self.bytes[start..self.start].copy_from_slice(word);
+        self.start = start;
+    }
+
+    /// Puts a number that is never below 0 before it. Answers how many digits it has.
+    pub fn put_count(&mut self, count: u64) -> usize
+        requires { length self.old + 20 ≤ 192 }
+        ensures text { self.new ≡ decimal count ++ self.old }
+        ensures length { length self.new ≡ result + length self.old }
+        ensures digits { result ≡ length (decimal count) }
+        ensures few { result ≤ 20 }
+    {
+        let end = self.start;
+        self.start = write_digits(count, &mut self.bytes, end);
+        end - self.start
+    }
+
+    /// Puts a number before it.
+    #[inline(always)]
+    pub fn put_value(&mut self, value: i32)
+        requires { length self.old + 11 ≤ 192 }
+        ensures text { self.new ≡ signed_decimal value ++ self.old }
+        ensures length { length self.new ≤ length self.old + 11 }
+    {
+        self.start = write_digits(u64::from(value.unsigned_abs()), &mut self.bytes, self.start);
+        if value >= 0 {
+            return;
+        }
+        self.start -= 1;
+        self.bytes[self.start] = b'-';
+    }
+
+    /// Counts up the number that the line begins with, which has so many digits. Answers how many the next one has.
+    pub fn count_up(&mut self, number: u64, digits: usize) -> usize
+        requires next { number + 1 < 2 ^ 64 }
+        requires digits { digits ≡ length (decimal number) }
+        requires number { self.old ≡ decimal number ++ drop digits self.old }
+        requires room { length self.old + 20 ≤ 192 }
+        ensures text { self.new ≡ decimal (number + 1) ++ drop digits self.old }
+        ensures digits { result ≡ length (decimal (number + 1)) }
+        ensures length { length self.new + digits ≡ length self.old + result }
+    {
+        let end = self.start + digits;
+        let last = self.bytes[end - 1];
+        if last < b'9' {
+            self.bytes[end - 1] = last + 1;
+            return digits;
+        }
+        self.start = write_digits(number + 1, &mut self.bytes, end);
+        end - self.start
+    }
+}

@@ -1,0 +1,38 @@
+// How a machine is made of an image.
+ghost use Rattle.std.specs.Prelude.{◌≡◌, ◌≢◌, IfOk};
+ghost use Rattle.thread_machine.specs.World.{world_of};
+ghost use Rattle.trace_compare.specs.Start.{Begins, IsRefused};
+
+use loader::{LoadFault, load};
+use row_code::Image;
+use std::alloc::Global;
+use thread_machine::Machine;
+
+/// How many effective steps a program may take.
+const MOST_STEPS: u32 = 1_000_000_000;
+
+/// Why an image has no machine.
+#[derive(Clone, Copy, Debug, PartialEq, Eq)]
+pub enum StartFault {
+    /// It isn't loaded, for this fault, which isn't `Memory`.
+    Load(LoadFault),
+    /// Out of memory.
+    Memory,
+}
+
+/// The machine of an image, before its first choice.
+pub fn first_machine(alloc: Global, image: Image) -> Result<Machine, StartFault>
+    ensures machine { IfOk result (λ machine. Begins image (world_of machine)) }
+    ensures load { (fault : LoadFault) → result ≡ Err (StartFault.Load fault)
+        → IsRefused fault image }
+{
+    let program = match load(alloc, image) {
+        Ok(program) => program,
+        Err(LoadFault::Memory) => return Err(StartFault::Memory),
+        Err(fault) => return Err(StartFault::Load(fault)),
+    };
+    match Machine::new(alloc, program, MOST_STEPS) {
+        Ok(machine) => Ok(machine),
+        Err(_) => Err(StartFault::Memory),
+    }
+}
