@@ -12,6 +12,14 @@ pub const OUT: &str = "OUT";
 
 pub const FILE: &str = "FILE";
 
+pub const RUN: &str = "run";
+
+pub const SCHEDULE: &str = "SCHEDULE";
+
+pub const COMPARE: &str = "compare";
+
+pub const TRACE: &str = "TRACE";
+
 pub const RACE: &str = "race";
 
 pub const PARTIES: &str = "parties";
@@ -22,6 +30,7 @@ pub const ROUNDS: &str = "rounds";
 const STATUSES: &str = "\
 Exit statuses:
   0  done
+  1  a trace isn't that of the run (`compare`)
   2  the command line is wrong
   3  the input is refused: standard error has a line `refused ..`
   4  memory is wanting, or a thread: standard error has `memory` or `spawn`
@@ -50,6 +59,23 @@ Writes the canonical text of the program in FILE, an image or a program text.
 FILE is an image where its first four bytes are `PBW1` or `PBW2`, else a text.
 
 Example: vuthgal list meeting.image";
+
+const RUN_ABOUT: &str = "\
+Plays the program in FILE under the schedule in SCHEDULE and writes the trace: a line for each choice, and then the state.
+
+FILE is an image where its first four bytes are `PBW1` or `PBW2`, else a program text. SCHEDULE is a file, or `-` for \
+standard input; it may be as long as you like.
+
+Example: vuthgal run examples/meeting.asm - <<< 't0 t1 t0*3 t1*2'";
+
+const COMPARE_ABOUT: &str = "\
+Compares the trace in TRACE with the run of the program in FILE under the choices that the trace names.
+
+It writes `same`; `differs LINE`, the first line that isn't the run's, byte for byte; or `not a trace LINE`, the first line that \
+is no trace's. FILE is an image where its first four bytes are `PBW1` or `PBW2`, else a program text. TRACE is a file, or `-` for \
+standard input; it may be as long as you like.
+
+Example: vuthgal compare examples/meeting.asm examples/two-threads-meet.trace";
 
 const RACE_ABOUT: &str = "\
 Lets real threads meet at one shared phaser, round after round, and writes the word that they leave.
@@ -81,6 +107,32 @@ fn list<'a>(alloc: Global) -> Result<Command<'a>, AllocError> {
         .arg(place(alloc, FILE, "The file of the image or of the program text"))
 }
 
+fn run<'a>(alloc: Global) -> Result<Command<'a>, AllocError> {
+    Command::new(alloc, RUN)
+        .about("Plays a program under a schedule and writes the trace")
+        .long_about(RUN_ABOUT)
+        .after_help(STATUSES)
+        .arg(place(alloc, FILE, "The file of the image or of the program text"))?
+        .arg(place(
+            alloc,
+            SCHEDULE,
+            "The file of the schedule, or `-` for standard input",
+        ))
+}
+
+fn compare<'a>(alloc: Global) -> Result<Command<'a>, AllocError> {
+    Command::new(alloc, COMPARE)
+        .about("Compares a trace with the run that it names")
+        .long_about(COMPARE_ABOUT)
+        .after_help(STATUSES)
+        .arg(place(alloc, FILE, "The file of the image or of the program text"))?
+        .arg(place(
+            alloc,
+            TRACE,
+            "The file of the trace, or `-` for standard input",
+        ))
+}
+
 /// An option that has to be there, with a number.
 fn number<'a>(alloc: Global, name: &'a str, value: &'a str, help: &'a str) -> Arg<'a> {
     Arg::new(alloc, name)
@@ -108,5 +160,7 @@ pub fn program<'a>(alloc: Global) -> Result<Command<'a>, AllocError> {
         .after_help(STATUSES)
         .subcommand(asm(alloc)?)?
         .subcommand(list(alloc)?)?
+        .subcommand(run(alloc)?)?
+        .subcommand(compare(alloc)?)?
         .subcommand(race(alloc)?)
 }

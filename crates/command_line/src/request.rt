@@ -1,6 +1,8 @@
 ghost use Rattle.std.specs.Prelude.{◌≡◌, ◌≤◌, ◌^◌, IfSome};
 
-use crate::commands::{ASM, FILE, LIST, OUT, PARTIES, RACE, ROUNDS, SRC, program};
+use crate::commands::{
+    ASM, COMPARE, FILE, LIST, OUT, PARTIES, RACE, ROUNDS, RUN, SCHEDULE, SRC, TRACE, program,
+};
 use clap::error::ErrorKind;
 use clap::{ArgMatches, Error};
 use std::alloc::Global;
@@ -14,6 +16,10 @@ pub enum Request<'a> {
     Asm { source: &'a str, image: &'a str },
     /// `list FILE`.
     List { file: &'a str },
+    /// `run FILE SCHEDULE`; the schedule `-` is standard input.
+    Run { file: &'a str, schedule: &'a str },
+    /// `compare FILE TRACE`; the trace `-` is standard input.
+    Compare { file: &'a str, trace: &'a str },
     /// `race --parties N --rounds R`: 1 to 16 threads, 1 to 1,000,000 phases.
     Race { parties: u16, rounds: u32 },
 }
@@ -59,6 +65,14 @@ fn request_by<'a>(name: &str, matches: &ArgMatches<'a>) -> Option<Request<'a>> {
         }),
         LIST => Some(Request::List {
             file: word(matches, FILE),
+        }),
+        RUN => Some(Request::Run {
+            file: word(matches, FILE),
+            schedule: word(matches, SCHEDULE),
+        }),
+        COMPARE => Some(Request::Compare {
+            file: word(matches, FILE),
+            trace: word(matches, TRACE),
         }),
         RACE => race(matches),
         _ => Some(Request::Both),

@@ -1,16 +1,16 @@
 //! How the program ends: what it tells, and with which status.
 
-ghost use Rattle.std.specs.Prelude.{◌≡◌, ◌==◌, ◌&&◌, not};
+ghost use Rattle.std.specs.Prelude.{◌≡◌, ◌==◌, ◌&&◌, ◌||◌, not};
 
 use byte_ports::WritePort;
 use std::io::Write;
-use workbench::fault::{DONE, Fault};
+use workbench::fault::{DONE, Fault, UNLIKE};
 
-/// Whether the last flush decides the status: it failed, and else all went well.
+/// Whether the last flush decides the status: it failed, and else all was written, be it a trace or a verdict.
 fn is_lost_at_the_end(is_flushed: bool, status: u8) -> bool
-    ensures { result ≡ (not is_flushed && (status == 0)) }
+    ensures { result ≡ (not is_flushed && (status == 0 || status == 1)) }
 {
-    !is_flushed && status == DONE
+    !is_flushed && (status == DONE || status == UNLIKE)
 }
 
 /// Tells a fault that comes before or after a command.

@@ -5,18 +5,21 @@ mod ending;
 mod files;
 mod words;
 
-use byte_ports::{ReadPort, Sink, WritePort};
+use byte_ports::{ReadPort, Sink, Source, WritePort};
 use command_line::request::Request;
 use ending::{flushed, told};
 use race::race_cmd;
+use std::fs::File;
 use std::io::{BufWriter, IsTerminal};
 use std::process::ExitCode;
 use std::sync::Wait;
 use std::thread::Threads;
 use workbench::asm::asm_cmd;
 use workbench::both::both_cmd;
+use workbench::compare::compare_cmd;
 use workbench::fault::Fault;
 use workbench::list::list_cmd;
+use workbench::run::run_cmd;
 
 /// How many bytes are written at a time.
 const BUFFER: usize = 65_536;
@@ -74,6 +77,65 @@ fn list(rt: &HostRuntime, file: &str) -> u8 {
     flushed(rt, status, &mut output)
 }
 
+/// Plays the program in a file under a schedule.
+fn run_under<S: Source>(rt: &HostRuntime, program: File, schedule: &mut S) -> u8 {
+    let Ok(writer) = BufWriter::with_capacity(rt.alloc(), BUFFER, rt.stdout()) else {
+        return told(rt, Fault::Memory);
+    };
+    let mut output = WritePort::new(writer);
+    let mut errors = WritePort::new(rt.stderr());
+    let status = run_cmd(
+        rt.alloc(),
+        &mut ReadPort::new(program),
+        schedule,
+        &mut output,
+        &mut errors,
+    );
+    flushed(rt, status, &mut output)
+}
+
+/// The same with the files that two words name, the schedule standard input where its word is `-`.
+fn run(rt: &HostRuntime, file: &str, schedule: &str) -> u8 {
+    let Ok(program) = files::read(rt, file) else {
+        return told(rt, Fault::Read);
+    };
+    if schedule == "-" {
+        return run_under(rt, program, &mut ReadPort::new(rt.stdin()));
+    }
+    let Ok(schedule) = files::read(rt, schedule) else {
+        return told(rt, Fault::Read);
+    };
+    run_under(rt, program, &mut ReadPort::new(schedule))
+}
+
+/// Compares a trace with the run of the program in a file.
+fn compare_with<S: Source>(rt: &HostRuntime, program: File, trace: &mut S) -> u8 {
+    let mut output = WritePort::new(rt.stdout());
+    let mut errors = WritePort::new(rt.stderr());
+    let status = compare_cmd(
+        rt.alloc(),
+        &mut ReadPort::new(program),
+        trace,
+        &mut output,
+        &mut errors,
+    );
+    flushed(rt, status, &mut output)
+}
+
+/// The same with the files that two words name, the trace standard input where its word is `-`.
+fn compare(rt: &HostRuntime, file: &str, trace: &str) -> u8 {
+    let Ok(program) = files::read(rt, file) else {
+        return told(rt, Fault::Read);
+    };
+    if trace == "-" {
+        return compare_with(rt, program, &mut ReadPort::new(rt.stdin()));
+    }
+    let Ok(trace) = files::read(rt, trace) else {
+        return told(rt, Fault::Read);
+    };
+    compare_with(rt, program, &mut ReadPort::new(trace))
+}
+
 /// Lets real threads meet at a shared phaser.
 fn meet<R: Threads + Wait + Sync>(threads: &R, rt: &HostRuntime, parties: u16, rounds: u32) -> u8 {
     let mut output = WritePort::new(rt.stdout());
@@ -98,6 +160,8 @@ fn main(rt: HostRuntime) -> ExitCode {
         Ok(Request::Both) => both(&rt),
         Ok(Request::Asm { source, image }) => asm(&rt, source, image),
         Ok(Request::List { file }) => list(&rt, file),
+        Ok(Request::Run { file, schedule }) => run(&rt, file, schedule),
+        Ok(Request::Compare { file, trace }) => compare(&rt, file, trace),
         Ok(Request::Race { parties, rounds }) => meet(&rt, &rt, parties, rounds),
         Err(status) => status,
     })

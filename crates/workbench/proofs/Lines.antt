@@ -16,3 +16,9 @@ text_line-pushed (Ok x) a b c d line kind number is first second third =
     (Appends-trans a b d (codes "refused asm " ++ decimal line) _ first
     (Appends-trans b c d (codes " " ++ decimal number) (codes "\n") second third))
 text_line-pushed (Err e) a b c d line kind number is first second third = third
+
+-- two pieces, of which the last may fail
+pub pushed-after : {X E : Type 0} (last : Result X E) (a b c : Option (List ℕ)) (front rest : List ℕ)
+    → Appends a b front → OnOk last (Appends b c rest) → OnOk last (Appends a c (front ++ rest))
+pushed-after (Ok x) a b c front rest first second = Appends-trans a b c front rest first second
+pushed-after (Err e) a b c front rest first second = second

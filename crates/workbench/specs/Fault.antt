@@ -6,6 +6,13 @@ use Rattle.line_reader.specs.declared.asm_fault.AsmFaultKind.{AsmFaultKind}
 use Rattle.line_reader.specs.declared.asm_fault.AsmFaultKind.TheVariants as kind
 use Rattle.row_code.specs.declared.image_fault.ImageFault.{ImageFault}
 use Rattle.row_code.specs.declared.image_fault.ImageFault.TheVariants as image
+use Rattle.loader.specs.declared.load_fault.LoadFault.{LoadFault}
+use Rattle.loader.specs.declared.load_fault.LoadFault.TheVariants as load
+use Rattle.loader.specs.declared.load_fault.Place.{Place}
+use Rattle.loader.specs.declared.load_fault.Place.TheVariants as place
+use Rattle.schedule_reader.specs.declared.fault.ScheduleFault.{ScheduleFault}
+use Rattle.schedule_reader.specs.declared.fault.ScheduleFault.TheVariants as schedule
+use Rattle.tier_tree.specs.Declaration.{fault_number}
 use Rattle.workbench.specs.declared.fault.Fault.{Fault}
 use Rattle.workbench.specs.declared.fault.Fault.TheVariants as fault
 
@@ -36,11 +43,21 @@ abbrev pub image_status : ImageFault → ℕ
 image_status image.Memory = 4
 image_status _ = 3
 
+-- the same of the loader's fault, and of the schedule's
+abbrev pub load_status : LoadFault → ℕ
+load_status load.Memory = 4
+load_status _ = 3
+
+abbrev pub schedule_status : ScheduleFault → ℕ
+schedule_status schedule.Memory = 4
+schedule_status _ = 3
+
 -- the exit status
 abbrev pub status_of : Fault → ℕ
-status_of fault.Refused = 3
 status_of (fault.Asm f) = text_status (number_of f.kind)
 status_of (fault.Image f) = image_status f
+status_of (fault.Load f) = load_status f
+status_of (fault.Schedule f) = schedule_status f
 status_of fault.Memory = 4
 status_of fault.Read = 5
 status_of fault.Write = 5
@@ -66,11 +83,41 @@ image_line image.Extra = codes "refused image 6\n"
 image_line image.Memory = codes "memory\n"
 image_line image.Version = codes "refused image 8\n"
 
+-- the line on standard error for a row that isn't there, with the place that names it
+abbrev pub place_line : Place → List ℕ
+place_line (place.Row n) = counted_line (codes "refused load 1 row ") n
+place_line (place.Thread n) = counted_line (codes "refused load 1 thread ") n
+place_line (place.Phaser n) = counted_line (codes "refused load 1 phaser ") n
+place_line (place.Barrier n) = counted_line (codes "refused load 1 barrier ") n
+
+-- the line on standard error for a program that isn't loaded: with the row that names a missing thing, with the phaser
+-- and why it can't be declared, or with the barrier
+abbrev pub load_line : LoadFault → List ℕ
+load_line (load.Target place) = place_line place
+load_line load.FallsOff = codes "refused load 2\n"
+load_line (load.NoSuchPhaser row) = counted_line (codes "refused load 3 ") row
+load_line (load.NoSuchBarrier row) = counted_line (codes "refused load 4 ") row
+load_line (load.NoSuchThread row) = counted_line (codes "refused load 5 ") row
+load_line (load.NoSuchCell row) = counted_line (codes "refused load 6 ") row
+load_line (load.Declare phaser why) =
+    codes "refused load 7 " ++ (decimal phaser ++ counted_line (codes " ") (fault_number why))
+load_line (load.BarrierParties barrier) = counted_line (codes "refused load 8 ") barrier
+load_line load.NoThread = codes "refused load 9\n"
+load_line load.Memory = codes "memory\n"
+
+-- the line on standard error for a schedule's fault, with its offset
+abbrev pub schedule_line : ScheduleFault → List ℕ
+schedule_line (schedule.Byte at) = counted_line (codes "refused schedule 1 ") at
+schedule_line (schedule.Number at) = counted_line (codes "refused schedule 2 ") at
+schedule_line (schedule.Repeat at) = counted_line (codes "refused schedule 3 ") at
+schedule_line schedule.Memory = codes "memory\n"
+
 -- the line on standard error
 abbrev pub line_of : Fault → List ℕ
-line_of fault.Refused = codes "refused\n"
 line_of (fault.Asm f) = text_line f.line (number_of f.kind)
 line_of (fault.Image f) = image_line f
+line_of (fault.Load f) = load_line f
+line_of (fault.Schedule f) = schedule_line f
 line_of fault.Memory = codes "memory\n"
 line_of fault.Read = codes "read\n"
 line_of fault.Write = codes "write\n"

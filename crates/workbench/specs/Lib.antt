@@ -1,9 +1,10 @@
 pub mod Asm
 pub mod Both
+pub mod Compare
 pub mod Fault
 pub mod Input
 pub mod List
-pub mod Playable
+pub mod Play
 pub mod ProgramFile
+pub mod Run
 pub mod RunLine
-pub mod Trace

@@ -1,25 +1,32 @@
-ghost use Rattle.std.specs.Prelude.{◌≡◌, ◌++◌, IsTrue, OnErr, OnOk};
+ghost use Rattle.std.specs.Prelude.{◌≡◌, ◌++◌, IsTrue, OnErr, OnOk, codes};
 ghost use Rattle.std.specs.Fmt.{decimal};
 ghost use Rattle.std.specs.Io.KnownBytes.{Appends};
-ghost use Rattle.workbench.specs.Fault.{counted_line, image_line, line_of, number_of, status_of, text_line};
+ghost use Rattle.workbench.specs.Fault.{counted_line, image_line, line_of, load_line, number_of, place_line, schedule_line, status_of, text_line};
 
 use assembler::{AsmFault, AsmFaultKind};
 use byte_ports::{Failed, Sink};
 use itoa::Buffer;
+use loader::{LoadFault, Place};
 use row_code::ImageFault;
+use schedule_reader::ScheduleFault;
 
 /// The exit status for what went well.
 pub const DONE: u8 = 0;
 
+/// The exit status for a trace that isn't the run's.
+pub const UNLIKE: u8 = 1;
+
 /// Why a command gave up.
 #[derive(Clone, Copy)]
 pub enum Fault {
-    /// The program isn't played, or the schedule is none.
-    Refused,
     /// The program's text has this fault, or there was no memory for it.
     Asm(AsmFault),
     /// The image has this fault, or there was no memory for it.
     Image(ImageFault),
+    /// The program isn't loaded, for this fault.
+    Load(LoadFault),
+    /// The schedule has this fault.
+    Schedule(ScheduleFault),
     /// Out of memory.
     Memory,
     /// The input failed, or is too long.
@@ -61,7 +68,7 @@ fn push_with_count<E: Sink>(errors: &mut E, word: &[u8], count: u64) -> Result<(
 }
 
 /// A line that ends in this number.
-fn push_counted_line<E: Sink>(errors: &mut E, word: &[u8], count: u64) -> Result<(), Failed>
+pub fn push_counted_line<E: Sink>(errors: &mut E, word: &[u8], count: u64) -> Result<(), Failed>
     ensures bytes { OnOk result (Appends (E.written errors.old) (E.written errors.new)
         (counted_line word.now count)) }
     ensures failed { OnErr result (IsTrue (E.has_failed errors.new)) }
@@ -108,16 +115,93 @@ fn push_image_line<E: Sink>(errors: &mut E, fault: ImageFault) -> Result<(), Fai
     }
 }
 
+/// The line of a row that isn't there.
+fn push_place_line<E: Sink>(errors: &mut E, place: Place) -> Result<(), Failed>
+    ensures bytes { OnOk result (Appends (E.written errors.old) (E.written errors.new)
+        (place_line place)) }
+    ensures failed { OnErr result (IsTrue (E.has_failed errors.new)) }
+{
+    match place {
+        Place::Row(n) => push_counted_line(errors, b"refused load 1 row ", u64::from(n)),
+        Place::Thread(n) => push_counted_line(errors, b"refused load 1 thread ", u64::from(n)),
+        Place::Phaser(n) => push_counted_line(errors, b"refused load 1 phaser ", u64::from(n)),
+        Place::Barrier(n) => push_counted_line(errors, b"refused load 1 barrier ", u64::from(n)),
+    }
+}
+
+/// The line of a phaser that can't be declared, by the number of why.
+fn push_declare_line<E: Sink>(errors: &mut E, phaser: u8, why: u8) -> Result<(), Failed>
+    ensures bytes { OnOk result (Appends (E.written errors.old) (E.written errors.new)
+        (codes "refused load 7 " ++ (decimal phaser ++ counted_line (codes " ") why))) }
+    ensures failed { OnErr result (IsTrue (E.has_failed errors.new)) }
+{
+    push_with_count(errors, b"refused load 7 ", u64::from(phaser))?;
+    push_counted_line(errors, b" ", u64::from(why))
+}
+
+/// The line of a program that isn't loaded.
+fn push_load_line<E: Sink>(errors: &mut E, fault: LoadFault) -> Result<(), Failed>
+    ensures bytes { OnOk result (Appends (E.written errors.old) (E.written errors.new)
+        (load_line fault)) }
+    ensures failed { OnErr result (IsTrue (E.has_failed errors.new)) }
+{
+    match fault {
+        LoadFault::Target(place) => push_place_line(errors, place),
+        LoadFault::FallsOff => errors.push(b"refused load 2\n"),
+        LoadFault::NoSuchPhaser(row) => push_counted_line(
+            errors,
+            b"refused load 3 ",
+            u64::from(row),
+        ),
+        LoadFault::NoSuchBarrier(row) => push_counted_line(
+            errors,
+            b"refused load 4 ",
+            u64::from(row),
+        ),
+        LoadFault::NoSuchThread(row) => push_counted_line(
+            errors,
+            b"refused load 5 ",
+            u64::from(row),
+        ),
+        LoadFault::NoSuchCell(row) => push_counted_line(errors, b"refused load 6 ", u64::from(row)),
+        LoadFault::Declare(phaser, why) => push_declare_line(errors, phaser, why.number()),
+        LoadFault::BarrierParties(barrier) => push_counted_line(
+            errors,
+            b"refused load 8 ",
+            u64::from(barrier),
+        ),
+        LoadFault::NoThread => errors.push(b"refused load 9\n"),
+        LoadFault::Memory => errors.push(b"memory\n"),
+    }
+}
+
+/// The line of a schedule's fault.
+fn push_schedule_line<E: Sink>(errors: &mut E, fault: ScheduleFault) -> Result<(), Failed>
+    ensures bytes { OnOk result (Appends (E.written errors.old) (E.written errors.new)
+        (schedule_line fault)) }
+    ensures failed { OnErr result (IsTrue (E.has_failed errors.new)) }
+{
+    match fault {
+        ScheduleFault::Byte(at) => push_counted_line(errors, b"refused schedule 1 ", at),
+        ScheduleFault::Number(at) => push_counted_line(errors, b"refused schedule 2 ", at),
+        ScheduleFault::Repeat(at) => push_counted_line(errors, b"refused schedule 3 ", at),
+        ScheduleFault::Memory => errors.push(b"memory\n"),
+    }
+}
+
 impl Fault {
     /// The program's exit status.
     pub fn status(self) -> u8
         ensures { result ≡ status_of self }
     {
         match self {
-            Fault::Refused => 3,
             Fault::Asm(fault) if number_of(fault.kind).is_some() => 3,
-            Fault::Asm(_) | Fault::Image(ImageFault::Memory) | Fault::Memory => 4,
-            Fault::Image(_) => 3,
+            Fault::Asm(_)
+            | Fault::Image(ImageFault::Memory)
+            | Fault::Load(LoadFault::Memory)
+            | Fault::Schedule(ScheduleFault::Memory)
+            | Fault::Memory => 4,
+            Fault::Image(_) | Fault::Load(_) | Fault::Schedule(_) => 3,
             Fault::Read | Fault::Write => 5,
         }
     }
@@ -129,9 +213,10 @@ impl Fault {
         ensures failed { OnErr result (IsTrue (E.has_failed errors.new)) }
     {
         match self {
-            Fault::Refused => errors.push(b"refused\n"),
             Fault::Asm(fault) => push_text_line(errors, fault.line, number_of(fault.kind)),
             Fault::Image(fault) => push_image_line(errors, fault),
+            Fault::Load(fault) => push_load_line(errors, fault),
+            Fault::Schedule(fault) => push_schedule_line(errors, fault),
             Fault::Memory => errors.push(b"memory\n"),
             Fault::Read => errors.push(b"read\n"),
             Fault::Write => errors.push(b"write\n"),

@@ -2,7 +2,7 @@ use super::*;
 use std::test::Fail;
 
 /// A command line after the program's name, its words parted by one space, and what it asks for.
-const REQUESTS: [(&str, Request); 6] = [
+const REQUESTS: [(&str, Request); 8] = [
     ("", Request::Both),
     (
         "asm a.txt b",
@@ -13,6 +13,20 @@ const REQUESTS: [(&str, Request); 6] = [
     ),
     ("list -", Request::List { file: "-" }),
     ("list -- --help", Request::List { file: "--help" }),
+    (
+        "run a.image -",
+        Request::Run {
+            file: "a.image",
+            schedule: "-",
+        },
+    ),
+    (
+        "compare a.txt b.trace",
+        Request::Compare {
+            file: "a.txt",
+            trace: "b.trace",
+        },
+    ),
     (
         "race --parties 16 --rounds 1000000",
         Request::Race {
@@ -30,12 +44,16 @@ const REQUESTS: [(&str, Request); 6] = [
 ];
 
 /// Command lines that ask for nothing, and the status of each.
-const REFUSED: [(&str, i32); 17] = [
+const REFUSED: [(&str, i32); 21] = [
     ("asm", 2),
     ("asm a", 2),
     ("asm a b c", 2),
     ("list", 2),
     ("list a b", 2),
+    ("run a", 2),
+    ("run a b c", 2),
+    ("compare a", 2),
+    ("compare a b c", 2),
     ("examples/stuck.txt", 2),
     ("--nonsense", 2),
     ("race --parties 2", 2),

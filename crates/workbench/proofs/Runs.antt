@@ -1,0 +1,123 @@
+-- What becomes of a program under a schedule that is known as a whole.
+use Rattle.std.proofs.Common.{◌≡◌, ◌≢◌, ◌∙◌, ◌++◌, ◌⊎◌, ℕ, inl, inr, List, [], Ok, Err, Result, Option, Some, ap, sym, refl, subst, append-nil, arith}
+use Rattle.std.specs.Prelude.{OnOk, IfErr}
+use Rattle.std.specs.Io.KnownBytes.{Appends}
+use Rattle.line_reader.specs.declared.asm_fault.AsmFault.{AsmFault}
+use Rattle.row_code.specs.declared.image.Image.{Image}
+use Rattle.row_code.specs.declared.image_fault.ImageFault.{ImageFault}
+use Rattle.assembler.specs.Meaning.{StandsFor}
+use Rattle.loader.specs.declared.load_fault.LoadFault.{LoadFault}
+use Rattle.schedule_reader.specs.declared.fault.ScheduleFault.{ScheduleFault}
+use Rattle.schedule_reader.specs.declared.run.Run.{Run}
+use Rattle.schedule_reader.specs.Schedule.{Schedule, finished_schedule, choices_of}
+use Rattle.trace_compare.specs.RunText.{HasFault, HasRun, HasRunToFault, faulty_after}
+use Rattle.trace_compare.specs.RunText as run
+use Rattle.trace_compare.specs.Start.{IsRefused}
+use Rattle.trace_compare.specs.Trace.{AppendsPartOf, lines_of}
+use Rattle.trace_compare.proofs.Plays.{Part-whole}
+use Rattle.workbench.specs.declared.fault.Fault.{Fault}
+use Rattle.workbench.specs.declared.fault.Fault.TheVariants as fault
+use Rattle.workbench.specs.Both.{AreLinesOf, AreRefusedFor, IsTraceOf}
+use Rattle.workbench.specs.Fault.{status_of}
+use Rattle.workbench.specs.Play.{HasRunAtMost}
+use Rattle.workbench.specs.RunLine.{program_part, schedule_part}
+
+-- the runs before a fault are those of the bytes that were read
+fault-runs : (bytes : List ℕ) (left : Option (List ℕ)) (runs : List Run) (f : ScheduleFault)
+    → HasFault bytes left runs f → runs ≡ (finished_schedule bytes).runs
+fault-runs bytes left runs f (inl (end, is)) = ap (λ (schedule : Schedule). schedule.runs) (sym is)
+fault-runs bytes left runs f (inr later) =
+    ap (λ (schedule : Schedule). schedule.runs) (sym (later []))
+    ∙ ap (λ given. (finished_schedule given).runs) (append-nil bytes)
+
+-- the lines up to a fault are a part of those of the choices that were read
+pub fault-at_most : (image : Image) (f : ScheduleFault) (schedule_before schedule_after output_before output_after : Option (List ℕ))
+    → HasRunToFault image f schedule_before schedule_after output_before output_after
+    → HasRunAtMost image schedule_before schedule_after output_before output_after
+fault-at_most image f schedule_before schedule_after output_before output_after
+    (world, (bytes, (runs, (begins, consumed, faulty, appended)))) =
+    inr (
+      world,
+      (
+        bytes,
+        (
+          runs,
+          (
+            begins,
+            consumed,
+            inr (fault-runs bytes schedule_after runs f faulty),
+            Part-whole output_before output_after (lines_of world (choices_of runs)) appended,
+          ),
+        ),
+      ),
+    )
+
+-- the fault of a known schedule
+whole_fault : (schedule bytes after : List ℕ) (runs : List Run) (f : ScheduleFault) → schedule ≡ bytes ++ after
+    → HasFault bytes (Some after) runs f → finished_schedule schedule ≡ faulty_after runs f
+whole_fault schedule bytes after runs f is (inl (end, faulty)) =
+    ap finished_schedule (is ∙ ap (λ rest. bytes ++ rest) end ∙ append-nil bytes) ∙ faulty
+whole_fault schedule bytes after runs f is (inr later) = ap finished_schedule is ∙ later after
+
+-- the trace of a whole text
+pub whole-traced : (result : Result (Unit {0}) Fault) (image : Image) (text schedule after : List ℕ)
+    (output_before output_after : Option (List ℕ)) → schedule ≡ schedule_part text → StandsFor (program_part text) image
+    → OnOk result (HasRun image (Some schedule) (Some after) output_before output_after)
+    → OnOk result ((trace : List ℕ) × (IsTraceOf text trace × Appends output_before output_after trace))
+whole-traced (Ok x) image text schedule after output_before output_after is stands
+    (bytes, (trace, (consumed, end, traced, appended))) =
+    let whole : bytes ≡ schedule_part text =
+    sym (append-nil bytes) ∙ ap (λ rest. bytes ++ rest) (sym end) ∙ sym consumed ∙ is in
+    (trace, ((image, (stands, subst (λ given. run.IsTraceOf image given trace) whole traced)), appended))
+whole-traced (Err e) image text schedule after output_before output_after is stands run = run
+
+-- why a whole text is refused, if it is
+pub whole-refused : (result : Result (Unit {0}) Fault) (image : Image) (text schedule after : List ℕ)
+    (output_before output_after : Option (List ℕ)) → schedule ≡ schedule_part text → StandsFor (program_part text) image
+    → ((f : LoadFault) → result ≡ Err (fault.Load f) → IsRefused f image
+    × (◌≡◌ {A = Option (List ℕ)} (Some after) (Some schedule)) × (output_after ≡ output_before))
+    → ((f : ScheduleFault) → result ≡ Err (fault.Schedule f)
+    → HasRunToFault image f (Some schedule) (Some after) output_before output_after)
+    → ((f : AsmFault) → result ≢ Err (fault.Asm f)) × ((f : ImageFault) → result ≢ Err (fault.Image f))
+    → IfErr result (λ f. status_of f ≡ 3
+    → AreRefusedFor f (program_part text) (schedule_part text) output_before output_after)
+whole-refused (Ok x) image text schedule after output_before output_after is stands load faulty other = tt
+whole-refused (Err (fault.Asm f)) image text schedule after output_before output_after is stands load faulty other =
+    absurd (other.0 f refl)
+whole-refused (Err (fault.Image f)) image text schedule after output_before output_after is stands load faulty other =
+    absurd (other.1 f refl)
+whole-refused (Err (fault.Load f)) image text schedule after output_before output_after is stands load faulty other = λ _.
+    let (refused, kept, same) = load f refl in ((image, (stands, refused)), same)
+whole-refused (Err (fault.Schedule f)) image text schedule after output_before output_after is stands load faulty other = λ _.
+    let (world, (bytes, (runs, (begins, consumed, has_fault, appended)))) = faulty f refl in
+    let finished = whole_fault (schedule_part text) bytes after runs f (sym is ∙ consumed) has_fault in
+    (lines_of world (choices_of runs), ((image, (world, (runs, (stands, begins, finished, refl)))), appended))
+whole-refused (Err fault.Memory) image text schedule after output_before output_after is stands load faulty other =
+    λ three. absurd (omega (arith, three))
+whole-refused (Err fault.Read) image text schedule after output_before output_after is stands load faulty other =
+    λ three. absurd (omega (arith, three))
+whole-refused (Err fault.Write) image text schedule after output_before output_after is stands load faulty other =
+    λ three. absurd (omega (arith, three))
+
+-- what was written at most of a whole text
+at_most : (image : Image) (text schedule after : List ℕ) (output_before output_after : Option (List ℕ))
+    → schedule ≡ schedule_part text → StandsFor (program_part text) image
+    → HasRunAtMost image (Some schedule) (Some after) output_before output_after
+    → (output_after ≡ output_before) ⊎ ((lines : List ℕ)
+    × (AreLinesOf text lines × AppendsPartOf output_before output_after lines))
+at_most image text schedule after output_before output_after is stands (inl same) = inl same
+at_most image text schedule after output_before output_after is stands
+    (inr (world, (bytes, (runs, (begins, consumed, runs_of, part))))) =
+    inr (
+      lines_of world (choices_of runs),
+      ((image, (world, (bytes, (after, (runs, (stands, begins, sym is ∙ consumed, runs_of, refl)))))), part),
+    )
+
+pub whole-at_most : (result : Result (Unit {0}) Fault) (image : Image) (text schedule after : List ℕ)
+    (output_before output_after : Option (List ℕ)) → schedule ≡ schedule_part text → StandsFor (program_part text) image
+    → IfErr result (λ f. status_of f ≡ 4 → HasRunAtMost image (Some schedule) (Some after) output_before output_after)
+    → IfErr result (λ f. status_of f ≡ 4 → (output_after ≡ output_before) ⊎ ((lines : List ℕ)
+    × (AreLinesOf text lines × AppendsPartOf output_before output_after lines)))
+whole-at_most (Ok x) image text schedule after output_before output_after is stands most = tt
+whole-at_most (Err f) image text schedule after output_before output_after is stands most = λ four.
+    at_most image text schedule after output_before output_after is stands (most four)

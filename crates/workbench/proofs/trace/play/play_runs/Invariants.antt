@@ -1,9 +1,0 @@
-use Rattle.std.proofs.Common.{drop}
-use Rattle.schedule_reader.specs.Schedule.{choices_of}
-use Rattle.workbench.proofs.Plays.{Continues}
-use Rattle.workbench.proofs.trace.play.play_runs.Given as goal
-
-abbrev pub invariant-loop-run : goal.invariant-loop-run
-invariant-loop-run g l =
-    Continues l.initial.machine l.machine (choices_of l.runs) (choices_of (drop l.run-index l.runs))
-    (g.W.Sink.written l.initial.output) (g.W.Sink.written l.output)

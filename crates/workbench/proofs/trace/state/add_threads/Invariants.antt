@@ -1,9 +1,0 @@
-use Rattle.std.proofs.Common.{◌≡◌, ◌++◌, drop}
-use Rattle.workbench.specs.Trace.{numbered_texts, thread_text}
-use Rattle.workbench.proofs.trace.state.add_threads.Given as goal
-
-abbrev pub invariant-loop-thread : goal.invariant-loop-thread
-invariant-loop-thread l =
-    let threads = l.machine.scene.threads in
-    l.text.items ++ numbered_texts thread_text l.thread (drop l.thread threads)
-    ≡ l.initial.text.items ++ numbered_texts thread_text 0 threads

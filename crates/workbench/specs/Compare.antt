@@ -1,0 +1,41 @@
+-- What `compare` makes of a program's file and a trace.
+use Rattle.std.specs.Prelude.{◌≡◌, ℕ, List, Option, codes}
+use Rattle.std.specs.Io.KnownBytes.{Appends}
+use Rattle.row_code.specs.declared.image.Image.{Image}
+use Rattle.trace_compare.specs.declared.compare.Verdict.{Verdict}
+use Rattle.trace_compare.specs.declared.compare.Verdict.TheVariants as verdict
+use Rattle.trace_compare.specs.Compare.{HasCompared}
+use Rattle.trace_compare.specs.Start.{IsRefused}
+use Rattle.workbench.specs.declared.fault.Fault.{Fault}
+use Rattle.workbench.specs.declared.fault.Fault.TheVariants as fault
+use Rattle.workbench.specs.Fault.{counted_line}
+use Rattle.workbench.specs.Run.{GivesNoProgram, GivesProgram}
+
+-- the line that tells a verdict
+abbrev pub verdict_line : Verdict → List ℕ
+verdict_line verdict.Same = codes "same\n"
+verdict_line (verdict.Differs line) = counted_line (codes "differs ") line
+verdict_line (verdict.NotATrace line) = counted_line (codes "not a trace ") line
+
+-- the exit status by it
+abbrev pub verdict_status : Verdict → ℕ
+verdict_status verdict.Same = 0
+verdict_status (verdict.Differs line) = 1
+verdict_status (verdict.NotATrace line) = 1
+
+-- the file was read to its end, and the trace as far as the verdict needs; the line of the verdict was written
+abbrev pub HasComparedFile : Verdict → (file_before file_after trace_before trace_after output_before output_after : Option (List ℕ)) → Type 0
+HasComparedFile v file_before file_after trace_before trace_after output_before output_after =
+    (image : Image) × (GivesProgram file_before file_after image
+    × HasCompared image trace_before trace_after v × Appends output_before output_after (verdict_line v))
+
+-- why nothing is compared, by the fault that is told: the file is no program, or the program isn't loaded; the trace
+-- wasn't read then
+abbrev pub HasNoRun : Fault → (file_before file_after trace_before trace_after : Option (List ℕ)) → Type 0
+HasNoRun (fault.Asm f) file_before file_after trace_before trace_after =
+    GivesNoProgram file_before file_after (fault.Asm f) × (trace_after ≡ trace_before)
+HasNoRun (fault.Image f) file_before file_after trace_before trace_after =
+    GivesNoProgram file_before file_after (fault.Image f) × (trace_after ≡ trace_before)
+HasNoRun (fault.Load f) file_before file_after trace_before trace_after =
+    (image : Image) × (GivesProgram file_before file_after image × IsRefused f image × (trace_after ≡ trace_before))
+HasNoRun _ file_before file_after trace_before trace_after = ⊥

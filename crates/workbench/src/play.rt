@@ -1,0 +1,55 @@
+ghost use Rattle.std.specs.Prelude.{◌≡◌, ◌≢◌, ◌⊎◌, Err, IsTrue, IfErr, OnOk};
+ghost use Rattle.line_reader.specs.declared.asm_fault.AsmFault.{AsmFault};
+ghost use Rattle.row_code.specs.declared.image_fault.ImageFault.{ImageFault};
+ghost use Rattle.schedule_reader.specs.declared.fault.ScheduleFault.{ScheduleFault};
+ghost use Rattle.loader.specs.declared.load_fault.LoadFault.{LoadFault};
+ghost use Rattle.trace_compare.specs.RunText.{GivesOnAndOn, HasRun, HasRunSoFar, HasRunToFault};
+ghost use Rattle.trace_compare.specs.Start.{IsRefused};
+ghost use Rattle.workbench.specs.Fault.{status_of};
+ghost use Rattle.workbench.specs.Play.{HasRunAtMost};
+
+use crate::fault::Fault;
+use byte_ports::{Sink, Source};
+use loader::LoadFault;
+use row_code::Image;
+use schedule_reader::ScheduleFault;
+use std::alloc::Global;
+use trace_compare::run::{RunFault, run_text};
+
+/// Plays an image's program under a schedule and writes the trace, with the fault that decides the status: `run_text` in
+/// the words of the commands.
+pub fn play<S: Source, K: Sink>(
+    alloc: Global,
+    image: Image,
+    schedule: &mut S,
+    output: &mut K,
+) -> Result<(), Fault>
+    ensures done { OnOk result (HasRun image (S.left schedule.old) (S.left schedule.new)
+        (K.written output.old) (K.written output.new)) }
+    ensures load { (fault : LoadFault) → result ≡ Err (Fault.Load fault) → IsRefused fault image
+        × (S.left schedule.new ≡ S.left schedule.old) × (K.written output.new ≡ K.written output.old) }
+    ensures schedule { (fault : ScheduleFault) → result ≡ Err (Fault.Schedule fault)
+        → HasRunToFault image fault (S.left schedule.old) (S.left schedule.new)
+        (K.written output.old) (K.written output.new) }
+    ensures memory { IfErr result (λ fault. status_of fault ≡ 4
+        → HasRunAtMost image (S.left schedule.old) (S.left schedule.new)
+        (K.written output.old) (K.written output.new)) }
+    ensures read { result ≡ Err Fault.Read → (IsTrue (S.has_failed schedule.new)
+        ⊎ GivesOnAndOn (S.left schedule.old) (S.left schedule.new))
+        × HasRunSoFar image (S.left schedule.old) (S.left schedule.new)
+        (K.written output.old) (K.written output.new) }
+    ensures write { result ≡ Err Fault.Write → IsTrue (K.has_failed output.new) }
+    ensures program { ((fault : AsmFault) → result ≢ Err (Fault.Asm fault))
+        × ((fault : ImageFault) → result ≢ Err (Fault.Image fault)) }
+{
+    match run_text(alloc, image, schedule, output) {
+        Ok(()) => Ok(()),
+        Err(RunFault::Load(LoadFault::Memory)) => Err(Fault::Memory),
+        Err(RunFault::Load(fault)) => Err(Fault::Load(fault)),
+        Err(RunFault::Schedule(ScheduleFault::Memory)) => Err(Fault::Memory),
+        Err(RunFault::Schedule(fault)) => Err(Fault::Schedule(fault)),
+        Err(RunFault::Memory) => Err(Fault::Memory),
+        Err(RunFault::Read) => Err(Fault::Read),
+        Err(RunFault::Write) => Err(Fault::Write),
+    }
+}

@@ -1,0 +1,43 @@
+ghost use Rattle.std.specs.Prelude.{◌≡◌, ◌≤◌, Some, false, IfOk, List, ℕ, length};
+ghost use Rattle.std.specs.Io.KnownBytes.{ReadConsumes};
+ghost use Rattle.byte_ports.specs.Port.{FailsForGood};
+
+use byte_ports::{Failed, Source};
+use std::marker::Model;
+
+/// A source over bytes in memory, which never fails.
+#[derive(Drop)]
+pub struct SliceSource<'a> {
+    rest: &'a [u8],
+}
+
+impl<'a> Model for SliceSource<'a> {
+    ghost Value = { List ℕ };
+
+    ghost view = { λ s. s.rest.now };
+}
+
+impl<'a> SliceSource<'a> {
+    pub fn new(bytes: &'a [u8]) -> SliceSource<'a>
+        ensures { result ≡ bytes.now }
+    {
+        SliceSource { rest: bytes }
+    }
+}
+
+impl<'a> Source for SliceSource<'a> {
+    ghost left = { λ s. Some s };
+
+    ghost has_failed = { λ _. false };
+
+    fn pull(&mut self, buffer: &mut [u8]) -> Result<usize, Failed>
+        ensures failed { FailsForGood false false result }
+        ensures bound { IfOk result (λ n. n ≤ length buffer.new) }
+        ensures bytes { ReadConsumes (Some self.old) (Some self.new) result buffer.new }
+    {
+        let count = buffer.len().min(self.rest.len());
+        buffer[..count].copy_from_slice(&self.rest[..count]);
+        self.rest = &self.rest[count..];
+        Ok(count)
+    }
+}
