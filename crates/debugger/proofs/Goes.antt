@@ -1,0 +1,281 @@
+-- Choices that are played one list after another, up to a break or a refusal.
+use Rattle.std.proofs.Common.{◌≡◌, ◌∙◌, ◌↔◌, ◌+◌, ◌-◌, ◌≤◌, ℕ, Bool, true, false, List, [], ◌∷◌, ◌++◌, Option, Some, None, Result, Err, length, refl, ap, sym, subst, arith, append_assoc, append-nil}
+use Rattle.std.specs.Prelude.{◌&&◌, is_some}
+use Rattle.std.proofs.lemmas.List.{length-append}
+use Rattle.machine_scene.specs.Scene.{Outcome, scene_of, thread_at}
+use Rattle.thread_machine.specs.World.{World, world_of}
+use Rattle.thread_state.specs.declared.event.Event.{Event}
+use Rattle.thread_machine.specs.declared.choice.Choice.{Choice}
+use Rattle.thread_machine.specs.declared.fault.StepFault.{StepFault}
+use Rattle.thread_machine.specs.declared.fault.StepFault.TheVariants.{NoSuchThread, StepLimit, Memory}
+use Rattle.thread_machine.specs.Ready.{outcome_of_choice, is_choice_ready}
+use Rattle.thread_machine.specs.Step.{Played, played, played_by, refusal_of, puts_out}
+use Rattle.debugger.specs.declared.stop.Stop.TheVariants as stop
+use Rattle.debugger.specs.declared.session.go.Went.{Went}
+use Rattle.debugger.specs.declared.session.go.Went.TheVariants as went
+use Rattle.debugger.specs.Session.{Session, went_on, world_after, IsHistory}
+use Rattle.debugger.specs.Moves.{IsStep, AreSteps}
+use Rattle.debugger.specs.Go.{is_at_break, is_break, Refuses, PlaysOn, Ends, Breaks, Faults, Stops}
+use Rattle.debugger.specs.Goes.{Goes}
+use Rattle.debugger.specs.Reply.{IsStepUnless}
+use Rattle.debugger.proofs.Histories.{history_on}
+
+-- what a step's answer says
+pub is_step : (before after : Session) (choice : Choice) (event : Event)
+    → (let both : Played = record { world = world_of after.machine; event = event } in both ≡ played (world_of before.machine) choice)
+    → after ≡ went_on before after.machine → IsStep before choice after
+is_step before after choice event both session =
+    record { world = ap (λ (play : Played). play.world) both; session = session }
+
+refuses : (why : StepFault) (world : World) (choice : Choice) (result : Result Event StepFault) → result ≡ Err why
+    → ((result ≡ Err NoSuchThread) ↔ (refusal_of world choice ≡ Some NoSuchThread))
+    → ((result ≡ Err StepLimit) ↔ (refusal_of world choice ≡ Some StepLimit))
+    → (result ≡ Err Memory → puts_out world choice ≡ true) → Refuses world choice why
+refuses NoSuchThread world choice result is there left memory = there.0 is
+refuses StepLimit world choice result is there left memory = left.0 is
+refuses Memory world choice result is there left memory = memory is
+
+pub pass_fault : (why : StepFault) (session after : Session) (choice : Choice) (result : Result Event StepFault) → result ≡ Err why
+    → ((result ≡ Err NoSuchThread) ↔ (refusal_of (world_of session.machine) choice ≡ Some NoSuchThread))
+    → ((result ≡ Err StepLimit) ↔ (refusal_of (world_of session.machine) choice ≡ Some StepLimit))
+    → (result ≡ Err Memory → puts_out (world_of session.machine) choice ≡ true) → after ≡ session
+    → Faults session (choice ∷ []) why after
+pass_fault why session after choice result is there left memory same = record {
+  first = [];
+  refused = choice;
+  rest = [];
+  all = refl;
+  plays = tt;
+  refuses = refuses why (world_of session.machine) choice result is there left memory;
+  steps = same;
+}
+
+-- an effective step is counted
+ready_by : (outcome : Option Outcome) (world : World)
+    → ((played_by outcome world).world.steps ≡ world.steps → ⊥) → is_some outcome ≡ true
+ready_by (Some outcome) world other = refl
+ready_by None world other = absurd (other refl)
+
+idle_by : (outcome : Option Outcome) (world : World)
+    → (played_by outcome world).world.steps ≡ world.steps → is_some outcome ≡ false
+idle_by (Some outcome) world same = absurd (omega (arith, same))
+idle_by None world same = refl
+
+no_break : (ready at : Bool) → at ≡ false → (ready && at) ≡ false
+no_break true at is = is
+no_break false at is = refl
+
+-- where a thread stands after a step, by the session and by the definition
+at_break_after : (session after : Session) (choice : Choice) (is : Bool) → IsStep session choice after
+    → is_at_break after.breaks (thread_at (scene_of after.machine.scene) choice.thread) ≡ is
+    → is_at_break session.breaks (thread_at (played (world_of session.machine) choice).world.scene choice.thread) ≡ is
+at_break_after session after choice is step at =
+    ap (λ (world : World). is_at_break session.breaks (thread_at world.scene choice.thread)) (sym step.world)
+    ∙ ap (λ (s : Session). is_at_break s.breaks (thread_at (scene_of after.machine.scene) choice.thread)) (sym step.session)
+    ∙ at
+
+pub pass_break : (session after : Session) (choice : Choice) → refusal_of (world_of session.machine) choice ≡ None
+    → IsStep session choice after → (after.machine.steps ≡ session.machine.steps → ⊥)
+    → is_at_break after.breaks (thread_at (scene_of after.machine.scene) choice.thread) ≡ true
+    → Breaks session (choice ∷ []) after
+pass_break session after choice accepted step counted at =
+    let world = world_of session.machine in
+    let ready : is_choice_ready world.program choice world.scene ≡ true =
+    ready_by (outcome_of_choice world.program choice world.scene) world
+    (λ same. counted (ap (λ (w : World). w.steps) step.world ∙ same)) in
+    let here = is_at_break session.breaks (thread_at (played world choice).world.scene choice.thread) in
+    record {
+      first = [];
+      last = choice;
+      rest = [];
+      all = refl;
+      plays = tt;
+      accepted = accepted;
+      breaks = ap (λ r. r && here) ready ∙ at_break_after session after choice true step at;
+      steps = (after, step, refl);
+    }
+
+pub pass_idle : (session after : Session) (choice : Choice) → refusal_of (world_of session.machine) choice ≡ None
+    → IsStep session choice after → after.machine.steps ≡ session.machine.steps → Ends session (choice ∷ []) after
+pass_idle session after choice accepted step same =
+    let world = world_of session.machine in
+    let idle : is_choice_ready world.program choice world.scene ≡ false =
+    idle_by (outcome_of_choice world.program choice world.scene) world
+    (ap (λ (w : World). w.steps) (sym step.world) ∙ same) in
+    let here = is_at_break session.breaks (thread_at (played world choice).world.scene choice.thread) in
+    record { plays = (accepted, ap (λ r. r && here) idle, tt); steps = (after, step, refl) }
+
+pub pass_on : (session after : Session) (choice : Choice) → refusal_of (world_of session.machine) choice ≡ None
+    → IsStep session choice after
+    → is_at_break after.breaks (thread_at (scene_of after.machine.scene) choice.thread) ≡ false
+    → Ends session (choice ∷ []) after
+pass_on session after choice accepted step at =
+    let world = world_of session.machine in
+    let here = is_at_break session.breaks (thread_at (played world choice).world.scene choice.thread) in
+    let off : here ≡ false = at_break_after session after choice false step at in
+    record { plays = (accepted, no_break (is_choice_ready world.program choice world.scene) here off, tt); steps = (after, step, refl) }
+
+-- what some steps leave
+steps_world : (xs : List Choice) (before after : Session) → AreSteps before xs after
+    → world_of after.machine ≡ world_after (world_of before.machine) xs
+steps_world [] before after same = ap (λ (s : Session). world_of s.machine) same
+steps_world (x ∷ xs) before after steps =
+    steps_world xs steps.0 after steps.2 ∙ ap (λ world. world_after world xs) steps.1.world
+
+steps_breaks : (xs : List Choice) (before after : Session) → AreSteps before xs after → after.breaks ≡ before.breaks
+steps_breaks [] before after same = ap (λ (s : Session). s.breaks) same
+steps_breaks (x ∷ xs) before after steps =
+    steps_breaks xs steps.0 after steps.2 ∙ ap (λ (s : Session). s.breaks) steps.1.session
+
+-- what is said of the session after some steps is said of the choices
+carried : (P : List Bool → World → Type 0) (xs : List Choice) (before after : Session) → AreSteps before xs after
+    → P after.breaks (world_of after.machine) → P before.breaks (world_after (world_of before.machine) xs)
+carried P xs before after steps p =
+    subst (λ breaks. P breaks (world_after (world_of before.machine) xs)) (steps_breaks xs before after steps)
+    (subst (P after.breaks) (steps_world xs before after steps) p)
+
+steps-append : (xs ys : List Choice) (before middle after : Session) → AreSteps before xs middle → AreSteps middle ys after
+    → AreSteps before (xs ++ ys) after
+steps-append [] ys before middle after same steps = subst (λ s. AreSteps s ys after) same steps
+steps-append (x ∷ xs) ys before middle after steps more =
+    (steps.0, steps.1, steps-append xs ys steps.0 middle after steps.2 more)
+
+world_after-append : (xs ys : List Choice) (world : World) → world_after world (xs ++ ys) ≡ world_after (world_after world xs) ys
+world_after-append [] ys world = refl
+world_after-append (x ∷ xs) ys world = world_after-append xs ys (played world x).world
+
+carried_on : (P : List Bool → World → Type 0) (xs ys : List Choice) (before after : Session) → AreSteps before xs after
+    → P after.breaks (world_after (world_of after.machine) ys) → P before.breaks (world_after (world_of before.machine) (xs ++ ys))
+carried_on P xs ys before after steps p =
+    subst (P before.breaks) (sym (world_after-append xs ys (world_of before.machine)))
+    (carried (λ breaks world. P breaks (world_after world ys)) xs before after steps p)
+
+plays-append : (xs ys : List Choice) (breaks : List Bool) (world : World) → PlaysOn breaks world xs
+    → PlaysOn breaks (world_after world xs) ys → PlaysOn breaks world (xs ++ ys)
+plays-append [] ys breaks world plays more = more
+plays-append (x ∷ xs) ys breaks world plays more =
+    (plays.0, plays.1, plays-append xs ys breaks (played world x).world plays.2 more)
+
+-- some of the choices were played, the rest is still to come
+pub record Continues (session now : Session) (whole rest : List Choice) : Type 0 where
+  pub done : List Choice
+  pub all : whole ≡ done ++ rest
+  pub plays : PlaysOn session.breaks (world_of session.machine) done
+  pub steps : AreSteps session done now
+
+pub continues_first : (session : Session) (whole : List Choice) → Continues session session whole whole
+continues_first session whole = record { done = []; all = refl; plays = tt; steps = refl }
+
+more_plays : (session now : Session) (done xs : List Choice) → PlaysOn session.breaks (world_of session.machine) done
+    → AreSteps session done now → PlaysOn now.breaks (world_of now.machine) xs
+    → PlaysOn session.breaks (world_of session.machine) (done ++ xs)
+more_plays session now done xs plays steps more =
+    plays-append done xs session.breaks (world_of session.machine) plays
+    (carried (λ breaks world. PlaysOn breaks world xs) done session now steps more)
+
+pub continues_next : (session now after : Session) (whole rest xs ys : List Choice) → rest ≡ xs ++ ys
+    → Continues session now whole rest → Ends now xs after → Continues session after whole ys
+continues_next session now after whole rest xs ys is on ends = record {
+  done = on.done ++ xs;
+  all = on.all ∙ ap (λ l. on.done ++ l) is ∙ sym (append_assoc on.done xs ys);
+  plays = more_plays session now on.done xs on.plays on.steps ends.plays;
+  steps = steps-append on.done xs session now after on.steps ends.steps;
+}
+
+-- a list inside a list
+inside : (whole done rest xs first : List Choice) (one : Choice) (more ys : List Choice) → whole ≡ done ++ rest → rest ≡ xs ++ ys
+    → xs ≡ first ++ one ∷ more → whole ≡ (done ++ first) ++ one ∷ (more ++ ys)
+inside whole done rest xs first one more ys all is parts =
+    all ∙ ap (λ l. done ++ l) (is ∙ ap (λ l. l ++ ys) parts ∙ append_assoc first (one ∷ more) ys)
+    ∙ sym (append_assoc done first (one ∷ (more ++ ys)))
+
+pub continues_break : (session now after : Session) (whole rest xs ys : List Choice) → rest ≡ xs ++ ys
+    → Continues session now whole rest → Breaks now xs after → Breaks session whole after
+continues_break session now after whole rest xs ys is on at = record {
+  first = on.done ++ at.first;
+  last = at.last;
+  rest = at.rest ++ ys;
+  all = inside whole on.done rest xs at.first at.last at.rest ys on.all is at.all;
+  plays = more_plays session now on.done at.first on.plays on.steps at.plays;
+  accepted = carried_on (λ breaks world. refusal_of world at.last ≡ None) on.done at.first session now on.steps at.accepted;
+  breaks = carried_on (λ breaks world. is_break breaks world at.last ≡ true) on.done at.first session now on.steps at.breaks;
+  steps = subst (λ choices. AreSteps session choices after) (sym (append_assoc on.done at.first (at.last ∷ [])))
+      (steps-append on.done (at.first ++ at.last ∷ []) session now after on.steps at.steps);
+}
+
+pub continues_fault : (why : StepFault) (session now after : Session) (whole rest xs ys : List Choice) → rest ≡ xs ++ ys
+    → Continues session now whole rest → Faults now xs why after → Faults session whole why after
+continues_fault why session now after whole rest xs ys is on at = record {
+  first = on.done ++ at.first;
+  refused = at.refused;
+  rest = at.rest ++ ys;
+  all = inside whole on.done rest xs at.first at.refused at.rest ys on.all is at.all;
+  plays = more_plays session now on.done at.first on.plays on.steps at.plays;
+  refuses = carried_on (λ breaks world. Refuses world at.refused why) on.done at.first session now on.steps at.refuses;
+  steps = steps-append on.done at.first session now after on.steps at.steps;
+}
+
+pub continues_end : (session now : Session) (whole rest : List Choice) → rest ≡ [] → Continues session now whole rest
+    → Ends session whole now
+continues_end session now whole rest is on =
+    let all : whole ≡ on.done = on.all ∙ ap (λ l. on.done ++ l) is ∙ append-nil on.done in
+    record {
+      plays = subst (PlaysOn session.breaks (world_of session.machine)) (sym all) on.plays;
+      steps = subst (λ choices. AreSteps session choices now) (sym all) on.steps;
+    }
+
+-- each choice is counted
+choices_by : (outcome : Option Outcome) (world : World) → (played_by outcome world).world.choices ≡ world.choices + 1
+choices_by (Some outcome) world = refl
+choices_by None world = refl
+
+steps-choices : (xs : List Choice) (before after : Session) → AreSteps before xs after
+    → after.machine.choices ≡ before.machine.choices + length xs
+steps-choices [] before after same =
+    let many = ap (λ (s : Session). s.machine.choices) same in omega (arith, many)
+steps-choices (x ∷ xs) before after steps =
+    let world = world_of before.machine in
+    let next = ap (λ (w : World). w.choices) steps.1.world in
+    let one = choices_by (outcome_of_choice world.program x world.scene) world in
+    let more = steps-choices xs steps.0 after steps.2 in
+    omega (arith, next, one, more)
+
+-- with the count of choices
+pub stops_end : (session after : Session) (choices : List Choice) (n : ℕ) → n ≡ after.machine.choices - session.machine.choices
+    → Ends session choices after → Stops session choices (stop.End n) after
+stops_end session after choices n is ends =
+    (ends, omega (arith, is, steps-choices choices session after ends.steps))
+
+pub stops_break : (session after : Session) (choices : List Choice) (n : ℕ) → n ≡ after.machine.choices - session.machine.choices
+    → Breaks session choices after → Stops session choices (stop.Break n) after
+stops_break session after choices n is at =
+    (at, omega (arith, is, steps-choices (at.first ++ at.last ∷ []) session after at.steps, length-append at.first (at.last ∷ [])))
+
+pub stops_fault : (why : StepFault) (session after : Session) (choices : List Choice) (n : ℕ)
+    → n ≡ after.machine.choices - session.machine.choices → Faults session choices why after
+    → Stops session choices (stop.Fault n why) after
+stops_fault why session after choices n is at =
+    (at, omega (arith, is, steps-choices at.first session after at.steps))
+
+-- no choice is taken back
+pub goes_counts : (result : Went) (session after : Session) (choices : List Choice) → Goes session choices result after
+    → session.machine.choices ≤ after.machine.choices
+goes_counts went.On session after choices ends = omega (arith, steps-choices choices session after ends.steps)
+goes_counts went.Break session after choices at =
+    omega (arith, steps-choices (at.first ++ at.last ∷ []) session after at.steps)
+goes_counts (went.Fault why) session after choices at = omega (arith, steps-choices at.first session after at.steps)
+
+-- the history of choices in a row
+pub history_of_steps : (more : List Choice) (first : World) (choices : List Choice) (before after : Session)
+    → IsHistory first choices before → AreSteps before more after → IsHistory first (choices ++ more) after
+history_of_steps [] first choices before after history same =
+    subst (λ s. IsHistory first (choices ++ []) s) (sym same)
+    (subst (λ l. IsHistory first l before) (sym (append-nil choices)) history)
+history_of_steps (choice ∷ more) first choices before after history steps =
+    subst (λ l. IsHistory first l after) (append_assoc choices (choice ∷ []) more)
+    (history_of_steps more first (choices ++ choice ∷ []) steps.0 after (history_on first choices choice before steps.0 history steps.1) steps.2)
+
+-- a step that wasn't refused
+pub step_unless : (refusal : Option StepFault) (session after : Session) (choice : Choice) → refusal ≡ None
+    → IsStep session choice after → IsStepUnless refusal session choice after
+step_unless refusal session after choice is step = subst (λ r. IsStepUnless r session choice after) (sym is) step

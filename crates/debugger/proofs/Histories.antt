@@ -1,0 +1,76 @@
+-- The session of a list of choices.
+use Rattle.std.proofs.Common.{◌≡◌, ◌∙◌, ◌-◌, ℕ, zero, suc, List, [], ◌∷◌, ◌++◌, length, map, take, drop, refl, ap, sym, subst, arith, append_assoc}
+use Rattle.thread_machine.specs.World.{World, StoredWorld, world_of}
+use Rattle.thread_machine.specs.declared.choice.Choice.{Choice}
+use Rattle.thread_machine.specs.Step.{played}
+use Rattle.debugger.specs.Session.{Session, went_back, back_to, world_after, worlds_before, IsHistory}
+use Rattle.debugger.specs.Moves.{IsStep}
+
+pub world_after-snoc : (choices : List Choice) (world : World) (choice : Choice)
+    → world_after world (choices ++ choice ∷ []) ≡ (played (world_after world choices) choice).world
+world_after-snoc [] world choice = refl
+world_after-snoc (first ∷ choices) world choice = world_after-snoc choices (played world first).world choice
+
+worlds_before-snoc : (choices : List Choice) (world : World) (choice : Choice)
+    → worlds_before world (choices ++ choice ∷ []) ≡ world_after world choices ∷ worlds_before world choices
+worlds_before-snoc [] world choice = refl
+worlds_before-snoc (first ∷ choices) world choice =
+    ap (λ worlds. worlds ++ world ∷ []) (worlds_before-snoc choices (played world first).world choice)
+
+shown-take-drop : (n : ℕ) (worlds : List StoredWorld) → map world_of (take n worlds) ++ map world_of (drop n worlds) ≡ map world_of worlds
+shown-take-drop zero worlds = refl
+shown-take-drop (suc n) [] = refl
+shown-take-drop (suc n) (world ∷ worlds) = ap (λ ws. world_of world ∷ ws) (shown-take-drop n worlds)
+
+-- one choice more
+pub history_on : (first : World) (choices : List Choice) (choice : Choice) (before after : Session) → IsHistory first choices before
+    → IsStep before choice after → IsHistory first (choices ++ choice ∷ []) after
+history_on first choices choice before after history step =
+    let longer = before.machine ∷ before.past in
+    record {
+      machine = step.world ∙ ap (λ w. (played w choice).world) history.machine ∙ sym (world_after-snoc choices first choice);
+      older = map world_of (drop before.kept longer) ++ history.older;
+      past = ap (λ (s : Session). map world_of s.past ++ (map world_of (drop before.kept longer) ++ history.older)) step.session
+          ∙ sym (append_assoc (map world_of (take before.kept longer)) (map world_of (drop before.kept longer)) history.older)
+          ∙ ap (λ worlds. worlds ++ history.older) (shown-take-drop before.kept longer)
+          ∙ ap (λ worlds. world_of before.machine ∷ worlds) history.past
+          ∙ ap (λ w. w ∷ worlds_before first choices) history.machine
+          ∙ sym (worlds_before-snoc choices first choice);
+    }
+
+-- all choices but the last, and the last
+last_of : (first : Choice) (choices : List Choice)
+    → (last : Choice) × (first ∷ choices ≡ take (length (first ∷ choices) - 1) (first ∷ choices) ++ last ∷ [])
+last_of first [] = (first, refl)
+last_of first (second ∷ choices) =
+    let later = last_of second choices in
+    let n : length (first ∷ second ∷ choices) - 1 ≡ suc (length (second ∷ choices) - 1) = omega arith in
+    (later.0, ap (λ l. first ∷ l) later.1 ∙ ap (λ k. take k (first ∷ second ∷ choices) ++ later.0 ∷ []) (sym n))
+
+-- one choice less
+history_back_snoc : (first : World) (choices all : List Choice) (last : Choice) (session : Session) (world : StoredWorld) (past : List StoredWorld)
+    → session.past ≡ world ∷ past → all ≡ choices ++ last ∷ [] → IsHistory first all session
+    → IsHistory first choices (back_to (world ∷ past) session)
+history_back_snoc first choices all last session world past is snoc history =
+    let both : world_of world ∷ (map world_of past ++ history.older) ≡ world_after first choices ∷ worlds_before first choices =
+    ap (λ worlds. map world_of worlds ++ history.older) (sym is) ∙ history.past ∙ ap (worlds_before first) snoc ∙ worlds_before-snoc choices first last in
+    record { machine = cc; older = history.older; past = cc }
+
+pub history_back_cons : (first : World) (choices : List Choice) (session : Session) (world : StoredWorld) (past : List StoredWorld)
+    → session.past ≡ world ∷ past → IsHistory first choices session
+    → IsHistory first (take (length choices - 1) choices) (back_to (world ∷ past) session)
+history_back_cons first [] session world past is history =
+    let none : world_of world ∷ (map world_of past ++ history.older) ≡ [] =
+    ap (λ worlds. map world_of worlds ++ history.older) (sym is) ∙ history.past in
+    absurd (cc)
+history_back_cons first (choice ∷ choices) session world past is history =
+    let last = last_of choice choices in
+    history_back_snoc first (take (length (choice ∷ choices) - 1) (choice ∷ choices)) (choice ∷ choices) last.0 session world past is last.1 history
+
+-- by what is kept
+pub history_back : (first : World) (choices : List Choice) (session : Session) (world : StoredWorld) (past : List StoredWorld)
+    → session.past ≡ world ∷ past → IsHistory first choices session
+    → IsHistory first (take (length choices - 1) choices) (went_back session)
+history_back first choices session world past is history =
+    subst (λ p. IsHistory first (take (length choices - 1) choices) (back_to p session)) (sym is)
+    (history_back_cons first choices session world past is history)

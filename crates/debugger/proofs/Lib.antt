@@ -1,0 +1,6 @@
+pub mod Trails
+pub mod Histories
+pub mod Moves
+pub mod Goes
+pub mod Places
+pub mod Runs

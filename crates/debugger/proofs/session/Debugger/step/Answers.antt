@@ -1,0 +1,26 @@
+use Rattle.std.proofs.Common.{◌≡◌, ◌∙◌, ap}
+use Rattle.thread_machine.specs.World.{StoredWorld, world_of}
+use Rattle.thread_machine.specs.Step.{Played, played}
+use Rattle.debugger.specs.Session.{Session}
+use Rattle.debugger.proofs.Trails.{trail_on, session_on}
+use Rattle.debugger.proofs.Histories.{history_on}
+use Rattle.debugger.proofs.session.Debugger.step.Goals as goal
+
+pub invariant_of-self : goal.invariant_of-self
+invariant_of-self c =
+    trail_on c.self.inside.played c.step_noting.new.self c.in-Ok.undo c.self.inside.undos c.push_front.new.self
+    c.push_front.ensures.items c.in-Ok.ensures.undo c.in-Ok.ensures.can c.self.invariant
+
+pub returns-in-Ok-clause-session : goal.returns-in-Ok-clause-session
+returns-in-Ok-clause-session c =
+    session_on c.self.inside.played c.step_noting.new.self c.in-Ok.undo c.self.inside.undos c.push_front.new.self
+    c.self.inside.marks.items c.args.self.now c.push_front.ensures.items c.in-Ok.ensures.undo c.self.view_is
+
+pub returns-in-Ok-clause-history : goal.returns-in-Ok-clause-history
+returns-in-Ok-clause-history c = λ first choices history.
+    let seen : c.self.inside.played ≡ c.args.self.now.machine = ap (λ (s : Session). s.machine) c.self.view_is in
+    history_on first choices c.args.choice c.args.self.now _ history (record {
+      world = ap (λ (play : Played). play.world) c.in-Ok.ensures.played
+          ∙ ap (λ (w : StoredWorld). (played (world_of w) c.args.choice).world) seen;
+      session = returns-in-Ok-clause-session c;
+    })

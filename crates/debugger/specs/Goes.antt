@@ -1,0 +1,13 @@
+-- How far some choices were played, without their number. Nobody has to believe this: it is what proofs go by, and `Stops`
+-- says the same with the number.
+use Rattle.std.specs.Prelude.{List}
+use Rattle.thread_machine.specs.declared.choice.Choice.{Choice}
+use Rattle.debugger.specs.declared.session.go.Went.{Went}
+use Rattle.debugger.specs.declared.session.go.Went.TheVariants as went
+use Rattle.debugger.specs.Session.{Session}
+use Rattle.debugger.specs.Go.{Ends, Breaks, Faults}
+
+abbrev pub Goes : Session → List Choice → Went → Session → Type 0
+Goes session choices went.On after = Ends session choices after
+Goes session choices went.Break after = Breaks session choices after
+Goes session choices (went.Fault why) after = Faults session choices why after

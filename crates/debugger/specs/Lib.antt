@@ -1,0 +1,6 @@
+pub mod Session
+pub mod Moves
+pub mod Go
+pub mod Goes
+pub mod Command
+pub mod Reply

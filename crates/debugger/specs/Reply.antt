@@ -1,0 +1,63 @@
+-- What the debugger does and writes in reply to a command.
+use Rattle.std.specs.Prelude.{◌≡◌, ℕ, nat_lt, if◌then◌else◌, true, false, List, [], ◌∷◌, ◌++◌, length, slice_set, codes, Option, Some, None}
+use Rattle.std.specs.Fmt.{decimal}
+use Rattle.schedule_reader.specs.Schedule.{choices_of}
+use Rattle.thread_machine.specs.declared.choice.Choice.{Choice}
+use Rattle.thread_machine.specs.declared.fault.StepFault.{StepFault}
+use Rattle.thread_machine.specs.declared.fault.StepFault.TheVariants as fault
+use Rattle.thread_machine.specs.World.{StoredWorld, world_of}
+use Rattle.thread_machine.specs.Step.{refusal_of}
+use Rattle.trace_compare.specs.State.{state_text}
+use Rattle.trace_compare.specs.Trace.{lines_of}
+use Rattle.debugger.specs.declared.stop.Stop.{Stop}
+use Rattle.debugger.specs.declared.stop.Stop.TheVariants as stop
+use Rattle.debugger.specs.Session.{Session, went_back}
+use Rattle.debugger.specs.Moves.{IsStep}
+use Rattle.debugger.specs.Go.{Stops}
+use Rattle.debugger.specs.Command.{Order, Step, Go, Back, Break, Clear, Print, Quit, Unknown}
+
+-- a word, a number and the end of the line
+abbrev pub number_line : List ℕ → ℕ → List ℕ
+number_line word n = word ++ (decimal n ++ codes "\n")
+
+-- `b`, by the past before it
+abbrev pub back_text : List StoredWorld → List ℕ
+back_text [] = codes "no history\n"
+back_text (world ∷ past) = number_line (codes "back ") world.choices
+
+-- `k` and `c`
+abbrev pub row_text : List ℕ → ℕ → Session → List ℕ
+row_text word row session = if nat_lt row (length session.breaks) then number_line word row else codes "?\n"
+
+-- why `g` was refused a choice
+abbrev pub fault_text : StepFault → List ℕ
+fault_text fault.NoSuchThread = codes " none\n"
+fault_text fault.StepLimit = codes " limit\n"
+fault_text fault.Memory = codes " memory\n"
+
+-- `g`
+abbrev pub stop_text : Stop → List ℕ
+stop_text (stop.Break n) = number_line (codes "at ") n
+stop_text (stop.End n) = number_line (codes "end ") n
+stop_text (stop.Fault n why) = codes "fault " ++ (decimal n ++ fault_text why)
+
+-- `s`: the session after a choice that may be refused
+abbrev pub IsStepUnless : Option StepFault → Session → Choice → Session → Type 0
+IsStepUnless (Some why) session choice after = after ≡ session
+IsStepUnless None session choice after = IsStep session choice after
+
+-- the session after a command, and the text that was written
+abbrev pub Replies : Session → Order → Session → List ℕ → Type 0
+Replies session (Step choice) after text =
+    IsStepUnless (refusal_of (world_of session.machine) choice) session choice after
+    × (text ≡ lines_of (world_of session.machine) (choice ∷ []))
+Replies session (Go runs) after text =
+    (stop : Stop) × Stops session (choices_of runs) stop after × (text ≡ stop_text stop)
+Replies session Back after text = (after ≡ went_back session) × (text ≡ back_text session.past)
+Replies session (Break row) after text =
+    (after ≡ record session { breaks = slice_set session.breaks row true }) × (text ≡ row_text (codes "break ") row session)
+Replies session (Clear row) after text =
+    (after ≡ record session { breaks = slice_set session.breaks row false }) × (text ≡ row_text (codes "clear ") row session)
+Replies session Print after text = (after ≡ session) × (text ≡ state_text (world_of session.machine))
+Replies session Quit after text = (after ≡ session) × (text ≡ [])
+Replies session Unknown after text = (after ≡ session) × (text ≡ codes "?\n")

@@ -1,0 +1,267 @@
+ghost use Rattle.std.specs.Prelude.{◌≡◌, ◌↔◌, Err, true, ◌==◌, ◌+◌, ◌≤◌, ◌<◌, IfOk, Some, None, length};
+ghost use Rattle.std.specs.Char.{is_ascii_digit};
+ghost use Rattle.std.specs.List.{AllPass, list_all, list_any, position, position_or_len};
+ghost use Rattle.std.specs.Option.{option_map};
+ghost use Rattle.std.specs.Str.Parse.{digits_value};
+ghost use Rattle.schedule_reader.specs.Schedule.{is_blank};
+ghost use Rattle.debugger.specs.Command.{Unknown, Break, Clear, alone, by_row, go_by, goes_on, is_letter, is_row, letter_of, line_order, order_of, rest_of, row_in, runs_in, step_by, word_of};
+
+use schedule_reader::{Reader, Run, ScheduleFault};
+use std::alloc::{AllocError, Global};
+use thread_machine::Choice;
+
+/// What a line asks for.
+#[derive(Drop)]
+pub enum Command {
+    /// One choice.
+    Step(Choice),
+    /// Choices up to a breakpoint.
+    Go(Vec<Run>),
+    /// One choice back.
+    Back,
+    /// A breakpoint at a row.
+    Break(usize),
+    /// No breakpoint at a row.
+    Clear(usize),
+    /// The machine's state.
+    Print,
+    /// The end of the session.
+    Quit,
+    /// Anything else.
+    Unknown,
+}
+
+impl Command {
+    /// Whether the session goes on after it.
+    pub fn goes_on(&self) -> bool
+        ensures { result ≡ goes_on (order_of self.now) }
+    {
+        match self {
+            Command::Step(_) | Command::Go(_) | Command::Back | Command::Break(_) => true,
+            Command::Clear(_) | Command::Print | Command::Unknown => true,
+            Command::Quit => false,
+        }
+    }
+}
+
+/// Space, tab, CR and LF.
+fn is_blank(byte: u8) -> bool
+    ensures { result ≡ is_blank byte }
+{
+    matches!(byte, b' ' | b'\t' | b'\r' | b'\n')
+}
+
+/// Where the first word begins.
+fn place_of_word(line: &[u8]) -> Option<usize>
+    ensures { result ≡ position is_letter line.now }
+{
+    line.iter().position(|byte| !is_blank(*byte))
+}
+
+/// Where the first blank stands.
+fn place_of_blank(line: &[u8]) -> Option<usize>
+    ensures { result ≡ position is_blank line.now }
+{
+    line.iter().position(|byte| is_blank(*byte))
+}
+
+/// How many bytes stand before the first word.
+#[tactic(auto, using(crate::proofs::Places::position_some, crate::proofs::Places::position_none))]
+fn length_before_word(line: &[u8]) -> usize
+    ensures length { result ≡ position_or_len is_letter line.now }
+    ensures within { result ≤ length line.now }
+{
+    match place_of_word(line) {
+        Some(place) => place,
+        None => line.len(),
+    }
+}
+
+/// How many bytes stand before the first blank.
+#[tactic(auto, using(crate::proofs::Places::position_some, crate::proofs::Places::position_none))]
+fn length_before_blank(line: &[u8]) -> usize
+    ensures length { result ≡ position_or_len is_blank line.now }
+    ensures within { result ≤ length line.now }
+{
+    match place_of_blank(line) {
+        Some(place) => place,
+        None => line.len(),
+    }
+}
+
+/// The first word, and what stands after it.
+fn split_word(line: &[u8]) -> (&[u8], &[u8])
+    ensures word { result.0.now ≡ word_of line.now }
+    ensures rest { result.1.now ≡ rest_of line.now }
+    ensures lengths { length result.0.now + length result.1.now ≤ length line.now }
+{
+    let from = &line[length_before_word(line)..];
+    let end = length_before_blank(from);
+    (&from[..end], &from[end..])
+}
+
+/// The letter of a word that is one, else 0.
+fn letter_of(word: &[u8]) -> u8
+    ensures letter { result ≡ letter_of word.now }
+    ensures some { 0 < result → 0 < length word.now }
+{
+    match word {
+        [letter] => *letter,
+        _ => 0,
+    }
+}
+
+fn are_blank(rest: &[u8]) -> bool
+    ensures { result ≡ list_all is_blank rest.now }
+{
+    rest.iter().all(|byte| is_blank(*byte))
+}
+
+fn has_star(rest: &[u8]) -> bool
+    ensures { result ≡ list_any (λ byte. byte == 42) rest.now }
+{
+    rest.iter().any(|byte| *byte == b'*')
+}
+
+/// Whether a reader was refused memory.
+fn is_refused(told: Result<(), ScheduleFault>) -> bool
+    ensures { (result ≡ true) ↔ (told ≡ Err ScheduleFault.Memory) }
+{
+    matches!(told, Err(ScheduleFault::Memory))
+}
+
+/// The runs of some tokens, if they are all faultless.
+fn runs_in(alloc: Global, rest: &[u8]) -> Result<Option<Vec<Run>>, AllocError>
+    requires { length rest.now < 9223372036854775807 }
+    ensures { IfOk result (λ runs. option_map (λ r. r.items) runs ≡ runs_in rest.now) }
+{
+    let mut reader = Reader::new();
+    let mut runs = Vec::new(alloc);
+    if is_refused(reader.feed(rest, &mut runs)) {
+        return Err(AllocError);
+    }
+    let told = reader.finish(&mut runs);
+    if is_refused(told) {
+        return Err(AllocError);
+    }
+    match told {
+        Ok(()) => Ok(Some(runs)),
+        Err(_) => Ok(None),
+    }
+}
+
+fn go_of(runs: Option<Vec<Run>>) -> Command
+    ensures { order_of result ≡ go_by (option_map (λ r. r.items) runs) }
+{
+    match runs {
+        Some(runs) => Command::Go(runs),
+        None => Command::Unknown,
+    }
+}
+
+fn only_run(runs: &[Run], rest: &[u8]) -> Command
+    ensures { order_of result ≡ step_by (Some runs.now) rest.now }
+{
+    match runs {
+        [run] => {
+            if has_star(rest) {
+                Command::Unknown
+            } else {
+                Command::Step(run.choice)
+            }
+        }
+        _ => Command::Unknown,
+    }
+}
+
+fn step_of(runs: Option<Vec<Run>>, rest: &[u8]) -> Command
+    ensures { order_of result ≡ step_by (option_map (λ r. r.items) runs) rest.now }
+{
+    match runs {
+        Some(runs) => only_run(runs.as_slice(), rest),
+        None => Command::Unknown,
+    }
+}
+
+/// The command, where no word comes after it.
+fn alone(command: Command, rest: &[u8]) -> Command
+    ensures { order_of result ≡ alone (order_of command) rest.now }
+{
+    if are_blank(rest) {
+        command
+    } else {
+        Command::Unknown
+    }
+}
+
+fn are_digits(word: &[u8]) -> bool
+    ensures { result ≡ list_all is_ascii_digit word.now }
+{
+    word.iter().all(|byte| byte.is_ascii_digit())
+}
+
+fn is_row(word: &[u8]) -> bool
+    ensures { result ≡ is_row word.now }
+{
+    !word.is_empty() && word.len() <= 5 && are_digits(word)
+}
+
+/// The number that at most ten digits spell.
+fn digits_value(digits: &[u8]) -> usize
+    requires few { length digits.now ≤ 10 }
+    requires digits { AllPass is_ascii_digit digits.now }
+    ensures { result ≡ digits_value 10 digits.now }
+{
+    let mut value = 0;
+    for digit in digits {
+        value = value * 10 + (*digit - b'0') as usize;
+    }
+    value
+}
+
+/// The number of a row, where there is one and no other word.
+fn row_in(rest: &[u8]) -> Option<usize>
+    ensures { result ≡ row_in rest.now }
+{
+    let (word, after) = split_word(rest);
+    if is_row(word) && are_blank(after) {
+        Some(digits_value(word))
+    } else {
+        None
+    }
+}
+
+fn break_of(row: Option<usize>) -> Command
+    ensures { order_of result ≡ by_row Break row }
+{
+    match row {
+        Some(row) => Command::Break(row),
+        None => Command::Unknown,
+    }
+}
+
+fn clear_of(row: Option<usize>) -> Command
+    ensures { order_of result ≡ by_row Clear row }
+{
+    match row {
+        Some(row) => Command::Clear(row),
+        None => Command::Unknown,
+    }
+}
+
+/// Reads a line.
+pub fn command_of(alloc: Global, line: &[u8]) -> Result<Command, AllocError>
+    ensures { IfOk result (λ command. order_of command ≡ line_order line.now) }
+{
+    let (word, rest) = split_word(line);
+    match letter_of(word) {
+        b's' => Ok(step_of(runs_in(alloc, rest)?, rest)),
+        b'g' => Ok(go_of(runs_in(alloc, rest)?)),
+        b'k' => Ok(break_of(row_in(rest))),
+        b'c' => Ok(clear_of(row_in(rest))),
+        b'b' => Ok(alone(Command::Back, rest)),
+        b'p' => Ok(alone(Command::Print, rest)),
+        b'q' => Ok(alone(Command::Quit, rest)),
+        _ => Ok(Command::Unknown),
+    }
+}

@@ -1,0 +1,26 @@
+ghost use Rattle.std.specs.Prelude.{◌≡◌, ◌≤◌, ◌-◌, ◌++◌, List, length, take};
+ghost use Rattle.thread_machine.specs.declared.choice.Choice.{Choice};
+ghost use Rattle.thread_machine.specs.World.{World};
+ghost use Rattle.debugger.specs.Session.{Session, IsHistory};
+ghost use Rattle.debugger.specs.Moves.{Move, AreSteps, AreMoves, backs, choices_left};
+
+/// Whatever steps and steps back were made, the session is the one of the choices that were not taken back.
+pub fn what_is_not_taken_back_was_played()
+    ensures { (first : World) (choices : List Choice) (before after : Session) (moves : List Move)
+        → IsHistory first choices before → AreMoves before moves after
+        → IsHistory first (choices_left choices moves) after }
+{}
+
+/// Choices that were played one after another, by `step` or by `go`, come after those of before.
+pub fn choices_in_a_row_extend_the_history()
+    ensures { (first : World) (choices more : List Choice) (before after : Session)
+        → IsHistory first choices before → AreSteps before more after → IsHistory first (choices ++ more) after }
+{}
+
+/// Some steps and as many steps back, no more than are kept, give the machine back word for word.
+pub fn steps_and_as_many_back_are_nothing()
+    ensures { (before after : Session) (choices : List Choice) → length choices ≤ before.kept
+        → length before.past ≤ before.kept → AreSteps before choices after
+        → backs (length choices) after
+        ≡ record before { past = take (before.kept - length choices) before.past } }
+{}

@@ -1,0 +1,141 @@
+ghost use Rattle.std.specs.Prelude.{◌≡◌, ◌↔◌, ◌+◌, ◌-◌, ◌<◌, ◌≤◌, ◌++◌, ◌∷◌, [], List, length, take, replicate, slice_set, nat_lt, IfOk, OnOk, OnErr, IsErr, true, false, Some, None};
+ghost use Rattle.thread_machine.specs.World.{World, world_of};
+ghost use Rattle.thread_machine.specs.Step.{played, refusal_of, puts_out};
+ghost use Rattle.debugger.specs.Session.{IsHistory, went_on, went_back};
+
+use crate::stop::NoHistory;
+use circular_buffer::HeapCircularBuffer;
+use std::alloc::{AllocError, Global};
+use std::marker::Model;
+use thread_machine::{Choice, Event, Machine, StepFault, Undo};
+
+mod go;
+mod reply;
+
+pub use reply::CommandFault;
+
+/// A machine that can be stepped back, with a breakpoint or none at each row.
+#[derive(Drop)]
+pub struct Debugger {
+    played: Machine,
+    undos: HeapCircularBuffer<Undo>,
+    marks: Vec<bool>,
+}
+
+impl Model for Debugger {
+    ghost use Rattle.debugger.specs.Session.{Session, past_of, IsTrail};
+
+    ghost Value = { Session };
+
+    ghost view = { λ debugger. record {
+      machine = debugger.played;
+      past = past_of debugger.played debugger.undos.items;
+      kept = debugger.undos.capacity;
+      breaks = debugger.marks.items;
+    } };
+
+    ghost invariant = { λ debugger. IsTrail debugger.played debugger.undos.items };
+}
+
+impl Debugger {
+    /// A debugger that keeps what it needs to take back so many of the last choices. It has no breakpoints yet. Only this
+    /// takes memory, and a value put out.
+    pub fn new(alloc: Global, machine: Machine, kept: u16) -> Result<Debugger, AllocError>
+        requires some { 0 < kept }
+        requires few { kept ≤ 4096 }
+        ensures { IfOk result (λ debugger. debugger ≡ record {
+          machine = machine;
+          past = [];
+          kept = kept;
+          breaks = replicate (length machine.program.rows) false;
+        }) }
+    {
+        let marks = Vec::from_elem(alloc, false, machine.loaded().rows().len())?;
+        let undos = HeapCircularBuffer::with_capacity(alloc, kept as usize)?;
+        Ok(Debugger {
+            played: machine,
+            undos,
+            marks,
+        })
+    }
+
+    /// The machine as it is now.
+    pub fn machine(&self) -> &Machine
+        ensures { result.now ≡ self.now.machine }
+    {
+        &self.played
+    }
+
+    /// Plays one choice, and keeps what is needed to take it back.
+    pub fn step(&mut self, choice: Choice) -> Result<Event, StepFault>
+        ensures played { IfOk result (λ event. record { world = world_of (self.new).machine; event = event }
+            ≡ played (world_of (self.old).machine) choice) }
+        ensures session { OnOk result (self.new ≡ went_on self.old (self.new).machine) }
+        ensures history { OnOk result ((first : World) (choices : List Choice) → IsHistory first choices self.old
+            → IsHistory first (choices ++ choice ∷ []) self.new) }
+        ensures no_thread { (result ≡ Err StepFault.NoSuchThread)
+            ↔ (refusal_of (world_of self.old.machine) choice ≡ Some StepFault.NoSuchThread) }
+        ensures limit { (result ≡ Err StepFault.StepLimit)
+            ↔ (refusal_of (world_of self.old.machine) choice ≡ Some StepFault.StepLimit) }
+        ensures accepted { OnOk result (refusal_of (world_of self.old.machine) choice ≡ None) }
+        ensures memory { result ≡ Err StepFault.Memory → puts_out (world_of self.old.machine) choice ≡ true }
+        ensures err { OnErr result (self.new ≡ self.old) }
+    {
+        match self.played.step_noting(choice) {
+            Ok((event, undo)) => {
+                self.undos.push_front(undo);
+                Ok(event)
+            }
+            Err(fault) => Err(fault),
+        }
+    }
+
+    /// Takes back the last choice: the machine is the one before it, word for word. The breakpoints stay.
+    pub fn back(&mut self) -> Result<(), NoHistory>
+        ensures session { self.new ≡ went_back self.old }
+        ensures none { IsErr result ↔ (self.old.past ≡ []) }
+        ensures history { OnOk result ((first : World) (choices : List Choice) → IsHistory first choices self.old
+            → IsHistory first (take (length choices - 1) choices) self.new) }
+    {
+        match self.undos.pop_front() {
+            Some(undo) => {
+                self.played.back(undo);
+                Ok(())
+            }
+            None => Err(NoHistory),
+        }
+    }
+
+    /// Sets a breakpoint at a row; false where the program has no such row.
+    pub fn set_break(&mut self, row: u16) -> bool
+        ensures row { result ≡ nat_lt row (length self.old.breaks) }
+        ensures session { self.new ≡ record self.old { breaks = slice_set self.old.breaks row true } }
+    {
+        self.mark(row as usize, true)
+    }
+
+    /// Clears the breakpoint at a row, if there is one; false where the program has no such row.
+    pub fn clear_break(&mut self, row: u16) -> bool
+        ensures row { result ≡ nat_lt row (length self.old.breaks) }
+        ensures session { self.new ≡ record self.old { breaks = slice_set self.old.breaks row false } }
+    {
+        self.mark(row as usize, false)
+    }
+
+    /// Marks a row, where there is such a row.
+    fn mark(&mut self, row: usize, is_break: bool) -> bool
+        ensures row { result ≡ nat_lt row (length self.old.breaks) }
+        ensures session { self.new ≡ record self.old { breaks = slice_set self.old.breaks row is_break } }
+    {
+        match self.marks.get_mut(row) {
+            Some(mark) => {
+                *mark = is_break;
+                true
+            }
+            None => false,
+        }
+    }
+}
+
+#[cfg(test)]
+mod tests;

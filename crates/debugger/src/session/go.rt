@@ -1,0 +1,101 @@
+ghost use Rattle.std.specs.Prelude.{◌≡◌, ◌∷◌, [], replicate, slice_index_or, false};
+ghost use Rattle.machine_scene.specs.Scene.{scene_of, thread_at};
+ghost use Rattle.schedule_reader.specs.Schedule.{choices_of};
+ghost use Rattle.debugger.specs.Go.{is_at_break, Stops};
+ghost use Rattle.debugger.specs.Goes.{Goes};
+
+use crate::session::Debugger;
+use crate::stop::Stop;
+use schedule_reader::Run;
+use thread_machine::{Choice, Status, StepFault};
+
+/// How some choices went.
+pub enum Went {
+    /// All were played.
+    On,
+    /// One of them was a break: it was the last that was played.
+    Break,
+    /// One was refused.
+    Fault(StepFault),
+}
+
+impl Debugger {
+    /// Plays the choices of some runs, up to one that is an effective step and leaves its thread running at a breakpoint, or
+    /// up to one that is refused. Each that it plays can be taken back as if `step` had played it.
+    pub fn go(&mut self, runs: &[Run]) -> Stop
+        ensures { Stops self.old (choices_of runs.now) result self.new }
+    {
+        let before = self.machine().choices();
+        let went = self.go_runs(runs);
+        let played = self.machine().choices() - before;
+        match went {
+            Went::On => Stop::End(played),
+            Went::Break => Stop::Break(played),
+            Went::Fault(fault) => Stop::Fault(played, fault),
+        }
+    }
+
+    fn go_runs(&mut self, runs: &[Run]) -> Went
+        ensures { Goes self.old (choices_of runs.now) result self.new }
+    {
+        for run in runs {
+            match self.go_run(*run) {
+                Went::On => {}
+                Went::Break => return Went::Break,
+                Went::Fault(fault) => return Went::Fault(fault),
+            }
+        }
+        Went::On
+    }
+
+    fn go_run(&mut self, run: Run) -> Went
+        ensures { Goes self.old (replicate run.times run.choice) result self.new }
+    {
+        let mut left = run.times;
+        while left > 0 {
+            match self.pass(run.choice) {
+                Went::On => {}
+                Went::Break => return Went::Break,
+                Went::Fault(fault) => return Went::Fault(fault),
+            }
+            left -= 1;
+        }
+        Went::On
+    }
+
+    /// Plays one choice. Where the count of steps is the same afterwards, it was idle.
+    fn pass(&mut self, choice: Choice) -> Went
+        ensures { Goes self.old (choice ∷ []) result self.new }
+    {
+        let before = self.machine().steps();
+        match self.step(choice) {
+            Ok(_) => {
+                if self.machine().steps() != before && self.stands_at_break(choice.thread) {
+                    Went::Break
+                } else {
+                    Went::On
+                }
+            }
+            Err(fault) => Went::Fault(fault),
+        }
+    }
+
+    /// Whether a thread runs and stands at a breakpoint; false where there is no such thread.
+    fn stands_at_break(&self, thread: u8) -> bool
+        ensures { result ≡ is_at_break self.now.breaks (thread_at (scene_of self.now.machine.scene) thread) }
+    {
+        if thread as usize >= self.machine().thread_count() {
+            return false;
+        }
+        matches!(self.machine().status(thread), Status::Runs)
+            && self.has_break(self.machine().pc(thread))
+    }
+
+    /// Whether a row has a breakpoint; false where there is no such row.
+    fn has_break(&self, row: u16) -> bool
+        ensures { result ≡ slice_index_or self.now.breaks row false }
+    {
+        let row = row as usize;
+        row < self.marks.len() && self.marks[row]
+    }
+}

@@ -1,0 +1,226 @@
+ghost use Rattle.std.specs.Prelude.{◌≡◌, ◌∷◌, [], ◌++◌, ◌+◌, codes, true, false, slice_set, IsTrue, IfOk, OnOk, OnErr, List, ℕ, Err, ◌<◌, length};
+ghost use Rattle.std.specs.Fmt.{decimal};
+ghost use Rattle.std.specs.Io.KnownBytes.{Appends};
+ghost use Rattle.schedule_reader.specs.Schedule.{choices_of};
+ghost use Rattle.thread_machine.specs.World.{world_of};
+ghost use Rattle.thread_machine.specs.Step.{refusal_of};
+ghost use Rattle.trace_compare.specs.State.{state_text};
+ghost use Rattle.trace_compare.specs.Trace.{lines_of};
+ghost use Rattle.debugger.specs.declared.stop.Stop.{Stop};
+ghost use Rattle.debugger.specs.Session.{went_back};
+ghost use Rattle.debugger.specs.Go.{Stops};
+ghost use Rattle.debugger.specs.Command.{goes_on, line_order, order_of};
+ghost use Rattle.debugger.specs.Reply.{IsStepUnless, Replies, back_text, fault_text, number_line, row_text, stop_text};
+
+use crate::command::{Command, command_of};
+use crate::session::Debugger;
+use crate::stop::Stop;
+use byte_ports::{Failed, Sink};
+use itoa::Buffer;
+use schedule_reader::Run;
+use std::alloc::{AllocError, Global};
+use thread_machine::{Choice, StepFault};
+use trace_compare::line::{event_line, refusal_line};
+use trace_compare::state::state_text;
+
+/// Why a command was not carried out, or its reply not written.
+#[derive(Clone, Copy, Debug, PartialEq, Eq)]
+pub enum CommandFault {
+    /// Out of memory.
+    Memory,
+    /// The reply can't be written.
+    Write,
+}
+
+impl From<AllocError> for CommandFault {
+    ghost use Rattle.std.specs.Prelude.{◌≡◌};
+    ghost use Rattle.debugger.specs.declared.session.reply.CommandFault.TheVariants.{Memory};
+
+    ghost from_gives = { λ _ fault. fault ≡ Memory };
+
+    fn from(_error: AllocError) -> CommandFault {
+        CommandFault::Memory
+    }
+}
+
+impl From<Failed> for CommandFault {
+    ghost use Rattle.std.specs.Prelude.{◌≡◌};
+    ghost use Rattle.debugger.specs.declared.session.reply.CommandFault.TheVariants.{Write};
+
+    ghost from_gives = { λ _ fault. fault ≡ Write };
+
+    fn from(_failed: Failed) -> CommandFault {
+        CommandFault::Write
+    }
+}
+
+/// Writes a word, a number and the line's end.
+fn say<W: Sink>(output: &mut W, word: &[u8], number: u64, end: &[u8]) -> Result<(), Failed>
+    ensures line { OnOk result (Appends (W.written output.old) (W.written output.new)
+        (word.now ++ (decimal number ++ end.now))) }
+    ensures failed { OnErr result (IsTrue (W.has_failed output.new)) }
+{
+    output.push(word)?;
+    output.push(Buffer::new().format(number).as_bytes())?;
+    output.push(end)
+}
+
+/// Writes why `go` was refused a choice after so many.
+fn say_fault<W: Sink>(output: &mut W, number: u64, fault: StepFault) -> Result<(), Failed>
+    ensures line { OnOk result (Appends (W.written output.old) (W.written output.new)
+        (stop_text (Stop.Fault number fault))) }
+    ensures failed { OnErr result (IsTrue (W.has_failed output.new)) }
+{
+    match fault {
+        StepFault::NoSuchThread => say(output, b"fault ", number, b" none\n"),
+        StepFault::StepLimit => say(output, b"fault ", number, b" limit\n"),
+        StepFault::Memory => say(output, b"fault ", number, b" memory\n"),
+    }
+}
+
+impl Debugger {
+    /// Plays a choice and puts its line at the end of the text. Where the line finds no memory, the choice is taken back.
+    fn step_line(&mut self, line: &mut Vec<u8>, choice: Choice) -> Result<(), AllocError>
+        ensures session { OnOk result
+            (IsStepUnless (refusal_of (world_of self.old.machine) choice) self.old choice self.new) }
+        ensures line { OnOk result (line.new.items
+            ≡ line.old.items ++ lines_of (world_of self.old.machine) (choice ∷ [])) }
+        ensures err { OnErr result (self.new ≡ self.old) }
+    {
+        let number = self.played.choices() + 1;
+        if choice.thread as usize >= self.played.thread_count() {
+            return refusal_line(line, number, choice, None);
+        }
+        let pc = self.played.pc(choice.thread);
+        match self.played.step_noting(choice) {
+            Ok((event, undo)) => match event_line(line, number, choice, pc, &event) {
+                Ok(()) => {
+                    self.undos.push_front(undo);
+                    Ok(())
+                }
+                Err(error) => {
+                    self.played.back(undo);
+                    Err(error)
+                }
+            },
+            Err(StepFault::Memory) => Err(AllocError),
+            Err(_) => refusal_line(line, number, choice, Some(pc)),
+        }
+    }
+
+    fn step_command<W: Sink>(
+        &mut self,
+        alloc: Global,
+        choice: Choice,
+        output: &mut W,
+    ) -> Result<(), CommandFault>
+        ensures session { OnOk result
+            (IsStepUnless (refusal_of (world_of self.old.machine) choice) self.old choice self.new) }
+        ensures line { OnOk result (Appends (W.written output.old) (W.written output.new)
+            (lines_of (world_of self.old.machine) (choice ∷ []))) }
+        ensures memory { result ≡ Err CommandFault.Memory → self.new ≡ self.old }
+        ensures write { result ≡ Err CommandFault.Write → IsTrue (W.has_failed output.new) }
+    {
+        let mut line = Vec::new(alloc);
+        self.step_line(&mut line, choice)?;
+        output.push(line.as_slice())?;
+        Ok(())
+    }
+
+    fn back_command<W: Sink>(&mut self, output: &mut W) -> Result<(), Failed>
+        ensures session { self.new ≡ went_back self.old }
+        ensures line { OnOk result (Appends (W.written output.old) (W.written output.new) (back_text self.old.past)) }
+        ensures failed { OnErr result (IsTrue (W.has_failed output.new)) }
+    {
+        match self.back() {
+            Ok(()) => say(output, b"back ", self.machine().choices(), b"\n"),
+            Err(_) => output.push(b"no history\n"),
+        }
+    }
+
+    fn break_command<W: Sink>(&mut self, row: usize, output: &mut W) -> Result<(), Failed>
+        ensures session { self.new ≡ record self.old { breaks = slice_set self.old.breaks row true } }
+        ensures line { OnOk result (Appends (W.written output.old) (W.written output.new)
+            (row_text (codes "break ") row self.old)) }
+        ensures failed { OnErr result (IsTrue (W.has_failed output.new)) }
+    {
+        if self.mark(row, true) {
+            say(output, b"break ", row as u64, b"\n")
+        } else {
+            output.push(b"?\n")
+        }
+    }
+
+    fn clear_command<W: Sink>(&mut self, row: usize, output: &mut W) -> Result<(), Failed>
+        ensures session { self.new ≡ record self.old { breaks = slice_set self.old.breaks row false } }
+        ensures line { OnOk result (Appends (W.written output.old) (W.written output.new)
+            (row_text (codes "clear ") row self.old)) }
+        ensures failed { OnErr result (IsTrue (W.has_failed output.new)) }
+    {
+        if self.mark(row, false) {
+            say(output, b"clear ", row as u64, b"\n")
+        } else {
+            output.push(b"?\n")
+        }
+    }
+
+    fn go_command<W: Sink>(&mut self, runs: &[Run], output: &mut W) -> Result<(), Failed>
+        ensures line { OnOk result ((stop : Stop) × Stops self.old (choices_of runs.now) stop self.new
+            × Appends (W.written output.old) (W.written output.new) (stop_text stop)) }
+        ensures failed { OnErr result (IsTrue (W.has_failed output.new)) }
+    {
+        match self.go(runs) {
+            Stop::Break(played) => say(output, b"at ", played, b"\n"),
+            Stop::End(played) => say(output, b"end ", played, b"\n"),
+            Stop::Fault(played, fault) => say_fault(output, played, fault),
+        }
+    }
+
+    /// Carries out a command and writes its reply.
+    fn carry_out<W: Sink>(
+        &mut self,
+        alloc: Global,
+        command: Command,
+        output: &mut W,
+    ) -> Result<(), CommandFault>
+        ensures replies { OnOk result ((text : List ℕ) × Replies self.old (order_of command) self.new text
+            × Appends (W.written output.old) (W.written output.new) text) }
+        ensures memory { result ≡ Err CommandFault.Memory → self.new ≡ self.old }
+        ensures write { result ≡ Err CommandFault.Write → IsTrue (W.has_failed output.new) }
+    {
+        match command {
+            Command::Step(choice) => self.step_command(alloc, choice, output)?,
+            Command::Go(runs) => self.go_command(runs.as_slice(), output)?,
+            Command::Back => self.back_command(output)?,
+            Command::Break(row) => self.break_command(row, output)?,
+            Command::Clear(row) => self.clear_command(row, output)?,
+            Command::Print => {
+                let text = state_text(alloc, self.machine())?;
+                output.push(text.as_slice())?;
+            }
+            Command::Quit => {}
+            Command::Unknown => output.push(b"?\n")?,
+        }
+        Ok(())
+    }
+
+    /// Carries out the command of a line and writes its reply; false after `q`. The line is read whole before anything is
+    /// done, so one that is no command leaves the debugger as before.
+    pub fn command<W: Sink>(
+        &mut self,
+        alloc: Global,
+        line: &[u8],
+        output: &mut W,
+    ) -> Result<bool, CommandFault>
+        ensures replies { OnOk result ((text : List ℕ) × Replies self.old (line_order line.now) self.new text
+            × Appends (W.written output.old) (W.written output.new) text) }
+        ensures goes_on { IfOk result (λ more. more ≡ goes_on (line_order line.now)) }
+        ensures memory { result ≡ Err CommandFault.Memory → self.new ≡ self.old }
+        ensures write { result ≡ Err CommandFault.Write → IsTrue (W.has_failed output.new) }
+    {
+        let command = command_of(alloc, line)?;
+        let goes_on = command.goes_on();
+        self.carry_out(alloc, command, output)?;
+        Ok(goes_on)
+    }
+}

@@ -1,0 +1,16 @@
+use thread_machine::StepFault;
+
+/// Why a choice could not be taken back: no record of it is kept. The debugger is as before.
+#[derive(Clone, Copy, Debug, PartialEq, Eq)]
+pub struct NoHistory;
+
+/// Where `Debugger::go` stopped, and how many choices it played.
+#[derive(Clone, Copy, Debug, PartialEq, Eq)]
+pub enum Stop {
+    /// The last choice was an effective step that left its thread running at a breakpoint.
+    Break(u64),
+    /// All choices were played.
+    End(u64),
+    /// The next choice was refused.
+    Fault(u64, StepFault),
+}
