@@ -23,4 +23,7 @@ pub mod Undone
 pub mod UndoneRows
 pub mod Undoing
 pub mod ReadyThreads
+pub mod Standings
+pub mod Awake
+pub mod ThreadSets
 mod WorkedRows

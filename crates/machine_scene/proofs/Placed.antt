@@ -14,8 +14,8 @@ use Rattle.thread_state.specs.declared.frame.Frame.TheVariants as frame
 use Rattle.thread_state.specs.declared.status.Status.{Status}
 use Rattle.thread_state.specs.declared.status.Status.TheVariants as status
 use Rattle.thread_state.specs.Thread.{top_of}
-use Rattle.machine_scene.specs.Scene.{Scene, StoredScene, scene_of, counts_of, thread_at, barrier_at}
-use Rattle.machine_scene.specs.Sound.{IsSound, HasItsWait, StandsAt, IsTop, awaits}
+use Rattle.machine_scene.specs.Scene.{Scene, StoredScene, scene_of, counts_of, counts_in, thread_at, barrier_at}
+use Rattle.machine_scene.specs.Sound.{IsSound, HasItsWait, SeesWait, StandsAt, IsTop, awaits}
 use Rattle.machine_scene.proofs.Facts.{named_at, placed_at, top_named, advance_pending, action_runs}
 
 none_if : (wait : Option WaitState) → is_some wait ≡ false → wait ≡ None
@@ -35,28 +35,52 @@ its_wait (status.AwaitsBarrier index) row t scene known = λ b at none.
 its_wait status.Ended row t scene known = λ b. none_if (wait_at (barrier_at scene b).waits t) (known b)
 its_wait (status.Died code) row t scene known = λ b. none_if (wait_at (barrier_at scene b).waits t) (known b)
 
+-- what the row at this place names is there
+pub named_in : (program : Program) (steps pc : ℕ) (stored : StoredScene) → IsSound program steps (scene_of stored)
+    → pc < length program.rows → IsNamed (counts_in program stored) (row_at program.rows pc)
+named_in program steps pc stored sound within =
+    subst (λ (n : ℕ). IsNamed (record { rows = length program.rows; threads = length stored.threads; phasers = n; barriers = length stored.barriers }) (row_at program.rows pc))
+    (length-shown stored.phasers) (named_at program (counts_of program (scene_of stored)) pc sound.code within)
+
+-- what a look at the thread's wait may count on
+pub wait_placed : (program : Program) (steps : ℕ) (row : Row) (t : ℕ) (stored : StoredScene) → IsSound program steps (scene_of stored)
+    → t < length stored.threads → row ≡ row_at program.rows (thread_at (scene_of stored) t).pc → SeesWait program row t stored
+wait_placed program steps row t stored sound there is =
+    let scene = scene_of stored in
+    let placed = placed_at program steps scene t sound there in
+    let many : length scene.phasers ≡ length stored.phasers = length-shown stored.phasers in
+    let places = length-map scene.phasers place_of in
+    let few = sound.trees.forest.few in
+    record {
+      named = subst (IsNamed (counts_in program stored)) (sym is) (named_in program steps (thread_at scene t).pc stored sound placed.pc);
+      few = omega (arith, many, places, few);
+      waits = its_wait (thread_at scene t).status row t scene
+          (λ b. subst (λ (r : Row). has_wait t (barrier_at scene b) ≡ awaits b (thread_at scene t).status r) (sym is) (sound.waits b t));
+    }
+
+-- the same row after a turn
+pub named_still : (program : Program) (row : Row) (t : ℕ) (old new : StoredScene) → IsSound program 2147483646 (scene_of old)
+    → t < length old.threads → row ≡ row_at program.rows (thread_at (scene_of old) t).pc → IsSound program 2147483647 (scene_of new)
+    → IsNamed (counts_in program new) row
+named_still program row t old new sound there is after =
+    subst (IsNamed (counts_in program new)) (sym is)
+    (named_in program 2147483647 (thread_at (scene_of old) t).pc new after (placed_at program 2147483646 (scene_of old) t sound there).pc)
+
 -- what a turn at the thread's row may count on
 pub turn_placed : (program : Program) (row : Row) (t : ℕ) (stored : StoredScene) → IsSound program 2147483646 (scene_of stored)
     → t < length stored.threads → row ≡ row_at program.rows (thread_at (scene_of stored) t).pc → StandsAt program row t stored
 turn_placed program row t stored sound there is =
-    let scene = scene_of stored in
-    let placed = placed_at program 2147483646 scene t sound there in
-    let many : length scene.phasers ≡ length stored.phasers = length-shown stored.phasers in
-    let places = length-map scene.phasers place_of in
-    let few = sound.trees.forest.few in
+    let seen = wait_placed program 2147483646 row t stored sound there is in
     let rows = sound.code.few in
-    let within = placed.pc in
-    let named : IsNamed (counts_of program scene) row =
-    subst (IsNamed (counts_of program scene)) (sym is) (named_at program (counts_of program scene) (thread_at scene t).pc sound.code placed.pc) in
+    let within = (placed_at program 2147483646 (scene_of stored) t sound there).pc in
     record {
-      named = subst (λ (n : ℕ). IsNamed (record { rows = length program.rows; threads = length stored.threads; phasers = n; barriers = length stored.barriers }) row) many named;
-      few = omega (arith, many, places, few);
-      routines = sound.code.all_routines ∙ many;
+      named = seen.named;
+      few = seen.few;
+      routines = sound.code.all_routines ∙ length-shown stored.phasers;
       actions = sound.code.all_actions;
       ends = λ p. let most = sound.trees.ends p in omega (arith, most);
       place = omega (arith, rows, within);
-      waits = its_wait (thread_at scene t).status row t scene
-          (λ b. subst (λ (r : Row). has_wait t (barrier_at scene b) ≡ awaits b (thread_at scene t).status r) (sym is) (sound.waits b t));
+      waits = seen.waits;
     }
 
 -- by the top entry

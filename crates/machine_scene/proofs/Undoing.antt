@@ -13,10 +13,12 @@ use Rattle.thread_state.specs.Thread.{ThreadState, top_of}
 use Rattle.thread_state.specs.Undo as own
 use Rattle.machine_scene.specs.declared.reach.Reach.{Reach}
 use Rattle.machine_scene.specs.declared.reach.Reach.TheVariants as reach
+use Rattle.machine_scene.specs.declared.note.Touched.{Touched}
+use Rattle.machine_scene.specs.declared.note.Touched.TheVariants as touched
 use Rattle.machine_scene.specs.Scene.{StoredScene, scene_of, counts_in, no_thread, thread_at}
 use Rattle.machine_scene.specs.Sound.{IsSound}
 use Rattle.machine_scene.specs.Outcomes.{outcome_in, outcome_of, is_ready, outcome_of_expiry}
-use Rattle.machine_scene.specs.Undo.{Note, IsThere, PhasersWithin, CanPutBack, CanUndo, reach_in, reach_of, touched_by, note_of, undone}
+use Rattle.machine_scene.specs.Undo.{Note, IsThere, PhasersWithin, CanPutBack, CanUndo, reach_in, reach_of, touched_by, note_of, with_undone, with_touched, undone}
 use Rattle.machine_scene.proofs.Plain.{either}
 use Rattle.machine_scene.proofs.Placed.{turn_placed, top_placed}
 use Rattle.machine_scene.proofs.Reaches.{reach_there}
@@ -31,24 +33,29 @@ pub record IsUndone (note : Note) (old new : StoredScene) : Type 0 where
 
 -- a note of this reach
 abbrev noted : Reach → ℕ → StoredScene → Note
-noted reach t stored = record { thread = t; before = own.note_of (thread_at (scene_of stored) t); touched = touched_by reach stored }
+noted reach t stored = record { thread = t; before = own.note_of (thread_at (scene_of stored) t); touched = touched_by reach stored; awake = stored.awake }
 
 made : (old new : StoredScene) → new.cells ≡ old.cells → new.threads ≡ old.threads → new.phasers ≡ old.phasers → new.barriers ≡ old.barriers
-    → new ≡ old
+    → record new { awake = old.awake } ≡ old
 made old new cells threads phasers barriers =
-    ap (λ (xs : List ℤ). record new { cells = xs }) cells
-    ∙ ap (λ (xs : List ThreadState). record new { cells = old.cells; threads = xs }) threads
-    ∙ ap (λ (xs : List Stored). record new { cells = old.cells; threads = old.threads; phasers = xs }) phasers
+    let kept : StoredScene = record new { awake = old.awake } in
+    ap (λ (xs : List ℤ). record kept { cells = xs }) cells
+    ∙ ap (λ (xs : List ThreadState). record kept { cells = old.cells; threads = xs }) threads
+    ∙ ap (λ (xs : List Stored). record kept { cells = old.cells; threads = old.threads; phasers = xs }) phasers
     ∙ ap (λ (xs : List BarrierState). record old { barriers = xs }) barriers
+
+-- the scene that such a note gives back, but for who was awake
+abbrev given_back : Reach → ℕ → StoredScene → StoredScene → StoredScene
+given_back reach t old new = with_undone (own.note_of (thread_at (scene_of old) t)) t (with_touched (touched_by reach old) new)
 
 undone_by : (reach : Reach) (t : ℕ) (old new : StoredScene) → GivesBack reach t (scene_of old) (scene_of new)
     → PhasersWithin reach old.phasers new.phasers → undone (noted reach t old) new ≡ old
-undone_by reach.Nothing t old new gives within = made old _ gives.cells gives.threads within gives.barriers
-undone_by (reach.Cell cell) t old new gives within = made old _ gives.cells gives.threads within gives.barriers
-undone_by (reach.Thread other) t old new gives within = made old _ gives.cells gives.threads within gives.barriers
+undone_by reach.Nothing t old new gives within = made old (given_back reach.Nothing t old new) gives.cells gives.threads within gives.barriers
+undone_by (reach.Cell cell) t old new gives within = made old (given_back (reach.Cell cell) t old new) gives.cells gives.threads within gives.barriers
+undone_by (reach.Thread other) t old new gives within = made old (given_back (reach.Thread other) t old new) gives.cells gives.threads within gives.barriers
 undone_by (reach.Tree p) t old new gives within =
-    made old _ gives.cells gives.threads (restored_line (stored_at old.phasers p).line old.phasers new.phasers within) gives.barriers
-undone_by (reach.Barrier b) t old new gives within = made old _ gives.cells gives.threads within gives.barriers
+    made old (given_back (reach.Tree p) t old new) gives.cells gives.threads (restored_line (stored_at old.phasers p).line old.phasers new.phasers within) gives.barriers
+undone_by (reach.Barrier b) t old new gives within = made old (given_back (reach.Barrier b) t old new) gives.cells gives.threads within gives.barriers
 
 many_back : (t : ℕ) (before after : List ThreadState) → length (thread_back t before after) ≡ length after
 many_back t before after =
@@ -132,3 +139,26 @@ expiry_undone program t old new event sound there stored is within =
     undone_within reach t old new (reached program t old sound there) there stored
     (subst (BackIf reach t scene) is
     (either (BackIf reach t scene) (is_ready t program scene) {a = None} tt (back_timeout thread.status row t scene there))) within
+
+-- a note gives back the same, whatever set is kept of the threads that are awake
+touched_still : (of : Touched) (stored : StoredScene) (set : ℕ)
+    → with_touched of (record stored { awake = set }) ≡ record (with_touched of stored) { awake = set }
+touched_still touched.Nothing stored set = refl
+touched_still (touched.Cell cell number) stored set = refl
+touched_still (touched.Thread other before) stored set = refl
+touched_still (touched.Tree saved) stored set = refl
+touched_still (touched.Barrier b before) stored set = refl
+
+pub undone_still : (note : Note) (stored : StoredScene) (set : ℕ) → undone note (record stored { awake = set }) ≡ undone note stored
+undone_still note stored set =
+    ap (λ (s : StoredScene). record (with_undone note.before note.thread s) { awake = note.awake }) (touched_still note.touched stored set)
+
+put_back_still : (of : Touched) (stored : StoredScene) (set : ℕ) → CanPutBack of stored → CanPutBack of (record stored { awake = set })
+put_back_still touched.Nothing stored set can = tt
+put_back_still (touched.Cell cell number) stored set can = can
+put_back_still (touched.Thread other before) stored set can = can
+put_back_still (touched.Tree saved) stored set can = can
+put_back_still (touched.Barrier b before) stored set can = can
+
+pub can_still : (note : Note) (stored : StoredScene) (set : ℕ) → CanUndo note stored → CanUndo note (record stored { awake = set })
+can_still note stored set can = record { there = can.there; touched = put_back_still note.touched stored set can.touched }

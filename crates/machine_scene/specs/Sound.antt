@@ -83,6 +83,12 @@ HasItsWait (status.AwaitsBarrier index) row t scene =
 HasItsWait status.Ended row t scene = (b : ℕ) → wait_at (barrier_at scene b).waits t ≡ None
 HasItsWait (status.Died code) row t scene = (b : ℕ) → wait_at (barrier_at scene b).waits t ≡ None
 
+-- what a look at the wait of thread t at this row may count on
+pub record SeesWait (program : Program) (row : Row) (t : ℕ) (stored : StoredScene) : Type 0 where
+  pub named : IsNamed (counts_in program stored) row
+  pub few : length stored.phasers ≤ 64
+  pub waits : HasItsWait (thread_at (scene_of stored) t).status row t (scene_of stored)
+
 -- what a turn of thread t at this row may count on
 pub record StandsAt (program : Program) (row : Row) (t : ℕ) (stored : StoredScene) : Type 0 where
   pub named : IsNamed (counts_in program stored) row

@@ -19,6 +19,7 @@ pub struct SceneNote {
     pub(crate) number: u8,
     pub(crate) own: ThreadNote,
     pub(crate) beside: Touched,
+    pub(crate) awake: u64,
 }
 
 impl Model for SceneNote {
@@ -30,5 +31,6 @@ impl Model for SceneNote {
       thread = note.number;
       before = note.own;
       touched = note.beside;
+      awake = note.awake;
     } };
 }

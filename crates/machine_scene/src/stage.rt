@@ -8,6 +8,7 @@ ghost use Rattle.machine_scene.specs.Group.{group_of};
 ghost use Rattle.machine_scene.specs.Outcomes.{outcome_in, outcome_of, outcome_of_row, outcome_of_expiry, is_ready};
 ghost use Rattle.machine_scene.specs.Outcomes.{timeout_in};
 ghost use Rattle.machine_scene.specs.Sound.{IsSound, StandsAt};
+ghost use Rattle.machine_scene.specs.Awake.{is_awake, KeepsAwake, AreOthersAwake, may_wake};
 ghost use Rattle.machine_scene.specs.Undo.{PhasersWithin, CanUndo, reach_of_row, reach_in, note_of, undone};
 
 use crate::group::{Group, group_of};
@@ -19,6 +20,7 @@ use std::marker::Model;
 use thread_state::{Event, Mark, Status, Thread, What};
 use tier_tree::Forest;
 
+mod awake;
 mod barrier_rows;
 mod call_rows;
 mod data_rows;
@@ -38,6 +40,7 @@ pub struct Stage {
     players: Vec<Thread>,
     forest: Forest,
     gates: Vec<Barrier>,
+    awake: u64,
 }
 
 impl Model for Stage {
@@ -51,6 +54,7 @@ impl Model for Stage {
       threads = stage.players.items;
       phasers = stage.forest;
       barriers = stage.gates.items;
+      awake = stage.awake;
     } };
 
     ghost invariant = { λ stage.
@@ -79,7 +83,7 @@ fn copies(alloc: Global, players: &[Thread]) -> Result<Vec<Thread>, AllocError>
 }
 
 impl Stage {
-    /// These threads, phasers and barriers, and cells of 0.
+    /// These threads, phasers and barriers, and cells of 0. Its threads are yet to be woken.
     pub fn new(players: Vec<Thread>, forest: Forest, gates: Vec<Barrier>) -> Stage
         requires threads { length players.items ≤ 64 }
         requires barriers { length gates.items ≤ 64 }
@@ -88,6 +92,7 @@ impl Stage {
           threads = players.items;
           phasers = forest;
           barriers = gates.items;
+          awake = 0;
         } }
     {
         Stage {
@@ -95,7 +100,17 @@ impl Stage {
             players,
             forest,
             gates,
+            awake: 0,
         }
+    }
+
+    /// Finds out which threads are awake.
+    pub fn wake(&mut self, program: &Loaded)
+        requires sound { IsSound program.now 2147483647 (scene_of self.old) }
+        ensures same { self.new ≡ record self.old { awake = (self.new).awake } }
+        ensures awake { KeepsAwake program.now self.new }
+    {
+        self.awake = self.all_awake(program);
     }
 
     /// The same stage, word for word.
@@ -107,6 +122,7 @@ impl Stage {
             players: copies(alloc, self.players.as_slice())?,
             forest: self.forest.copy(alloc)?,
             gates: Vec::from_slice(alloc, self.gates.as_slice())?,
+            awake: self.awake,
         })
     }
 
@@ -176,28 +192,51 @@ impl Stage {
     }
 
     /// Whether a thread may take a step.
+    #[tactic(auto, using(crate::proofs::Awake::asleep))]
     pub fn is_ready(&self, program: &Loaded, t: usize) -> bool
         requires sound { IsSound program.now 2147483646 (scene_of self.now) }
+        requires awake { KeepsAwake program.now self.now }
         requires thread { t < length self.now.threads }
         ensures { result ≡ is_ready t program.now (scene_of self.now) }
     {
-        let row = self.row_of(program, t);
-        self.is_ready_at(program, row, t)
+        awake::is_in(self.awake, t) && self.goes_on(program, t)
+    }
+
+    /// Whether a thread that is awake may take a step.
+    fn goes_on(&self, program: &Loaded, t: usize) -> bool
+        requires sound { IsSound program.now 2147483646 (scene_of self.now) }
+        requires awake { is_awake t program.now (scene_of self.now) ≡ true }
+        requires thread { t < length self.now.threads }
+        ensures { result ≡ is_ready t program.now (scene_of self.now) }
+    {
+        match self.players[t].status() {
+            Status::Runs => {
+                let row = self.row_of(program, t);
+                self.is_row_ready(program, row, t)
+            }
+            Status::Throws(_) | Status::AwaitsPhase(_) | Status::AwaitsBarrier(_) => true,
+            Status::Ended | Status::Died(_) => false,
+        }
     }
 
     /// Whether the time of a thread's wait may run out now.
     pub fn can_expire(&self, program: &Loaded, t: usize) -> bool
         requires sound { IsSound program.now 2147483646 (scene_of self.now) }
+        requires awake { KeepsAwake program.now self.now }
         requires thread { t < length self.now.threads }
         ensures { result ≡ is_some (outcome_of_expiry t program.now (scene_of self.now)) }
     {
+        if self.is_ready(program, t) {
+            return false;
+        }
         let row = self.row_of(program, t);
-        !self.is_ready_at(program, row, t) && self.has_time(program, row, t)
+        self.has_time(program, row, t)
     }
 
     /// The turn of a ready thread. `Err` is want of memory for a value put out, and nothing has changed.
     pub fn turn(&mut self, program: &Loaded, t: usize) -> Result<Event, AllocError>
         requires sound { IsSound program.now 2147483646 (scene_of self.old) }
+        requires awake { KeepsAwake program.now self.old }
         requires thread { t < length self.old.threads }
         requires ready { is_ready t program.now (scene_of self.old) ≡ true }
         ensures ok { IfOk result (λ event. outcome_of t program.now (scene_of self.old)
@@ -212,9 +251,40 @@ impl Stage {
         ensures undo { OnOk result (undone (note_of t program.now self.old) self.new ≡ self.old) }
         ensures can { OnOk result (CanUndo (note_of t program.now self.old) self.new) }
         ensures threads { OnOk result (length self.new.threads ≡ length self.old.threads) }
+        ensures awake { OnOk result (KeepsAwake program.now self.new) }
+    {
+        let row = self.row_of(program, t);
+        let before = self.awake;
+        match self.turn_of_row(program, row, t) {
+            Ok(event) => {
+                self.awake = self.awake_after(program, before, row, event, t);
+                Ok(event)
+            }
+            Err(refused) => Err(refused),
+        }
+    }
+
+    /// The same of a thread that stands at this row, and which threads are awake is yet to be found out.
+    fn turn_of_row(&mut self, program: &Loaded, row: Row, t: usize) -> Result<Event, AllocError>
+        requires sound { IsSound program.now 2147483646 (scene_of self.old) }
+        requires thread { t < length self.old.threads }
+        requires row { row ≡ row_at program.now.rows (thread_at (scene_of self.old) t).pc }
+        requires at { StandsAt program.now row t self.old }
+        requires ready { is_ready t program.now (scene_of self.old) ≡ true }
+        ensures ok { IfOk result (λ event. outcome_of t program.now (scene_of self.old)
+            ≡ Some (record { scene = scene_of self.new; event = event })) }
+        ensures err { OnErr result (self.new ≡ self.old) }
+        ensures memory { IsErr result → may_grow row (thread_at (scene_of self.old) t) ≡ true }
+        ensures sound { OnOk result ((steps : ℕ) → steps < 2147483647
+            → IsSound program.now steps (scene_of self.old)
+            → IsSound program.now (steps + 1) (scene_of self.new)) }
+        ensures undo { OnOk result (undone (note_of t program.now self.old) self.new ≡ self.old) }
+        ensures can { OnOk result (CanUndo (note_of t program.now self.old) self.new) }
+        ensures threads { OnOk result (length self.new.threads ≡ length self.old.threads) }
+        ensures others { IfOk result (λ event. KeepsAwake program.now self.old → may_wake row event ≡ false
+            → AreOthersAwake program.now t row self.old.awake self.new) }
     {
         self.phasers_are_stored();
-        let row = self.row_of(program, t);
         match self.turn_at(program, row, t) {
             Ok(event) => Ok(event),
             Err(refused) => Err(refused),
@@ -274,6 +344,7 @@ impl Stage {
     /// The time of a thread's wait runs out.
     pub fn expire(&mut self, program: &Loaded, t: usize) -> Event
         requires sound { IsSound program.now 2147483646 (scene_of self.old) }
+        requires awake { KeepsAwake program.now self.old }
         requires thread { t < length self.old.threads }
         requires ready { is_some (outcome_of_expiry t program.now (scene_of self.old)) ≡ true }
         ensures ok { outcome_of_expiry t program.now (scene_of self.old)
@@ -284,9 +355,34 @@ impl Stage {
         ensures undo { undone (note_of t program.now self.old) self.new ≡ self.old }
         ensures can { CanUndo (note_of t program.now self.old) self.new }
         ensures threads { length self.new.threads ≡ length self.old.threads }
+        ensures awake { KeepsAwake program.now self.new }
+    {
+        let row = self.row_of(program, t);
+        let before = self.awake;
+        let event = self.expiry_of_row(program, row, t);
+        self.awake = self.awake_after(program, before, row, event, t);
+        event
+    }
+
+    /// The same of a thread that stands at this row, and which threads are awake is yet to be found out.
+    fn expiry_of_row(&mut self, program: &Loaded, row: Row, t: usize) -> Event
+        requires sound { IsSound program.now 2147483646 (scene_of self.old) }
+        requires thread { t < length self.old.threads }
+        requires row { row ≡ row_at program.now.rows (thread_at (scene_of self.old) t).pc }
+        requires at { StandsAt program.now row t self.old }
+        requires ready { is_some (outcome_of_expiry t program.now (scene_of self.old)) ≡ true }
+        ensures ok { outcome_of_expiry t program.now (scene_of self.old)
+            ≡ Some (record { scene = scene_of self.new; event = result }) }
+        ensures sound { (steps : ℕ) → steps < 2147483647
+            → IsSound program.now steps (scene_of self.old)
+            → IsSound program.now (steps + 1) (scene_of self.new) }
+        ensures undo { undone (note_of t program.now self.old) self.new ≡ self.old }
+        ensures can { CanUndo (note_of t program.now self.old) self.new }
+        ensures threads { length self.new.threads ≡ length self.old.threads }
+        ensures others { KeepsAwake program.now self.old → may_wake row result ≡ false
+            → AreOthersAwake program.now t row self.old.awake self.new }
     {
         self.phasers_are_stored();
-        let row = self.row_of(program, t);
         self.expire_at(program, row, t)
     }
 

@@ -1,4 +1,5 @@
 pub mod Executions
+pub mod Limits
 pub mod Readiness
 pub mod Sound
 pub mod PhaseNumbers

@@ -1,4 +1,4 @@
-ghost use Rattle.std.specs.Prelude.{◌≡◌, List, [], ◌∷◌, ◌++◌};
+ghost use Rattle.std.specs.Prelude.{◌≡◌, ◌≤◌, ℕ, List, [], ◌∷◌, ◌++◌, None};
 ghost use Rattle.tier_tree.specs.Origin.{Origin, StandsFor};
 ghost use Rattle.tier_tree.specs.Stored.{phasers_of};
 ghost use Rattle.row_code.specs.declared.image.Image.{Image};
@@ -8,6 +8,7 @@ ghost use Rattle.thread_machine.specs.declared.choice.Choice.{Choice};
 ghost use Rattle.thread_machine.specs.World.{World};
 ghost use Rattle.thread_machine.specs.Execution.{execution, extended};
 ghost use Rattle.thread_machine.specs.DirectCounts.{NoPhaseEndsEarly};
+ghost use Rattle.thread_machine.specs.Limit.{under_limit, with_limit};
 
 use loader::Loaded;
 
@@ -16,6 +17,14 @@ use loader::Loaded;
 pub fn one_more_choice_extends_the_execution()
     ensures { (world : World) (choices : List Choice) (choice : Choice)
         → execution world (choices ++ choice ∷ []) ≡ extended (execution world choices) choice }
+{}
+
+/// A higher limit of steps makes no difference to choices that were all accepted: they show the same events, and lead to
+/// the same world but for the limit.
+pub fn a_higher_limit_changes_nothing_that_was_accepted()
+    ensures { (limit : ℕ) (world : World) (choices : List Choice) → world.limit ≤ limit
+        → (execution world choices).refusal ≡ None
+        → execution (with_limit limit world) choices ≡ under_limit limit (execution world choices) }
 {}
 
 /// No phase of a loaded program ends early: whatever was chosen before, where an accepted choice ends a phase, every party

@@ -94,8 +94,9 @@ impl Machine {
         ensures { IfOk result (λ machine. world_of machine ≡ first_world program limit) }
     {
         program.each_program_is_whole();
-        let stage = first_stage(alloc, &program)?;
+        let mut stage = first_stage(alloc, &program)?;
         stage.forest().is_forest();
+        stage.wake(&program);
         Ok(Machine {
             program,
             stage,

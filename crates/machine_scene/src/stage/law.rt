@@ -3,7 +3,7 @@ ghost use Rattle.tier_tree.specs.Stored.{IsStored};
 ghost use Rattle.loader.specs.Program.{row_at};
 ghost use Rattle.thread_state.specs.Thread.{top_of};
 ghost use Rattle.machine_scene.specs.Scene.{scene_of, thread_at};
-ghost use Rattle.machine_scene.specs.Sound.{IsSound, StandsAt, IsTop};
+ghost use Rattle.machine_scene.specs.Sound.{IsSound, SeesWait, StandsAt, IsTop};
 
 use super::Stage;
 use instruction_table::Row;
@@ -25,6 +25,16 @@ impl Stage {
         requires thread { t < length self.now.threads }
         requires row { row ≡ row_at program.now.rows (thread_at (scene_of self.now) t).pc }
         ensures { StandsAt program.now row t self.now }
+    {
+        let _ = &self.players;
+    }
+
+    /// What a look at the thread's wait may count on.
+    pub(super) fn wait_is_placed(&self, program: &Loaded, row: Row, t: usize)
+        requires sound { IsSound program.now 2147483647 (scene_of self.now) }
+        requires thread { t < length self.now.threads }
+        requires row { row ≡ row_at program.now.rows (thread_at (scene_of self.now) t).pc }
+        ensures { SeesWait program.now row t self.now }
     {
         let _ = &self.players;
     }

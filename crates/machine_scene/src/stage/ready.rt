@@ -5,9 +5,9 @@ ghost use Rattle.loader.specs.Program.{IsNamed};
 ghost use Rattle.machine_scene.specs.Scene.{scene_of, counts_in, thread_at, barrier_at};
 ghost use Rattle.machine_scene.specs.BarrierRows.{is_run_by_another};
 ghost use Rattle.machine_scene.specs.Waits.{outcome_of_phase_wait, outcome_of_release, outcome_of_barrier_wait};
-ghost use Rattle.machine_scene.specs.Outcomes.{outcome_in, outcome_of_row, timeout_in};
+ghost use Rattle.machine_scene.specs.Outcomes.{outcome_of_row, timeout_in};
 ghost use Rattle.machine_scene.specs.Ready.{registration_is_held, is_blocked};
-ghost use Rattle.machine_scene.specs.Sound.{is_wait_row, StandsAt};
+ghost use Rattle.machine_scene.specs.Sound.{is_wait_row};
 
 use super::Stage;
 use cyclic_barrier::WaitState;
@@ -16,27 +16,11 @@ use loader::Loaded;
 use thread_state::Status;
 use tier_tree::{PhaserId, Registered};
 
-/// Which threads may take a step.
+/// Which rows can be played, and which waits can end.
 impl Stage {
-    /// Whether a thread that stands at this row may take a step.
-    pub(super) fn is_ready_at(&self, program: &Loaded, row: Row, t: usize) -> bool
-        requires thread { t < length self.now.threads }
-        requires at { StandsAt program.now row t self.now }
-        ensures { result ≡ is_some (outcome_in (thread_at (scene_of self.now) t).status row t program.now
-            (scene_of self.now)) }
-    {
-        match self.players[t].status() {
-            Status::Runs => self.is_row_ready(program, row, t),
-            Status::Throws(_) => true,
-            Status::AwaitsPhase(phase) => self.is_phase_wait_over(program, row, phase, t),
-            Status::AwaitsBarrier(index) => self.is_barrier_wait_over(program, row, index, t),
-            Status::Ended | Status::Died(_) => false,
-        }
-    }
-
     /// Whether the row of a running thread can be played.
     #[tactic(auto, using(crate::proofs::Readiness::row_is_ready))]
-    fn is_row_ready(&self, program: &Loaded, row: Row, t: usize) -> bool
+    pub(super) fn is_row_ready(&self, program: &Loaded, row: Row, t: usize) -> bool
         requires named { IsNamed (counts_in program.now self.now) row }
         requires few { length self.now.phasers ≤ 64 }
         requires thread { t < length self.now.threads }
@@ -96,7 +80,13 @@ impl Stage {
     }
 
     /// Whether a wait for a phase can end.
-    fn is_phase_wait_over(&self, program: &Loaded, row: Row, phase: i32, t: usize) -> bool
+    pub(super) fn is_phase_wait_over(
+        &self,
+        program: &Loaded,
+        row: Row,
+        phase: i32,
+        t: usize,
+    ) -> bool
         requires named { IsNamed (counts_in program.now self.now) row }
         requires few { length self.now.phasers ≤ 64 }
         requires thread { t < length self.now.threads }
@@ -111,7 +101,13 @@ impl Stage {
     }
 
     /// Whether a wait at a barrier can end.
-    fn is_barrier_wait_over(&self, program: &Loaded, row: Row, index: i32, t: usize) -> bool
+    pub(super) fn is_barrier_wait_over(
+        &self,
+        program: &Loaded,
+        row: Row,
+        index: i32,
+        t: usize,
+    ) -> bool
         requires named { IsNamed (counts_in program.now self.now) row }
         requires waits { (b : ℕ) → is_wait_row b row ≡ true
             → wait_at (barrier_at (scene_of self.now) b).waits t ≢ None }

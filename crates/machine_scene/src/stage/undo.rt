@@ -26,6 +26,7 @@ impl Stage {
             number: t as u8,
             own: self.players[t].note(),
             beside: self.touched(reach),
+            awake: self.awake,
         }
     }
 
@@ -60,6 +61,7 @@ impl Stage {
     {
         self.put_back(&note.beside);
         self.players[note.number as usize].undo(&note.own);
+        self.awake = note.awake;
     }
 
     /// Puts back what the turn changed beside its own thread.

@@ -1,31 +1,23 @@
-use Rattle.std.proofs.Common.{arith}
-use Rattle.machine_scene.specs.Scene.{scene_of}
-use Rattle.machine_scene.proofs.Outcomes.{sound_timeout}
-use Rattle.machine_scene.proofs.Readiness.{expired}
-use Rattle.machine_scene.proofs.Reaches.{within_same}
-use Rattle.machine_scene.proofs.Undoing.{expiry_undone}
+use Rattle.std.proofs.Common.{◌+◌, sym, subst, arith}
+use Rattle.machine_scene.specs.Scene.{StoredScene, scene_of}
+use Rattle.machine_scene.specs.Sound.{IsSound}
+use Rattle.machine_scene.specs.Awake.{AreAwake}
+use Rattle.machine_scene.proofs.Placed.{named_still}
 use Rattle.machine_scene.proofs.stage.Stage.expire.Goals as goal
 
-pub returns-clause-ok : goal.returns-clause-ok
-returns-clause-ok c =
-    expired c.row_of-row.result c.args.t c.args.program.now (scene_of c.args.self.now) _ c.row_of-row.ensures.row c.requires.ready c.expire_at.ensures.outcome
+pub awake_after-self-inside-requires-clause-sound : goal.awake_after-self-inside-requires-clause-sound
+awake_after-self-inside-requires-clause-sound c = c.expiry_of_row-event.ensures.sound 2147483646 (omega arith) c.requires.sound
+
+pub awake_after-self-inside-requires-clause-named : goal.awake_after-self-inside-requires-clause-named
+awake_after-self-inside-requires-clause-named c =
+    named_still c.args.program.now c.row_of-row.result c.args.t c.args.self.now c.expiry_of_row-event.new.self c.requires.sound
+    c.requires.thread c.row_of-row.ensures.row (awake_after-self-inside-requires-clause-sound c)
 
 pub returns-clause-sound : goal.returns-clause-sound
 returns-clause-sound c steps few sound =
-    sound_timeout c.args.program.now steps c.args.t (scene_of c.args.self.now) _ sound (omega (arith, few)) c.requires.thread
-    (returns-clause-ok c)
+    subst (λ (s : StoredScene). IsSound c.args.program.now (steps + 1) (scene_of s)) (sym c.self-2.view_is)
+    (c.expiry_of_row-event.ensures.sound steps (omega (arith, few)) sound)
 
-pub returns-clause-undo : goal.returns-clause-undo
-returns-clause-undo c =
-    (expiry_undone c.args.program.now c.args.t c.args.self.now c.expire_at.new.self c.expire_at.result c.requires.sound c.requires.thread
-    c.phasers_are_stored.ensures (returns-clause-ok c) (within_same _ _ _ c.expire_at.ensures.phasers)).undo
-
-pub returns-clause-can : goal.returns-clause-can
-returns-clause-can c =
-    (expiry_undone c.args.program.now c.args.t c.args.self.now c.expire_at.new.self c.expire_at.result c.requires.sound c.requires.thread
-    c.phasers_are_stored.ensures (returns-clause-ok c) (within_same _ _ _ c.expire_at.ensures.phasers)).can
-
-pub returns-clause-threads : goal.returns-clause-threads
-returns-clause-threads c =
-    (expiry_undone c.args.program.now c.args.t c.args.self.now c.expire_at.new.self c.expire_at.result c.requires.sound c.requires.thread
-    c.phasers_are_stored.ensures (returns-clause-ok c) (within_same _ _ _ c.expire_at.ensures.phasers)).threads
+pub returns-clause-awake : goal.returns-clause-awake
+returns-clause-awake c =
+    subst (AreAwake c.args.program.now c.awake_after-self-inside.result) (sym c.self-2.view_is) c.awake_after-self-inside.ensures

@@ -1,30 +1,35 @@
-use Rattle.std.proofs.Common.{◌∙◌, ap, sym, arith}
-use Rattle.instruction_table.specs.declared.row.Row.{Row}
-use Rattle.machine_scene.specs.Scene.{scene_of, thread_at}
-use Rattle.machine_scene.specs.Outcomes.{outcome_in}
-use Rattle.machine_scene.proofs.Outcomes.{sound_outcome}
-use Rattle.machine_scene.proofs.Undoing.{turn_undone_at}
+use Rattle.std.proofs.Common.{◌∙◌, ◌+◌, ap, sym, subst, arith}
+use Rattle.machine_scene.specs.Scene.{StoredScene, scene_of}
+use Rattle.machine_scene.specs.Sound.{IsSound}
+use Rattle.machine_scene.specs.Awake.{AreAwake}
+use Rattle.machine_scene.specs.Undo.{CanUndo, note_of, undone}
+use Rattle.machine_scene.proofs.Placed.{named_still}
+use Rattle.machine_scene.proofs.Undoing.{undone_still, can_still}
 use Rattle.machine_scene.proofs.stage.Stage.turn.Goals as goal
+
+pub awake_after-self-inside-requires-clause-sound : goal.awake_after-self-inside-requires-clause-sound
+awake_after-self-inside-requires-clause-sound c = c.in-Ok.ensures.sound 2147483646 (omega arith) c.requires.sound
+
+pub awake_after-self-inside-requires-clause-named : goal.awake_after-self-inside-requires-clause-named
+awake_after-self-inside-requires-clause-named c =
+    named_still c.args.program.now c.row_of-row.result c.args.t c.args.self.now c.turn_of_row.new.self c.requires.sound c.requires.thread
+    c.row_of-row.ensures.row (awake_after-self-inside-requires-clause-sound c)
 
 pub returns-in-Ok-clause-sound : goal.returns-in-Ok-clause-sound
 returns-in-Ok-clause-sound c steps few sound =
-    let scene = scene_of c.args.self.now in
-    sound_outcome c.args.program.now steps c.args.t scene (record { scene = scene_of c.turn_at.new.self; event = c.in-Ok.event }) sound
-    (omega (arith, few)) c.requires.thread
-    (ap (λ (r : Row). outcome_in (thread_at scene c.args.t).status r c.args.t c.args.program.now scene) (sym c.row_of-row.ensures.row)
-    ∙ c.in-Ok.ensures.ok)
+    subst (λ (s : StoredScene). IsSound c.args.program.now (steps + 1) (scene_of s)) (sym c.self-2.view_is)
+    (c.in-Ok.ensures.sound steps (omega (arith, few)) sound)
 
 pub returns-in-Ok-clause-undo : goal.returns-in-Ok-clause-undo
 returns-in-Ok-clause-undo c =
-    (turn_undone_at c.row_of-row.result c.args.program.now c.args.t c.args.self.now c.turn_at.new.self c.in-Ok.event c.row_of-row.ensures.row
-    c.requires.sound c.requires.thread c.phasers_are_stored.ensures c.in-Ok.ensures.ok c.turn_at.ensures.phasers).undo
+    let note = note_of c.args.t c.args.program.now c.args.self.now in
+    undone_still note _ c.awake_after-self-inside.result ∙ ap (undone note) c.self-2.view_is ∙ c.in-Ok.ensures.undo
 
 pub returns-in-Ok-clause-can : goal.returns-in-Ok-clause-can
 returns-in-Ok-clause-can c =
-    (turn_undone_at c.row_of-row.result c.args.program.now c.args.t c.args.self.now c.turn_at.new.self c.in-Ok.event c.row_of-row.ensures.row
-    c.requires.sound c.requires.thread c.phasers_are_stored.ensures c.in-Ok.ensures.ok c.turn_at.ensures.phasers).can
+    let note = note_of c.args.t c.args.program.now c.args.self.now in
+    can_still note _ c.awake_after-self-inside.result (subst (CanUndo note) (sym c.self-2.view_is) c.in-Ok.ensures.can)
 
-pub returns-in-Ok-clause-threads : goal.returns-in-Ok-clause-threads
-returns-in-Ok-clause-threads c =
-    (turn_undone_at c.row_of-row.result c.args.program.now c.args.t c.args.self.now c.turn_at.new.self c.in-Ok.event c.row_of-row.ensures.row
-    c.requires.sound c.requires.thread c.phasers_are_stored.ensures c.in-Ok.ensures.ok c.turn_at.ensures.phasers).threads
+pub returns-in-Ok-clause-awake : goal.returns-in-Ok-clause-awake
+returns-in-Ok-clause-awake c =
+    subst (AreAwake c.args.program.now c.awake_after-self-inside.result) (sym c.self-2.view_is) c.awake_after-self-inside.ensures

@@ -1,0 +1,509 @@
+-- A step wakes no other thread and puts none to sleep, unless its event shows more than a turn of its own thread, or its row
+-- interrupts that thread.
+use Rattle.std.proofs.Common.{◌≡◌, ◌≢◌, ◌∙◌, ℕ, ℤ, pos, zero, suc, ◌+◌, ◌<◌, ◌==◌, ◌||◌, ◌&&◌, not, Bool, true, false, List, [], ◌∷◌, ap, refl, sym, subst}
+use Rattle.std.specs.Prelude.{nat_abs, int_lt, is_some, length, Option, Some, None, slice_set, slice_index_or}
+use Rattle.std.specs.Ordering.{int_eq}
+use Rattle.std.proofs.lemmas.List.{get_or-set_other}
+use Rattle.instruction_table.specs.declared.row.Row.{Row}
+use Rattle.instruction_table.specs.declared.row.Row.TheVariants.{Halt, Ldi, Mov, Add, Sub, Jmp, Beq, Bne, Blt, Call, Ret, Try, Endtry, Throw, Out, Lds, Sts, SelfNumber, Intr, Intrd, Preg, Pbulk, Parr, Pdereg, Paaa, Pawait, Pawaiti, Pforce, Pphase, Pparties, Parrived, Punarr, Pterm, Pparent, Proot, Cawait, Creset, Cbroken, Cwaiting, Cparties, Pawaitt, Cawaitt}
+use Rattle.instruction_table.specs.declared.register.Reg.{Reg}
+use Rattle.instruction_table.specs.Registers.{value_in}
+use Rattle.phase_number.specs.Phase.{phase_view}
+use Rattle.tier_tree.specs.declared.registered.Registered.{Registered}
+use Rattle.tier_tree.specs.declared.registered.Registered.TheVariants as registered
+use Rattle.tier_tree.specs.declared.arrived.Arrived.{Arrived}
+use Rattle.tier_tree.specs.declared.arrived.Arrived.TheVariants as arrived
+use Rattle.tier_tree.specs.Forest.{PhaserState, flat_at}
+use Rattle.tier_tree.specs.Registration.{registration, after_registration}
+use Rattle.tier_tree.specs.Arrival.{Arrives, arrival}
+use Rattle.tier_tree.proofs.Stands.{same-is}
+use Rattle.cyclic_barrier.specs.declared.answer.Entered.{Entered}
+use Rattle.cyclic_barrier.specs.declared.answer.Entered.TheVariants as entered
+use Rattle.cyclic_barrier.specs.declared.answer.WaitState.{WaitState}
+use Rattle.cyclic_barrier.specs.declared.answer.WaitState.TheVariants as state
+use Rattle.cyclic_barrier.specs.Waits.{wait_at, is_waiting}
+use Rattle.cyclic_barrier.specs.Barrier.{BarrierState, Entry, fresh, number_waiting, add_wait, arrive_last, break, arrive, enter_beside, enter_timed, leave}
+use Rattle.loader.specs.Program.{Program, row_at}
+use Rattle.thread_state.specs.declared.event.Event.{Event}
+use Rattle.thread_state.specs.declared.frame.Frame.{Frame}
+use Rattle.thread_state.specs.declared.frame.Frame.TheVariants as frame
+use Rattle.thread_state.specs.declared.status.Status.{Status}
+use Rattle.thread_state.specs.declared.status.Status.TheVariants as status
+use Rattle.thread_state.specs.Thread.{ThreadState, top_of, is_full, left_routine, interrupted}
+use Rattle.machine_scene.specs.declared.group.Group.{Group}
+use Rattle.machine_scene.specs.declared.group.Group.TheVariants.{Own, Calls, Data, Phasers, Getters, Barriers}
+use Rattle.machine_scene.specs.declared.manner.Manner.{Manner}
+use Rattle.machine_scene.specs.Scene.{Scene, StoredScene, Outcome, scene_of, no_thread, thread_at, barrier_at, with_thread, with_cell, with_phasers, with_barrier}
+use Rattle.machine_scene.specs.Group.{group_of}
+use Rattle.machine_scene.specs.OwnRows.{outcome_of_own_row}
+use Rattle.machine_scene.specs.CallRows.{outcome_of_routine_end, outcome_of_ret, outcome_of_call_row}
+use Rattle.machine_scene.specs.DataRows.{outcome_of_data_row}
+use Rattle.machine_scene.specs.GetterRows.{outcome_of_getter_row}
+use Rattle.machine_scene.specs.PhaserRows.{is_own_tree, is_past, has_routine, answer_of_policy, unless_own, outcome_of_turning, outcome_of_arrived, outcome_of_arrival, outcome_of_registered, outcome_of_bulk, outcome_of_phaser_row}
+use Rattle.machine_scene.specs.BarrierRows.{is_run_by, is_run_by_another, unless_busy, unless_runner, outcome_of_entered, outcome_of_await_at, outcome_of_barrier_row}
+use Rattle.machine_scene.specs.Unwinding.{outcome_of_popped}
+use Rattle.machine_scene.specs.Waits.{outcome_of_awaited, outcome_of_phase_wait, outcome_of_release, outcome_of_barrier_wait, outcome_of_phase_timeout, outcome_of_barrier_timeout}
+use Rattle.machine_scene.specs.Outcomes.{outcome_in_group, outcome_in, timeout_in}
+use Rattle.machine_scene.specs.Awake.{is_awake_in, is_awake, AreOthersAwake, KeepsAwake, interrupts, is_loud_at, may_wake}
+use Rattle.machine_scene.proofs.Plain.{either}
+use Rattle.machine_scene.proofs.ReadyThreads.{is_awaited, is_released, is_over_at, is_over, phase_wait_ready, barrier_wait_ready}
+use Rattle.machine_scene.proofs.Standings.{Standing, KeepsStandings, registration-standings, arrival-standings}
+
+-- what the wait of thread u may be over by is the same
+record Alike (u : ℕ) (scene after : Scene) : Type 0 where
+  pub thread : thread_at after u ≡ thread_at scene u
+  pub standings : KeepsStandings scene.phasers after.phasers
+  pub waits : (b : ℕ) → wait_at (barrier_at after b).waits u ≡ wait_at (barrier_at scene b).waits u
+  pub runners : (b : ℕ) → (barrier_at after b).runner ≡ (barrier_at scene b).runner
+
+past_same : (p : ℕ) (phase : ℤ) (u : ℕ) (scene after : Scene) → Alike u scene after → is_past p phase after ≡ is_past p phase scene
+past_same p phase u scene after alike = ap (λ (s : Standing). not (int_eq (phase_view s.phase s.ended) phase)) (alike.standings p)
+
+looked_same : (p : ℕ) (phase : ℤ) (u : ℕ) (scene after : Scene) → Alike u scene after
+    → (is_past p phase after || (thread_at after u).interrupted) ≡ (is_past p phase scene || (thread_at scene u).interrupted)
+looked_same p phase u scene after alike =
+    ap (λ (past : Bool). past || (thread_at after u).interrupted) (past_same p phase u scene after alike)
+    ∙ ap (λ (thread : ThreadState). is_past p phase scene || thread.interrupted) alike.thread
+
+awaited_same : (row : Row) (phase : ℤ) (u : ℕ) (scene after : Scene) → Alike u scene after
+    → is_awaited row phase u after ≡ is_awaited row phase u scene
+awaited_same (Paaa into p) phase u scene after alike = past_same p phase u scene after alike
+awaited_same (Pawait into p number) phase u scene after alike = past_same p phase u scene after alike
+awaited_same (Pawaiti into p number) phase u scene after alike = looked_same p phase u scene after alike
+awaited_same (Pawaitt into p number time) phase u scene after alike = looked_same p phase u scene after alike
+awaited_same _ phase u scene after alike = refl
+
+over_same_at : (b u : ℕ) (scene after : Scene) → Alike u scene after → is_over_at b u after ≡ is_over_at b u scene
+over_same_at b u scene after alike =
+    let now = wait_at (barrier_at scene b).waits u in
+    ap (λ (w : Option WaitState). is_released w
+    || (is_waiting w && ((thread_at after u).interrupted && not (is_some (barrier_at after b).runner)))) (alike.waits b)
+    ∙ ap (λ (thread : ThreadState). is_released now || (is_waiting now && (thread.interrupted && not (is_some (barrier_at after b).runner))))
+    alike.thread
+    ∙ ap (λ (runner : Option ℕ). is_released now || (is_waiting now && ((thread_at scene u).interrupted && not (is_some runner))))
+    (alike.runners b)
+
+over_same : (row : Row) (u : ℕ) (scene after : Scene) → Alike u scene after → is_over row u after ≡ is_over row u scene
+over_same (Cawait into b) u scene after alike = over_same_at b u scene after alike
+over_same (Cawaitt into b time) u scene after alike = over_same_at b u scene after alike
+over_same _ u scene after alike = refl
+
+awake_in_same : (of : Status) (row : Row) (u : ℕ) (scene after : Scene) → Alike u scene after
+    → is_awake_in of row u after ≡ is_awake_in of row u scene
+awake_in_same status.Runs row u scene after alike = refl
+awake_in_same (status.Throws code) row u scene after alike = refl
+awake_in_same (status.AwaitsPhase phase) row u scene after alike =
+    phase_wait_ready row phase u after ∙ awaited_same row phase u scene after alike ∙ sym (phase_wait_ready row phase u scene)
+awake_in_same (status.AwaitsBarrier index) row u scene after alike =
+    barrier_wait_ready row index u after ∙ over_same row u scene after alike ∙ sym (barrier_wait_ready row index u scene)
+awake_in_same status.Ended row u scene after alike = refl
+awake_in_same (status.Died code) row u scene after alike = refl
+
+awake_same : (u : ℕ) (program : Program) (scene after : Scene) → Alike u scene after → is_awake u program after ≡ is_awake u program scene
+awake_same u program scene after alike =
+    ap (λ (thread : ThreadState). is_awake_in thread.status (row_at program.rows thread.pc) u after) alike.thread
+    ∙ awake_in_same (thread_at scene u).status (row_at program.rows (thread_at scene u).pc) u scene after alike
+
+-- a step of thread t at this row that leaves to all others but those it interrupts what their waits may be over by
+record Leaves (t : ℕ) (row : Row) (scene after : Scene) : Type 0 where
+  pub threads : (u : ℕ) → u ≢ t → interrupts u row ≡ false → thread_at after u ≡ thread_at scene u
+  pub standings : KeepsStandings scene.phasers after.phasers
+  pub waits : (b u : ℕ) → u ≢ t → wait_at (barrier_at after b).waits u ≡ wait_at (barrier_at scene b).waits u
+  pub runners : (b : ℕ) → (barrier_at after b).runner ≡ (barrier_at scene b).runner
+
+-- where there is an outcome whose event isn't loud
+abbrev CalmIf : ℕ → Row → Scene → Option Outcome → Type 0
+CalmIf t row scene None = Unit {0}
+CalmIf t row scene (Some outcome) = is_loud_at outcome.event.mark outcome.event.what ≡ false → Leaves t row scene outcome.scene
+
+-- where there is one that wakes nobody
+abbrev QuietIf : ℕ → Row → Scene → Option Outcome → Type 0
+QuietIf t row scene None = Unit {0}
+QuietIf t row scene (Some outcome) = may_wake row outcome.event ≡ false → Leaves t row scene outcome.scene
+
+not_loud : (row : Row) (event : Event) → may_wake row event ≡ false → is_loud_at event.mark event.what ≡ false
+not_loud (Pforce p) event quiet = absurd (cc quiet)
+not_loud (Creset b) event quiet = absurd (cc quiet)
+not_loud _ event quiet = quiet
+
+quiet_if : (t : ℕ) (row : Row) (scene : Scene) (outcome : Option Outcome) → CalmIf t row scene outcome → QuietIf t row scene outcome
+quiet_if t row scene None calm = tt
+quiet_if t row scene (Some outcome) calm = λ quiet. calm (not_loud row outcome.event quiet)
+
+-- another state of thread t, from a scene in which no other thread but one that is interrupted may be another already
+turned : (t : ℕ) (row : Row) (scene mid : Scene) (after : ThreadState)
+    → ((u : ℕ) → u ≢ t → interrupts u row ≡ false → thread_at mid u ≡ thread_at scene u) → KeepsStandings scene.phasers mid.phasers
+    → ((b u : ℕ) → u ≢ t → wait_at (barrier_at mid b).waits u ≡ wait_at (barrier_at scene b).waits u)
+    → ((b : ℕ) → (barrier_at mid b).runner ≡ (barrier_at scene b).runner) → Leaves t row scene (with_thread after t mid)
+turned t row scene mid after threads standings waits runners = record {
+  threads = λ u apart free. get_or-set_other mid.threads t u after no_thread apart ∙ threads u apart free;
+  standings = standings;
+  waits = waits;
+  runners = runners;
+}
+
+still : (t : ℕ) (row : Row) (scene : Scene) (after : ThreadState) → Leaves t row scene (with_thread after t scene)
+still t row scene after = turned t row scene scene after (λ u apart free. refl) (λ id. refl) (λ b u apart. refl) (λ b. refl)
+
+-- with phasers in the same standings
+at_tree : (t : ℕ) (row : Row) (scene : Scene) (phasers : List PhaserState) (after : ThreadState) → KeepsStandings scene.phasers phasers
+    → Leaves t row scene (with_thread after t (with_phasers phasers scene))
+at_tree t row scene phasers after same =
+    turned t row scene (with_phasers phasers scene) after (λ u apart free. refl) same (λ b u apart. refl) (λ b. refl)
+
+-- a barrier at which the others' waits, and who runs the action, are the same
+abbrev KeepsOthers : ℕ → BarrierState → BarrierState → Type 0
+KeepsOthers t before after =
+    ((u : ℕ) → u ≢ t → wait_at after.waits u ≡ wait_at before.waits u) × (after.runner ≡ before.runner)
+
+put : (P : BarrierState → BarrierState → Type 0) → ((x : BarrierState) → P x x) → (gates : List BarrierState) (b : ℕ) (new : BarrierState)
+    → P (slice_index_or gates b (fresh 1 false)) new → (c : ℕ)
+    → P (slice_index_or gates c (fresh 1 false)) (slice_index_or (slice_set gates b new) c (fresh 1 false))
+put P same [] b new is c = same (fresh 1 false)
+put P same (x ∷ gates) zero new is zero = is
+put P same (x ∷ gates) zero new is (suc c) = same (slice_index_or gates c (fresh 1 false))
+put P same (x ∷ gates) (suc b) new is zero = same x
+put P same (x ∷ gates) (suc b) new is (suc c) = put P same gates b new is c
+
+at_gate : (b t : ℕ) (row : Row) (scene : Scene) (gate : BarrierState) (after : ThreadState) → KeepsOthers t (barrier_at scene b) gate
+    → Leaves t row scene (with_thread after t (with_barrier gate b scene))
+at_gate b t row scene gate after keeps =
+    let each = put (KeepsOthers t) (λ x. (λ u apart. refl, refl)) scene.barriers b gate keeps in
+    turned t row scene (with_barrier gate b scene) after (λ u apart free. refl) (λ id. refl) (λ c. (each c).0) (λ c. (each c).1)
+
+-- rows
+
+quiet_own_row : (row : Row) (t : ℕ) (scene : Scene) → QuietIf t row scene (outcome_of_own_row row t scene)
+quiet_own_row Halt t scene = λ quiet. still t Halt scene _
+quiet_own_row (Ldi into value) t scene = λ quiet. still t (Ldi into value) scene _
+quiet_own_row (Mov into from) t scene = λ quiet. still t (Mov into from) scene _
+quiet_own_row (Add into left right) t scene = λ quiet. still t (Add into left right) scene _
+quiet_own_row (Sub into left right) t scene = λ quiet. still t (Sub into left right) scene _
+quiet_own_row (Jmp target) t scene = λ quiet. still t (Jmp target) scene _
+quiet_own_row (Beq left right target) t scene = λ quiet. still t (Beq left right target) scene _
+quiet_own_row (Bne left right target) t scene = λ quiet. still t (Bne left right target) scene _
+quiet_own_row (Blt left right target) t scene = λ quiet. still t (Blt left right target) scene _
+quiet_own_row _ t scene = tt
+
+calm_routine_end : (ended : Bool) (manner : Manner) (root : ℕ) (ends : Bool) (t : ℕ) (row : Row) (scene : Scene) (left : ThreadState)
+    → CalmIf t row scene (Some (outcome_of_routine_end ended manner root ends t (with_thread left t scene)))
+calm_routine_end true manner root ends t row scene left = λ calm.
+    turned t row scene (with_thread left t scene) _ (still t row scene left).threads (λ id. refl) (λ b u apart. refl) (λ b. refl)
+calm_routine_end false manner root ends t row scene left = λ calm. absurd (cc calm)
+
+calm_ret : (top : Option Frame) (t : ℕ) (row : Row) (program : Program) (scene : Scene)
+    → CalmIf t row scene (Some (outcome_of_ret top t program scene))
+calm_ret None t row program scene = λ calm. still t row scene _
+calm_ret (Some (frame.Call back)) t row program scene = λ calm. still t row scene _
+calm_ret (Some (frame.Handler first)) t row program scene = λ calm. still t row scene _
+calm_ret (Some (frame.Advance root registers back)) t row program scene =
+    calm_routine_end (flat_at scene.phasers root).ended _ root _ t row scene (left_routine registers back (thread_at scene t))
+calm_ret (Some (frame.Action b registers back)) t row program scene = λ calm. absurd (cc calm)
+
+quiet_call_row : (row : Row) (t : ℕ) (program : Program) (scene : Scene) → QuietIf t row scene (outcome_of_call_row row t program scene)
+quiet_call_row (Call target) t program scene = λ quiet. still t (Call target) scene _
+quiet_call_row Ret t program scene = calm_ret (top_of (thread_at scene t).stack) t Ret program scene
+quiet_call_row (Try handler) t program scene = λ quiet. still t (Try handler) scene _
+quiet_call_row Endtry t program scene = λ quiet. still t Endtry scene _
+quiet_call_row (Throw code) t program scene = λ quiet. still t (Throw code) scene _
+quiet_call_row _ t program scene = tt
+
+quiet_interrupt : (other t : ℕ) (scene : Scene) → QuietIf t (Intr other) scene (outcome_of_data_row (Intr other) t scene)
+quiet_interrupt other t scene = λ quiet.
+    let mid = with_thread (interrupted (thread_at scene other)) other scene in
+    turned t (Intr other) scene mid _ (λ u apart free.
+    get_or-set_other scene.threads other u (interrupted (thread_at scene other)) no_thread
+    (λ is. (let yes = ap (λ (n : ℕ). other == n) is ∙ same-is other in cc (yes, free)))) (λ id. refl) (λ b u apart. refl) (λ b. refl)
+
+quiet_data_row : (row : Row) (t : ℕ) (scene : Scene) → QuietIf t row scene (outcome_of_data_row row t scene)
+quiet_data_row (Out value) t scene = λ quiet. still t (Out value) scene _
+quiet_data_row (Lds into cell) t scene = λ quiet. still t (Lds into cell) scene _
+quiet_data_row (Sts from cell) t scene = λ quiet.
+    turned t (Sts from cell) scene (with_cell (value_in (thread_at scene t).registers from) cell scene) _ (λ u apart free. refl)
+    (λ id. refl) (λ b u apart. refl) (λ b. refl)
+quiet_data_row (SelfNumber into) t scene = λ quiet. still t (SelfNumber into) scene _
+quiet_data_row (Intr other) t scene = quiet_interrupt other t scene
+quiet_data_row (Intrd into) t scene = λ quiet. still t (Intrd into) scene _
+quiet_data_row _ t scene = tt
+
+quiet_getter_row : (row : Row) (t : ℕ) (scene : Scene) → QuietIf t row scene (outcome_of_getter_row row t scene)
+quiet_getter_row (Pphase into p) t scene = λ quiet. still t (Pphase into p) scene _
+quiet_getter_row (Pparties into p) t scene = λ quiet. still t (Pparties into p) scene _
+quiet_getter_row (Parrived into p) t scene = λ quiet. still t (Parrived into p) scene _
+quiet_getter_row (Punarr into p) t scene = λ quiet. still t (Punarr into p) scene _
+quiet_getter_row (Pterm into p) t scene = λ quiet. still t (Pterm into p) scene _
+quiet_getter_row (Pparent into p) t scene = λ quiet. still t (Pparent into p) scene _
+quiet_getter_row (Proot into p) t scene = λ quiet. still t (Proot into p) scene _
+quiet_getter_row _ t scene = tt
+
+-- rows at phasers
+
+calm_registered : (answer : Registered) (into : Reg) (t : ℕ) (row : Row) (scene : Scene) (phasers : List PhaserState)
+    → KeepsStandings scene.phasers phasers → CalmIf t row scene (outcome_of_registered answer into t (with_phasers phasers scene))
+calm_registered (registered.At phase) into t row scene phasers same = λ calm. at_tree t row scene phasers _ same
+calm_registered (registered.Dead view) into t row scene phasers same = λ calm. at_tree t row scene phasers _ same
+calm_registered registered.TooMany into t row scene phasers same = λ calm. at_tree t row scene phasers _ same
+calm_registered registered.Held into t row scene phasers same = tt
+
+calm_registration : (into : Reg) (p count t : ℕ) (row : Row) (scene : Scene)
+    → CalmIf t row scene (outcome_of_registered (registration p count scene.phasers) into t
+    (with_phasers (after_registration p count scene.phasers) scene))
+calm_registration into p count t row scene =
+    calm_registered (registration p count scene.phasers) into t row scene (after_registration p count scene.phasers)
+    (registration-standings p count scene.phasers)
+
+calm_bulk : (into : Reg) (p : ℕ) (count : ℤ) (t : ℕ) (row : Row) (scene : Scene)
+    → CalmIf t row scene (outcome_of_bulk into p count t scene)
+calm_bulk into p count t row scene =
+    either (CalmIf t row scene) (int_lt count (pos 0)) (λ calm. still t row scene _) (calm_registration into p (nat_abs count) t row scene)
+
+calm_turning : (answer : Option Bool) (manner : Manner) (root : ℕ) (phase : ℤ) (t : ℕ) (row : Row) (program : Program) (scene mid : Scene)
+    → CalmIf t row scene (Some (outcome_of_turning answer manner root phase t program mid))
+calm_turning (Some ends) manner root phase t row program scene mid = λ calm. absurd (cc calm)
+calm_turning None manner root phase t row program scene mid = λ calm. absurd (cc calm)
+
+calm_arrived : (answer : Arrived) (manner : Manner) (t : ℕ) (row : Row) (program : Program) (scene : Scene) (phasers : List PhaserState)
+    → KeepsStandings scene.phasers phasers
+    → CalmIf t row scene (Some (outcome_of_arrived answer manner t program (with_phasers phasers scene)))
+calm_arrived (arrived.At phase) manner t row program scene phasers same = λ calm. at_tree t row scene phasers _ same
+calm_arrived (arrived.Turning root phase parties) manner t row program scene phasers same =
+    calm_turning (answer_of_policy root.0 (with_phasers phasers scene)) manner root.0 phase t row program scene (with_phasers phasers scene)
+calm_arrived (arrived.Dead view) manner t row program scene phasers same = λ calm. at_tree t row scene phasers _ same
+calm_arrived arrived.NotThere manner t row program scene phasers same = λ calm. at_tree t row scene phasers _ same
+
+calm_arrival : (manner : Manner) (p t : ℕ) (row : Row) (program : Program) (scene : Scene)
+    → CalmIf t row scene (Some (outcome_of_arrival manner p t program scene))
+calm_arrival manner p t row program scene =
+    let all : Arrives = arrival p manner.leaves scene.phasers in
+    either (λ (outcome : Outcome). CalmIf t row scene (Some outcome)) (has_routine p scene && is_full (thread_at scene t))
+    (λ calm. still t row scene _)
+    (calm_arrived all.answer manner t row program scene all.phasers (arrival-standings p manner.leaves scene.phasers))
+
+-- unless the thread itself runs the tree's routine
+calm_unless_own : (p t : ℕ) (row : Row) (scene : Scene) (outcome : Option Outcome) → CalmIf t row scene outcome
+    → CalmIf t row scene (unless_own p t scene outcome)
+calm_unless_own p t row scene outcome calm =
+    either (CalmIf t row scene) (is_own_tree p (thread_at scene t) scene) {b = outcome} (λ quiet. still t row scene _) calm
+
+quiet_phaser_row : (row : Row) (t : ℕ) (program : Program) (scene : Scene) → QuietIf t row scene (outcome_of_phaser_row row t program scene)
+quiet_phaser_row (Preg into p) t program scene =
+    quiet_if t (Preg into p) scene _ (calm_unless_own p t (Preg into p) scene _ (calm_registration into p 1 t (Preg into p) scene))
+quiet_phaser_row (Pbulk into p count) t program scene =
+    quiet_if t (Pbulk into p count) scene _ (calm_unless_own p t (Pbulk into p count) scene _
+    (calm_bulk into p (value_in (thread_at scene t).registers count) t (Pbulk into p count) scene))
+quiet_phaser_row (Parr into p) t program scene =
+    quiet_if t (Parr into p) scene _ (calm_unless_own p t (Parr into p) scene _ (calm_arrival _ p t (Parr into p) program scene))
+quiet_phaser_row (Pdereg into p) t program scene =
+    quiet_if t (Pdereg into p) scene _ (calm_unless_own p t (Pdereg into p) scene _ (calm_arrival _ p t (Pdereg into p) program scene))
+quiet_phaser_row (Paaa into p) t program scene =
+    quiet_if t (Paaa into p) scene _ (calm_unless_own p t (Paaa into p) scene _ (calm_arrival _ p t (Paaa into p) program scene))
+quiet_phaser_row (Pawait into p phase) t program scene =
+    quiet_if t (Pawait into p phase) scene _ (calm_unless_own p t (Pawait into p phase) scene (Some _) (λ calm. still t _ scene _))
+quiet_phaser_row (Pawaiti into p phase) t program scene =
+    quiet_if t (Pawaiti into p phase) scene _ (calm_unless_own p t (Pawaiti into p phase) scene (Some _) (λ calm. still t _ scene _))
+quiet_phaser_row (Pawaitt into p phase time) t program scene =
+    quiet_if t (Pawaitt into p phase time) scene _ (calm_unless_own p t (Pawaitt into p phase time) scene (Some _) (λ calm. still t _ scene _))
+quiet_phaser_row (Pforce p) t program scene = λ quiet. absurd (cc quiet)
+quiet_phaser_row _ t program scene = tt
+
+-- rows at barriers
+
+-- an entry that wakes nobody keeps the others' waits, and who runs the action
+abbrev KeepsIf : Entered → ℕ → BarrierState → BarrierState → Type 0
+KeepsIf (entered.Wait index) t before after = KeepsOthers t before after
+KeepsIf entered.Broken t before after = KeepsOthers t before after
+KeepsIf entered.Own t before after = KeepsOthers t before after
+KeepsIf _ t before after = Unit {0}
+
+none_else : (t : ℕ) (gate : BarrierState) → KeepsOthers t gate gate
+none_else t gate = (λ u apart. refl, refl)
+
+set_else : (t : ℕ) (gate : BarrierState) (wait : Option WaitState) → KeepsOthers t gate (record gate { waits = slice_set gate.waits t wait })
+set_else t gate wait = (λ u apart. get_or-set_other gate.waits t u wait None apart, refl)
+
+arrive_keeps : (t : ℕ) (interrupted no_wait : Bool) (gate : BarrierState)
+    → KeepsIf (arrive t interrupted no_wait gate).answer t gate (arrive t interrupted no_wait gate).barrier
+arrive_keeps t interrupted no_wait gate =
+    let P : Entry → Type 0 = λ entry. KeepsIf entry.answer t gate entry.barrier in
+    let told : Entry = record { barrier = gate; answer = entered.Broken } in
+    let stopped : Entry = record { barrier = break gate; answer = entered.Interrupted } in
+    let late : Entry = record { barrier = break gate; answer = entered.TimedOut } in
+    either P gate.broken {a = told} (none_else t gate)
+    (either P interrupted {a = stopped} tt
+    (either P (number_waiting gate + 1 == gate.parties) {a = arrive_last t gate} (either P gate.action tt tt)
+    (either P no_wait {a = late} {b = add_wait t gate} tt (set_else t gate (Some state.Waiting)))))
+
+beside_keeps : (runner : Option ℕ) (t : ℕ) (interrupted no_wait : Bool) (gate : BarrierState)
+    → KeepsIf (enter_beside runner t interrupted no_wait gate).answer t gate (enter_beside runner t interrupted no_wait gate).barrier
+beside_keeps None t interrupted no_wait gate = arrive_keeps t interrupted no_wait gate
+beside_keeps (Some runner) t interrupted no_wait gate =
+    either (λ (answer : Entered). KeepsIf answer t gate gate) (runner == t) {a = entered.Own} {b = entered.Busy} (none_else t gate) tt
+
+calm_entered : (answer : Entered) (into : Reg) (b t : ℕ) (row : Row) (program : Program) (scene : Scene) (gate : BarrierState)
+    → KeepsIf answer t (barrier_at scene b) gate
+    → CalmIf t row scene (outcome_of_entered answer into b t program (with_barrier gate b scene))
+calm_entered (entered.Wait index) into b t row program scene gate keeps = λ calm. at_gate b t row scene gate _ keeps
+calm_entered entered.Run into b t row program scene gate keeps = λ calm. absurd (cc calm)
+calm_entered entered.Tripped into b t row program scene gate keeps = λ calm. absurd (cc calm)
+calm_entered entered.Broken into b t row program scene gate keeps = λ calm. at_gate b t row scene gate _ keeps
+calm_entered entered.Interrupted into b t row program scene gate keeps = λ calm. absurd (cc calm)
+calm_entered entered.TimedOut into b t row program scene gate keeps = λ calm. absurd (cc calm)
+calm_entered entered.Own into b t row program scene gate keeps = λ calm. at_gate b t row scene gate _ keeps
+calm_entered entered.Busy into b t row program scene gate keeps = tt
+
+calm_await : (no_wait : Bool) (into : Reg) (b t : ℕ) (row : Row) (program : Program) (scene : Scene)
+    → CalmIf t row scene (outcome_of_await_at no_wait into b t program scene)
+calm_await no_wait into b t row program scene =
+    let gate = barrier_at scene b in
+    let all : Entry = enter_timed t (thread_at scene t).interrupted no_wait gate in
+    either (CalmIf t row scene) (gate.action && is_full (thread_at scene t)) (λ calm. still t row scene _)
+    (calm_entered all.answer into b t row program scene all.barrier (beside_keeps gate.runner t (thread_at scene t).interrupted no_wait gate))
+
+calm_unless_busy : (b t : ℕ) (row : Row) (scene : Scene) (outcome : Option Outcome) → CalmIf t row scene outcome
+    → CalmIf t row scene (unless_busy b t scene outcome)
+calm_unless_busy b t row scene outcome calm =
+    either (CalmIf t row scene) (is_run_by_another t (barrier_at scene b).runner) {a = None} {b = outcome} tt calm
+
+calm_unless_runner : (b t : ℕ) (row : Row) (scene : Scene) (outcome : Option Outcome) → CalmIf t row scene outcome
+    → CalmIf t row scene (unless_runner b t scene outcome)
+calm_unless_runner b t row scene outcome calm =
+    either (CalmIf t row scene) (is_run_by t (barrier_at scene b).runner) {b = outcome} (λ quiet. still t row scene _) calm
+
+-- a reset may wake those who wait
+quiet_reset : (t b : ℕ) (scene : Scene) (outcome : Option Outcome) → QuietIf t (Creset b) scene outcome
+quiet_reset t b scene None = tt
+quiet_reset t b scene (Some outcome) = λ quiet. absurd (cc quiet)
+
+quiet_barrier_row : (row : Row) (t : ℕ) (program : Program) (scene : Scene) → QuietIf t row scene (outcome_of_barrier_row row t program scene)
+quiet_barrier_row (Cawait into b) t program scene =
+    quiet_if t (Cawait into b) scene _ (calm_unless_busy b t (Cawait into b) scene _ (calm_unless_runner b t (Cawait into b) scene _
+    (calm_await false into b t (Cawait into b) program scene)))
+quiet_barrier_row (Cawaitt into b time) t program scene =
+    quiet_if t (Cawaitt into b time) scene _ (calm_unless_busy b t (Cawaitt into b time) scene _
+    (calm_unless_runner b t (Cawaitt into b time) scene _ (calm_await _ into b t (Cawaitt into b time) program scene)))
+quiet_barrier_row (Creset b) t program scene = quiet_reset t b scene _
+quiet_barrier_row (Cbroken into b) t program scene =
+    quiet_if t (Cbroken into b) scene _ (calm_unless_busy b t (Cbroken into b) scene (Some _) (λ calm. still t _ scene _))
+quiet_barrier_row (Cwaiting into b) t program scene =
+    quiet_if t (Cwaiting into b) scene _ (calm_unless_busy b t (Cwaiting into b) scene _
+    (calm_unless_runner b t (Cwaiting into b) scene (Some _) (λ calm. still t _ scene _)))
+quiet_barrier_row (Cparties into b) t program scene = λ quiet. still t (Cparties into b) scene _
+quiet_barrier_row _ t program scene = tt
+
+-- turns of threads that don't run
+
+calm_popped : (top : Option Frame) (code : ℤ) (t : ℕ) (row : Row) (scene : Scene) → CalmIf t row scene (Some (outcome_of_popped top code t scene))
+calm_popped None code t row scene = λ calm. still t row scene _
+calm_popped (Some (frame.Call back)) code t row scene = λ calm. still t row scene _
+calm_popped (Some (frame.Handler first)) code t row scene = λ calm. still t row scene _
+calm_popped (Some (frame.Advance root registers back)) code t row scene = λ calm. still t row scene _
+calm_popped (Some (frame.Action b registers back)) code t row scene = λ calm. absurd (cc calm)
+
+calm_awaited : (looks : Bool) (into : Reg) (p : ℕ) (phase : ℤ) (t : ℕ) (row : Row) (scene : Scene)
+    → CalmIf t row scene (outcome_of_awaited looks into p phase t scene)
+calm_awaited looks into p phase t row scene =
+    either (CalmIf t row scene) (is_past p phase scene) (λ calm. still t row scene _)
+    (either (CalmIf t row scene) (looks && (thread_at scene t).interrupted) {b = None} (λ calm. still t row scene _) tt)
+
+calm_phase_wait : (row : Row) (phase : ℤ) (t : ℕ) (scene : Scene) → CalmIf t row scene (outcome_of_phase_wait row phase t scene)
+calm_phase_wait (Paaa into p) phase t scene = calm_awaited false into p phase t (Paaa into p) scene
+calm_phase_wait (Pawait into p number) phase t scene = calm_awaited false into p phase t (Pawait into p number) scene
+calm_phase_wait (Pawaiti into p number) phase t scene = calm_awaited true into p phase t (Pawaiti into p number) scene
+calm_phase_wait (Pawaitt into p number time) phase t scene = calm_awaited true into p phase t (Pawaitt into p number time) scene
+calm_phase_wait _ phase t scene = tt
+
+calm_release : (wait : Option WaitState) (into : Reg) (index : ℤ) (b t : ℕ) (row : Row) (scene : Scene)
+    → CalmIf t row scene (outcome_of_release wait into index b t scene)
+calm_release (Some state.Tripped) into index b t row scene = λ calm.
+    at_gate b t row scene (leave t (barrier_at scene b)) _ (set_else t (barrier_at scene b) None)
+calm_release (Some state.Broken) into index b t row scene = λ calm.
+    at_gate b t row scene (leave t (barrier_at scene b)) _ (set_else t (barrier_at scene b) None)
+calm_release (Some state.Waiting) into index b t row scene =
+    either (CalmIf t row scene) ((thread_at scene t).interrupted && not (is_some (barrier_at scene b).runner)) {b = None}
+    (λ calm. absurd (cc calm)) tt
+calm_release None into index b t row scene = tt
+
+calm_barrier_wait : (row : Row) (index : ℤ) (t : ℕ) (scene : Scene) → CalmIf t row scene (outcome_of_barrier_wait row index t scene)
+calm_barrier_wait (Cawait into b) index t scene = calm_release (wait_at (barrier_at scene b).waits t) into index b t (Cawait into b) scene
+calm_barrier_wait (Cawaitt into b time) index t scene =
+    calm_release (wait_at (barrier_at scene b).waits t) into index b t (Cawaitt into b time) scene
+calm_barrier_wait _ index t scene = tt
+
+calm_phase_timeout : (row : Row) (t : ℕ) (scene : Scene) → CalmIf t row scene (outcome_of_phase_timeout row t scene)
+calm_phase_timeout (Pawaitt into p number time) t scene = λ calm. still t (Pawaitt into p number time) scene _
+calm_phase_timeout _ t scene = tt
+
+calm_barrier_timeout : (row : Row) (t : ℕ) (scene : Scene) → CalmIf t row scene (outcome_of_barrier_timeout row t scene)
+calm_barrier_timeout (Cawaitt into b time) t scene =
+    either (CalmIf t (Cawaitt into b time) scene) (is_some (barrier_at scene b).runner) {a = None} tt (λ calm. absurd (cc calm))
+calm_barrier_timeout _ t scene = tt
+
+-- all of them
+
+quiet_in_group : (group : Group) (row : Row) (t : ℕ) (program : Program) (scene : Scene)
+    → QuietIf t row scene (outcome_in_group group row t program scene)
+quiet_in_group Own row t program scene = quiet_own_row row t scene
+quiet_in_group Calls row t program scene = quiet_call_row row t program scene
+quiet_in_group Data row t program scene = quiet_data_row row t scene
+quiet_in_group Phasers row t program scene = quiet_phaser_row row t program scene
+quiet_in_group Getters row t program scene = quiet_getter_row row t scene
+quiet_in_group Barriers row t program scene = quiet_barrier_row row t program scene
+
+quiet_in : (of : Status) (row : Row) (t : ℕ) (program : Program) (scene : Scene) → QuietIf t row scene (outcome_in of row t program scene)
+quiet_in status.Runs row t program scene = quiet_in_group (group_of row) row t program scene
+quiet_in (status.Throws code) row t program scene =
+    quiet_if t row scene (Some (outcome_of_popped (top_of (thread_at scene t).stack) code t scene))
+    (calm_popped (top_of (thread_at scene t).stack) code t row scene)
+quiet_in (status.AwaitsPhase phase) row t program scene = quiet_if t row scene (outcome_of_phase_wait row phase t scene) (calm_phase_wait row phase t scene)
+quiet_in (status.AwaitsBarrier index) row t program scene = quiet_if t row scene (outcome_of_barrier_wait row index t scene) (calm_barrier_wait row index t scene)
+quiet_in status.Ended row t program scene = tt
+quiet_in (status.Died code) row t program scene = tt
+
+quiet_timeout : (of : Status) (row : Row) (t : ℕ) (scene : Scene) → QuietIf t row scene (timeout_in of row t scene)
+quiet_timeout status.Runs row t scene = tt
+quiet_timeout (status.Throws code) row t scene = tt
+quiet_timeout (status.AwaitsPhase phase) row t scene = quiet_if t row scene (outcome_of_phase_timeout row t scene) (calm_phase_timeout row t scene)
+quiet_timeout (status.AwaitsBarrier index) row t scene = quiet_if t row scene (outcome_of_barrier_timeout row t scene) (calm_barrier_timeout row t scene)
+quiet_timeout status.Ended row t scene = tt
+quiet_timeout (status.Died code) row t scene = tt
+
+-- the set of before is that of the others still
+others_by : (program : Program) (t : ℕ) (row : Row) (old new : StoredScene) → Leaves t row (scene_of old) (scene_of new)
+    → length new.threads ≡ length old.threads → KeepsAwake program old → AreOthersAwake program t row old.awake new
+others_by program t row old new leaves many keeps u there apart free =
+    let alike : Alike u (scene_of old) (scene_of new) = record {
+      thread = leaves.threads u apart free;
+      standings = leaves.standings;
+      waits = λ b. leaves.waits b u apart;
+      runners = leaves.runners;
+    } in
+    keeps u (subst (λ (n : ℕ). u < n) many there) ∙ sym (awake_same u program (scene_of old) (scene_of new) alike)
+
+-- after a turn that wakes nobody, of a thread that stands at this row
+pub others_awake : (program : Program) (t : ℕ) (row : Row) (old new : StoredScene) (event : Event) → KeepsAwake program old
+    → length new.threads ≡ length old.threads
+    → outcome_in (thread_at (scene_of old) t).status row t program (scene_of old) ≡ Some (record { scene = scene_of new; event = event })
+    → may_wake row event ≡ false → AreOthersAwake program t row old.awake new
+others_awake program t row old new event keeps many is quiet =
+    let scene = scene_of old in
+    others_by program t row old new
+    (subst (QuietIf t row scene) is (quiet_in (thread_at scene t).status row t program scene) quiet) many keeps
+
+-- after the expiry of a wait that wakes nobody
+pub others_awake_late : (program : Program) (t : ℕ) (row : Row) (old new : StoredScene) (event : Event) → KeepsAwake program old
+    → length new.threads ≡ length old.threads
+    → timeout_in (thread_at (scene_of old) t).status row t (scene_of old) ≡ Some (record { scene = scene_of new; event = event })
+    → may_wake row event ≡ false → AreOthersAwake program t row old.awake new
+others_awake_late program t row old new event keeps many is quiet =
+    let scene = scene_of old in
+    others_by program t row old new (subst (QuietIf t row scene) is (quiet_timeout (thread_at scene t).status row t scene) quiet) many keeps
+
+-- a thread that isn't awake has no turn; one that is has one, but perhaps where it runs
+pub asleep : (of : Status) (row : Row) (t : ℕ) (program : Program) (scene : Scene) → is_awake_in of row t scene ≡ false
+    → is_some (outcome_in of row t program scene) ≡ false
+asleep status.Runs row t program scene is = absurd (cc is)
+asleep (status.Throws code) row t program scene is = absurd (cc is)
+asleep (status.AwaitsPhase phase) row t program scene is = is
+asleep (status.AwaitsBarrier index) row t program scene is = is
+asleep status.Ended row t program scene is = refl
+asleep (status.Died code) row t program scene is = refl

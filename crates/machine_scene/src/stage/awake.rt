@@ -1,0 +1,145 @@
+ghost use Rattle.std.specs.Prelude.{◌≡◌, ◌≢◌, ℕ, ◌<◌, ◌≤◌, length, false, None};
+ghost use Rattle.cyclic_barrier.specs.ThreadSet.{has};
+ghost use Rattle.cyclic_barrier.specs.Waits.{wait_at};
+ghost use Rattle.loader.specs.Program.{IsNamed, row_at};
+ghost use Rattle.machine_scene.specs.Scene.{scene_of, counts_in, thread_at, barrier_at};
+ghost use Rattle.machine_scene.specs.Sound.{IsSound, HasItsWait};
+ghost use Rattle.machine_scene.specs.Awake.{is_awake, AreAwake, AreOthersAwake, IsSetAt, begins, is_loud_at, may_wake};
+
+use super::Stage;
+use instruction_table::Row;
+use loader::Loaded;
+use thread_state::{Event, Mark, Status, What};
+
+/// Whether a thread is in the set: bit n is thread n.
+#[inline(always)]
+pub(super) fn is_in(set: u64, thread: usize) -> bool
+    requires { thread < 64 }
+    ensures { result ≡ has set thread }
+{
+    (set >> thread) & 1 == 1
+}
+
+/// The set with this thread, or without it.
+#[inline(always)]
+#[tactic(auto, using(crate::proofs::ThreadSets::set_at))]
+fn set_at(set: u64, thread: usize, awake: bool) -> u64
+    requires { thread < 64 }
+    ensures { IsSetAt thread awake set result }
+{
+    if awake {
+        set | (1 << thread)
+    } else {
+        set & !(1 << thread)
+    }
+}
+
+/// Whether the event shows more than a turn of its own thread.
+#[inline(always)]
+fn is_loud(event: Event) -> bool
+    ensures { result ≡ is_loud_at event.mark event.what }
+{
+    match event.mark {
+        Mark::Nothing => matches!(event.what, What::Enters),
+        _ => true,
+    }
+}
+
+/// Whether a step at this row, with this event, may have woken other threads or put them to sleep, beside one that it
+/// interrupts.
+#[inline(always)]
+fn may_wake(row: Row, event: Event) -> bool
+    ensures { result ≡ may_wake row event }
+{
+    match row {
+        Row::Pforce { .. } | Row::Creset { .. } => true,
+        _ => is_loud(event),
+    }
+}
+
+/// Which threads are awake.
+impl Stage {
+    /// The row at which a thread waits.
+    fn waiting_row(&self, program: &Loaded, t: usize) -> Row
+        requires sound { IsSound program.now 2147483647 (scene_of self.now) }
+        requires thread { t < length self.now.threads }
+        ensures row { result ≡ row_at program.now.rows (thread_at (scene_of self.now) t).pc }
+        ensures named { IsNamed (counts_in program.now self.now) result }
+        ensures few { length self.now.phasers ≤ 64 }
+        ensures waits { HasItsWait (thread_at (scene_of self.now) t).status result t (scene_of self.now) }
+    {
+        let row = program.rows()[self.players[t].pc() as usize];
+        self.wait_is_placed(program, row, t);
+        row
+    }
+
+    /// Whether a thread is awake.
+    #[inline(always)]
+    fn is_awake(&self, program: &Loaded, t: usize) -> bool
+        requires sound { IsSound program.now 2147483647 (scene_of self.now) }
+        requires thread { t < length self.now.threads }
+        ensures { result ≡ is_awake t program.now (scene_of self.now) }
+    {
+        match self.players[t].status() {
+            Status::Runs | Status::Throws(_) => true,
+            Status::AwaitsPhase(phase) => {
+                let row = self.waiting_row(program, t);
+                self.is_phase_wait_over(program, row, phase, t)
+            }
+            Status::AwaitsBarrier(index) => {
+                let row = self.waiting_row(program, t);
+                self.is_barrier_wait_over(program, row, index, t)
+            }
+            Status::Ended | Status::Died(_) => false,
+        }
+    }
+
+    /// The set, with a look at one thread.
+    #[inline(always)]
+    fn looked_at(&self, program: &Loaded, set: u64, t: usize) -> u64
+        requires sound { IsSound program.now 2147483647 (scene_of self.now) }
+        requires thread { t < length self.now.threads }
+        ensures { IsSetAt t (is_awake t program.now (scene_of self.now)) set result }
+    {
+        set_at(set, t, self.is_awake(program, t))
+    }
+
+    /// All threads that are awake, by a look at each of them.
+    pub(super) fn all_awake(&self, program: &Loaded) -> u64
+        requires sound { IsSound program.now 2147483647 (scene_of self.now) }
+        ensures { AreAwake program.now result self.now }
+    {
+        let mut set = 0;
+        for t in 0..self.players.len() {
+            set = self.looked_at(program, set, t);
+        }
+        set
+    }
+
+    /// The threads that are awake after a step of thread t at this row, with this event; these were before it.
+    #[inline(always)]
+    pub(super) fn awake_after(
+        &self,
+        program: &Loaded,
+        before: u64,
+        row: Row,
+        event: Event,
+        t: usize,
+    ) -> u64
+        requires sound { IsSound program.now 2147483647 (scene_of self.now) }
+        requires thread { t < length self.now.threads }
+        requires named { IsNamed (counts_in program.now self.now) row }
+        requires others { may_wake row event ≡ false
+            → AreOthersAwake program.now t row before self.now }
+        ensures { AreAwake program.now result self.now }
+    {
+        if may_wake(row, event) {
+            return self.all_awake(program);
+        }
+        let own = self.looked_at(program, before, t);
+        match row {
+            Row::Intr { thread } => self.looked_at(program, own, thread as usize),
+            _ => own,
+        }
+    }
+}

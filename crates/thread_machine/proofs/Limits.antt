@@ -1,0 +1,58 @@
+-- A higher limit makes no difference to choices that were accepted.
+use Rattle.std.proofs.Common.{◌≡◌, ◌∙◌, ◌≤◌, ℕ, List, [], ◌∷◌, refl, ap, arith}
+use Rattle.std.specs.Prelude.{Option, Some, None}
+use Rattle.std.proofs.lemmas.Bool.Decides.{nat_tests}
+use Rattle.machine_scene.specs.Scene.{Outcome}
+use Rattle.thread_machine.specs.declared.choice.Choice.{Choice}
+use Rattle.thread_machine.specs.declared.fault.StepFault.{StepFault}
+use Rattle.thread_machine.specs.World.{World}
+use Rattle.thread_machine.specs.Ready.{outcome_of_choice}
+use Rattle.thread_machine.specs.Step.{Played, played, played_by, refusal_of}
+use Rattle.thread_machine.specs.Execution.{Execution, execution, execution_by}
+use Rattle.thread_machine.specs.Limit.{with_limit, under_limit}
+
+-- a choice played in a world with another limit
+abbrev played_under : ℕ → Played → Played
+played_under limit play = record { world = with_limit limit play.world; event = play.event }
+
+accepted_too : (limit : ℕ) (world : World) (choice : Choice) → world.limit ≤ limit → refusal_of world choice ≡ None
+    → refusal_of (with_limit limit world) choice ≡ None
+accepted_too limit world choice higher accepted = grind (arith, higher, accepted, nat_tests)
+
+played_by_under : (limit : ℕ) (outcome : Option Outcome) (world : World)
+    → played_by outcome (with_limit limit world) ≡ played_under limit (played_by outcome world)
+played_by_under limit (Some outcome) world = refl
+played_by_under limit None world = refl
+
+-- what the rest makes of both worlds is the same, so what the choice and the rest make of them is
+steps_under : (limit : ℕ) (now later : Option StepFault) (world : World) (choice : Choice) (choices : List Choice)
+    → (now ≡ None → later ≡ None)
+    → (execution_by now world choice (λ after. execution after choices)).refusal ≡ None
+    → ((execution (played world choice).world choices).refusal ≡ None
+    → execution (with_limit limit (played world choice).world) choices
+    ≡ under_limit limit (execution (played world choice).world choices))
+    → execution_by later (with_limit limit world) choice (λ after. execution after choices)
+    ≡ under_limit limit (execution_by now world choice (λ after. execution after choices))
+steps_under limit (Some fault) later world choice choices kept accepted rest = absurd (cc accepted)
+steps_under limit None (Some fault) world choice choices kept accepted rest = absurd (cc (kept refl))
+steps_under limit None None world choice choices kept accepted rest =
+    let play = played world choice in
+    let same : played (with_limit limit world) choice ≡ played_under limit play = played_by_under limit (outcome_of_choice world.program choice world.scene) world in
+    ap (λ (p : Played). let later : Execution = execution p.world choices in
+    record { world = later.world; events = p.event ∷ later.events; refusal = later.refusal }) same
+    ∙ ap (λ (later : Execution). record { world = later.world; events = play.event ∷ later.events; refusal = later.refusal })
+    (rest accepted)
+
+limit_kept : (limit : ℕ) (outcome : Option Outcome) (world : World) → world.limit ≤ limit
+    → (played_by outcome world).world.limit ≤ limit
+limit_kept limit (Some outcome) world higher = higher
+limit_kept limit None world higher = higher
+
+pub execution_under : (limit : ℕ) (choices : List Choice) (world : World) → world.limit ≤ limit
+    → (execution world choices).refusal ≡ None
+    → execution (with_limit limit world) choices ≡ under_limit limit (execution world choices)
+execution_under limit [] world higher accepted = refl
+execution_under limit (choice ∷ choices) world higher accepted =
+    steps_under limit (refusal_of world choice) (refusal_of (with_limit limit world) choice) world choice choices
+    (accepted_too limit world choice higher) accepted
+    (execution_under limit choices (played world choice).world (limit_kept limit (outcome_of_choice world.program choice world.scene) world higher))
