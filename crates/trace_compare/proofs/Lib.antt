@@ -6,3 +6,8 @@ pub mod Schedules
 pub mod Streams
 pub mod Verdicts
 pub mod SameTrace
+pub mod WholeLines
+pub mod Naming
+pub mod StateLines
+pub mod OwnTrace
+pub mod Starting

@@ -1,5 +1,5 @@
 -- A trace with the verdict `Same` is the trace of the choices that it names.
-use Rattle.std.proofs.Common.{◌≡◌, ◌∙◌, ◌+◌, ◌<◌, ◌&&◌, ℕ, Bool, true, false, List, [], ◌∷◌, ◌++◌, length, take, drop, cond, Option, Some, None, is_none, refl, ap, sym, arith, append_assoc}
+use Rattle.std.proofs.Common.{◌≡◌, ◌∙◌, ◌+◌, ◌<◌, ℕ, Bool, true, false, List, [], ◌∷◌, ◌++◌, length, cond, Option, Some, None, is_none, refl, ap, sym, arith, append_assoc}
 use Rattle.std.proofs.lemmas.List.{take-append-drop}
 use Rattle.std.proofs.lemmas.List.Splits.{join_with_byte-slice_split}
 use Rattle.std.proofs.lemmas.Slice.Eq.{bytes_eq-Decides}
@@ -64,7 +64,7 @@ state-joined (line ∷ lines) (byte ∷ text) n e =
     ∙ take-append-drop (position_or_len is_line_end whole + 1) whole
 
 -- what is left of a trace, by whether all choices so far were accepted
-abbrev left_by : Bool → World → List Choice → List ℕ
+abbrev pub left_by : Bool → World → List Choice → List ℕ
 left_by true world choices = trace_of world choices
 left_by false world choices = state_text world
 
@@ -73,7 +73,7 @@ left_by-none true world = refl
 left_by-none false world = refl
 
 -- a choice's line before the others
-after_choice : (world : World) (choice : Choice) (choices : List Choice) (refusal : Option StepFault)
+pub after_choice : (world : World) (choice : Choice) (choices : List Choice) (refusal : Option StepFault)
     → (execution world (choice ∷ [])).refusal ≡ refusal
     → lines_of world (choice ∷ []) ++ left_by (is_none refusal) (execution world (choice ∷ [])).world choices
     ≡ trace_of world (choice ∷ choices)

@@ -1,5 +1,5 @@
 -- Bytes that are read one piece after another.
-use Rattle.std.proofs.Common.{◌≡◌, ◌∙◌, ◌+◌, ◌<◌, ◌≤◌, ◌++◌, ℕ, List, Option, length, take, ap, subst, append-nil, length-append, arith}
+use Rattle.std.proofs.Common.{◌≡◌, ◌⊎◌, inl, inr, refl, ◌∙◌, ◌+◌, ◌<◌, ◌≤◌, ◌++◌, ℕ, List, Option, length, take, ap, subst, append-nil, length-append, arith}
 use Rattle.std.proofs.lemmas.List.{length-take}
 use Rattle.std.proofs.KnownBytes.{Appends-trans, Consumes-trans}
 use Rattle.std.specs.Io.KnownBytes.{Appends, Consumes, IsAtEnd}
@@ -8,7 +8,10 @@ use Rattle.schedule_reader.specs.declared.fault.ScheduleFault.{ScheduleFault}
 use Rattle.schedule_reader.specs.Schedule.{Schedule, finished_schedule, choices_of}
 use Rattle.thread_machine.specs.World.{World}
 use Rattle.thread_machine.specs.declared.choice.Choice.{Choice}
-use Rattle.trace_compare.specs.Playing.{HasPlayed, HasPlayedAll}
+use Rattle.trace_compare.specs.Playing.{HasPlayed, HasPlayedAll, HasPlayedInPart, HasTraced}
+use Rattle.trace_compare.specs.RunText.{HasRun, HasRunInPart}
+use Rattle.trace_compare.specs.Start.{Begins}
+use Rattle.row_code.specs.declared.image.Image.{Image}
 use Rattle.trace_compare.specs.State.{state_text}
 use Rattle.trace_compare.specs.Trace.{lines_of, trace_of}
 
@@ -48,3 +51,20 @@ traced first last choices state pushed old between new played is same end =
     subst (λ text. Appends old new (lines_of first choices ++ text))
     (same ∙ is ∙ ap (λ (world : World). state_text world) played.1)
     (Appends-trans old between new _ pushed played.0 end)
+
+-- the same of an image whose program begins in that world
+pub begun : {E : Type 0} (result : Result (Unit {0}) E) (image : Image) (world : World)
+    (schedule_before schedule_after old new : Option (List ℕ)) → Begins image world
+    → OnOk result (HasTraced world schedule_before schedule_after old new)
+    → OnOk result (HasRun image schedule_before schedule_after old new)
+begun (Ok x) image world schedule_before schedule_after old new begins p =
+    let (bytes, (runs, (consumed, end, is, appends))) = p in
+    (bytes, (trace_of world (choices_of runs), (consumed, end, (world, (runs, (begins, is, refl))), appends)))
+begun (Err e) image world schedule_before schedule_after old new begins p = p
+
+pub begun_part : (image : Image) (world : World) (schedule_before schedule_after old new : Option (List ℕ)) → Begins image world
+    → (new ≡ old) ⊎ HasPlayedInPart world schedule_before schedule_after old new
+    → HasRunInPart image schedule_before schedule_after old new
+begun_part image world schedule_before schedule_after old new begins (inl same) = inl same
+begun_part image world schedule_before schedule_after old new begins (inr (bytes, (schedule, (consumed, read, part)))) =
+    inr (world, (bytes, (schedule, (begins, consumed, read, part))))

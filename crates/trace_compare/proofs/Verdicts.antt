@@ -2,7 +2,7 @@
 use Rattle.std.proofs.Common.{◌≡◌, ◌∙◌, ◌↔◌, ◌+◌, ◌-◌, ◌<◌, ◌≤◌, ◌&&◌, ℕ, Bool, true, false, List, [], ◌∷◌, ◌++◌, length, drop, Option, Some, None, IsTrue, ◌==◌, zero, suc, refl, ap, sym, subst, arith, is_none, not, cond}
 use Rattle.std.specs.Prelude.{Result, Ok, Err, IfOk}
 use Rattle.trace_compare.specs.declared.compare.Comparison.{Comparison}
-use Rattle.trace_compare.specs.Comparing.{IsOpen, bytes_left, decided, lines_left}
+use Rattle.trace_compare.specs.Comparing.{HasLeft, IsOpen, bytes_left, decided, lines_left}
 use Rattle.std.proofs.Common.{inl, inr, take, min}
 use Rattle.std.proofs.Common.{append_assoc, append-nil, length-append}
 use Rattle.std.specs.Prelude.{All}
@@ -11,19 +11,22 @@ use Rattle.std.proofs.lemmas.Bool.{cases_lt, lt-ltb}
 use Rattle.std.proofs.lemmas.Bool.Decides.{nat_tests}
 use Rattle.std.proofs.lemmas.List.Elements.{All-append, All-cons, All-head, All-tail}
 use Rattle.std.proofs.lemmas.List.Splits.{slice_split_at, slice_split_none, slice_split-cons_no, length-slice_split}
-use Rattle.std.proofs.lemmas.List.{drop_all, take_all, drop-drop, length-drop}
-use Rattle.std.specs.List.{before_first, after_first, position_or_len, slice_split, onto_first}
+use Rattle.std.proofs.lemmas.List.{drop_all, take_all, drop-drop}
+use Rattle.std.specs.List.{position_or_len, slice_split, onto_first}
 use Rattle.std.specs.Str.{bytes_eq}
 use Rattle.std.proofs.lemmas.Bool.{le-ltb}
 use Rattle.std.proofs.lemmas.Slice.Eq.{bytes_eq-Decides}
+use Rattle.std.specs.Io.KnownBytes.{Consumes}
+use Rattle.row_code.specs.declared.image.Image.{Image}
+use Rattle.trace_compare.specs.Start.{Begins}
 use Rattle.line_reader.specs.Words.{is_line_end}
 use Rattle.thread_machine.specs.declared.choice.Choice.{Choice}
 use Rattle.thread_machine.specs.declared.fault.StepFault.{StepFault}
-use Rattle.thread_machine.specs.World.{World, world_of}
+use Rattle.thread_machine.specs.World.{StoredWorld, World, world_of}
 use Rattle.thread_machine.specs.Execution.{execution}
 use Rattle.trace_compare.specs.declared.compare.Verdict.{Verdict}
 use Rattle.trace_compare.specs.declared.compare.Verdict.TheVariants as verdict
-use Rattle.trace_compare.specs.Compare.{choice_verdict, first_line, after_line, state_verdict, lines_verdict, is_too_long, is_state_line, choice_in}
+use Rattle.trace_compare.specs.Compare.{HasCompared, HasVerdict, verdict_of, choice_verdict, first_line, after_line, state_verdict, lines_verdict, is_too_long, is_state_line, choice_in}
 use Rattle.trace_compare.specs.Trace.{Plays, lines_of}
 
 of_not : (b : Bool) → not b ≡ false → b ≡ true
@@ -236,3 +239,26 @@ pieces-decided {E} result v first now after line next bytes piece rest is before
     ∙ (let P : Result (Option Verdict) E → Type 0 =
     λ r. IfOk r (λ w. bytes_left now line (piece ++ rest) ≡ decided w (bytes_left after next rest)) in
     subst P is (one rest))
+
+-- a comparison that begins, by its parts
+left-first : (now : Comparison) (machine : StoredWorld) (bytes : List ℕ) → now.machine ≡ machine → now.accepted ≡ true
+    → now.is_state ≡ false → now.number ≡ 1 → bytes_left now [] bytes ≡ verdict_of (world_of machine) bytes
+left-first now machine bytes machine_is accepted_is state_is number_is =
+    rw (state_is, accepted_is, machine_is, number_is) refl
+
+verdict-first : (now : Comparison) (machine : StoredWorld) (bytes : List ℕ) (left : Option (List ℕ)) (v : Verdict)
+    → ((rest : List ℕ) → bytes_left now [] rest ≡ verdict_of (world_of machine) rest)
+    → HasLeft now bytes left v → HasVerdict (world_of machine) bytes left v
+verdict-first now machine bytes left v same (inl (end, is)) = inl (end, sym (same bytes) ∙ is)
+verdict-first now machine bytes left v same (inr is) = inr (λ rest. sym (same (bytes ++ rest)) ∙ is rest)
+
+-- of an image whose program begins in that world
+pub compared : {E : Type 0} (result : Result Verdict E) (image : Image) (now : Comparison) (machine : StoredWorld)
+    (before after : Option (List ℕ)) → Begins image (world_of machine) → now.machine ≡ machine
+    → (now.accepted ≡ true) × (now.is_state ≡ false) → now.number ≡ 1
+    → IfOk result (λ v. (bytes : List ℕ) × (Consumes before after bytes × HasLeft now bytes after v))
+    → IfOk result (λ v. HasCompared image before after v)
+compared (Ok v) image now machine before after begins machine_is start number_is (bytes, (consumed, left)) =
+    let same = λ (rest : List ℕ). left-first now machine rest machine_is start.0 start.1 number_is in
+    (world_of machine, (bytes, (begins, consumed, verdict-first now machine bytes after v same left)))
+compared (Err e) image now machine before after begins machine_is start number_is p = p

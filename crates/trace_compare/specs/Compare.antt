@@ -1,5 +1,5 @@
 -- What a comparison of a trace with the run that it names says.
-use Rattle.std.specs.Prelude.{◌≡◌, ◌⊎◌, ℕ, ◌+◌, ◌-◌, ◌*◌, ◌==◌, ◌&&◌, nat_lt, nat_le, if◌then◌else◌, Bool, true, false, List, [], ◌∷◌, ◌++◌, length, take, drop, codes, Option, Some, None, is_none}
+use Rattle.std.specs.Prelude.{◌≡◌, ◌⊎◌, ℕ, ◌+◌, ◌-◌, ◌*◌, ◌==◌, ◌&&◌, nat_lt, nat_le, All, if◌then◌else◌, Bool, true, false, List, [], ◌∷◌, ◌++◌, length, take, drop, codes, Option, Some, None, is_none}
 use Rattle.std.specs.Char.{is_ascii_digit}
 use Rattle.std.specs.Io.KnownBytes.{Consumes, IsAtEnd}
 use Rattle.std.specs.List.{slice_split, before_first, after_first, list_all, position_or_len}
@@ -54,6 +54,10 @@ is_state_line line = bytes_eq (before_first is_space line) (codes "state")
 -- more bytes than a trace's line has
 abbrev pub is_too_long : List ℕ → Bool
 is_too_long line = nat_lt 65536 (length line)
+
+-- no line of a text has more
+abbrev pub HasNoLongLine : List ℕ → Type 0
+HasNoLongLine text = All (λ line. is_too_long line ≡ false) (slice_split is_line_end text)
 
 -- a text's first line with its LF
 abbrev pub first_line : List ℕ → List ℕ

@@ -9,7 +9,7 @@ use Rattle.thread_machine.specs.declared.choice.Choice.{Choice}
 use Rattle.thread_machine.specs.Execution.{execution}
 use Rattle.thread_machine.specs.World.{World}
 use Rattle.trace_compare.specs.RunText.{HasFault}
-use Rattle.trace_compare.specs.Trace.{AppendsPartOf, Plays, lines_of}
+use Rattle.trace_compare.specs.Trace.{AppendsPartOf, Plays, lines_of, trace_of}
 
 -- whatever was played before, with these choices it is all played
 abbrev pub PlaysOn : World → World → Bool → Bool → List Choice → Option (List ℕ) → Option (List ℕ) → Type 0
@@ -45,6 +45,13 @@ HasPlayedAll first last schedule_before schedule_after old new =
     (bytes : List ℕ) × ((runs : List Run)
     × (Consumes schedule_before schedule_after bytes × IsAtEnd schedule_after
     × (finished_schedule bytes ≡ record { runs = runs; fault = None }) × HasPlayed first last (choices_of runs) old new))
+
+-- the same, and the state was written
+abbrev pub HasTraced : World → Option (List ℕ) → Option (List ℕ) → Option (List ℕ) → Option (List ℕ) → Type 0
+HasTraced first schedule_before schedule_after old new =
+    (bytes : List ℕ) × ((runs : List Run)
+    × (Consumes schedule_before schedule_after bytes × IsAtEnd schedule_after
+    × (finished_schedule bytes ≡ record { runs = runs; fault = None }) × Appends old new (trace_of first (choices_of runs))))
 
 abbrev pub HasPlayedToFault : World → ScheduleFault → Option (List ℕ) → Option (List ℕ) → Option (List ℕ) → Option (List ℕ)
     → Type 0

@@ -1,8 +1,8 @@
-ghost use Rattle.std.specs.Prelude.{◌≡◌, ◌≢◌, ◌⊎◌, IsTrue, Err, ◌==◌, ◌&&◌, ◌<◌, ◌≤◌, ◌+◌, ◌++◌, ◌∷◌, [], List, ℕ, IfOk, OnOk, drop, length, take};
+ghost use Rattle.std.specs.Prelude.{◌≡◌, ◌≢◌, ◌⊎◌, IsTrue, Err, false, true, ◌==◌, ◌&&◌, ◌<◌, ◌≤◌, ◌+◌, ◌++◌, ◌∷◌, [], List, ℕ, IfOk, OnOk, drop, length, take};
 ghost use Rattle.std.specs.Io.KnownBytes.{Consumes};
 ghost use Rattle.thread_machine.specs.World.{world_of};
 ghost use Rattle.trace_compare.specs.RunText.{GivesOnAndOn};
-ghost use Rattle.trace_compare.specs.Start.{IsRefused};
+ghost use Rattle.trace_compare.specs.Start.{IsRefused, is_want_of_memory};
 ghost use Rattle.trace_compare.specs.Compare.{HasCompared, choice_in, choice_verdict, is_state_line, lines_verdict, state_verdict};
 ghost use Rattle.trace_compare.specs.Comparing.{HasLeft, IsOpen, IsReading, bytes_left, decided, lines_left};
 
@@ -81,6 +81,23 @@ struct Comparison {
 }
 
 impl Comparison {
+    /// Before the first line.
+    fn new(alloc: Global, machine: Machine) -> Comparison
+        ensures machine { result.machine ≡ machine }
+        ensures start { (result.accepted ≡ true) × (result.is_state ≡ false) }
+        ensures text { (result.text.items ≡ []) × (result.at ≡ 0) }
+        ensures number { result.number ≡ 1 }
+    {
+        Comparison {
+            machine,
+            accepted: true,
+            is_state: false,
+            text: Vec::new(alloc),
+            at: 0,
+            number: 1,
+        }
+    }
+
     /// Goes on over a line that names a choice, if it names one. The line is given without its LF and with it.
     fn take_choice(&mut self, line: &[u8], whole: &[u8]) -> Result<Option<Verdict>, AllocError>
         requires whole { whole.now ≡ line.now ++ (10 ∷ []) }
@@ -335,6 +352,27 @@ fn compare_stream<S: Source>(
     Err(CompareFault::Read)
 }
 
+/// Compares a trace with the run from the world in which the comparison stands.
+fn compare_all<S: Source>(
+    alloc: Global,
+    now: &mut Comparison,
+    trace: &mut S,
+) -> Result<Verdict, CompareFault>
+    requires number { now.old.number ≡ 1 }
+    requires at { now.old.at ≤ length now.old.text.items }
+    ensures verdict { IfOk result (λ verdict. (bytes : List ℕ)
+        × (Consumes (S.left trace.old) (S.left trace.new) bytes
+        × HasLeft now.old bytes (S.left trace.new) verdict)) }
+    ensures read { result ≡ Err CompareFault.Read → IsTrue (S.has_failed trace.new)
+        ⊎ GivesOnAndOn (S.left trace.old) (S.left trace.new) }
+    ensures load { (fault : LoadFault) → result ≢ Err (CompareFault.Load fault) }
+{
+    match Vec::with_capacity(alloc, MOST_BYTES + 1) {
+        Ok(mut line) => compare_stream(now, alloc, &mut line, trace),
+        Err(_) => Err(CompareFault::Memory),
+    }
+}
+
 /// Compares a trace with the run of an image's program that the trace's lines name, byte for byte, the state too. The verdict
 /// stands at the first line that is no line of a trace, or isn't the run's; what follows that line is not read. A line of the
 /// trace and a line of the run are held at a time, and the state text at the end.
@@ -347,25 +385,18 @@ pub fn compare<S: Source>(
         HasCompared image (S.left trace.old) (S.left trace.new) verdict) }
     ensures load { (fault : LoadFault) → result ≡ Err (CompareFault.Load fault)
         → IsRefused fault image × (S.left trace.new ≡ S.left trace.old) }
+    ensures refused { (fault : LoadFault) → IsRefused fault image
+        → (result ≡ Err (CompareFault.Load fault)) ⊎ (result ≡ Err CompareFault.Memory) }
+    ensures wants { (fault : LoadFault) → result ≡ Err (CompareFault.Load fault) → is_want_of_memory fault ≡ false }
     ensures read { result ≡ Err CompareFault.Read → IsTrue (S.has_failed trace.new)
         ⊎ GivesOnAndOn (S.left trace.old) (S.left trace.new) }
 {
-    let machine = match first_machine(alloc, image) {
-        Ok(machine) => machine,
-        Err(StartFault::Load(fault)) => return Err(CompareFault::Load(fault)),
-        Err(StartFault::Memory) => return Err(CompareFault::Memory),
-    };
-    let mut line = match Vec::with_capacity(alloc, MOST_BYTES + 1) {
-        Ok(line) => line,
-        Err(_) => return Err(CompareFault::Memory),
-    };
-    let mut now = Comparison {
-        machine,
-        accepted: true,
-        is_state: false,
-        text: Vec::new(alloc),
-        at: 0,
-        number: 1,
-    };
-    compare_stream(&mut now, alloc, &mut line, trace)
+    match first_machine(alloc, image) {
+        Ok(machine) => {
+            let mut now = Comparison::new(alloc, machine);
+            compare_all(alloc, &mut now, trace)
+        }
+        Err(StartFault::Load(fault)) => Err(CompareFault::Load(fault)),
+        Err(StartFault::Memory) => Err(CompareFault::Memory),
+    }
 }

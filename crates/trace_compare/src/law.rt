@@ -1,6 +1,9 @@
-ghost use Rattle.std.specs.Prelude.{◌≡◌, List, ℕ};
+ghost use Rattle.std.specs.Prelude.{◌≡◌, ◌≤◌, All, List, ℕ};
+ghost use Rattle.thread_machine.specs.declared.choice.Choice.{Choice};
+ghost use Rattle.thread_machine.specs.Execution.{execution};
 ghost use Rattle.thread_machine.specs.World.{World};
-ghost use Rattle.trace_compare.specs.Compare.{choices_of_trace, verdict_of};
+ghost use Rattle.trace_compare.specs.Compare.{HasNoLongLine, choices_of_trace, verdict_of};
+ghost use Rattle.trace_compare.specs.State.{state_text};
 ghost use Rattle.trace_compare.specs.Trace.{trace_of};
 ghost use Rattle.trace_compare.specs.declared.compare.Verdict.TheVariants.{Same};
 
@@ -8,4 +11,13 @@ ghost use Rattle.trace_compare.specs.declared.compare.Verdict.TheVariants.{Same}
 pub fn what_is_the_same_is_the_trace_of_its_choices()
     ensures { (world : World) (trace : List ℕ) → verdict_of world trace ≡ Same
         → trace ≡ trace_of world (choices_of_trace trace) }
+{}
+
+/// The trace of any choices of threads from 0 to 63 has the verdict `Same`: with the law above, the traces of choices are
+/// just those that are the same. A comparison reads no line of more than 65,536 bytes, and no line of a choice has more; of
+/// the state text it has to be said.
+pub fn the_trace_of_any_choices_is_the_same()
+    ensures { (world : World) (choices : List Choice) → world.choices ≤ 1000000000000
+        → All (λ choice. choice.thread ≤ 63) choices → HasNoLongLine (state_text (execution world choices).world)
+        → verdict_of world (trace_of world choices) ≡ Same }
 {}

@@ -21,4 +21,4 @@ pub mod start;
 pub mod state;
 mod trace_line;
 
-pub use law::what_is_the_same_is_the_trace_of_its_choices;
+pub use law::{the_trace_of_any_choices_is_the_same, what_is_the_same_is_the_trace_of_its_choices};

@@ -1,4 +1,4 @@
-ghost use Rattle.std.specs.Prelude.{◌≡◌, ◌≢◌, ◌+◌, ◌∷◌, [], Some, None, replicate, IsTrue, IfOk, OnOk};
+ghost use Rattle.std.specs.Prelude.{◌≡◌, ◌≢◌, ◌+◌, ◌<◌, ◌∷◌, length, [], Some, None, replicate, IsTrue, IfOk, OnOk};
 ghost use Rattle.std.specs.Io.KnownBytes.{Appends};
 ghost use Rattle.thread_machine.specs.World.{world_of};
 ghost use Rattle.schedule_reader.specs.Schedule.{choices_of};
@@ -69,22 +69,21 @@ fn push_refusal<W: Sink>(
     push_line(line.as_slice(), output)
 }
 
-/// Plays one choice and writes its line; whether the choice was accepted. `line` keeps the last line.
-fn play_choice<W: Sink>(
+/// Plays one choice of a thread that is there, and writes its line; whether the choice was accepted. `line` keeps the last
+/// line.
+#[inline(always)]
+fn play_turn<W: Sink>(
     machine: &mut Machine,
     choice: Choice,
     line: &mut KeptLine,
     output: &mut W,
 ) -> Result<bool, PlayFault>
+    requires there { choice.thread < length machine.old.scene.threads }
     ensures plays { IfOk result (λ accepted. Plays (world_of machine.old) (world_of machine.new) (choice ∷ []) accepted
         (W.written output.old) (W.written output.new)) }
     ensures write { result ≡ Err PlayFault.Write → IsTrue (W.has_failed output.new) }
     ensures memory { result ≡ Err PlayFault.Memory → W.written output.new ≡ W.written output.old }
 {
-    if usize::from(choice.thread) >= machine.thread_count() {
-        push_refusal(machine, choice, None, output)?;
-        return Ok(false);
-    }
     let pc = machine.pc(choice.thread);
     match machine.step(choice) {
         Ok(event) => {
@@ -97,6 +96,26 @@ fn play_choice<W: Sink>(
             Ok(false)
         }
     }
+}
+
+/// Plays one choice and writes its line; whether the choice was accepted. `line` keeps the last line.
+#[inline(always)]
+fn play_choice<W: Sink>(
+    machine: &mut Machine,
+    choice: Choice,
+    line: &mut KeptLine,
+    output: &mut W,
+) -> Result<bool, PlayFault>
+    ensures plays { IfOk result (λ accepted. Plays (world_of machine.old) (world_of machine.new) (choice ∷ []) accepted
+        (W.written output.old) (W.written output.new)) }
+    ensures write { result ≡ Err PlayFault.Write → IsTrue (W.has_failed output.new) }
+    ensures memory { result ≡ Err PlayFault.Memory → W.written output.new ≡ W.written output.old }
+{
+    if usize::from(choice.thread) < machine.thread_count() {
+        return play_turn(machine, choice, line, output);
+    }
+    push_refusal(machine, choice, None, output)?;
+    Ok(false)
 }
 
 /// Plays one choice, and makes its line; whether the choice was accepted.

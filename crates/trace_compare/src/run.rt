@@ -1,12 +1,13 @@
-ghost use Rattle.std.specs.Prelude.{◌≡◌, ◌≢◌, ◌⊎◌, ◌+◌, ◌<◌, ◌++◌, [], List, ℕ, Option, Some, None, Err, IsTrue, IfOk, OnOk, length};
+ghost use Rattle.std.specs.Prelude.{◌≡◌, ◌≢◌, ◌⊎◌, ◌+◌, ◌<◌, ◌++◌, [], List, ℕ, Option, Some, None, Err, IsTrue, IfErr, IfOk, false, OnOk, length};
 ghost use Rattle.std.specs.Io.KnownBytes.{Appends};
 ghost use Rattle.schedule_reader.specs.Places.{HasRead};
 ghost use Rattle.schedule_reader.specs.Reading.{Adds, answer_of};
 ghost use Rattle.schedule_reader.specs.Schedule.{choices_of, finished_schedule, open_schedule};
 ghost use Rattle.thread_machine.specs.World.{World, world_of};
-ghost use Rattle.trace_compare.specs.Playing.{HasPlayed, HasPlayedAll, HasPlayedInPart, HasPlayedSoFar, HasPlayedToFault, IsUpTo, PlaysOn, WritesOn, WritesPartOn};
+ghost use Rattle.trace_compare.specs.Playing.{HasPlayed, HasPlayedAll, HasPlayedInPart, HasPlayedSoFar, HasPlayedToFault, HasTraced, IsUpTo, PlaysOn, WritesOn, WritesPartOn};
 ghost use Rattle.trace_compare.specs.RunText.{GivesOnAndOn, HasRun, HasRunInPart, HasRunSoFar, HasRunToFault, faulty_after};
-ghost use Rattle.trace_compare.specs.Start.{IsRefused};
+ghost use Rattle.trace_compare.specs.Start.{IsRefused, is_want_of_memory};
+ghost use Rattle.trace_compare.specs.State.{state_text};
 ghost use Rattle.trace_compare.specs.Trace.{AppendsPartOf, Plays, lines_of};
 ghost use Rattle.loader.specs.declared.load_fault.LoadFault.{LoadFault};
 
@@ -144,6 +145,7 @@ fn play_piece<W: Sink>(
     ensures write { result ≡ Err RunFault.Write → IsTrue (W.has_failed output.new) }
     ensures read { result ≢ Err RunFault.Read }
     ensures load { (fault : LoadFault) → result ≢ Err (RunFault.Load fault) }
+    ensures wants { result ≢ Err (RunFault.Schedule ScheduleFault.Memory) }
     ensures empty { runs.new.items ≡ [] }
     ensures count { reader.new.read ≡ reader.old.read + length piece.now }
 {
@@ -177,6 +179,7 @@ fn play_end<W: Sink>(
     ensures write { result ≡ Err RunFault.Write → IsTrue (W.has_failed output.new) }
     ensures read { result ≢ Err RunFault.Read }
     ensures load { (fault : LoadFault) → result ≢ Err (RunFault.Load fault) }
+    ensures wants { result ≢ Err (RunFault.Schedule ScheduleFault.Memory) }
 {
     let told = reader.finish(runs);
     match play_added(machine, accepted, told, runs, line, output) {
@@ -206,6 +209,7 @@ fn play_stream<S: Source, W: Sink>(
         (W.written output.old) (W.written output.new) }
     ensures write { result ≡ Err RunFault.Write → IsTrue (W.has_failed output.new) }
     ensures load { (fault : LoadFault) → result ≢ Err (RunFault.Load fault) }
+    ensures wants { result ≢ Err (RunFault.Schedule ScheduleFault.Memory) }
 {
     let mut reader = Reader::new();
     let mut line = KeptLine::new();
@@ -235,6 +239,57 @@ fn play_stream<S: Source, W: Sink>(
     Err(RunFault::Read)
 }
 
+/// Writes the text of a machine's state.
+fn push_state<W: Sink>(alloc: Global, machine: &Machine, output: &mut W) -> Result<(), RunFault>
+    ensures state { OnOk result (Appends (W.written output.old) (W.written output.new)
+        (state_text (world_of machine.now))) }
+    ensures memory { result ≡ Err RunFault.Memory → W.written output.new ≡ W.written output.old }
+    ensures write { result ≡ Err RunFault.Write → IsTrue (W.has_failed output.new) }
+    ensures others { IfErr result (λ fault. (fault ≡ RunFault.Memory) ⊎ (fault ≡ RunFault.Write)) }
+{
+    let state = match state_text(alloc, machine) {
+        Ok(state) => state,
+        Err(_) => return Err(RunFault::Memory),
+    };
+    match output.push(state.as_slice()) {
+        Ok(()) => Ok(()),
+        Err(_) => Err(RunFault::Write),
+    }
+}
+
+/// Plays a schedule to its end, and writes the trace. The list of runs has its room before anything is read.
+fn play_all<S: Source, W: Sink>(
+    alloc: Global,
+    machine: &mut Machine,
+    schedule: &mut S,
+    output: &mut W,
+) -> Result<(), RunFault>
+    ensures done { OnOk result (HasTraced (world_of machine.old) (S.left schedule.old) (S.left schedule.new)
+        (W.written output.old) (W.written output.new)) }
+    ensures schedule { (fault : ScheduleFault) → result ≡ Err (RunFault.Schedule fault)
+        → HasPlayedToFault (world_of machine.old) fault (S.left schedule.old) (S.left schedule.new)
+        (W.written output.old) (W.written output.new) }
+    ensures memory { result ≡ Err RunFault.Memory → (W.written output.new ≡ W.written output.old)
+        ⊎ HasPlayedInPart (world_of machine.old) (S.left schedule.old) (S.left schedule.new)
+        (W.written output.old) (W.written output.new) }
+    ensures read { result ≡ Err RunFault.Read → (IsTrue (S.has_failed schedule.new)
+        ⊎ GivesOnAndOn (S.left schedule.old) (S.left schedule.new))
+        × HasPlayedSoFar (world_of machine.old) (S.left schedule.old) (S.left schedule.new)
+        (W.written output.old) (W.written output.new) }
+    ensures write { result ≡ Err RunFault.Write → IsTrue (W.has_failed output.new) }
+    ensures load { (fault : LoadFault) → result ≢ Err (RunFault.Load fault) }
+    ensures wants { result ≢ Err (RunFault.Schedule ScheduleFault.Memory) }
+{
+    let mut runs = match Vec::with_capacity(alloc, MOST_RUNS) {
+        Ok(runs) => runs,
+        Err(_) => return Err(RunFault::Memory),
+    };
+    match play_stream(machine, schedule, &mut runs, output) {
+        Ok(()) => push_state(alloc, machine, output),
+        Err(fault) => Err(fault),
+    }
+}
+
 /// Plays an image's program under a schedule, and writes the trace: a line for each choice as it is played, and then the
 /// state. The schedule is read a piece at a time; it is read to its end, and its first fault is answered, also where a choice
 /// was refused before. After `Schedule` the lines of the choices before the fault are written, after `Read` those of the
@@ -250,6 +305,10 @@ pub fn run_text<S: Source, W: Sink>(
         (W.written output.old) (W.written output.new)) }
     ensures load { (fault : LoadFault) → result ≡ Err (RunFault.Load fault) → IsRefused fault image
         × (S.left schedule.new ≡ S.left schedule.old) × (W.written output.new ≡ W.written output.old) }
+    ensures refused { (fault : LoadFault) → IsRefused fault image
+        → (result ≡ Err (RunFault.Load fault)) ⊎ (result ≡ Err RunFault.Memory) }
+    ensures wants { ((fault : LoadFault) → result ≡ Err (RunFault.Load fault) → is_want_of_memory fault ≡ false)
+        × (result ≢ Err (RunFault.Schedule ScheduleFault.Memory)) }
     ensures schedule { (fault : ScheduleFault) → result ≡ Err (RunFault.Schedule fault)
         → HasRunToFault image fault (S.left schedule.old) (S.left schedule.new)
         (W.written output.old) (W.written output.new) }
@@ -261,25 +320,9 @@ pub fn run_text<S: Source, W: Sink>(
         (W.written output.old) (W.written output.new) }
     ensures write { result ≡ Err RunFault.Write → IsTrue (W.has_failed output.new) }
 {
-    let mut machine = match first_machine(alloc, image) {
-        Ok(machine) => machine,
-        Err(StartFault::Load(fault)) => return Err(RunFault::Load(fault)),
-        Err(StartFault::Memory) => return Err(RunFault::Memory),
-    };
-    let mut runs = match Vec::with_capacity(alloc, MOST_RUNS) {
-        Ok(runs) => runs,
-        Err(_) => return Err(RunFault::Memory),
-    };
-    match play_stream(&mut machine, schedule, &mut runs, output) {
-        Ok(()) => {}
-        Err(fault) => return Err(fault),
-    }
-    let state = match state_text(alloc, &machine) {
-        Ok(state) => state,
-        Err(_) => return Err(RunFault::Memory),
-    };
-    match output.push(state.as_slice()) {
-        Ok(()) => Ok(()),
-        Err(_) => Err(RunFault::Write),
+    match first_machine(alloc, image) {
+        Ok(mut machine) => play_all(alloc, &mut machine, schedule, output),
+        Err(StartFault::Load(fault)) => Err(RunFault::Load(fault)),
+        Err(StartFault::Memory) => Err(RunFault::Memory),
     }
 }

@@ -1,7 +1,7 @@
 // How a machine is made of an image.
-ghost use Rattle.std.specs.Prelude.{◌≡◌, ◌≢◌, IfOk};
+ghost use Rattle.std.specs.Prelude.{◌≡◌, ◌≢◌, ◌⊎◌, false, Err, IfOk};
 ghost use Rattle.thread_machine.specs.World.{world_of};
-ghost use Rattle.trace_compare.specs.Start.{Begins, IsRefused};
+ghost use Rattle.trace_compare.specs.Start.{Begins, IsRefused, is_want_of_memory};
 
 use loader::{LoadFault, load};
 use row_code::Image;
@@ -25,6 +25,9 @@ pub fn first_machine(alloc: Global, image: Image) -> Result<Machine, StartFault>
     ensures machine { IfOk result (λ machine. Begins image (world_of machine)) }
     ensures load { (fault : LoadFault) → result ≡ Err (StartFault.Load fault)
         → IsRefused fault image }
+    ensures refused { (fault : LoadFault) → IsRefused fault image
+        → (result ≡ Err (StartFault.Load fault)) ⊎ (result ≡ Err StartFault.Memory) }
+    ensures wants { (fault : LoadFault) → result ≡ Err (StartFault.Load fault) → is_want_of_memory fault ≡ false }
 {
     let program = match load(alloc, image) {
         Ok(program) => program,

@@ -1,4 +1,4 @@
-use Rattle.std.proofs.Common.{◌≡◌, ◌∙◌, ◌∷◌, ◌+◌, ap, drop, length, min, sym}
+use Rattle.std.proofs.Common.{◌∙◌, ap, drop, length}
 use Rattle.trace_compare.proofs.Verdicts.{state-further, found_same, not_empty}
 use Rattle.trace_compare.proofs.compare.Comparison.take_state_line.Goals as goal
 

@@ -1,6 +1,6 @@
 use Rattle.thread_machine.specs.World.{world_of}
 use Rattle.trace_compare.proofs.Plays.{Plays-played, refusal_of-accepted}
-use Rattle.trace_compare.proofs.play.play_choice.Goals as goal
+use Rattle.trace_compare.proofs.play.play_turn.Goals as goal
 
 pub returns-in_ok-push_event-in-Ok-clause-plays : goal.returns-in_ok-push_event-in-Ok-clause-plays
 returns-in_ok-push_event-in-Ok-clause-plays g c =

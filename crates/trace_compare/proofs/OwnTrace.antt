@@ -1,0 +1,174 @@
+-- The trace of any choices has the verdict `Same`.
+use Rattle.std.proofs.Common.{◌≡◌, ◌∙◌, ◌+◌, ◌<◌, ◌≤◌, ◌==◌, ◌||◌, ℕ, Bool, true, false, List, [], ◌∷◌, ◌++◌, length, cond, Option, Some, None, is_none, refl, ap, sym, subst, arith, append_assoc, append-nil, All, ◌≢◌, nat_le}
+use Rattle.std.proofs.lemmas.Bool.{ltb-false, eqb-false}
+use Rattle.std.proofs.lemmas.List.Elements.{All-head, All-tail}
+use Rattle.std.proofs.lemmas.Slice.Eq.{bytes_eq-Decides}
+use Rattle.std.specs.List.{slice_split}
+use Rattle.std.specs.Str.{bytes_eq}
+use Rattle.line_reader.specs.Words.{is_line_end}
+use Rattle.machine_scene.specs.Scene.{Outcome, thread_at}
+use Rattle.thread_machine.specs.declared.choice.Choice.{Choice}
+use Rattle.thread_machine.specs.declared.fault.StepFault.{StepFault}
+use Rattle.thread_machine.specs.declared.fault.StepFault.TheVariants.{NoSuchThread, StepLimit}
+use Rattle.thread_machine.specs.World.{World}
+use Rattle.thread_machine.specs.Ready.{outcome_of_choice}
+use Rattle.thread_machine.specs.Step.{Played, is_used_up, played, played_by, refusal_of}
+use Rattle.thread_machine.specs.Execution.{execution, execution_by}
+use Rattle.trace_compare.specs.declared.compare.Verdict.TheVariants as verdict
+use Rattle.trace_compare.specs.Compare.{HasNoLongLine, choice_verdict, is_state_line, is_too_long, lines_verdict, state_verdict}
+use Rattle.trace_compare.specs.Lines.{event_text}
+use Rattle.trace_compare.specs.State.{state_text}
+use Rattle.trace_compare.specs.Trace.{lines_by, lines_of, trace_of}
+use Rattle.trace_compare.proofs.Naming.{IsOwnLine, event-own, refusal-own}
+use Rattle.trace_compare.proofs.Plays.{goes_on, stops}
+use Rattle.trace_compare.proofs.SameTrace.{after_choice, left_by}
+use Rattle.trace_compare.proofs.StateLines.{parts_text, parts-whole, state-is_state, state-line}
+use Rattle.trace_compare.proofs.Verdicts.{state-same}
+use Rattle.trace_compare.proofs.WholeLines.{AllWithin, IsWhole, Whole-line, after_line-is, first_line-is, split-line, whole}
+
+abbrev IsShort : List ℕ → Type 0
+IsShort line = is_too_long line ≡ false
+
+-- a thread that a line may name
+abbrev pub IsNamed : Choice → Type 0
+IsNamed choice = choice.thread ≤ 63
+
+some_text : (line rest : List ℕ) → 0 < length ((line ++ 10 ∷ []) ++ rest)
+some_text [] rest = omega arith
+some_text (x ∷ line) rest = omega arith
+
+-- the lines of a text against the same text
+state-own : (lines : List (List ℕ)) (n : ℕ) → AllWithin lines → HasNoLongLine (whole lines)
+    → state_verdict (whole lines) n (slice_split is_line_end (whole lines)) ≡ verdict.Same
+state-own [] n within short = refl
+state-own (line ∷ lines) n within short =
+    let rest = whole lines in
+    let text = whole (line ∷ lines) in
+    let split : slice_split is_line_end text ≡ line ∷ slice_split is_line_end rest = split-line line rest within.0 in
+    let each = subst (λ ls. All IsShort ls) split short in
+    let few : length line ≤ 65536 = ltb-false 65536 (length line) (All-head IsShort line (slice_split is_line_end rest) each) in
+    ap (state_verdict text n) split
+    ∙ state-same text n line (slice_split is_line_end rest) (some_text line rest) few (sym (first_line-is line rest within.0))
+    ∙ ap (λ t. state_verdict t (n + 1) (slice_split is_line_end rest)) (after_line-is line rest within.0)
+    ∙ state-own lines (n + 1) within.1 (All-tail IsShort line (slice_split is_line_end rest) each)
+
+-- a state against its own text
+state_again : (text : List ℕ) (n : ℕ) → IsWhole text → HasNoLongLine text
+    → state_verdict text n (slice_split is_line_end text) ≡ verdict.Same
+state_again text n p short =
+    ap (λ t. state_verdict t n (slice_split is_line_end t)) p.is
+    ∙ state-own p.lines n p.within (subst HasNoLongLine p.is short)
+
+-- a line up to the state line
+cond-no : {A : Type 0} (b : Bool) (x y : A) → b ≡ false → cond b x y ≡ y
+cond-no b x y is = ap (λ c. cond c x y) is
+
+cond-yes : {A : Type 0} (b : Bool) (x y : A) → b ≡ true → cond b x y ≡ x
+cond-yes b x y is = ap (λ c. cond c x y) is
+
+states-same : (accepted : Bool) (world : World) (n : ℕ) → HasNoLongLine (state_text world)
+    → lines_verdict accepted world n (slice_split is_line_end (state_text world)) ≡ verdict.Same
+states-same accepted world n short =
+    let text = state_text world in
+    let first = state-line world in
+    let rest = parts_text world in
+    let is : text ≡ (first.line ++ 10 ∷ []) ++ rest = first.is ∙ sym (append_assoc first.line (10 ∷ []) rest) in
+    let split : slice_split is_line_end text ≡ first.line ∷ slice_split is_line_end rest =
+    ap (slice_split is_line_end) is ∙ split-line first.line rest first.part.within in
+    let each = subst (λ ls. All IsShort ls) split short in
+    ap (lines_verdict accepted world n) split
+    ∙ cond-no (is_too_long first.line) (verdict.NotATrace n) _ (All-head IsShort first.line (slice_split is_line_end rest) each)
+    ∙ cond-yes (is_state_line first.line) (state_verdict text n (first.line ∷ slice_split is_line_end rest)) _ (state-is_state world)
+    ∙ ap (state_verdict text n) (sym split)
+    ∙ state_again text n (Whole-line 141 text rest first (parts-whole world)) short
+
+-- a choice's line, by whether there is no such thread and whether nothing is left for it
+line_by : (missing used : Bool) (world : World) (choice : Choice) → world.choices ≤ 1000000000000 → choice.thread ≤ 63
+    → IsOwnLine choice (lines_by (cond missing (Some NoSuchThread) (cond used (Some StepLimit) None)) world choice
+    (λ after. []))
+line_by true used world choice few there = refusal-own (world.choices + 1) choice None (omega (arith, few)) there
+line_by false true world choice few there =
+    refusal-own (world.choices + 1) choice (Some (thread_at world.scene choice.thread).pc) (omega (arith, few)) there
+line_by false false world choice few there =
+    let play : Played = played world choice in
+    let pc = (thread_at world.scene choice.thread).pc in
+    let own = event-own (world.choices + 1) choice pc play.event (omega (arith, few)) there in
+    subst (IsOwnLine choice) (sym (append-nil (event_text (world.choices + 1) choice pc play.event))) own
+
+-- a choice of a thread from 0 to 63 has its own line
+own-line : (world : World) (choice : Choice) → world.choices ≤ 1000000000000 → choice.thread ≤ 63
+    → IsOwnLine choice (lines_of world (choice ∷ []))
+own-line world choice few there =
+    line_by (nat_le (length world.scene.threads) choice.thread) (is_used_up world choice) world choice few there
+
+-- the line of a choice before the others
+choice-same : (world : World) (choice : Choice) (rest : List ℕ) (n : ℕ) → IsOwnLine choice (lines_of world (choice ∷ []))
+    → lines_verdict true world n (slice_split is_line_end (lines_of world (choice ∷ []) ++ rest))
+    ≡ lines_verdict (is_none (execution world (choice ∷ [])).refusal) (execution world (choice ∷ [])).world (n + 1)
+    (slice_split is_line_end rest)
+choice-same world choice rest n own =
+    let text = lines_of world (choice ∷ []) in
+    let line = own.line in
+    let lines = slice_split is_line_end rest in
+    let more = λ (accepted : Bool) (after : World). lines_verdict accepted after (n + 1) lines in
+    let same : bytes_eq (line ++ (10 ∷ [])) text ≡ true = (bytes_eq-Decides (line ++ (10 ∷ [])) text).1 (sym own.is) in
+    ap (λ t. lines_verdict true world n (slice_split is_line_end (t ++ rest))) own.is
+    ∙ ap (lines_verdict true world n) (split-line line rest own.within)
+    ∙ cond-no (is_too_long line) (verdict.NotATrace n) _ own.short
+    ∙ cond-no (is_state_line line) (state_verdict (state_text world) n (line ∷ lines)) _ own.no_state
+    ∙ ap (λ named. choice_verdict named true world n line more) own.names
+    ∙ cond-yes (bytes_eq (line ++ (10 ∷ [])) text) _ (verdict.Differs n) same
+
+-- an accepted choice is counted
+played-choices : (outcome : Option Outcome) (world : World) → (played_by outcome world).world.choices ≡ world.choices + 1
+played-choices (Some outcome) world = refl
+played-choices None world = refl
+
+accepted-few_by : (missing all limit : Bool)
+    → cond missing (Some NoSuchThread) (cond (all || limit) (Some StepLimit) None) ≡ None → all ≡ false
+accepted-few_by true all limit is = let no : ⊥ = cc in absurd no
+accepted-few_by false true limit is = let no : ⊥ = cc in absurd no
+accepted-few_by false false limit is = refl
+
+after_by : (refusal : Option StepFault) (world : World) (choice : Choice)
+    → (execution_by refusal world choice (λ after. execution after [])).refusal ≡ None
+    → (refusal ≡ None) × ((execution_by refusal world choice (λ after. execution after [])).world ≡ (played world choice).world)
+after_by (Some fault) world choice none = let no : ⊥ = cc in absurd no
+after_by None world choice none = (refl, refl)
+
+counted : (world : World) (choice : Choice) → world.choices ≤ 1000000000000 → (execution world (choice ∷ [])).refusal ≡ None
+    → (execution world (choice ∷ [])).world.choices ≤ 1000000000000
+counted world choice few none =
+    let played_is = after_by (refusal_of world choice) world choice none in
+    let left = accepted-few_by (nat_le (length world.scene.threads) choice.thread) (world.choices == 1000000000000) _ played_is.0 in
+    let other : world.choices ≢ 1000000000000 = eqb-false _ _ left in
+    let count : (execution world (choice ∷ [])).world.choices ≡ world.choices + 1 =
+    ap (λ (w : World). w.choices) played_is.1 ∙ played-choices (outcome_of_choice world.program choice world.scene) world in
+    omega (arith, few, other, count)
+
+-- what follows a choice's line, by whether the choice was refused
+rest_by : (refusal : Option StepFault) (world : World) (choice : Choice) (choices : List Choice) (n : ℕ)
+    → (execution world (choice ∷ [])).refusal ≡ refusal → world.choices ≤ 1000000000000
+    → HasNoLongLine (state_text (execution world (choice ∷ choices)).world)
+    → ((after : World) → after.choices ≤ 1000000000000 → HasNoLongLine (state_text (execution after choices).world)
+    → lines_verdict true after n (slice_split is_line_end (trace_of after choices)) ≡ verdict.Same)
+    → lines_verdict (is_none refusal) (execution world (choice ∷ [])).world n
+    (slice_split is_line_end (left_by (is_none refusal) (execution world (choice ∷ [])).world choices)) ≡ verdict.Same
+rest_by None world choice choices n is few short rest =
+    rest (execution world (choice ∷ [])).world (counted world choice few is)
+    (subst (λ (w : World). HasNoLongLine (state_text w)) (goes_on (choice ∷ []) world choices is).1 short)
+rest_by (Some fault) world choice choices n is few short rest =
+    states-same false (execution world (choice ∷ [])).world n
+    (subst (λ (w : World). HasNoLongLine (state_text w)) (stops (choice ∷ []) world choices fault is).1 short)
+
+pub own-trace : (choices : List Choice) (world : World) (n : ℕ) → world.choices ≤ 1000000000000
+    → All IsNamed choices → HasNoLongLine (state_text (execution world choices).world)
+    → lines_verdict true world n (slice_split is_line_end (trace_of world choices)) ≡ verdict.Same
+own-trace [] world n few there short = states-same true world n short
+own-trace (choice ∷ choices) world n few there short =
+    let refusal = (execution world (choice ∷ [])).refusal in
+    let rest = left_by (is_none refusal) (execution world (choice ∷ [])).world choices in
+    ap (λ t. lines_verdict true world n (slice_split is_line_end t)) (sym (after_choice world choice choices refusal refl))
+    ∙ choice-same world choice rest n (own-line world choice few (All-head IsNamed choice choices there))
+    ∙ rest_by refusal world choice choices (n + 1) refl few short
+    (λ after more later. own-trace choices after (n + 1) more (All-tail IsNamed choice choices there) later)
