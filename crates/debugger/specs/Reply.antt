@@ -1,6 +1,7 @@
 -- What the debugger does and writes in reply to a command.
-use Rattle.std.specs.Prelude.{◌≡◌, ℕ, nat_lt, if◌then◌else◌, true, false, List, [], ◌∷◌, ◌++◌, length, slice_set, codes, Option, Some, None}
+use Rattle.std.specs.Prelude.{◌≡◌, ℕ, nat_lt, if◌then◌else◌, true, false, List, [], ◌∷◌, ◌++◌, length, slice_set, codes, Option, Some, None, Result, OnOk}
 use Rattle.std.specs.Fmt.{decimal}
+use Rattle.std.specs.Io.KnownBytes.{Appends}
 use Rattle.schedule_reader.specs.Schedule.{choices_of}
 use Rattle.thread_machine.specs.declared.choice.Choice.{Choice}
 use Rattle.thread_machine.specs.declared.fault.StepFault.{StepFault}
@@ -61,3 +62,8 @@ Replies session (Clear row) after text =
 Replies session Print after text = (after ≡ session) × (text ≡ state_text (world_of session.machine))
 Replies session Quit after text = (after ≡ session) × (text ≡ [])
 Replies session Unknown after text = (after ≡ session) × (text ≡ codes "?\n")
+
+-- a command was carried out, and its reply was written if the result is Ok
+abbrev pub IsCarriedOut : {A E : Type 0} → Result A E → Session → Order → Session → Option (List ℕ) → Option (List ℕ) → Type 0
+IsCarriedOut result session order after output_before output_after =
+    (text : List ℕ) × (Replies session order after text × OnOk result (Appends output_before output_after text))

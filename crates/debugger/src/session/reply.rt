@@ -1,16 +1,13 @@
-ghost use Rattle.std.specs.Prelude.{◌≡◌, ◌∷◌, [], ◌++◌, ◌+◌, codes, true, false, slice_set, IsTrue, IfOk, OnOk, OnErr, List, ℕ, Err, ◌<◌, length};
+ghost use Rattle.std.specs.Prelude.{◌≡◌, ◌≢◌, ◌∷◌, [], ◌++◌, codes, if◌then◌else◌, IsTrue, IfOk, OnOk, OnErr, Err};
 ghost use Rattle.std.specs.Fmt.{decimal};
 ghost use Rattle.std.specs.Io.KnownBytes.{Appends};
-ghost use Rattle.schedule_reader.specs.Schedule.{choices_of};
 ghost use Rattle.thread_machine.specs.World.{world_of};
 ghost use Rattle.thread_machine.specs.Step.{refusal_of};
 ghost use Rattle.trace_compare.specs.State.{state_text};
 ghost use Rattle.trace_compare.specs.Trace.{lines_of};
 ghost use Rattle.debugger.specs.declared.stop.Stop.{Stop};
-ghost use Rattle.debugger.specs.Session.{went_back};
-ghost use Rattle.debugger.specs.Go.{Stops};
-ghost use Rattle.debugger.specs.Command.{goes_on, line_order, order_of};
-ghost use Rattle.debugger.specs.Reply.{IsStepUnless, Replies, back_text, fault_text, number_line, row_text, stop_text};
+ghost use Rattle.debugger.specs.Command.{Back, Break, Clear, Go, Step, goes_on, line_order, order_of};
+ghost use Rattle.debugger.specs.Reply.{IsCarriedOut, IsStepUnless, number_line, stop_text};
 
 use crate::command::{Command, command_of};
 use crate::session::Debugger;
@@ -78,6 +75,41 @@ fn say_fault<W: Sink>(output: &mut W, number: u64, fault: StepFault) -> Result<(
     }
 }
 
+/// Writes how far `go` went.
+fn say_stop<W: Sink>(output: &mut W, stop: Stop) -> Result<(), Failed>
+    ensures line { OnOk result (Appends (W.written output.old) (W.written output.new) (stop_text stop)) }
+    ensures failed { OnErr result (IsTrue (W.has_failed output.new)) }
+{
+    match stop {
+        Stop::Break(played) => say(output, b"at ", played, b"\n"),
+        Stop::End(played) => say(output, b"end ", played, b"\n"),
+        Stop::Fault(played, fault) => say_fault(output, played, fault),
+    }
+}
+
+/// Writes a word and the row that was marked, or `?` where there is no such row.
+fn say_row<W: Sink>(output: &mut W, is_there: bool, word: &[u8], row: usize) -> Result<(), Failed>
+    ensures line { OnOk result (Appends (W.written output.old) (W.written output.new)
+        (if is_there then number_line word.now row else codes "?\n")) }
+    ensures failed { OnErr result (IsTrue (W.has_failed output.new)) }
+{
+    if is_there {
+        say(output, word, row as u64, b"\n")
+    } else {
+        output.push(b"?\n")
+    }
+}
+
+/// The reply to a line that is no command.
+fn say_unknown<W: Sink>(output: &mut W) -> Result<(), CommandFault>
+    ensures line { OnOk result (Appends (W.written output.old) (W.written output.new) (codes "?\n")) }
+    ensures write { OnErr result (IsTrue (W.has_failed output.new)) }
+    ensures fault { result ≢ Err CommandFault.Memory }
+{
+    output.push(b"?\n")?;
+    Ok(())
+}
+
 impl Debugger {
     /// Plays a choice and puts its line at the end of the text. Where the line finds no memory, the choice is taken back.
     fn step_line(&mut self, line: &mut Vec<u8>, choice: Choice) -> Result<(), AllocError>
@@ -114,11 +146,10 @@ impl Debugger {
         choice: Choice,
         output: &mut W,
     ) -> Result<(), CommandFault>
-        ensures session { OnOk result
-            (IsStepUnless (refusal_of (world_of self.old.machine) choice) self.old choice self.new) }
-        ensures line { OnOk result (Appends (W.written output.old) (W.written output.new)
-            (lines_of (world_of self.old.machine) (choice ∷ []))) }
-        ensures memory { result ≡ Err CommandFault.Memory → self.new ≡ self.old }
+        ensures replies { result ≢ Err CommandFault.Memory → IsCarriedOut result self.old (Step choice) self.new
+            (W.written output.old) (W.written output.new) }
+        ensures memory { result ≡ Err CommandFault.Memory
+            → (self.new ≡ self.old) × (W.written output.new ≡ W.written output.old) }
         ensures write { result ≡ Err CommandFault.Write → IsTrue (W.has_failed output.new) }
     {
         let mut line = Vec::new(alloc);
@@ -127,53 +158,62 @@ impl Debugger {
         Ok(())
     }
 
-    fn back_command<W: Sink>(&mut self, output: &mut W) -> Result<(), Failed>
-        ensures session { self.new ≡ went_back self.old }
-        ensures line { OnOk result (Appends (W.written output.old) (W.written output.new) (back_text self.old.past)) }
-        ensures failed { OnErr result (IsTrue (W.has_failed output.new)) }
+    fn go_command<W: Sink>(&mut self, runs: &[Run], output: &mut W) -> Result<(), CommandFault>
+        ensures replies { IsCarriedOut result self.old (Go runs.now) self.new
+            (W.written output.old) (W.written output.new) }
+        ensures write { OnErr result (IsTrue (W.has_failed output.new)) }
+        ensures fault { result ≢ Err CommandFault.Memory }
+    {
+        let stop = self.go(runs);
+        match say_stop(output, stop) {
+            Ok(()) => Ok(()),
+            Err(_) => Err(CommandFault::Write),
+        }
+    }
+
+    fn back_command<W: Sink>(&mut self, output: &mut W) -> Result<(), CommandFault>
+        ensures replies { IsCarriedOut result self.old Back self.new (W.written output.old) (W.written output.new) }
+        ensures write { OnErr result (IsTrue (W.has_failed output.new)) }
+        ensures fault { result ≢ Err CommandFault.Memory }
     {
         match self.back() {
-            Ok(()) => say(output, b"back ", self.machine().choices(), b"\n"),
-            Err(_) => output.push(b"no history\n"),
+            Ok(()) => say(output, b"back ", self.machine().choices(), b"\n")?,
+            Err(_) => output.push(b"no history\n")?,
         }
+        Ok(())
     }
 
-    fn break_command<W: Sink>(&mut self, row: usize, output: &mut W) -> Result<(), Failed>
-        ensures session { self.new ≡ record self.old { breaks = slice_set self.old.breaks row true } }
-        ensures line { OnOk result (Appends (W.written output.old) (W.written output.new)
-            (row_text (codes "break ") row self.old)) }
-        ensures failed { OnErr result (IsTrue (W.has_failed output.new)) }
+    fn break_command<W: Sink>(&mut self, row: usize, output: &mut W) -> Result<(), CommandFault>
+        ensures replies { IsCarriedOut result self.old (Break row) self.new
+            (W.written output.old) (W.written output.new) }
+        ensures write { OnErr result (IsTrue (W.has_failed output.new)) }
+        ensures fault { result ≢ Err CommandFault.Memory }
     {
-        if self.mark(row, true) {
-            say(output, b"break ", row as u64, b"\n")
-        } else {
-            output.push(b"?\n")
-        }
+        let is_there = self.mark(row, true);
+        say_row(output, is_there, b"break ", row)?;
+        Ok(())
     }
 
-    fn clear_command<W: Sink>(&mut self, row: usize, output: &mut W) -> Result<(), Failed>
-        ensures session { self.new ≡ record self.old { breaks = slice_set self.old.breaks row false } }
-        ensures line { OnOk result (Appends (W.written output.old) (W.written output.new)
-            (row_text (codes "clear ") row self.old)) }
-        ensures failed { OnErr result (IsTrue (W.has_failed output.new)) }
+    fn clear_command<W: Sink>(&mut self, row: usize, output: &mut W) -> Result<(), CommandFault>
+        ensures replies { IsCarriedOut result self.old (Clear row) self.new
+            (W.written output.old) (W.written output.new) }
+        ensures write { OnErr result (IsTrue (W.has_failed output.new)) }
+        ensures fault { result ≢ Err CommandFault.Memory }
     {
-        if self.mark(row, false) {
-            say(output, b"clear ", row as u64, b"\n")
-        } else {
-            output.push(b"?\n")
-        }
+        let is_there = self.mark(row, false);
+        say_row(output, is_there, b"clear ", row)?;
+        Ok(())
     }
 
-    fn go_command<W: Sink>(&mut self, runs: &[Run], output: &mut W) -> Result<(), Failed>
-        ensures line { OnOk result ((stop : Stop) × Stops self.old (choices_of runs.now) stop self.new
-            × Appends (W.written output.old) (W.written output.new) (stop_text stop)) }
-        ensures failed { OnErr result (IsTrue (W.has_failed output.new)) }
+    fn print_command<W: Sink>(&self, alloc: Global, output: &mut W) -> Result<(), CommandFault>
+        ensures text { OnOk result (Appends (W.written output.old) (W.written output.new)
+            (state_text (world_of self.now.machine))) }
+        ensures memory { result ≡ Err CommandFault.Memory → W.written output.new ≡ W.written output.old }
+        ensures write { result ≡ Err CommandFault.Write → IsTrue (W.has_failed output.new) }
     {
-        match self.go(runs) {
-            Stop::Break(played) => say(output, b"at ", played, b"\n"),
-            Stop::End(played) => say(output, b"end ", played, b"\n"),
-            Stop::Fault(played, fault) => say_fault(output, played, fault),
-        }
+        let text = state_text(alloc, self.machine())?;
+        output.push(text.as_slice())?;
+        Ok(())
     }
 
     /// Carries out a command and writes its reply.
@@ -183,39 +223,38 @@ impl Debugger {
         command: Command,
         output: &mut W,
     ) -> Result<(), CommandFault>
-        ensures replies { OnOk result ((text : List ℕ) × Replies self.old (order_of command) self.new text
-            × Appends (W.written output.old) (W.written output.new) text) }
-        ensures memory { result ≡ Err CommandFault.Memory → self.new ≡ self.old }
+        ensures replies { result ≢ Err CommandFault.Memory → IsCarriedOut result self.old (order_of command) self.new
+            (W.written output.old) (W.written output.new) }
+        ensures memory { result ≡ Err CommandFault.Memory
+            → (self.new ≡ self.old) × (W.written output.new ≡ W.written output.old) }
         ensures write { result ≡ Err CommandFault.Write → IsTrue (W.has_failed output.new) }
     {
         match command {
-            Command::Step(choice) => self.step_command(alloc, choice, output)?,
-            Command::Go(runs) => self.go_command(runs.as_slice(), output)?,
-            Command::Back => self.back_command(output)?,
-            Command::Break(row) => self.break_command(row, output)?,
-            Command::Clear(row) => self.clear_command(row, output)?,
-            Command::Print => {
-                let text = state_text(alloc, self.machine())?;
-                output.push(text.as_slice())?;
-            }
-            Command::Quit => {}
-            Command::Unknown => output.push(b"?\n")?,
+            Command::Step(choice) => self.step_command(alloc, choice, output),
+            Command::Go(runs) => self.go_command(runs.as_slice(), output),
+            Command::Back => self.back_command(output),
+            Command::Break(row) => self.break_command(row, output),
+            Command::Clear(row) => self.clear_command(row, output),
+            Command::Print => self.print_command(alloc, output),
+            Command::Quit => Ok(()),
+            Command::Unknown => say_unknown(output),
         }
-        Ok(())
     }
 
     /// Carries out the command of a line and writes its reply; false after `q`. The line is read whole before anything is
-    /// done, so one that is no command leaves the debugger as before.
+    /// done, so one that is no command leaves the debugger as before. After `Write` the command was carried out, and how much
+    /// of its reply went out is left open; after `Memory` it was not, and nothing was written.
     pub fn command<W: Sink>(
         &mut self,
         alloc: Global,
         line: &[u8],
         output: &mut W,
     ) -> Result<bool, CommandFault>
-        ensures replies { OnOk result ((text : List ℕ) × Replies self.old (line_order line.now) self.new text
-            × Appends (W.written output.old) (W.written output.new) text) }
+        ensures replies { result ≢ Err CommandFault.Memory → IsCarriedOut result self.old (line_order line.now) self.new
+            (W.written output.old) (W.written output.new) }
         ensures goes_on { IfOk result (λ more. more ≡ goes_on (line_order line.now)) }
-        ensures memory { result ≡ Err CommandFault.Memory → self.new ≡ self.old }
+        ensures memory { result ≡ Err CommandFault.Memory
+            → (self.new ≡ self.old) × (W.written output.new ≡ W.written output.old) }
         ensures write { result ≡ Err CommandFault.Write → IsTrue (W.has_failed output.new) }
     {
         let command = command_of(alloc, line)?;
