@@ -1,0 +1,16 @@
+-- How a run ends.
+use Rattle.std.specs.Prelude.{Bool, nat_le, if◌then◌else◌, Option, Some, None, is_some}
+use Rattle.thread_machine.specs.World.{World}
+use Rattle.thread_machine.specs.Ready.{has_ended, is_stuck}
+use Rattle.thread_runner.specs.declared.ending.Ending.{Ending}
+use Rattle.thread_runner.specs.declared.ending.Ending.TheVariants.{AllEnded, Stuck, Limit}
+
+-- the ending of a run that has come to this world; none where some choice may still take a step
+abbrev pub ending_of : World → Option Ending
+ending_of world =
+    if has_ended world then Some AllEnded
+    else (if is_stuck world then Some Stuck
+    else (if nat_le world.limit world.steps then Some Limit else None))
+
+abbrev pub is_over : World → Bool
+is_over world = is_some (ending_of world)

@@ -1,0 +1,5 @@
+pub mod Recording
+pub mod Turns
+pub mod Endings
+pub mod Waiting
+pub mod Replay

@@ -1,0 +1,26 @@
+-- A machine by where it began and what was chosen since.
+use Rattle.std.specs.Prelude.{List, [], ◌∷◌, ◌++◌}
+use Rattle.thread_machine.specs.declared.choice.Choice.{Choice}
+use Rattle.thread_machine.specs.World.{World, first_world}
+use Rattle.thread_machine.specs.Execution.{execution}
+
+-- the world before the first choice, and the choices in order
+pub record Recording : Type 0 where
+  pub first : World
+  pub choices : List Choice
+
+-- the world that the choices lead to
+abbrev pub world_after : Recording → World
+world_after recording = (execution recording.first recording.choices).world
+
+-- nothing was chosen yet
+abbrev pub begun : World → Recording
+begun first = record { first = first; choices = [] }
+
+-- one choice more
+abbrev pub with_choice : Choice → Recording → Recording
+with_choice choice recording = record recording { choices = recording.choices ++ choice ∷ [] }
+
+-- a world in which there is nothing: it stands where a run hasn't said where it begins
+abbrev pub no_world : World
+no_world = first_world (record { rows = []; threads = []; phasers = []; routines = []; barriers = []; actions = [] }) 0

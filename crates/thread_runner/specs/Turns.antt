@@ -1,0 +1,43 @@
+-- Which choice a thread may make by itself: its turn where it is ready. Where no thread is, the wait of the lowest thread
+-- whose wait may run out does.
+use Rattle.std.specs.Prelude.{ℕ, Bool, true, false, not, ◌&&◌, ◌||◌, length}
+use Rattle.std.specs.List.{list_any, range_with_len}
+use Rattle.machine_scene.specs.Outcomes.{is_ready}
+use Rattle.thread_machine.specs.declared.choice.Choice.{Choice}
+use Rattle.thread_machine.specs.World.{World}
+use Rattle.thread_machine.specs.Ready.{can_expire}
+
+-- the turn of thread t, and the expiry of its wait
+abbrev pub turn_of : ℕ → Choice
+turn_of t = record { thread = t; expiry = false }
+
+abbrev pub expiry_of : ℕ → Choice
+expiry_of t = record { thread = t; expiry = true }
+
+-- the turn of thread t would be a step
+abbrev pub is_ready_in : World → ℕ → Bool
+is_ready_in world t = is_ready t world.program world.scene
+
+-- the wait of thread t may run out
+abbrev pub can_expire_in : World → ℕ → Bool
+can_expire_in world t = can_expire t world.program world.scene
+
+-- some thread is ready
+abbrev pub some_turn : World → Bool
+some_turn world = list_any (is_ready_in world) (range_with_len 0 (length world.scene.threads))
+
+-- the wait of some thread below t may run out
+abbrev pub some_lower : World → ℕ → Bool
+some_lower world t = list_any (can_expire_in world) (range_with_len 0 t)
+
+-- the wait of thread t runs out next
+abbrev pub is_due : World → ℕ → Bool
+is_due world t = can_expire_in world t && (not (some_turn world) && not (some_lower world t))
+
+-- thread t has a choice to make
+abbrev pub may_choose : World → ℕ → Bool
+may_choose world t = is_ready_in world t || is_due world t
+
+-- it
+abbrev pub choice_in : World → ℕ → Choice
+choice_in world t = record { thread = t; expiry = not (is_ready_in world t) }

@@ -1,0 +1,21 @@
+use crate::journaled::Journaled;
+
+/// Why a step was not taken. Nothing has changed.
+#[derive(Clone, Copy, Debug, PartialEq, Eq)]
+pub enum TakeFault {
+    /// The thread isn't ready, or its wait may not run out now.
+    NotReady,
+    /// The limit of steps is reached.
+    StepLimit,
+    /// No memory for the record, or for a value put out.
+    Memory,
+}
+
+/// Why a live run was broken off. Every worker that was started has ended.
+#[derive(Drop)]
+pub enum LiveFault {
+    /// Out of memory. What was played until then, if there was memory for the machine.
+    Memory(Option<Journaled>),
+    /// A thread could not be started.
+    Spawn,
+}

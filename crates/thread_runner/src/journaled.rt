@@ -1,0 +1,331 @@
+ghost use Rattle.std.specs.Prelude.{◌≡◌, ◌≢◌, ◌↔◌, ◌+◌, ◌<◌, ◌≤◌, ◌++◌, ◌∷◌, [], length, All, IfOk, IfErr, OnOk, OnErr, Err, true, false, Some, None};
+ghost use Rattle.std.specs.Vec.{vec_len, vec_capacity};
+ghost use Rattle.std.specs.String.{string_bytes};
+ghost use Rattle.thread_machine.specs.World.{world_of, first_world};
+ghost use Rattle.thread_machine.specs.Ready.{is_choice_ready};
+ghost use Rattle.thread_machine.specs.Step.{played};
+ghost use Rattle.schedule_reader.specs.Schedule.{IsRun, choices_of, finished_schedule};
+ghost use Rattle.thread_runner.specs.Recording.{world_after, begun, with_choice};
+ghost use Rattle.thread_runner.specs.Turns.{turn_of, expiry_of, choice_in, is_ready_in, can_expire_in, is_due, may_choose, some_turn, some_lower};
+ghost use Rattle.thread_runner.specs.Replay.{IsReplay};
+ghost use Rattle.thread_runner.specs.Endings.{ending_of};
+ghost use Rattle.thread_runner.specs.Waiting.{has_finished};
+
+use crate::ending::Ending;
+use crate::fault::TakeFault;
+use loader::Loaded;
+use schedule_reader::{Run, write_schedule};
+use std::alloc::{AllocError, Global};
+use std::marker::Model;
+use thread_machine::{Choice, Event, Machine, Status};
+
+/// How often one run of a record names its choice at most.
+const MOST_TIMES: u32 = 1_000_000_000;
+
+/// A machine and the choices that led to it, each of them a step.
+#[derive(Drop)]
+pub struct Journaled {
+    machine: Machine,
+    runs: Vec<Run>,
+}
+
+impl Model for Journaled {
+    ghost use Rattle.std.specs.Prelude.{All};
+    ghost use Rattle.thread_machine.specs.World.{world_of, first_world};
+    ghost use Rattle.schedule_reader.specs.Schedule.{IsRun, choices_of};
+    ghost use Rattle.thread_runner.specs.Recording.{Recording};
+    ghost use Rattle.thread_runner.specs.Replay.{IsReplay};
+
+    ghost Value = { Recording };
+
+    ghost view = { λ journaled. record {
+      first = first_world journaled.machine.program journaled.machine.limit;
+      choices = choices_of journaled.runs.items;
+    } };
+
+    ghost invariant = { λ journaled. IsReplay (record {
+      first = first_world journaled.machine.program journaled.machine.limit;
+      choices = choices_of journaled.runs.items;
+    }) (world_of journaled.machine) × All IsRun journaled.runs.items };
+}
+
+/// One choice more in a record: the last run once more, or a run of its own.
+fn note(runs: &mut Vec<Run>, choice: Choice)
+    requires room { vec_len runs.old < vec_capacity runs.old }
+    requires thread { choice.thread ≤ 63 }
+    requires runs { All IsRun runs.old.items }
+    ensures choices { choices_of runs.new.items ≡ choices_of runs.old.items ++ choice ∷ [] }
+    ensures runs { All IsRun runs.new.items }
+{
+    let count = runs.len();
+    if count > 0 {
+        let last = runs[count - 1];
+        if is_again(last, choice) {
+            runs[count - 1] = Run {
+                choice,
+                times: last.times + 1,
+            };
+            return;
+        }
+    }
+    runs.push_reserved(Run { choice, times: 1 });
+}
+
+/// Whether the run can have its choice once more, and this is it.
+fn is_again(run: Run, choice: Choice) -> bool
+    ensures { result ≡ true → (run.choice ≡ choice) × (run.times < 1000000000) }
+{
+    run.choice.thread == choice.thread
+        && run.choice.expiry == choice.expiry
+        && run.times < MOST_TIMES
+}
+
+impl Journaled {
+    /// The machine of a program that takes at most `limit` steps, before the first choice.
+    pub fn new(alloc: Global, program: Loaded, limit: u32) -> Result<Journaled, AllocError>
+        requires { limit ≤ 1000000000 }
+        ensures { IfOk result (λ journaled. journaled ≡ begun (first_world program limit)) }
+    {
+        Ok(Journaled {
+            machine: Machine::new(alloc, program, limit)?,
+            runs: Vec::new(alloc),
+        })
+    }
+
+    /// Takes a thread's turn, and records it.
+    pub fn take_step(&mut self, thread: u8) -> Result<Event, TakeFault>
+        requires { thread < length self.old.first.scene.threads }
+        ensures played { IfOk result (λ event. record { world = world_after self.new; event = event }
+            ≡ played (world_after self.old) (turn_of thread)) }
+        ensures recorded { OnOk result (self.new ≡ with_choice (turn_of thread) self.old) }
+        ensures not_ready { (result ≡ Err TakeFault.NotReady)
+            ↔ (is_ready_in (world_after self.old) thread ≡ false) }
+        ensures limit { (result ≡ Err TakeFault.StepLimit) ↔ ((is_ready_in (world_after self.old) thread ≡ true)
+            × ((world_after self.old).limit ≤ (world_after self.old).steps)) }
+        ensures err { OnErr result (self.new ≡ self.old) }
+    {
+        if !self.machine.is_ready(thread) {
+            return Err(TakeFault::NotReady);
+        }
+        self.take(Choice {
+            thread,
+            expiry: false,
+        })
+    }
+
+    /// Lets the time of a thread's wait run out, and records it. Time passes only where no thread is ready, and for the
+    /// lowest thread first.
+    pub fn take_expiry(&mut self, thread: u8) -> Result<Event, TakeFault>
+        requires { thread < length self.old.first.scene.threads }
+        ensures played { IfOk result (λ event. record { world = world_after self.new; event = event }
+            ≡ played (world_after self.old) (expiry_of thread)) }
+        ensures recorded { OnOk result (self.new ≡ with_choice (expiry_of thread) self.old) }
+        ensures not_ready { (result ≡ Err TakeFault.NotReady)
+            ↔ (is_due (world_after self.old) thread ≡ false) }
+        ensures limit { (result ≡ Err TakeFault.StepLimit) ↔ ((is_due (world_after self.old) thread ≡ true)
+            × ((world_after self.old).limit ≤ (world_after self.old).steps)) }
+        ensures err { OnErr result (self.new ≡ self.old) }
+    {
+        if !self.is_due(thread) {
+            return Err(TakeFault::NotReady);
+        }
+        self.take(Choice {
+            thread,
+            expiry: true,
+        })
+    }
+
+    /// Plays a choice that is ready, and records it. There is room in the record before anything is played.
+    fn take(&mut self, choice: Choice) -> Result<Event, TakeFault>
+        requires thread { choice.thread < length self.old.first.scene.threads }
+        requires ready { is_choice_ready (world_after self.old).program choice (world_after self.old).scene ≡ true }
+        ensures played { IfOk result (λ event. record { world = world_after self.new; event = event }
+            ≡ played (world_after self.old) choice) }
+        ensures recorded { OnOk result (self.new ≡ with_choice choice self.old) }
+        ensures ready { result ≢ Err TakeFault.NotReady }
+        ensures limit { (result ≡ Err TakeFault.StepLimit)
+            ↔ ((world_after self.old).limit ≤ (world_after self.old).steps) }
+        ensures err { OnErr result (self.new ≡ self.old) }
+    {
+        self.has_few_threads();
+        if self.machine.steps() == self.machine.limit() {
+            return Err(TakeFault::StepLimit);
+        }
+        if self.runs.reserve(1).is_err() {
+            return Err(TakeFault::Memory);
+        }
+        match self.machine.step(choice) {
+            Ok(event) => {
+                note(&mut self.runs, choice);
+                Ok(event)
+            }
+            Err(_) => Err(TakeFault::Memory),
+        }
+    }
+
+    /// How many threads there are, 1 to 64.
+    pub fn thread_count(&self) -> usize
+        ensures count { result ≡ length self.now.first.scene.threads }
+        ensures now { result ≡ length (world_after self.now).scene.threads }
+        ensures few { result ≤ 64 }
+    {
+        self.machine.thread_count()
+    }
+
+    /// A law: there are at most 64 threads. Nothing of it is used.
+    fn has_few_threads(&self)
+        ensures { length self.now.first.scene.threads ≤ 64 }
+    {
+        let _ = self.thread_count();
+    }
+
+    /// Whether a thread's turn would be a step.
+    pub fn is_ready(&self, thread: u8) -> bool
+        requires { thread < length self.now.first.scene.threads }
+        ensures { result ≡ is_ready_in (world_after self.now) thread }
+    {
+        self.machine.is_ready(thread)
+    }
+
+    /// Whether the wait of a thread runs out next.
+    pub fn is_due(&self, thread: u8) -> bool
+        requires { thread < length self.now.first.scene.threads }
+        ensures { result ≡ is_due (world_after self.now) thread }
+    {
+        self.can_expire(thread) && !self.some_turn() && !self.some_lower(thread)
+    }
+
+    /// Whether the wait of a thread may run out.
+    fn can_expire(&self, thread: u8) -> bool
+        requires { thread < length self.now.first.scene.threads }
+        ensures { result ≡ can_expire_in (world_after self.now) thread }
+    {
+        self.machine.can_expire(thread)
+    }
+
+    /// Whether a thread has a choice to make: it is ready, or its wait runs out next.
+    pub fn may_choose(&self, thread: u8) -> bool
+        requires { thread < length self.now.first.scene.threads }
+        ensures { result ≡ may_choose (world_after self.now) thread }
+    {
+        self.is_ready(thread) || self.is_due(thread)
+    }
+
+    /// Whether a thread has ended or died.
+    pub fn has_finished(&self, thread: u8) -> bool
+        requires { thread < length self.now.first.scene.threads }
+        ensures { result ≡ has_finished (world_after self.now) thread }
+    {
+        matches!(self.machine.status(thread), Status::Ended | Status::Died(_))
+    }
+
+    /// Makes the choice that a thread has to make: its turn, or the expiry of its wait.
+    pub fn take_choice(&mut self, thread: u8) -> Result<Event, TakeFault>
+        requires { thread < length self.old.first.scene.threads }
+        ensures recorded { OnOk result
+            (self.new ≡ with_choice (choice_in (world_after self.old) thread) self.old) }
+        ensures not_ready { (result ≡ Err TakeFault.NotReady)
+            ↔ (may_choose (world_after self.old) thread ≡ false) }
+        ensures limit { (result ≡ Err TakeFault.StepLimit) ↔ ((may_choose (world_after self.old) thread ≡ true)
+            × ((world_after self.old).limit ≤ (world_after self.old).steps)) }
+        ensures err { OnErr result (self.new ≡ self.old) }
+    {
+        if self.is_ready(thread) {
+            return self.take(Choice {
+                thread,
+                expiry: false,
+            });
+        }
+        self.take_expiry(thread)
+    }
+
+    /// Makes the choice of the lowest thread that has one to make.
+    #[tactic(auto, using(crate::proofs::Choosing::step_left))]
+    pub fn take_next(&mut self) -> Result<Event, TakeFault>
+        requires { ending_of (world_after self.old) ≡ None }
+        ensures first { self.new.first ≡ self.old.first }
+        ensures more { OnOk result (length self.new.choices ≡ length self.old.choices + 1) }
+        ensures memory { IfErr result (λ fault. fault ≡ TakeFault.Memory) }
+        ensures err { OnErr result (self.new ≡ self.old) }
+    {
+        for t in 0..self.thread_count() {
+            if self.may_choose(t as u8) {
+                return self.take_choice(t as u8);
+            }
+        }
+        unreachable!()
+    }
+
+    /// A law: what is true of every record. Nothing runs.
+    pub fn each_record_is_a_replay(&self)
+        ensures { IsReplay self.now (world_after self.now) }
+    {
+        let _ = &self.runs;
+    }
+
+    /// Whether some thread is ready.
+    fn some_turn(&self) -> bool
+        ensures { result ≡ some_turn (world_after self.now) }
+    {
+        for t in 0..self.thread_count() {
+            if self.is_ready(t as u8) {
+                return true;
+            }
+        }
+        false
+    }
+
+    /// Whether the wait of some thread below this one may run out.
+    fn some_lower(&self, thread: u8) -> bool
+        requires { thread < length self.now.first.scene.threads }
+        ensures { result ≡ some_lower (world_after self.now) thread }
+    {
+        for t in 0..thread {
+            if self.can_expire(t) {
+                return true;
+            }
+        }
+        false
+    }
+
+    /// The machine that the recorded choices lead to.
+    pub fn machine(&self) -> &Machine
+        ensures world { world_of result.now ≡ world_after self.now }
+        ensures threads { length result.now.scene.threads ≡ length self.now.first.scene.threads }
+    {
+        &self.machine
+    }
+
+    /// The same, without its record.
+    pub fn into_machine(self) -> Machine
+        ensures { world_of result ≡ world_after self }
+    {
+        self.machine
+    }
+
+    /// The recorded choices as a schedule, choices that repeat as one token (`t0*3`).
+    pub fn schedule(&self, alloc: Global) -> Result<String, AllocError>
+        ensures fault { IfOk result (λ text. (finished_schedule (string_bytes text)).fault ≡ None) }
+        ensures choices { IfOk result (λ text.
+            choices_of (finished_schedule (string_bytes text)).runs ≡ self.now.choices) }
+    {
+        let text = write_schedule(alloc, self.runs.as_slice())?;
+        Ok(text)
+    }
+
+    /// How the run has ended, `None` where some choice may still take a step.
+    pub fn ending(&self) -> Option<Ending>
+        ensures { result ≡ ending_of (world_after self.now) }
+    {
+        if self.machine.ended() {
+            return Some(Ending::AllEnded);
+        }
+        if self.machine.stuck() {
+            return Some(Ending::Stuck);
+        }
+        if self.machine.steps() == self.machine.limit() {
+            return Some(Ending::Limit);
+        }
+        None
+    }
+}

@@ -1,0 +1,18 @@
+ghost use Rattle.std.specs.Prelude.{◌≡◌, ◌<◌, ℕ, true, Option, None, length};
+ghost use Rattle.thread_machine.specs.World.{World};
+ghost use Rattle.thread_runner.specs.declared.live.Break.{Break};
+ghost use Rattle.thread_runner.specs.Endings.{ending_of};
+ghost use Rattle.thread_runner.specs.Turns.{may_choose};
+ghost use Rattle.thread_runner.specs.Waiting.{waits};
+
+/// Where a run isn't over, some thread has a choice to make.
+pub fn a_run_goes_on_or_is_over()
+    ensures { (world : World) → ending_of world ≡ None
+        → (t : ℕ) × (t < length world.scene.threads) × (may_choose world t ≡ true) }
+{}
+
+/// There is no world in which every worker waits.
+pub fn some_worker_does_not_wait()
+    ensures { (broken : Option Break) (world : World) → 0 < length world.scene.threads
+        → ((t : ℕ) → t < length world.scene.threads → waits broken world t ≡ true) → ⊥ }
+{}

@@ -1,0 +1,108 @@
+ghost use Rattle.std.specs.Prelude.{◌≡◌, ◌⊎◌, ◌<◌, length, true, false, is_some, Some, None};
+ghost use Rattle.thread_machine.specs.World.{World};
+ghost use Rattle.thread_runner.specs.Recording.{world_after, with_choice, no_world};
+ghost use Rattle.thread_runner.specs.Turns.{choice_in};
+ghost use Rattle.thread_runner.specs.Waiting.{leaves, waits};
+
+use crate::fault::TakeFault;
+use crate::journaled::Journaled;
+use std::marker::{Brand, PhantomData};
+
+/// Why a run was broken off.
+#[derive(Clone, Copy, Debug, PartialEq, Eq)]
+pub enum Break {
+    /// A worker's step wanted memory.
+    Memory,
+    /// A worker's thread could not be started.
+    Spawn,
+}
+
+/// Which first world a live run begins in. Each run picks it, and no value of it is made: it is how the type of what lies
+/// under the lock says of which program and limit that is.
+pub trait Origin {
+    ghost first: { World };
+}
+
+impl Origin for Brand {
+    ghost first = { no_world };
+}
+
+/// What lies under the lock: a record from this origin, and why the run was broken off, if it was.
+#[derive(Drop)]
+pub struct Live<O: Origin> {
+    pub journaled: Journaled,
+    pub broken: Option<Break>,
+    pub of: PhantomData<O>,
+    pub ghost begins: { journaled.first ≡ O.first },
+}
+
+impl<O: Origin> Live<O> {
+    /// A run that nobody has broken off.
+    pub fn new(journaled: Journaled) -> Live<O>
+        requires { journaled.first ≡ O.first }
+        ensures journaled { result.journaled ≡ journaled }
+        ensures broken { result.broken ≡ None }
+    {
+        Live {
+            journaled,
+            broken: None,
+            of: PhantomData,
+        }
+    }
+
+    /// Whether the worker of a thread stops.
+    pub fn leaves(&self, thread: u8) -> bool
+        requires { thread < length O.first.scene.threads }
+        ensures { result ≡ leaves self.now.broken (world_after self.now.journaled) thread }
+    {
+        self.broken.is_some()
+            || self.journaled.has_finished(thread)
+            || self.journaled.ending().is_some()
+    }
+
+    /// Whether the worker of a thread waits.
+    pub fn waits(&self, thread: u8) -> bool
+        requires { thread < length O.first.scene.threads }
+        ensures { result ≡ waits self.now.broken (world_after self.now.journaled) thread }
+    {
+        !self.journaled.may_choose(thread) && !self.leaves(thread)
+    }
+
+    /// The turn of a worker that needn't wait: it makes its thread's choice and goes on, or it stops.
+    pub fn turn(&mut self, thread: u8) -> bool
+        requires there { thread < length O.first.scene.threads }
+        requires waits { waits self.old.broken (world_after self.old.journaled) thread ≡ false }
+        ensures goes_on { result ≡ true
+            → (leaves self.old.broken (world_after self.old.journaled) thread ≡ false)
+            × (self.new.broken ≡ self.old.broken)
+            × (self.new.journaled
+            ≡ with_choice (choice_in (world_after self.old.journaled) thread) self.old.journaled) }
+        ensures stops { result ≡ false → (self.new.journaled ≡ self.old.journaled)
+            × (((leaves self.old.broken (world_after self.old.journaled) thread ≡ true)
+            × (self.new.broken ≡ self.old.broken)) ⊎ (self.new.broken ≡ Some Break.Memory)) }
+    {
+        if self.leaves(thread) {
+            return false;
+        }
+        match self.journaled.take_choice(thread) {
+            Ok(_) => true,
+            Err(TakeFault::Memory) => {
+                self.broken = Some(Break::Memory);
+                false
+            }
+            Err(_) => unreachable!(),
+        }
+    }
+
+    /// Breaks the run off where a thread can't be started, unless it was before.
+    pub fn refuse(&mut self)
+        ensures journaled { self.new.journaled ≡ self.old.journaled }
+        ensures broken { is_some self.new.broken ≡ true }
+        ensures before { is_some self.old.broken ≡ true → self.new.broken ≡ self.old.broken }
+        ensures none { self.old.broken ≡ None → self.new.broken ≡ Some Break.Spawn }
+    {
+        if self.broken.is_none() {
+            self.broken = Some(Break::Spawn);
+        }
+    }
+}
