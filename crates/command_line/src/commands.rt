@@ -20,6 +20,12 @@ pub const COMPARE: &str = "compare";
 
 pub const TRACE: &str = "TRACE";
 
+pub const DEBUG: &str = "debug";
+
+pub const LIVE: &str = "live";
+
+pub const LIMIT: &str = "limit";
+
 pub const RACE: &str = "race";
 
 pub const PARTIES: &str = "parties";
@@ -77,6 +83,33 @@ standard input; it may be as long as you like.
 
 Example: vuthgal compare examples/meeting.asm examples/two-threads-meet.trace";
 
+const DEBUG_ABOUT: &str = "\
+Plays the program in FILE by the commands on standard input, forwards and backwards.
+
+FILE is an image where its first four bytes are `PBW1` or `PBW2`, else a program text. Each line of standard input is one \
+command, and its answer stands on standard output before the next line is read:
+
+  s tN       one choice: thread N's turn; `s xN` lets its timed wait expire
+  b          one choice back; the last 4096 can be taken back
+  k ROW      a breakpoint at a row of the program, numbered from 0
+  c ROW      no breakpoint there any more
+  g TOKENS   choices, as in a schedule, up to the first that leads a thread to a breakpoint
+  p          the state of all threads, phasers and barriers
+  q          the end, as the end of standard input
+
+What is none of these is answered with `?`.
+
+Example: vuthgal debug examples/stray-arrival.asm < examples/stray-arrival.commands";
+
+const LIVE_ABOUT: &str = "\
+Plays the program in FILE on real threads, one for each of its own, and writes the trace of the run that came about.
+
+FILE is an image where its first four bytes are `PBW1` or `PBW2`, else a program text. The run is recorded choice by choice, and \
+what is written is the trace of that record: `vuthgal compare` finds it the same. It ends where all threads have ended, where \
+none can go on, or after N steps.
+
+Example: vuthgal live examples/meeting.asm";
+
 const RACE_ABOUT: &str = "\
 Lets real threads meet at one shared phaser, round after round, and writes the word that they leave.
 
@@ -133,6 +166,29 @@ fn compare<'a>(alloc: Global) -> Result<Command<'a>, AllocError> {
         ))
 }
 
+fn debug<'a>(alloc: Global) -> Result<Command<'a>, AllocError> {
+    Command::new(alloc, DEBUG)
+        .about("Plays a program by commands, forwards and backwards")
+        .long_about(DEBUG_ABOUT)
+        .after_help(STATUSES)
+        .arg(place(alloc, FILE, "The file of the image or of the program text"))
+}
+
+fn live<'a>(alloc: Global) -> Result<Command<'a>, AllocError> {
+    Command::new(alloc, LIVE)
+        .about("Plays a program on real threads and writes the trace")
+        .long_about(LIVE_ABOUT)
+        .after_help(STATUSES)
+        .arg(place(alloc, FILE, "The file of the image or of the program text"))?
+        .arg(
+            Arg::new(alloc, LIMIT)
+                .long(LIMIT)
+                .value_name("N")
+                .default_value("1000000")
+                .help("How many steps at most, 1 to 1000000000"),
+        )
+}
+
 /// An option that has to be there, with a number.
 fn number<'a>(alloc: Global, name: &'a str, value: &'a str, help: &'a str) -> Arg<'a> {
     Arg::new(alloc, name)
@@ -162,5 +218,7 @@ pub fn program<'a>(alloc: Global) -> Result<Command<'a>, AllocError> {
         .subcommand(list(alloc)?)?
         .subcommand(run(alloc)?)?
         .subcommand(compare(alloc)?)?
+        .subcommand(debug(alloc)?)?
+        .subcommand(live(alloc)?)?
         .subcommand(race(alloc)?)
 }

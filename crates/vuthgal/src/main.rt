@@ -1,6 +1,8 @@
 //! The program: finds the command that its words ask for, opens the files, and hands them to the command.
 #![tactic(auto)]
 
+ghost use Rattle.std.specs.Prelude.{◌≤◌};
+
 mod ending;
 mod files;
 mod words;
@@ -17,8 +19,10 @@ use std::thread::Threads;
 use workbench::asm::asm_cmd;
 use workbench::both::both_cmd;
 use workbench::compare::compare_cmd;
+use workbench::debug::debug_cmd;
 use workbench::fault::Fault;
 use workbench::list::list_cmd;
+use workbench::live::live_cmd;
 use workbench::run::run_cmd;
 
 /// How many bytes are written at a time.
@@ -136,6 +140,50 @@ fn compare(rt: &HostRuntime, file: &str, trace: &str) -> u8 {
     compare_with(rt, program, &mut ReadPort::new(trace))
 }
 
+/// Answers the commands on standard input, which are about the program in a file. Nothing is kept back: standard output is
+/// flushed at each line's end.
+fn debug(rt: &HostRuntime, file: &str) -> u8 {
+    let Ok(program) = files::read(rt, file) else {
+        return told(rt, Fault::Read);
+    };
+    let mut errors = WritePort::new(rt.stderr());
+    if rt.stdin().is_terminal() {
+        let _ = errors.push(b"reading commands from the terminal (debug --help lists them)\n");
+    }
+    let mut output = WritePort::new(rt.stdout());
+    let status = debug_cmd(
+        rt.alloc(),
+        &mut ReadPort::new(program),
+        &mut ReadPort::new(rt.stdin()),
+        &mut output,
+        &mut errors,
+    );
+    flushed(rt, status, &mut output)
+}
+
+/// Plays the program in a file on real threads.
+fn live<R: Threads + Wait + Sync>(threads: &R, rt: &HostRuntime, file: &str, limit: u32) -> u8
+    requires { limit ≤ 1000000000 }
+{
+    let Ok(program) = files::read(rt, file) else {
+        return told(rt, Fault::Read);
+    };
+    let Ok(writer) = BufWriter::with_capacity(rt.alloc(), BUFFER, rt.stdout()) else {
+        return told(rt, Fault::Memory);
+    };
+    let mut output = WritePort::new(writer);
+    let mut errors = WritePort::new(rt.stderr());
+    let status = live_cmd(
+        threads,
+        rt.alloc(),
+        limit,
+        &mut ReadPort::new(program),
+        &mut output,
+        &mut errors,
+    );
+    flushed(rt, status, &mut output)
+}
+
 /// Lets real threads meet at a shared phaser.
 fn meet<R: Threads + Wait + Sync>(threads: &R, rt: &HostRuntime, parties: u16, rounds: u32) -> u8 {
     let mut output = WritePort::new(rt.stdout());
@@ -162,6 +210,8 @@ fn main(rt: HostRuntime) -> ExitCode {
         Ok(Request::List { file }) => list(&rt, file),
         Ok(Request::Run { file, schedule }) => run(&rt, file, schedule),
         Ok(Request::Compare { file, trace }) => compare(&rt, file, trace),
+        Ok(Request::Debug { file }) => debug(&rt, file),
+        Ok(Request::Live { file, limit }) => live(&rt, &rt, file, limit),
         Ok(Request::Race { parties, rounds }) => meet(&rt, &rt, parties, rounds),
         Err(status) => status,
     })

@@ -1,4 +1,6 @@
 //! The words of the command line.
+ghost use Rattle.std.specs.Prelude.{IfOk};
+ghost use Rattle.command_line.specs.Request.{IsInRange};
 
 use crate::ending::told;
 use clap::Error;
@@ -40,6 +42,11 @@ fn printed(rt: &HostRuntime, error: &Error) -> u8 {
 }
 
 /// What the words ask for, else the status.
-pub fn request<'a>(rt: &HostRuntime, words: &'a [String]) -> Result<Request<'a>, u8> {
-    parse(rt.alloc(), words).map_err(|error| printed(rt, &error))
+pub fn request<'a>(rt: &HostRuntime, words: &'a [String]) -> Result<Request<'a>, u8>
+    ensures { IfOk result (λ request. IsInRange request) }
+{
+    match parse(rt.alloc(), words) {
+        Ok(request) => Ok(request),
+        Err(error) => Err(printed(rt, &error)),
+    }
 }

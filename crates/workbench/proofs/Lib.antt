@@ -1,3 +1,6 @@
+pub mod Conversations
+pub mod Debugged
 pub mod Lines
+pub mod Lives
 pub mod RunLine
 pub mod Runs

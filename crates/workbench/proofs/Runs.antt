@@ -53,7 +53,7 @@ fault-at_most image f schedule_before schedule_after output_before output_after
     )
 
 -- the fault of a known schedule
-whole_fault : (schedule bytes after : List ℕ) (runs : List Run) (f : ScheduleFault) → schedule ≡ bytes ++ after
+pub whole_fault : (schedule bytes after : List ℕ) (runs : List Run) (f : ScheduleFault) → schedule ≡ bytes ++ after
     → HasFault bytes (Some after) runs f → finished_schedule schedule ≡ faulty_after runs f
 whole_fault schedule bytes after runs f is (inl (end, faulty)) =
     ap finished_schedule (is ∙ ap (λ rest. bytes ++ rest) end ∙ append-nil bytes) ∙ faulty
@@ -93,6 +93,8 @@ whole-refused (Err (fault.Schedule f)) image text schedule after output_before o
     let finished = whole_fault (schedule_part text) bytes after runs f (sym is ∙ consumed) has_fault in
     (lines_of world (choices_of runs), ((image, (world, (runs, (stands, begins, finished, refl)))), appended))
 whole-refused (Err fault.Memory) image text schedule after output_before output_after is stands load faulty other =
+    λ three. absurd (omega (arith, three))
+whole-refused (Err fault.Spawn) image text schedule after output_before output_after is stands load faulty other =
     λ three. absurd (omega (arith, three))
 whole-refused (Err fault.Read) image text schedule after output_before output_after is stands load faulty other =
     λ three. absurd (omega (arith, three))

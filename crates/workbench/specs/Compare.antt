@@ -5,11 +5,8 @@ use Rattle.row_code.specs.declared.image.Image.{Image}
 use Rattle.trace_compare.specs.declared.compare.Verdict.{Verdict}
 use Rattle.trace_compare.specs.declared.compare.Verdict.TheVariants as verdict
 use Rattle.trace_compare.specs.Compare.{HasCompared}
-use Rattle.trace_compare.specs.Start.{IsRefused}
-use Rattle.workbench.specs.declared.fault.Fault.{Fault}
-use Rattle.workbench.specs.declared.fault.Fault.TheVariants as fault
 use Rattle.workbench.specs.Fault.{counted_line}
-use Rattle.workbench.specs.Run.{GivesNoProgram, GivesProgram}
+use Rattle.workbench.specs.Run.{GivesProgram}
 
 -- the line that tells a verdict
 abbrev pub verdict_line : Verdict → List ℕ
@@ -28,14 +25,3 @@ abbrev pub HasComparedFile : Verdict → (file_before file_after trace_before tr
 HasComparedFile v file_before file_after trace_before trace_after output_before output_after =
     (image : Image) × (GivesProgram file_before file_after image
     × HasCompared image trace_before trace_after v × Appends output_before output_after (verdict_line v))
-
--- why nothing is compared, by the fault that is told: the file is no program, or the program isn't loaded; the trace
--- wasn't read then
-abbrev pub HasNoRun : Fault → (file_before file_after trace_before trace_after : Option (List ℕ)) → Type 0
-HasNoRun (fault.Asm f) file_before file_after trace_before trace_after =
-    GivesNoProgram file_before file_after (fault.Asm f) × (trace_after ≡ trace_before)
-HasNoRun (fault.Image f) file_before file_after trace_before trace_after =
-    GivesNoProgram file_before file_after (fault.Image f) × (trace_after ≡ trace_before)
-HasNoRun (fault.Load f) file_before file_after trace_before trace_after =
-    (image : Image) × (GivesProgram file_before file_after image × IsRefused f image × (trace_after ≡ trace_before))
-HasNoRun _ file_before file_after trace_before trace_after = ⊥

@@ -59,6 +59,7 @@ status_of (fault.Image f) = image_status f
 status_of (fault.Load f) = load_status f
 status_of (fault.Schedule f) = schedule_status f
 status_of fault.Memory = 4
+status_of fault.Spawn = 4
 status_of fault.Read = 5
 status_of fault.Write = 5
 
@@ -119,6 +120,7 @@ line_of (fault.Image f) = image_line f
 line_of (fault.Load f) = load_line f
 line_of (fault.Schedule f) = schedule_line f
 line_of fault.Memory = codes "memory\n"
+line_of fault.Spawn = codes "spawn\n"
 line_of fault.Read = codes "read\n"
 line_of fault.Write = codes "write\n"
 

@@ -19,6 +19,17 @@ abbrev pub GivesNoProgram : Option (List ℕ) → Option (List ℕ) → Fault �
 GivesNoProgram file_before file_after f =
     (file : List ℕ) × (GivesAll file_before file_after file × IsNoProgramFor f file)
 
+-- why there is no machine, by the fault that is told: the file is no program, or the program isn't loaded; nothing of the
+-- other input was read then
+abbrev pub HasNoRun : Fault → (file_before file_after other_before other_after : Option (List ℕ)) → Type 0
+HasNoRun (fault.Asm f) file_before file_after other_before other_after =
+    GivesNoProgram file_before file_after (fault.Asm f) × (other_after ≡ other_before)
+HasNoRun (fault.Image f) file_before file_after other_before other_after =
+    GivesNoProgram file_before file_after (fault.Image f) × (other_after ≡ other_before)
+HasNoRun (fault.Load f) file_before file_after other_before other_after =
+    (image : Image) × (GivesProgram file_before file_after image × IsRefused f image × (other_after ≡ other_before))
+HasNoRun _ file_before file_after other_before other_after = ⊥
+
 -- file and schedule were read to their ends, and the trace was written
 abbrev pub HasRunFile : (file_before file_after schedule_before schedule_after output_before output_after : Option (List ℕ)) → Type 0
 HasRunFile file_before file_after schedule_before schedule_after output_before output_after =

@@ -1,4 +1,6 @@
 ghost use Rattle.std.specs.Prelude.{◌≡◌, ◌⊎◌, IsTrue, IfErr, OnOk};
+ghost use Rattle.std.specs.Io.KnownBytes.{Appends};
+ghost use Rattle.row_code.specs.Image.{image_bytes};
 ghost use Rattle.workbench.specs.declared.fault.Fault.{Fault};
 ghost use Rattle.workbench.specs.Asm.{HasAssembled, HasTextFault};
 ghost use Rattle.workbench.specs.Fault.{HasTold, status_of};
@@ -8,7 +10,7 @@ use crate::fault::{DONE, Fault};
 use crate::input::read_all;
 use assembler::assemble;
 use byte_ports::{Sink, Source};
-use row_code::write_image;
+use row_code::{Image, write_image};
 use std::alloc::Global;
 
 /// Assembles the text in `input` and writes the bytes of its image to `output`. Whether the program can be loaded is not
@@ -54,12 +56,22 @@ fn asm<S: Source, K: Sink>(alloc: Global, input: &mut S, output: &mut K) -> Resu
         ⊎ GivesTooMuch (S.left input.old) (S.left input.new) }
     ensures write { result ≡ Err Fault.Write → IsTrue (K.has_failed output.new) }
 {
-    let text = read_all(alloc, input)?;
-    let image = match assemble(alloc, text.as_slice()) {
-        Ok(image) => image,
-        Err(fault) => return Err(Fault::Asm(fault)),
+    let text = match read_all(alloc, input) {
+        Ok(text) => text,
+        Err(fault) => return Err(fault),
     };
-    match write_image(&image, output) {
+    match assemble(alloc, text.as_slice()) {
+        Ok(image) => push_image(&image, output),
+        Err(fault) => Err(Fault::Asm(fault)),
+    }
+}
+
+/// Writes the bytes of an image.
+fn push_image<K: Sink>(image: &Image, output: &mut K) -> Result<(), Fault>
+    ensures bytes { OnOk result (Appends (K.written output.old) (K.written output.new) (image_bytes image.now)) }
+    ensures write { IfErr result (λ fault. (fault ≡ Fault.Write) × IsTrue (K.has_failed output.new)) }
+{
+    match write_image(image, output) {
         Ok(()) => Ok(()),
         Err(_) => Err(Fault::Write),
     }

@@ -9,13 +9,13 @@ ghost use Rattle.trace_compare.specs.Compare.{HasCompared};
 ghost use Rattle.trace_compare.specs.RunText.{GivesOnAndOn};
 ghost use Rattle.trace_compare.specs.Start.{IsRefused};
 ghost use Rattle.workbench.specs.declared.fault.Fault.{Fault};
-ghost use Rattle.workbench.specs.Compare.{HasComparedFile, HasNoRun, verdict_line, verdict_status};
+ghost use Rattle.workbench.specs.Compare.{HasComparedFile, verdict_line, verdict_status};
 ghost use Rattle.workbench.specs.Fault.{HasTold, status_of};
 ghost use Rattle.workbench.specs.Input.{GivesTooMuch};
+ghost use Rattle.workbench.specs.Run.{HasNoRun};
 
 use crate::fault::{DONE, Fault, UNLIKE, push_counted_line};
-use crate::input::read_all;
-use crate::program_file::program_in;
+use crate::program_file::read_program;
 use byte_ports::{Failed, Sink, Source};
 use loader::LoadFault;
 use row_code::Image;
@@ -78,11 +78,7 @@ fn compared<F: Source, S: Source, K: Sink>(
         ⊎ GivesOnAndOn (S.left trace.old) (S.left trace.new)) }
     ensures write { result ≡ Err Fault.Write → IsTrue (K.has_failed output.new) }
 {
-    let bytes = match read_all(alloc, file) {
-        Ok(bytes) => bytes,
-        Err(fault) => return Err(fault),
-    };
-    let image = match program_in(alloc, bytes.as_slice()) {
+    let image = match read_program(alloc, file) {
         Ok(image) => image,
         Err(fault) => return Err(fault),
     };

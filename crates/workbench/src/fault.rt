@@ -29,6 +29,8 @@ pub enum Fault {
     Schedule(ScheduleFault),
     /// Out of memory.
     Memory,
+    /// A thread can't be started.
+    Spawn,
     /// The input failed, or is too long.
     Read,
     /// The output failed.
@@ -200,7 +202,8 @@ impl Fault {
             | Fault::Image(ImageFault::Memory)
             | Fault::Load(LoadFault::Memory)
             | Fault::Schedule(ScheduleFault::Memory)
-            | Fault::Memory => 4,
+            | Fault::Memory
+            | Fault::Spawn => 4,
             Fault::Image(_) | Fault::Load(_) | Fault::Schedule(_) => 3,
             Fault::Read | Fault::Write => 5,
         }
@@ -218,6 +221,7 @@ impl Fault {
             Fault::Load(fault) => push_load_line(errors, fault),
             Fault::Schedule(fault) => push_schedule_line(errors, fault),
             Fault::Memory => errors.push(b"memory\n"),
+            Fault::Spawn => errors.push(b"spawn\n"),
             Fault::Read => errors.push(b"read\n"),
             Fault::Write => errors.push(b"write\n"),
         }

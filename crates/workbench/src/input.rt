@@ -12,7 +12,8 @@ const MOST_BYTES: usize = 16_777_216;
 /// How many bytes are asked for at a time.
 const PIECE: usize = 4096;
 
-fn pull<S: Source>(source: &mut S, piece: &mut [u8]) -> Result<usize, Fault>
+/// The next bytes, put at the start of the piece, and how many there are; none at the end alone.
+pub fn pull<S: Source>(source: &mut S, piece: &mut [u8]) -> Result<usize, Fault>
     ensures bytes { ReadConsumes (S.left source.old) (S.left source.new) result piece.new }
     ensures bound { IfOk result (λ n. n ≤ length piece.new) }
     ensures read { IfErr result (λ fault. (fault ≡ Fault.Read) × IsTrue (S.has_failed source.new)) }

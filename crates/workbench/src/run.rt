@@ -6,9 +6,8 @@ ghost use Rattle.workbench.specs.Input.{GivesTooMuch};
 ghost use Rattle.workbench.specs.Run.{HasRunFile, HasRunFileAtMost, HasRunFileSoFar, HasRunRefused};
 
 use crate::fault::{DONE, Fault};
-use crate::input::read_all;
 use crate::play::play;
-use crate::program_file::program_in;
+use crate::program_file::read_program;
 use byte_ports::{Sink, Source};
 use std::alloc::Global;
 
@@ -74,11 +73,7 @@ fn run<F: Source, S: Source, K: Sink>(
         ⊎ GivesOnAndOn (S.left schedule.old) (S.left schedule.new)) }
     ensures write { result ≡ Err Fault.Write → IsTrue (K.has_failed output.new) }
 {
-    let bytes = match read_all(alloc, file) {
-        Ok(bytes) => bytes,
-        Err(fault) => return Err(fault),
-    };
-    let image = match program_in(alloc, bytes.as_slice()) {
+    let image = match read_program(alloc, file) {
         Ok(image) => image,
         Err(fault) => return Err(fault),
     };

@@ -2,7 +2,7 @@ use super::*;
 use std::test::Fail;
 
 /// A command line after the program's name, its words parted by one space, and what it asks for.
-const REQUESTS: [(&str, Request); 8] = [
+static REQUESTS: [(&str, Request); 12] = [
     ("", Request::Both),
     (
         "asm a.txt b",
@@ -27,6 +27,28 @@ const REQUESTS: [(&str, Request); 8] = [
             trace: "b.trace",
         },
     ),
+    ("debug a.image", Request::Debug { file: "a.image" }),
+    (
+        "live a.txt",
+        Request::Live {
+            file: "a.txt",
+            limit: 1_000_000,
+        },
+    ),
+    (
+        "live --limit 1 a.txt",
+        Request::Live {
+            file: "a.txt",
+            limit: 1,
+        },
+    ),
+    (
+        "live a.txt --limit=1000000000",
+        Request::Live {
+            file: "a.txt",
+            limit: 1_000_000_000,
+        },
+    ),
     (
         "race --parties 16 --rounds 1000000",
         Request::Race {
@@ -44,7 +66,7 @@ const REQUESTS: [(&str, Request); 8] = [
 ];
 
 /// Command lines that ask for nothing, and the status of each.
-const REFUSED: [(&str, i32); 21] = [
+static REFUSED: [(&str, i32); 28] = [
     ("asm", 2),
     ("asm a", 2),
     ("asm a b c", 2),
@@ -54,6 +76,13 @@ const REFUSED: [(&str, i32); 21] = [
     ("run a b c", 2),
     ("compare a", 2),
     ("compare a b c", 2),
+    ("debug", 2),
+    ("debug a b", 2),
+    ("live", 2),
+    ("live a b", 2),
+    ("live a --limit 0", 2),
+    ("live a --limit 1000000001", 2),
+    ("live a --limit 99999999999", 2),
     ("examples/stuck.txt", 2),
     ("--nonsense", 2),
     ("race --parties 2", 2),

@@ -1,0 +1,329 @@
+-- Lines that are answered after other lines.
+use Rattle.std.proofs.Common.{◌≡◌, ◌≢◌, ◌≤◌, ◌+◌, ◌∙◌, ◌⊎◌, inl, inr, ℕ, Bool, true, false, List, [], ◌∷◌, ◌++◌, Option, refl, ap, sym, subst, length, append_assoc, append-nil, length-append, arith}
+use Rattle.std.proofs.KnownBytes.{Appends-nil, Appends-trans, Consumes-nil, Consumes-trans}
+use Rattle.std.proofs.lemmas.List.Elements.{All-nil, All-cons, All-append}
+use Rattle.std.specs.Prelude.{All}
+use Rattle.std.specs.Io.KnownBytes.{Appends, Consumes, IsAtEnd}
+use Rattle.trace_compare.specs.RunText.{GivesOnAndOn}
+use Rattle.debugger.specs.Session.{Session}
+use Rattle.debugger.specs.Command.{goes_on, line_order}
+use Rattle.debugger.specs.Reply.{Replies}
+use Rattle.workbench.specs.Debug.{AreReplies, GivesLines, GoOn, HasAnswered, HasConversed, HasConversedAtMost, HasConversedSoFar, HasNoEnd, HasReadLines, last_line, with_ends}
+
+abbrev goes-on : List ℕ → Type 0
+goes-on line = goes_on (line_order line) ≡ true
+
+with_ends-append : (xs ys : List (List ℕ)) → with_ends (xs ++ ys) ≡ with_ends xs ++ with_ends ys
+with_ends-append [] ys = refl
+with_ends-append (x ∷ xs) ys =
+    ap (λ l. x ++ (10 ∷ l)) (with_ends-append xs ys) ∙ sym (append_assoc x (10 ∷ with_ends xs) (with_ends ys))
+
+with_ends-length : (xs : List (List ℕ)) → length xs ≤ length (with_ends xs)
+with_ends-length [] = omega arith
+with_ends-length (x ∷ xs) = omega (arith, with_ends-length xs, length-append x (10 ∷ with_ends xs))
+
+-- the bytes of lines after lines
+in_a_row : (xs ys : List (List ℕ)) (part : List ℕ) → (with_ends xs ++ []) ++ (with_ends ys ++ part) ≡ with_ends (xs ++ ys) ++ part
+in_a_row xs ys part =
+    ap (λ l. l ++ (with_ends ys ++ part)) (append-nil (with_ends xs))
+    ∙ sym (append_assoc (with_ends xs) (with_ends ys) part)
+    ∙ ap (λ l. l ++ part) (sym (with_ends-append xs ys))
+
+pub lines_after : (a b c : Option (List ℕ)) (xs ys : List (List ℕ)) (part : List ℕ) → GivesLines a b xs [] → GivesLines b c ys part
+    → GivesLines a c (xs ++ ys) part
+lines_after a b c xs ys part first second = (
+  subst (Consumes a c) (in_a_row xs ys part) (Consumes-trans a b c (with_ends xs ++ []) (with_ends ys ++ part) first.0 second.0),
+  All-append HasNoEnd xs ys first.1 second.1,
+  second.2,
+)
+
+pub no_lines : (a : Option (List ℕ)) → GivesLines a a [] []
+no_lines a = (Consumes-nil a, All-nil HasNoEnd, All-nil (λ byte. byte ≢ 10))
+
+replies_after : (xs ys : List (List ℕ)) (before middle after : Session) (first second : List ℕ) → AreReplies before xs middle first
+    → AreReplies middle ys after second → AreReplies before (xs ++ ys) after (first ++ second)
+replies_after [] ys before middle after first second (same, none) more =
+    subst (λ text. AreReplies before ys after (text ++ second)) (sym none) (subst (λ s. AreReplies s ys after second) same more)
+replies_after (x ∷ xs) ys before middle after first second replies more =
+    let rest = replies.1.1.0 in (
+      replies.0,
+      (
+        replies.1.0,
+        (
+          rest ++ second,
+          (
+            replies.1.1.1.0,
+            replies_after xs ys replies.0 middle after rest second replies.1.1.1.1 more,
+            ap (λ l. l ++ second) replies.1.1.1.2 ∙ append_assoc replies.1.0 rest second,
+          ),
+        ),
+      ),
+    )
+
+pub answered_after : (a b c : Option (List ℕ)) (before middle after : Session) (xs ys : List (List ℕ)) → HasAnswered before xs middle a b
+    → HasAnswered middle ys after b c → HasAnswered before (xs ++ ys) after a c
+answered_after a b c before middle after xs ys first second = (
+  first.0 ++ second.0,
+  (
+    replies_after xs ys before middle after first.0 second.0 first.1.0 second.1.0,
+    Appends-trans a b c first.0 second.0 first.1.1 second.1.1,
+  ),
+)
+
+pub no_answers : (a : Option (List ℕ)) (session : Session) → HasAnswered session [] session a a
+no_answers a session = ([], ((refl, refl), Appends-nil a))
+
+-- some lines were answered, and the session goes on
+pub record HasGoneOn (before now : Session) (commands_before commands_now output_before output_now : Option (List ℕ))
+    : Type 0 where
+  pub lines : List (List ℕ)
+  pub go_on : GoOn lines
+  pub given : GivesLines commands_before commands_now lines []
+  pub answered : HasAnswered before lines now output_before output_now
+
+pub gone_nowhere : (session : Session) (commands output : Option (List ℕ)) → HasGoneOn session session commands commands output output
+gone_nowhere session commands output =
+    record { lines = []; go_on = All-nil goes-on; given = no_lines commands; answered = no_answers output session }
+
+-- a line more, in a turn more
+pub gone_on : (before now after : Session) (a b c x y z : Option (List ℕ)) (line : List ℕ) (n : ℕ) → (on : HasGoneOn before now a b x y)
+    → n ≤ length on.lines → GivesLines b c (line ∷ []) [] → goes_on (line_order line) ≡ true → HasAnswered now (line ∷ []) after y z
+    → (more : HasGoneOn before after a c x z) × (n + 1 ≤ length more.lines)
+gone_on before now after a b c x y z line n on few given goes answered = (
+  record {
+    lines = on.lines ++ line ∷ [];
+    go_on = All-append goes-on on.lines (line ∷ []) on.go_on (All-cons goes-on line [] goes (All-nil goes-on));
+    given = lines_after a b c on.lines (line ∷ []) [] on.given given;
+    answered = answered_after x y z before now after on.lines (line ∷ []) on.answered answered;
+  },
+  omega (arith, few, length-append on.lines (line ∷ [])),
+)
+
+pub stands_so_far : (before now : Session) (a b x y : Option (List ℕ)) → HasGoneOn before now a b x y → HasConversedSoFar before a b x y
+stands_so_far before now a b x y on = (on.lines, ([], (now, (on.go_on, (on.given, on.answered)))))
+
+-- what comes after such lines
+pub conversed_after : (before now : Session) (a b c x y z : Option (List ℕ)) → HasGoneOn before now a b x y
+    → HasConversed now b c y z → HasConversed before a c x z
+conversed_after before now a b c x y z on (lines, (last, (after, (go_on, inl end)))) = (
+  on.lines ++ lines,
+  (
+    last,
+    (
+      after,
+      (
+        All-append goes-on on.lines lines on.go_on go_on,
+        inl (
+          lines_after a b c on.lines lines last on.given end.0,
+          end.1,
+          subst (λ ls. HasAnswered before ls after x z) (sym (append_assoc on.lines lines (last_line last)))
+              (answered_after x y z before now after on.lines (lines ++ last_line last) on.answered end.2),
+        ),
+      ),
+    ),
+  ),
+)
+conversed_after before now a b c x y z on (lines, (last, (after, (go_on, inr quit)))) =
+    let row = append_assoc on.lines lines (last ∷ []) in (
+      on.lines ++ lines,
+      (
+        last,
+        (
+          after,
+          (
+            All-append goes-on on.lines lines on.go_on go_on,
+            inr (
+              subst (λ ls. GivesLines a c ls []) (sym row) (lines_after a b c on.lines (lines ++ last ∷ []) [] on.given quit.0),
+              quit.1,
+              subst (λ ls. HasAnswered before ls after x z) (sym row)
+                  (answered_after x y z before now after on.lines (lines ++ last ∷ []) on.answered quit.2),
+            ),
+          ),
+        ),
+      ),
+    )
+
+pub so_far_after : (before now : Session) (a b c x y z : Option (List ℕ)) → HasGoneOn before now a b x y
+    → HasConversedSoFar now b c y z → HasConversedSoFar before a c x z
+so_far_after before now a b c x y z on (lines, (part, (after, (go_on, both)))) = (
+  on.lines ++ lines,
+  (
+    part,
+    (
+      after,
+      (
+        All-append goes-on on.lines lines on.go_on go_on,
+        (
+          lines_after a b c on.lines lines part on.given both.0,
+          answered_after x y z before now after on.lines lines on.answered both.1,
+        ),
+      ),
+    ),
+  ),
+)
+
+given_after : (a b c : Option (List ℕ)) (xs lines : List (List ℕ)) (part : List ℕ) → GivesLines a b xs []
+    → GivesLines b c lines part ⊎ GivesLines b c (lines ++ part ∷ []) []
+    → GivesLines a c (xs ++ lines) part ⊎ GivesLines a c ((xs ++ lines) ++ part ∷ []) []
+given_after a b c xs lines part first (inl given) = inl (lines_after a b c xs lines part first given)
+given_after a b c xs lines part first (inr given) =
+    inr (subst (λ ls. GivesLines a c ls []) (sym (append_assoc xs lines (part ∷ []))) (lines_after a b c xs (lines ++ part ∷ []) [] first given))
+
+pub at_most_after : (before now : Session) (a b c x y z : Option (List ℕ)) → HasGoneOn before now a b x y
+    → HasConversedAtMost now b c y z → HasConversedAtMost before a c x z
+at_most_after before now a b c x y z on (lines, (part, (after, (go_on, both)))) = (
+  on.lines ++ lines,
+  (
+    part,
+    (
+      after,
+      (
+        All-append goes-on on.lines lines on.go_on go_on,
+        (
+          given_after a b c on.lines lines part on.given both.0,
+          answered_after x y z before now after on.lines lines on.answered both.1,
+        ),
+      ),
+    ),
+  ),
+)
+
+pub read_after : (before now : Session) (a b c x y : Option (List ℕ)) → HasGoneOn before now a b x y → HasReadLines b c
+    → HasReadLines a c
+read_after before now a b c x y on (lines, (last, both)) =
+    (on.lines ++ lines, (last, (lines_after a b c on.lines lines last on.given both.0, both.1)))
+
+on_and_on_after : (before now : Session) (a b c x y : Option (List ℕ)) → HasGoneOn before now a b x y → GivesOnAndOn b c
+    → GivesOnAndOn a c
+on_and_on_after before now a b c x y on more =
+    let bytes = with_ends on.lines ++ [] in
+    (bytes ++ more.0, (Consumes-trans a b c bytes more.0 on.given.0 more.1.0, omega (arith, more.1.1, length-append bytes more.0)))
+
+pub failed_after : (before now : Session) (a b c x y : Option (List ℕ)) (F : Type 0) → HasGoneOn before now a b x y → F ⊎ GivesOnAndOn b c
+    → F ⊎ GivesOnAndOn a c
+failed_after before now a b c x y F on (inl failed) = inl failed
+failed_after before now a b c x y F on (inr more) = inr (on_and_on_after before now a b c x y on more)
+
+-- a line for each of so many turns
+pub on_and_on : (before now : Session) (a b x y : Option (List ℕ)) (n : ℕ) → 1000000000 ≤ n → (on : HasGoneOn before now a b x y)
+    → n ≤ length on.lines → GivesOnAndOn a b
+on_and_on before now a b x y n many on few =
+    let bytes = with_ends on.lines ++ [] in
+    (bytes, (on.given.0, omega (arith, many, few, with_ends-length on.lines, length-append (with_ends on.lines) [])))
+
+-- one line
+pub line_given : (a b : Option (List ℕ)) (line : List ℕ) → Consumes a b (line ++ 10 ∷ []) → HasNoEnd line → GivesLines a b (line ∷ []) []
+line_given a b line given no_end = (
+  subst (Consumes a b) (sym (append-nil (line ++ 10 ∷ []))) given,
+  All-cons HasNoEnd line [] no_end (All-nil HasNoEnd),
+  All-nil (λ byte. byte ≢ 10),
+)
+
+pub part_given : (a b : Option (List ℕ)) (part : List ℕ) → Consumes a b part → HasNoEnd part → GivesLines a b [] part
+part_given a b part given no_end = (given, All-nil HasNoEnd, no_end)
+
+pub one_answered : (before after : Session) (line text : List ℕ) (x y : Option (List ℕ)) → Replies before (line_order line) after text
+    → Appends x y text → HasAnswered before (line ∷ []) after x y
+one_answered before after line text x y replies written =
+    (text, ((after, (text, ([], (replies, (refl, refl), sym (append-nil text))))), written))
+
+pub ends_without_a_line : (session : Session) (a b x y : Option (List ℕ)) (line : List ℕ) → line ≡ [] → Consumes a b line → IsAtEnd b
+    → HasNoEnd line → y ≡ x → HasConversed session a b x y
+ends_without_a_line session a b x y line none given end no_end same = (
+  [],
+  (
+    [],
+    (
+      session,
+      (
+        All-nil goes-on,
+        inl (
+          part_given a b [] (subst (Consumes a b) none given) (All-nil (λ byte. byte ≢ 10)),
+          end,
+          subst (HasAnswered session [] session x) (sym same) (no_answers x session),
+        ),
+      ),
+    ),
+  ),
+)
+
+some_last : (line : List ℕ) → line ≢ [] → last_line line ≡ line ∷ []
+some_last [] some = absurd (some refl)
+some_last (byte ∷ bytes) some = refl
+
+pub ends_with_a_line : (before after : Session) (a b x y : Option (List ℕ)) (line : List ℕ) → line ≢ [] → Consumes a b line → IsAtEnd b
+    → HasNoEnd line → HasAnswered before (line ∷ []) after x y → HasConversed before a b x y
+ends_with_a_line before after a b x y line some given end no_end answered = (
+  [],
+  (
+    line,
+    (
+      after,
+      (
+        All-nil goes-on,
+        inl (
+          part_given a b line given no_end,
+          end,
+          subst (λ ls. HasAnswered before ls after x y) (sym (some_last line some)) answered,
+        ),
+      ),
+    ),
+  ),
+)
+
+pub quits : (before after : Session) (a b x y : Option (List ℕ)) (line : List ℕ) → Consumes a b (line ++ 10 ∷ [])
+    → HasNoEnd line → goes_on (line_order line) ≡ false → HasAnswered before (line ∷ []) after x y → HasConversed before a b x y
+quits before after a b x y line given no_end quit answered =
+    ([], (line, (after, (All-nil goes-on, inr (line_given a b line given no_end, quit, answered)))))
+
+pub is_cut : (session : Session) (a b x y : Option (List ℕ)) (part : List ℕ) → Consumes a b part → HasNoEnd part → y ≡ x
+    → HasConversedSoFar session a b x y
+is_cut session a b x y part given no_end same = (
+  [],
+  (
+    part,
+    (
+      session,
+      (
+        All-nil goes-on,
+        (part_given a b part given no_end, subst (HasAnswered session [] session x) (sym same) (no_answers x session)),
+      ),
+    ),
+  ),
+)
+
+pub is_left : (session : Session) (a b x y : Option (List ℕ)) (part : List ℕ)
+    → GivesLines a b [] part ⊎ GivesLines a b (part ∷ []) [] → y ≡ x → HasConversedAtMost session a b x y
+is_left session a b x y part given same = (
+  [],
+  (
+    part,
+    (
+      session,
+      (All-nil goes-on, (given, subst (HasAnswered session [] session x) (sym same) (no_answers x session))),
+    ),
+  ),
+)
+
+-- one byte more
+pub given_on : (a b c : Option (List ℕ)) (bytes : List ℕ) (byte : ℕ) → Consumes a b bytes → Consumes b c (byte ∷ [])
+    → Consumes a c (bytes ++ byte ∷ [])
+given_on a b c bytes byte given more = Consumes-trans a b c bytes (byte ∷ []) given more
+
+pub one_more : (bytes : List ℕ) (byte : ℕ) → HasNoEnd bytes → byte ≢ 10 → HasNoEnd (bytes ++ byte ∷ [])
+one_more bytes byte none other =
+    All-append (λ b. b ≢ 10) bytes (byte ∷ []) none (All-cons (λ b. b ≢ 10) byte [] other (All-nil (λ b. b ≢ 10)))
+
+pub left_unanswered : (session : Session) (a b x y : Option (List ℕ)) (line : List ℕ) (is_ended : Bool)
+    → (is_ended ≡ true → Consumes a b (line ++ 10 ∷ [])) → (is_ended ≡ false → Consumes a b line × IsAtEnd b) → HasNoEnd line → y ≡ x
+    → HasConversedAtMost session a b x y
+left_unanswered session a b x y line true whole last no_end same =
+    is_left session a b x y line (inr (line_given a b line (whole refl) no_end)) same
+left_unanswered session a b x y line false whole last no_end same =
+    is_left session a b x y line (inl (part_given a b line (last refl).0 no_end)) same
+
+pub was_read : (a b : Option (List ℕ)) (line : List ℕ) (is_ended : Bool)
+    → (is_ended ≡ true → Consumes a b (line ++ 10 ∷ [])) → (is_ended ≡ false → Consumes a b line × IsAtEnd b) → HasNoEnd line
+    → HasReadLines a b
+was_read a b line true whole last no_end = (line ∷ [], ([], (line_given a b line (whole refl) no_end, inl refl)))
+was_read a b line false whole last no_end = ([], (line, (part_given a b line (last refl).0 no_end, inr (last refl).1)))

@@ -1,0 +1,175 @@
+-- What becomes of a run that was recorded.
+use Rattle.std.proofs.Common.{◌≡◌, ◌≢◌, ◌∙◌, ◌++◌, ◌⊎◌, ◌≤◌, inl, inr, ℕ, Bool, true, false, List, [], length, Ok, Err, Result, Option, Some, None, ap, sym, refl, subst, append-nil, length-append, arith}
+use Rattle.std.specs.Prelude.{OnOk, IfErr, IsTrue}
+use Rattle.std.specs.Io.KnownBytes.{Appends}
+use Rattle.row_code.specs.declared.image.Image.{Image}
+use Rattle.row_code.specs.Reading.{image_of}
+use Rattle.row_code.specs.declared.image_fault.ImageFault.{ImageFault}
+use Rattle.row_code.specs.declared.image_fault.ImageFault.TheVariants as image
+use Rattle.loader.specs.declared.load_fault.LoadFault.{LoadFault}
+use Rattle.loader.specs.declared.load_fault.LoadFault.TheVariants as load
+use Rattle.assembler.specs.Meaning.{StandsFor}
+use Rattle.assembler.proofs.ReadLines.{one_image}
+use Rattle.schedule_reader.specs.declared.fault.ScheduleFault.{ScheduleFault}
+use Rattle.schedule_reader.specs.declared.fault.ScheduleFault.TheVariants as schedule
+use Rattle.schedule_reader.specs.Schedule.{Schedule, finished_schedule, open_schedule, choices_of}
+use Rattle.trace_compare.specs.RunText.{GivesOnAndOn, HasRun, HasRunSoFar, HasRunToFault, IsTraceOf}
+use Rattle.trace_compare.specs.Trace.{lines_of}
+use Rattle.trace_compare.proofs.Plays.{Part-whole}
+use Rattle.workbench.specs.declared.fault.Fault.{Fault}
+use Rattle.workbench.specs.declared.fault.Fault.TheVariants as fault
+use Rattle.workbench.specs.Fault.{image_status, load_status, number_of, schedule_status, status_of, text_status}
+use Rattle.workbench.specs.Live.{IsLived, IsLivedAtMost, IsLivedLong, IsRecorded}
+use Rattle.workbench.specs.Play.{HasRunAtMost}
+use Rattle.workbench.specs.ProgramFile.{IsProgramFile, is_image_file}
+use Rattle.workbench.proofs.Runs.{whole_fault}
+
+ok_is : {A E : Type 0} (a b : A) → (◌≡◌ {A = Result A E} (Ok a) (Ok b)) → a ≡ b
+ok_is a b is = cc
+
+-- a file is one program
+pub one_program : (file : List ℕ) (a b : Image) → IsProgramFile file a → IsProgramFile file b → a ≡ b
+one_program file a b (inl (is, first)) (inl (too, second)) = ok_is a b (sym first ∙ second)
+one_program file a b (inl (is, first)) (inr (other, second)) = absurd (cc (is, other))
+one_program file a b (inr (is, first)) (inl (other, second)) = absurd (cc (is, other))
+one_program file a b (inr (is, first)) (inr (too, second)) = one_image file a b first second
+
+recorded_again : (limit : ℕ) (file schedule : List ℕ) (a b : Image) → IsProgramFile file a → IsProgramFile file b
+    → IsRecorded a limit schedule → IsRecorded b limit schedule
+recorded_again limit file schedule a b first again recorded =
+    subst (λ image. IsRecorded image limit schedule) (one_program file a b first again) recorded
+
+-- a schedule that is known as a whole was read to its end
+pub traced_whole : (image : Image) (schedule after : List ℕ) (output_before output_after : Option (List ℕ))
+    → HasRun image (Some schedule) (Some after) output_before output_after
+    → (trace : List ℕ) × (IsTraceOf image schedule trace × Appends output_before output_after trace)
+traced_whole image schedule after output_before output_after (bytes, (trace, (consumed, end, traced, appended))) =
+    let whole : bytes ≡ schedule = sym (append-nil bytes) ∙ ap (λ rest. bytes ++ rest) (sym end) ∙ sym consumed in
+    (trace, (subst (λ given. IsTraceOf image given trace) whole traced, appended))
+
+-- a schedule without a fault isn't refused
+pub no_fault : (image : Image) (f : ScheduleFault) (schedule after : List ℕ) (output_before output_after : Option (List ℕ))
+    → (finished_schedule schedule).fault ≡ None
+    → HasRunToFault image f (Some schedule) (Some after) output_before output_after → ⊥
+no_fault image f schedule after output_before output_after none
+    (world, (bytes, (runs, (begins, consumed, has_fault, appended)))) =
+    let finished = whole_fault schedule bytes after runs f consumed has_fault in
+    absurd (cc (none, ap (λ (s : Schedule). s.fault) finished))
+
+-- the lines so far are a part of those of the choices that were read
+pub so_far-at_most : (image : Image) (schedule_before schedule_after output_before output_after : Option (List ℕ))
+    → HasRunSoFar image schedule_before schedule_after output_before output_after
+    → HasRunAtMost image schedule_before schedule_after output_before output_after
+so_far-at_most image schedule_before schedule_after output_before output_after
+    (world, (bytes, (begins, consumed, appended))) =
+    inr (
+      world,
+      (
+        bytes,
+        (
+          (open_schedule bytes).runs,
+          (
+            begins,
+            consumed,
+            inl refl,
+            Part-whole output_before output_after (lines_of world (choices_of (open_schedule bytes).runs)) appended,
+          ),
+        ),
+      ),
+    )
+
+-- what was written of it at most, where memory is wanting or it can't be read
+part_by : (f : Fault) (image : Image) (given schedule after : List ℕ) (output_before output_after : Option (List ℕ)) (A : Type 0)
+    → given ≡ schedule → (status_of f ≡ 4) ⊎ (f ≡ fault.Read)
+    → (status_of f ≡ 4 → HasRunAtMost image (Some given) (Some after) output_before output_after)
+    → (f ≡ fault.Read → A × HasRunSoFar image (Some given) (Some after) output_before output_after)
+    → (rest : Option (List ℕ)) × HasRunAtMost image (Some schedule) rest output_before output_after
+part_by f image given schedule after output_before output_after A is (inl four) memory read =
+    (Some after, subst (λ s. HasRunAtMost image (Some s) (Some after) output_before output_after) is (memory four))
+part_by f image given schedule after output_before output_after A is (inr unread) memory read =
+    let (_, so_far) = read unread in
+    let most = so_far-at_most image (Some given) (Some after) output_before output_after so_far in
+    (Some after, subst (λ s. HasRunAtMost image (Some s) (Some after) output_before output_after) is most)
+
+pub part_of : (result : Result (Unit {0}) Fault) (image : Image) (given schedule after : List ℕ)
+    (output_before output_after : Option (List ℕ)) (A : Type 0) → given ≡ schedule
+    → IfErr result (λ f. status_of f ≡ 4 → HasRunAtMost image (Some given) (Some after) output_before output_after)
+    → (result ≡ Err fault.Read → A × HasRunSoFar image (Some given) (Some after) output_before output_after)
+    → IfErr result (λ f. (status_of f ≡ 4) ⊎ (f ≡ fault.Read)
+    → (rest : Option (List ℕ)) × HasRunAtMost image (Some schedule) rest output_before output_after)
+part_of (Ok x) image given schedule after output_before output_after A is memory read = tt
+part_of (Err f) image given schedule after output_before output_after A is memory read = λ which.
+    part_by f image given schedule after output_before output_after A is which memory (λ unread. read (ap Err unread))
+
+-- who gave so many bytes had as many
+pub as_many : (schedule after : List ℕ) → GivesOnAndOn (Some schedule) (Some after) → 1000000000 ≤ length schedule
+as_many schedule after (bytes, (consumed, many)) =
+    omega (arith, many, ap length consumed, length-append bytes after)
+
+-- what became of a recorded run whose image was read again
+pub lived : (result : Result (Unit {0}) Fault) (limit : ℕ) (file schedule : List ℕ) (a b : Image)
+    (output_before output_after : Option (List ℕ)) → IsProgramFile file a → IsProgramFile file b → IsRecorded a limit schedule
+    → OnOk result ((trace : List ℕ) × (IsTraceOf b schedule trace × Appends output_before output_after trace))
+    → OnOk result (IsLived limit file output_before output_after)
+lived (Ok x) limit file schedule a b output_before output_after first again recorded (trace, (traced, appended)) =
+    (b, (schedule, (trace, (again, recorded_again limit file schedule a b first again recorded, traced, appended))))
+lived (Err e) limit file schedule a b output_before output_after first again recorded done = done
+
+pub lived_in_part : (result : Result (Unit {0}) Fault) (limit : ℕ) (file schedule : List ℕ) (a b : Image)
+    (output_before output_after : Option (List ℕ)) → IsProgramFile file a → IsProgramFile file b → IsRecorded a limit schedule
+    → IfErr result (λ f. (status_of f ≡ 4) ⊎ (f ≡ fault.Read)
+    → (rest : Option (List ℕ)) × HasRunAtMost b (Some schedule) rest output_before output_after)
+    → IfErr result (λ f. (status_of f ≡ 4) ⊎ (f ≡ fault.Read) → IsLivedAtMost limit file output_before output_after)
+lived_in_part (Ok x) limit file schedule a b output_before output_after first again recorded part = tt
+lived_in_part (Err f) limit file schedule a b output_before output_after first again recorded part = λ which.
+    let (rest, most) = part which in
+    inr (b, (schedule, (rest, (again, recorded_again limit file schedule a b first again recorded, most))))
+
+pub lived_long : (limit : ℕ) (file schedule : List ℕ) (a b : Image) → IsProgramFile file a → IsProgramFile file b
+    → IsRecorded a limit schedule → 1000000000 ≤ length schedule → IsLivedLong limit file
+lived_long limit file schedule a b first again recorded long =
+    (b, (schedule, (again, recorded_again limit file schedule a b first again recorded, long)))
+
+text_port : (number : Option ℕ) → text_status number ≡ 5 → ⊥
+text_port (Some n) five = absurd (omega (arith, five))
+text_port None five = absurd (omega (arith, five))
+
+image_port : (f : ImageFault) → image_status f ≡ 5 → ⊥
+image_port image.Short five = absurd (omega (arith, five))
+image_port image.Magic five = absurd (omega (arith, five))
+image_port image.Count five = absurd (omega (arith, five))
+image_port (image.Field at) five = absurd (omega (arith, five))
+image_port (image.Row n) five = absurd (omega (arith, five))
+image_port image.Extra five = absurd (omega (arith, five))
+image_port image.Memory five = absurd (omega (arith, five))
+image_port image.Version five = absurd (omega (arith, five))
+
+load_port : (f : LoadFault) → load_status f ≡ 5 → ⊥
+load_port (load.Target place) five = absurd (omega (arith, five))
+load_port load.FallsOff five = absurd (omega (arith, five))
+load_port (load.NoSuchPhaser row) five = absurd (omega (arith, five))
+load_port (load.NoSuchBarrier row) five = absurd (omega (arith, five))
+load_port (load.NoSuchThread row) five = absurd (omega (arith, five))
+load_port (load.NoSuchCell row) five = absurd (omega (arith, five))
+load_port (load.Declare phaser why) five = absurd (omega (arith, five))
+load_port (load.BarrierParties barrier) five = absurd (omega (arith, five))
+load_port load.NoThread five = absurd (omega (arith, five))
+load_port load.Memory five = absurd (omega (arith, five))
+
+schedule_port : (f : ScheduleFault) → schedule_status f ≡ 5 → ⊥
+schedule_port (schedule.Byte at) five = absurd (omega (arith, five))
+schedule_port (schedule.Number at) five = absurd (omega (arith, five))
+schedule_port (schedule.Repeat at) five = absurd (omega (arith, five))
+schedule_port schedule.Memory five = absurd (omega (arith, five))
+
+-- who fails has a port that failed, or too much to read
+pub port_of : (f : Fault) (A B C D : Type 0) → (f ≡ fault.Read → A ⊎ (B ⊎ C)) → (f ≡ fault.Write → D) → status_of f ≡ 5
+    → (A ⊎ (B ⊎ C)) ⊎ D
+port_of fault.Read A B C D read write five = inl (read refl)
+port_of fault.Write A B C D read write five = inr (write refl)
+port_of fault.Memory A B C D read write five = absurd (omega (arith, five))
+port_of fault.Spawn A B C D read write five = absurd (omega (arith, five))
+port_of (fault.Asm f) A B C D read write five = absurd (text_port (number_of f.kind) five)
+port_of (fault.Image f) A B C D read write five = absurd (image_port f five)
+port_of (fault.Load f) A B C D read write five = absurd (load_port f five)
+port_of (fault.Schedule f) A B C D read write five = absurd (schedule_port f five)

@@ -1,0 +1,17 @@
+use Rattle.workbench.proofs.Debugged.{debugged, so_far, without_memory}
+use Rattle.workbench.proofs.debug.debug.Goals as goal
+
+pub returns-clause-done : goal.returns-clause-done
+returns-clause-done g c =
+    debugged c.converse.result c.in-Ok.image c.in-Ok-first_debugger.debugger _ _ _ _ _ _ c.in-Ok-first_debugger.ensures.first
+    c.in-Ok.ensures.program c.converse.ensures.done
+
+pub returns-clause-memory : goal.returns-clause-memory
+returns-clause-memory g c =
+    without_memory c.converse.result c.in-Ok.image c.in-Ok-first_debugger.debugger _ _ _ _ _ _ c.in-Ok-first_debugger.ensures.first
+    c.in-Ok.ensures.program c.converse.ensures.fault c.converse.ensures.memory
+
+pub returns-clause-unread : goal.returns-clause-unread
+returns-clause-unread g c = λ is.
+    so_far c.in-Ok.image c.in-Ok-first_debugger.debugger _ _ _ _ _ _ c.in-Ok-first_debugger.ensures.first
+    c.in-Ok.ensures.program (c.converse.ensures.read is).1

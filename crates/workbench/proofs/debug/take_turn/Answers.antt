@@ -1,0 +1,60 @@
+use Rattle.std.proofs.Common.{◌≡◌, ◌≢◌, ◌⊎◌, ◌∙◌, ◌++◌, inl, inr, [], ◌∷◌, true, false, Bool, List, ℕ, length, Ok, Err, ap, refl, sym, subst, rules}
+use Rattle.std.proofs.lemmas.List.{nil_from_length}
+use Rattle.std.specs.Io.KnownBytes.{Consumes}
+use Rattle.workbench.specs.Debug.{HasNoEnd}
+use Rattle.workbench.proofs.Conversations.{ends_with_a_line, ends_without_a_line, is_cut, is_left, left_unanswered, part_given, quits, was_read}
+use Rattle.workbench.proofs.debug.take_turn.Goals as goal
+use Rattle.workbench.proofs.debug.take_turn.Goals.{else-not-is_ended-via-then-not-is_ended+else-is_empty, else-not-is_ended-via-else-not-is_ended}
+
+pub returns-in-Err-clause-memory : goal.returns-in-Err-clause-memory
+returns-in-Err-clause-memory g c = λ is.
+    let e = c.in-Err.ensures.memory is in
+    is_left c.args.debugger.now _ _ _ _ e.0 (inl (part_given _ _ e.0 e.1.1 e.1.0)) refl
+
+pub returns-in-Err-clause-read : goal.returns-in-Err-clause-read
+returns-in-Err-clause-read g c = λ is.
+    let e = c.in-Err.ensures.read is in
+    (e.0, is_cut c.args.debugger.now _ _ _ _ c.read_line.new.line.items e.1 c.in-Err.ensures.line refl)
+
+pub returns-then-is_empty-clause-last : goal.returns-then-is_empty-clause-last
+returns-then-is_empty-clause-last g c = λ _.
+    let none : length c.read_line.new.line.items ≡ 0 = search rules in
+    let e = c.in-Ok.ensures.last (ap Ok c.if-not-is_ended.true) in
+    ends_without_a_line c.args.debugger.now _ _ _ _ c.read_line.new.line.items (nil_from_length c.read_line.new.line.items none) e.0 e.1 c.in-Ok.ensures.line refl
+
+pub returns-then-is_ended-clause-last : goal.returns-then-is_ended-clause-last
+returns-then-is_ended-clause-last g c = λ is.
+    let off : c.in-Ok-answer.goes_on ≡ false = cc in
+    let line = c.as_slice.ensures.value in
+    quits c.args.debugger.now c.answer.new.debugger _ _ _ _ c.as_slice.result.now
+    (subst (λ l. Consumes (g.S.Source.left c.args.commands.now) (g.S.Source.left c.read_line.new.source) (l ++ 10 ∷ [])) (sym line) (c.in-Ok.ensures.ended (ap Ok c.if-is_ended.true)))
+    (subst HasNoEnd (sym line) c.in-Ok.ensures.line)
+    (sym c.in-Ok-answer.ensures.goes_on ∙ off)
+    c.in-Ok-answer.ensures.answered
+
+pub returns-else-is_ended-clause-last : goal.returns-else-is_ended-clause-last
+returns-else-is_ended-clause-last g c = λ _.
+    let some : c.read_line.new.line.items ≢ [] = elim c.else-not-is_ended.branch [
+      | else-not-is_ended-via-then-not-is_ended+else-is_empty w ↦ search rules
+      | else-not-is_ended-via-else-not-is_ended w ↦ absurd (cc w.if-not-is_ended.false)
+    ] in
+    let line = c.as_slice.ensures.value in
+    let e = c.in-Ok.ensures.last (ap Ok c.if-is_ended.false) in
+    ends_with_a_line c.args.debugger.now c.answer.new.debugger _ _ _ _ c.as_slice.result.now
+    (subst (λ l. l ≢ []) (sym line) some)
+    (subst (Consumes (g.S.Source.left c.args.commands.now) (g.S.Source.left c.read_line.new.source)) (sym line) e.0) e.1
+    (subst HasNoEnd (sym line) c.in-Ok.ensures.line)
+    c.in-Ok-answer.ensures.answered
+
+pub returns-in-Err-answer-clause-memory : goal.returns-in-Err-answer-clause-memory
+returns-in-Err-answer-clause-memory g c = λ is.
+    left_unanswered c.args.debugger.now _ _ _ _ c.read_line.new.line.items c.in-Ok.is_ended
+    (λ e. c.in-Ok.ensures.ended (ap Ok e)) (λ e. c.in-Ok.ensures.last (ap Ok e)) c.in-Ok.ensures.line
+    (c.in-Err-answer.ensures.memory is).1
+
+pub returns-in-Err-answer-clause-write : goal.returns-in-Err-answer-clause-write
+returns-in-Err-answer-clause-write g c = λ is. (
+  c.in-Err-answer.ensures.write is,
+  was_read _ _ c.read_line.new.line.items c.in-Ok.is_ended
+      (λ e. c.in-Ok.ensures.ended (ap Ok e)) (λ e. c.in-Ok.ensures.last (ap Ok e)) c.in-Ok.ensures.line,
+)

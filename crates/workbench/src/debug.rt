@@ -1,0 +1,220 @@
+ghost use Rattle.std.specs.Prelude.{◌≡◌, ◌≢◌, ◌⊎◌, ◌∷◌, [], true, false, List, ℕ, Ok, Err, IsTrue, IfOk, IfErr, OnOk};
+ghost use Rattle.std.specs.Io.KnownBytes.{Appends};
+ghost use Rattle.line_reader.specs.declared.asm_fault.AsmFault.{AsmFault};
+ghost use Rattle.row_code.specs.declared.image_fault.ImageFault.{ImageFault};
+ghost use Rattle.loader.specs.declared.load_fault.LoadFault.{LoadFault};
+ghost use Rattle.schedule_reader.specs.declared.fault.ScheduleFault.{ScheduleFault};
+ghost use Rattle.thread_machine.specs.World.{StoredWorld, world_of};
+ghost use Rattle.trace_compare.specs.RunText.{GivesOnAndOn};
+ghost use Rattle.trace_compare.specs.Start.{Begins, IsRefused};
+ghost use Rattle.debugger.specs.Command.{goes_on, line_order};
+ghost use Rattle.workbench.specs.declared.fault.Fault.{Fault};
+ghost use Rattle.workbench.specs.Debug.{GivesLines, HasAnswered, HasConversed, HasConversedAtMost, HasConversedSoFar, HasDebugged, HasDebuggedAtMost, HasDebuggedSoFar, HasReadLines, first_session};
+ghost use Rattle.workbench.specs.Fault.{HasTold, status_of};
+ghost use Rattle.workbench.specs.Input.{GivesTooMuch};
+ghost use Rattle.workbench.specs.Run.{HasNoRun};
+
+use crate::fault::{DONE, Fault};
+use crate::input_line::read_line;
+use crate::program_file::read_program;
+use byte_ports::{Sink, Source};
+use debugger::{CommandFault, Debugger};
+use row_code::Image;
+use std::alloc::Global;
+use trace_compare::start::{StartFault, first_machine};
+
+/// How many choices can be taken back.
+const MOST_KEPT: u16 = 4096;
+
+/// How many lines of commands are read at most.
+const MOST_LINES: u64 = 1_000_000_000;
+
+/// Debugs the program in `file`, an image or a text: reads a line of `commands`, carries it out, writes its reply to
+/// `output`, and reads on, up to the line `q` or to the end. Answers the exit status, 0 where all went well, also where a
+/// line is no command or its choice is refused. For any other status one line stands on `errors`: `refused asm LINE KIND`,
+/// `refused image KIND [PLACE]` or `refused load KIND [PLACE]` (3), `memory` (4), or `read` or `write` (5). What `errors`
+/// makes of that line changes no status. The commands are read a byte at a time, once the program is loaded: no byte behind
+/// a line's LF is asked for before its reply is handed to `output`, and none after `q`. `output` is handed a reply in up to
+/// four pieces, the last with its LF; a port that keeps bytes back has to let them go there.
+pub fn debug_cmd<F: Source, S: Source, K: Sink, E: Sink>(
+    alloc: Global,
+    file: &mut F,
+    commands: &mut S,
+    output: &mut K,
+    errors: &mut E,
+) -> u8
+    ensures statuses { (result ≡ 0) ⊎ ((result ≡ 3) ⊎ ((result ≡ 4) ⊎ (result ≡ 5))) }
+    ensures done { result ≡ 0 → HasDebugged (F.left file.old) (F.left file.new)
+        (S.left commands.old) (S.left commands.new) (K.written output.old) (K.written output.new) }
+    ensures told { ((result ≡ 0) × (E.written errors.new ≡ E.written errors.old))
+        ⊎ ((fault : Fault) × ((result ≡ status_of fault)
+        × (HasTold fault (E.has_failed errors.new) (E.written errors.old) (E.written errors.new)
+        × (result ≡ 3 → HasNoRun fault (F.left file.old) (F.left file.new) (S.left commands.old) (S.left commands.new))
+        × (fault ≡ Fault.Read → HasDebuggedSoFar (F.left file.old) (F.left file.new)
+        (S.left commands.old) (S.left commands.new) (K.written output.old) (K.written output.new))
+        × (fault ≡ Fault.Write → HasReadLines (S.left commands.old) (S.left commands.new))))) }
+    ensures unchanged { result ≡ 3 → K.written output.new ≡ K.written output.old }
+    ensures memory { result ≡ 4 → HasDebuggedAtMost (F.left file.old) (F.left file.new)
+        (S.left commands.old) (S.left commands.new) (K.written output.old) (K.written output.new) }
+    ensures port { result ≡ 5 → (IsTrue (F.has_failed file.new)
+        ⊎ GivesTooMuch (F.left file.old) (F.left file.new))
+        ⊎ ((IsTrue (S.has_failed commands.new)
+        ⊎ GivesOnAndOn (S.left commands.old) (S.left commands.new))
+        ⊎ IsTrue (K.has_failed output.new)) }
+{
+    match debug(alloc, file, commands, output) {
+        Ok(()) => DONE,
+        Err(fault) => {
+            let _ = fault.tell(errors);
+            fault.status()
+        }
+    }
+}
+
+/// The same with the fault that decides the status.
+fn debug<F: Source, S: Source, K: Sink>(
+    alloc: Global,
+    file: &mut F,
+    commands: &mut S,
+    output: &mut K,
+) -> Result<(), Fault>
+    ensures done { OnOk result (HasDebugged (F.left file.old) (F.left file.new)
+        (S.left commands.old) (S.left commands.new) (K.written output.old) (K.written output.new)) }
+    ensures refused { IfErr result (λ fault. status_of fault ≡ 3
+        → HasNoRun fault (F.left file.old) (F.left file.new) (S.left commands.old) (S.left commands.new)
+        × (K.written output.new ≡ K.written output.old)) }
+    ensures memory { IfErr result (λ fault. status_of fault ≡ 4
+        → HasDebuggedAtMost (F.left file.old) (F.left file.new)
+        (S.left commands.old) (S.left commands.new) (K.written output.old) (K.written output.new)) }
+    ensures unread { result ≡ Err Fault.Read → HasDebuggedSoFar (F.left file.old) (F.left file.new)
+        (S.left commands.old) (S.left commands.new) (K.written output.old) (K.written output.new) }
+    ensures read { result ≡ Err Fault.Read → (IsTrue (F.has_failed file.new)
+        ⊎ GivesTooMuch (F.left file.old) (F.left file.new))
+        ⊎ (IsTrue (S.has_failed commands.new)
+        ⊎ GivesOnAndOn (S.left commands.old) (S.left commands.new)) }
+    ensures write { result ≡ Err Fault.Write → IsTrue (K.has_failed output.new)
+        × HasReadLines (S.left commands.old) (S.left commands.new) }
+{
+    let image = match read_program(alloc, file) {
+        Ok(image) => image,
+        Err(fault) => return Err(fault),
+    };
+    let mut debugger = match first_debugger(alloc, image) {
+        Ok(debugger) => debugger,
+        Err(fault) => return Err(fault),
+    };
+    converse(alloc, &mut debugger, commands, output)
+}
+
+/// A debugger of an image's program before its first choice.
+fn first_debugger(alloc: Global, image: Image) -> Result<Debugger, Fault>
+    ensures first { IfOk result (λ debugger. (world : StoredWorld) × (Begins image (world_of world)
+        × (debugger ≡ first_session world))) }
+    ensures load { (fault : LoadFault) → result ≡ Err (Fault.Load fault) → IsRefused fault image }
+    ensures other { ((fault : AsmFault) → result ≢ Err (Fault.Asm fault))
+        × ((fault : ImageFault) → result ≢ Err (Fault.Image fault))
+        × ((fault : ScheduleFault) → result ≢ Err (Fault.Schedule fault))
+        × (result ≢ Err Fault.Read) × (result ≢ Err Fault.Write) }
+{
+    let machine = match first_machine(alloc, image) {
+        Ok(machine) => machine,
+        Err(StartFault::Load(fault)) => return Err(Fault::Load(fault)),
+        Err(StartFault::Memory) => return Err(Fault::Memory),
+    };
+    match Debugger::new(alloc, machine, MOST_KEPT) {
+        Ok(debugger) => Ok(debugger),
+        Err(_) => Err(Fault::Memory),
+    }
+}
+
+/// Reads lines and answers each before the next, up to `q` or to the end.
+fn converse<S: Source, K: Sink>(
+    alloc: Global,
+    debugger: &mut Debugger,
+    commands: &mut S,
+    output: &mut K,
+) -> Result<(), Fault>
+    ensures done { OnOk result (HasConversed debugger.old
+        (S.left commands.old) (S.left commands.new) (K.written output.old) (K.written output.new)) }
+    ensures memory { result ≡ Err Fault.Memory → HasConversedAtMost debugger.old
+        (S.left commands.old) (S.left commands.new) (K.written output.old) (K.written output.new) }
+    ensures read { result ≡ Err Fault.Read
+        → (IsTrue (S.has_failed commands.new) ⊎ GivesOnAndOn (S.left commands.old) (S.left commands.new))
+        × HasConversedSoFar debugger.old
+        (S.left commands.old) (S.left commands.new) (K.written output.old) (K.written output.new) }
+    ensures write { result ≡ Err Fault.Write
+        → IsTrue (K.has_failed output.new) × HasReadLines (S.left commands.old) (S.left commands.new) }
+    ensures fault { IfErr result (λ fault. (fault ≡ Fault.Memory) ⊎ ((fault ≡ Fault.Read) ⊎ (fault ≡ Fault.Write))) }
+{
+    let mut line = Vec::new(alloc);
+    for _ in 0..MOST_LINES {
+        match take_turn(alloc, debugger, &mut line, commands, output) {
+            Ok(true) => {}
+            Ok(false) => return Ok(()),
+            Err(fault) => return Err(fault),
+        }
+    }
+    Err(Fault::Read)
+}
+
+/// Reads a line and answers it; whether the session goes on.
+fn take_turn<S: Source, K: Sink>(
+    alloc: Global,
+    debugger: &mut Debugger,
+    line: &mut Vec<u8>,
+    commands: &mut S,
+    output: &mut K,
+) -> Result<bool, Fault>
+    ensures next { result ≡ Ok true → (text : List ℕ)
+        × (GivesLines (S.left commands.old) (S.left commands.new) (text ∷ []) []
+        × (goes_on (line_order text) ≡ true)
+        × HasAnswered debugger.old (text ∷ []) debugger.new (K.written output.old) (K.written output.new)) }
+    ensures last { result ≡ Ok false → HasConversed debugger.old
+        (S.left commands.old) (S.left commands.new) (K.written output.old) (K.written output.new) }
+    ensures memory { result ≡ Err Fault.Memory → HasConversedAtMost debugger.old
+        (S.left commands.old) (S.left commands.new) (K.written output.old) (K.written output.new) }
+    ensures read { result ≡ Err Fault.Read
+        → (IsTrue (S.has_failed commands.new) ⊎ GivesOnAndOn (S.left commands.old) (S.left commands.new))
+        × HasConversedSoFar debugger.old
+        (S.left commands.old) (S.left commands.new) (K.written output.old) (K.written output.new) }
+    ensures write { result ≡ Err Fault.Write
+        → IsTrue (K.has_failed output.new) × HasReadLines (S.left commands.old) (S.left commands.new) }
+    ensures fault { IfErr result (λ fault. (fault ≡ Fault.Memory) ⊎ ((fault ≡ Fault.Read) ⊎ (fault ≡ Fault.Write))) }
+{
+    let is_ended = match read_line(commands, line) {
+        Ok(is_ended) => is_ended,
+        Err(fault) => return Err(fault),
+    };
+    if !is_ended && line.is_empty() {
+        return Ok(false);
+    }
+    match answer(alloc, debugger, line.as_slice(), output) {
+        Ok(goes_on) => Ok(is_ended && goes_on),
+        Err(fault) => Err(fault),
+    }
+}
+
+/// `Debugger::command` in the words of the commands.
+fn answer<K: Sink>(
+    alloc: Global,
+    debugger: &mut Debugger,
+    line: &[u8],
+    output: &mut K,
+) -> Result<bool, Fault>
+    ensures answered { OnOk result (HasAnswered debugger.old (line.now ∷ []) debugger.new
+        (K.written output.old) (K.written output.new)) }
+    ensures goes_on { IfOk result (λ more. more ≡ goes_on (line_order line.now)) }
+    ensures memory { result ≡ Err Fault.Memory
+        → (debugger.new ≡ debugger.old) × (K.written output.new ≡ K.written output.old) }
+    ensures write { result ≡ Err Fault.Write → IsTrue (K.has_failed output.new) }
+    ensures fault { IfErr result (λ fault. (fault ≡ Fault.Memory) ⊎ (fault ≡ Fault.Write)) }
+{
+    match debugger.command(alloc, line, output) {
+        Ok(goes_on) => Ok(goes_on),
+        Err(CommandFault::Memory) => Err(Fault::Memory),
+        Err(CommandFault::Write) => Err(Fault::Write),
+    }
+}
+
+#[cfg(test)]
+mod tests;
