@@ -3,7 +3,7 @@ use Rattle.std.proofs.Common.{inl, inr, ◌≡◌, ◌≢◌, ◌∙◌, ℕ, �
 use Rattle.std.specs.Prelude.{is_some, Option, Some, None, slice_index_or, All}
 use Rattle.std.proofs.lemmas.Option.{slice_get_cases}
 use Rattle.instruction_table.specs.declared.row.Row.{Row}
-use Rattle.instruction_table.specs.declared.row.Row.TheVariants.{Halt, Cawait, Cawaitt}
+use Rattle.instruction_table.specs.declared.row.Row.TheVariants.{Halt, Cawait}
 use Rattle.instruction_table.specs.declared.register.Reg.{Reg}
 use Rattle.tier_tree.specs.Forest.{flat_at}
 use Rattle.tier_tree.specs.Trees.{is_pending}
@@ -31,14 +31,6 @@ next_within program counts pc code within goes =
     let last : pc ≡ length program.rows - 1 → pc + 1 < length program.rows =
     λ is. absurd (cc (ap (λ (n : ℕ). stops (row_at program.rows n)) is, code.last, goes)) in
     grind (arith, last)
-
--- the same, and the number fits
-pub next_fits : (program : Program) (counts : Counts) (pc : ℕ) → IsCode program counts → pc < length program.rows
-    → stops (row_at program.rows pc) ≡ false → (pc + 1 < length program.rows) × (pc + 1 < 65536)
-next_fits program counts pc code within goes =
-    let next = next_within program counts pc code within goes in
-    let few = code.few in
-    (next, omega (arith, next, few))
 
 -- what the row names is there
 pub named_at : (program : Program) (counts : Counts) (pc : ℕ) → IsCode program counts → pc < length program.rows
@@ -109,20 +101,6 @@ action_runs program steps scene t b row registers sound there is =
     let few = sound.actions b in
     true_if (is_some (barrier_at scene b).runner) (omega (arith, some, few))
 
--- no entry of any stack is that of an action that no thread runs
-pub no_action_entry : (program : Program) (steps : ℕ) (scene : Scene) (b : ℕ) → IsSound program steps scene
-    → (barrier_at scene b).runner ≡ None → entries (is_action b) scene.threads ≡ 0
-no_action_entry program steps scene b sound idle =
-    let few = sound.actions b in
-    let none : bit (is_some (barrier_at scene b).runner) ≡ 0 = ap (λ (r : Option ℕ). bit (is_some r)) idle in
-    omega (arith, few, none)
-
-pub no_action_on_top : (program : Program) (steps : ℕ) (scene : Scene) (t b row : ℕ) (registers : List ℤ) → IsSound program steps scene
-    → t < length scene.threads → (barrier_at scene b).runner ≡ None → top_of (thread_at scene t).stack ≢ Some (frame.Action b registers row)
-no_action_on_top program steps scene t b row registers sound there idle is =
-    let runs = action_runs program steps scene t b row registers sound there is in
-    cc (ap (λ (r : Option ℕ). is_some r) idle, runs)
-
 -- a thread with such a status waits at no barrier
 pub data IsFree : Status → Type 0 where
   RunsOn : IsFree status.Runs
@@ -159,22 +137,9 @@ no_wait program steps scene t b sound free =
     none_if (wait_at (barrier_at scene b).waits t)
     (known ∙ not_awaiting b (thread_at scene t).status (row_at program.rows (thread_at scene t).pc) free)
 
--- one that runs has none
-pub no_wait_runs : (program : Program) (steps : ℕ) (scene : Scene) (t b : ℕ) → IsSound program steps scene
-    → (thread_at scene t).status ≡ status.Runs → wait_at (barrier_at scene b).waits t ≡ None
-no_wait_runs program steps scene t b sound runs =
-    none_if (wait_at (barrier_at scene b).waits t)
-    (sound.waits b t ∙ ap (λ (s : Status). awaits b s (row_at program.rows (thread_at scene t).pc)) runs)
-
 -- a thread that awaits a barrier at this row has a wait there
 pub awaited : (program : Program) (steps : ℕ) (scene : Scene) (t b : ℕ) (index : ℤ) (into : Reg) → IsSound program steps scene
     → (thread_at scene t).status ≡ status.AwaitsBarrier index → row_at program.rows (thread_at scene t).pc ≡ Cawait into b
     → is_some (wait_at (barrier_at scene b).waits t) ≡ true
 awaited program steps scene t b index into sound waits row =
-    sound.waits b t ∙ ap (λ (s : Status). awaits b s (row_at program.rows (thread_at scene t).pc)) waits ∙ ap (is_wait_row b) row ∙ same-is b
-
-pub awaited_timed : (program : Program) (steps : ℕ) (scene : Scene) (t b : ℕ) (index : ℤ) (into time : Reg) → IsSound program steps scene
-    → (thread_at scene t).status ≡ status.AwaitsBarrier index → row_at program.rows (thread_at scene t).pc ≡ Cawaitt into b time
-    → is_some (wait_at (barrier_at scene b).waits t) ≡ true
-awaited_timed program steps scene t b index into time sound waits row =
     sound.waits b t ∙ ap (λ (s : Status). awaits b s (row_at program.rows (thread_at scene t).pc)) waits ∙ ap (is_wait_row b) row ∙ same-is b

@@ -16,8 +16,6 @@ pub mod BarrierRows
 pub mod Waits
 pub mod Outcomes
 pub mod Start
-pub mod Threads
-pub mod ReadFacts
 pub mod Reaches
 pub mod Undone
 pub mod UndoneRows
@@ -26,4 +24,5 @@ pub mod ReadyThreads
 pub mod Standings
 pub mod Awake
 pub mod ThreadSets
+pub mod LocalTurns
 mod WorkedRows

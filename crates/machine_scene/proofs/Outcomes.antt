@@ -1,5 +1,5 @@
 -- Each turn of a thread, and each expiry of a timed wait, leaves a sound scene sound.
-use Rattle.std.proofs.Common.{◌≡◌, ◌∙◌, sym, ℕ, ◌+◌, ◌<◌, length, refl, subst}
+use Rattle.std.proofs.Common.{◌≡◌, ℕ, ◌+◌, ◌<◌, length, refl, subst}
 use Rattle.std.specs.Prelude.{Some, None}
 use Rattle.instruction_table.specs.declared.row.Row.{Row}
 use Rattle.loader.specs.Program.{Program, row_at}
@@ -87,11 +87,3 @@ sound_timeout program steps t scene outcome sound few there is =
     (either (KeepsSound program (steps + 1)) (is_ready t program scene) {a = None} tt
     (timeout_sound_in thread.status program steps t scene (row_at program.rows thread.pc)
     (stands_at program steps t scene thread.status sound few there refl)))
-
--- two sound scenes of a program with as many threads have as much of everything that a row may name
-pub same_counts : (program : Program) (steps most : ℕ) (scene after : Scene) → IsSound program steps scene → IsSound program most after
-    → length after.threads ≡ length scene.threads → counts_of program after ≡ counts_of program scene
-same_counts program steps most scene after sound sound_after threads =
-    let phasers : length after.phasers ≡ length scene.phasers = sym sound_after.code.all_routines ∙ sound.code.all_routines in
-    let barriers : length after.barriers ≡ length scene.barriers = sym sound_after.code.all_actions ∙ sound.code.all_actions in
-    cc (threads, phasers, barriers)

@@ -19,7 +19,7 @@ use Rattle.machine_scene.specs.PhaserRows.{is_own_tree, unless_own, outcome_of_r
 use Rattle.machine_scene.specs.BarrierRows.{is_run_by, is_run_by_another, unless_busy, unless_runner, outcome_of_entered, outcome_of_entry, outcome_of_await_at}
 use Rattle.machine_scene.specs.Waits.{outcome_of_release}
 use Rattle.machine_scene.specs.Outcomes.{outcome_of_row, outcome_of_expiry, timeout_in, is_ready}
-use Rattle.machine_scene.specs.Ready.{is_held, registration_is_held, is_blocked}
+use Rattle.machine_scene.specs.Ready.{is_held, registration_is_held, is_blocked, may_be_blocked}
 
 -- an outcome that is there either way
 either : (test : Bool) (one other : Option Outcome) → is_some one ≡ true → is_some other ≡ true
@@ -163,6 +163,17 @@ row_is_ready (Creset b) t program scene = runner_is_ready b t scene _
 row_is_ready (Cbroken into b) t program scene = busy_is_ready b t scene _
 row_is_ready (Cwaiting into b) t program scene = runner_is_ready b t scene _
 row_is_ready (Cparties into b) t program scene = refl
+
+-- where no thread has to wait
+pub seldom_blocked : (row : Row) (t : ℕ) (scene : Scene) → may_be_blocked row ≡ false → is_blocked row t scene ≡ false
+seldom_blocked (Preg into p) t scene is = absurd (cc is)
+seldom_blocked (Pbulk into p count) t scene is = absurd (cc is)
+seldom_blocked (Cawait into b) t scene is = absurd (cc is)
+seldom_blocked (Cawaitt into b time) t scene is = absurd (cc is)
+seldom_blocked (Creset b) t scene is = absurd (cc is)
+seldom_blocked (Cbroken into b) t scene is = absurd (cc is)
+seldom_blocked (Cwaiting into b) t scene is = absurd (cc is)
+seldom_blocked _ t scene is = refl
 
 -- a wait that can't end is unreleased
 pub unreleased : (wait : Option WaitState) (into : Reg) (index : ℤ) (b t : ℕ) (scene : Scene)

@@ -2,11 +2,7 @@
 use Rattle.std.proofs.Common.{inl, inr, sym, ◌≢◌, ◌≡◌, ◌∙◌, ℕ, ◌-◌, ◌*◌, ◌%◌, ◌^◌, ◌+◌, ◌<◌, ◌==◌, ◌||◌, ◌&&◌, not, Bool, true, false, refl, ap, arith, bit_and, bit_or, if◌then◌else◌}
 use Rattle.cyclic_barrier.specs.ThreadSet.{has}
 use Rattle.std.proofs.lemmas.Bool.{cases_eq}
-use Rattle.instruction_table.specs.declared.row.Row.{Row}
-use Rattle.instruction_table.specs.declared.row.Row.TheVariants.{Intr}
-use Rattle.loader.specs.Program.{Program}
-use Rattle.machine_scene.specs.Scene.{StoredScene, scene_of}
-use Rattle.machine_scene.specs.Awake.{is_awake, AreAwake, AreOthersAwake, IsSetAt, interrupts}
+use Rattle.machine_scene.specs.Awake.{IsSetAt}
 use Rattle.cyclic_barrier.proofs.ThreadSetLemmas.{has-with, has-without}
 use Rattle.tier_tree.proofs.Stands.{same-is, other-is}
 
@@ -48,28 +44,3 @@ one_more awake t before set known is u within = elim (cases_eq u t) as (λ _. ha
   | inl same ↦ here t (awake t) before set is u same ∙ ap awake (sym same)
   | inr apart ↦ elsewhere t (awake t) before set is u apart ∙ known u (omega (arith, within, apart))
 ]
-
--- after a step of thread t that woke nobody else
-pub own_looked_at : (program : Program) (t : ℕ) (row : Row) (before set : ℕ) (stored : StoredScene)
-    → AreOthersAwake program t row before stored → IsSetAt t (is_awake t program (scene_of stored)) before set
-    → ((u : ℕ) → interrupts u row ≡ false) → AreAwake program set stored
-own_looked_at program t row before set stored others is free u there =
-    let awake : ℕ → Bool = λ n. is_awake n program (scene_of stored) in
-    elim (cases_eq u t) as (λ _. has set u ≡ awake u) [
-      | inl same ↦ here t (awake t) before set is u same ∙ ap awake (sym same)
-      | inr apart ↦ elsewhere t (awake t) before set is u apart ∙ others u there apart (free u)
-    ]
-
--- and that interrupted one
-pub both_looked_at : (program : Program) (t other : ℕ) (before own set : ℕ) (stored : StoredScene)
-    → AreOthersAwake program t (Intr other) before stored → IsSetAt t (is_awake t program (scene_of stored)) before own
-    → IsSetAt other (is_awake other program (scene_of stored)) own set → AreAwake program set stored
-both_looked_at program t other before own set stored others is next u there =
-    let awake : ℕ → Bool = λ n. is_awake n program (scene_of stored) in
-    elim (cases_eq u other) as (λ _. has set u ≡ awake u) [
-      | inl same ↦ here other (awake other) own set next u same ∙ ap awake (sym same)
-      | inr away ↦ elsewhere other (awake other) own set next u away ∙ (elim (cases_eq u t) as (λ _. has own u ≡ awake u) [
-        | inl same ↦ here t (awake t) before own is u same ∙ ap awake (sym same)
-        | inr apart ↦ elsewhere t (awake t) before own is u apart ∙ others u there apart (other-is other u (λ same. away (sym same)))
-      ])
-    ]

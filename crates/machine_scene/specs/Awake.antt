@@ -4,6 +4,7 @@
 use Rattle.std.specs.Prelude.{◌≡◌, ◌≢◌, ℕ, ◌<◌, ◌==◌, Bool, true, false, is_some, length, if◌then◌else◌}
 use Rattle.instruction_table.specs.declared.row.Row.{Row}
 use Rattle.instruction_table.specs.declared.row.Row.TheVariants.{Intr, Pforce, Creset}
+use Rattle.instruction_table.specs.LocalRows.{is_local_row}
 use Rattle.cyclic_barrier.specs.ThreadSet.{has}
 use Rattle.loader.specs.Program.{Program, row_at}
 use Rattle.thread_state.specs.declared.event.Event.{Event}
@@ -49,6 +50,11 @@ AreOthersAwake program t row set stored =
 -- the set is that of before, but for one thread
 abbrev pub IsSetAt : ℕ → Bool → ℕ → ℕ → Type 0
 IsSetAt t awake before set = (u : ℕ) → has set u ≡ (if t == u then awake else has before u)
+
+-- thread t, of this status, runs, and its row is one on registers alone: after such a turn those are awake who were before it
+abbrev pub is_local_turn : Status → Row → Bool
+is_local_turn status.Runs row = is_local_row row
+is_local_turn _ row = false
 
 -- an event that shows more than a turn of its own thread: a phase or a generation has ended, or a routine or an action
 -- begins

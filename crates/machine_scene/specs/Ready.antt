@@ -24,6 +24,17 @@ registration_is_held p count t scene =
     not (is_own_tree p (thread_at scene t) scene) && (not (int_lt count (pos 0))
     && is_held (registration p (nat_abs count) scene.phasers))
 
+-- rows that some threads have to wait at before they are played
+abbrev pub may_be_blocked : Row → Bool
+may_be_blocked (Preg into p) = true
+may_be_blocked (Pbulk into p count) = true
+may_be_blocked (Cawait into b) = true
+may_be_blocked (Cawaitt into b time) = true
+may_be_blocked (Creset b) = true
+may_be_blocked (Cbroken into b) = true
+may_be_blocked (Cwaiting into b) = true
+may_be_blocked _ = false
+
 -- the row of running thread t has to wait
 abbrev pub is_blocked : Row → ℕ → Scene → Bool
 is_blocked (Preg into p) t scene = registration_is_held p (pos 1) t scene

@@ -5,6 +5,7 @@ ghost use Rattle.machine_scene.specs.Outcomes.{is_ready, outcome_of_expiry};
 ghost use Rattle.machine_scene.specs.Sound.{IsSound};
 ghost use Rattle.machine_scene.specs.Awake.{KeepsAwake};
 
+use crate::note::SceneNote;
 use crate::stage::Stage;
 use loader::Loaded;
 use std::alloc::AllocError;
@@ -18,7 +19,8 @@ pub fn turn_and_back(stage: &mut Stage, program: &Loaded, t: usize) -> Result<Ev
     requires ready { is_ready t program.now (scene_of stage.old) ≡ true }
     ensures { stage.new ≡ stage.old }
 {
-    let note = stage.note(program, t);
+    let mut note = SceneNote::new();
+    stage.note(program, t, &mut note);
     match stage.turn(program, t) {
         Ok(event) => {
             stage.undo(&note);
@@ -36,7 +38,8 @@ pub fn expiry_and_back(stage: &mut Stage, program: &Loaded, t: usize) -> Event
     requires ready { is_some (outcome_of_expiry t program.now (scene_of stage.old)) ≡ true }
     ensures { stage.new ≡ stage.old }
 {
-    let note = stage.note(program, t);
+    let mut note = SceneNote::new();
+    stage.note(program, t, &mut note);
     let event = stage.expire(program, t);
     stage.undo(&note);
     event

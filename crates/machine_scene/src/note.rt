@@ -1,3 +1,6 @@
+ghost use Rattle.std.specs.Prelude.{◌≡◌, None};
+ghost use Rattle.machine_scene.specs.declared.note.Touched.TheVariants.{Nothing};
+
 use cyclic_barrier::Barrier;
 use std::marker::Model;
 use thread_state::ThreadNote;
@@ -33,4 +36,19 @@ impl Model for SceneNote {
       touched = note.beside;
       awake = note.awake;
     } };
+}
+
+impl SceneNote {
+    /// Of no thread, with nothing in it: to be written by `Stage::note`.
+    pub fn new() -> SceneNote
+        ensures top { result.before.top ≡ None }
+        ensures touched { result.touched ≡ Nothing }
+    {
+        SceneNote {
+            number: 0,
+            own: ThreadNote::new(),
+            beside: Touched::Nothing,
+            awake: 0,
+        }
+    }
 }

@@ -8,7 +8,7 @@ ghost use Rattle.machine_scene.specs.Group.{group_of};
 ghost use Rattle.machine_scene.specs.Outcomes.{outcome_in, outcome_of, outcome_of_row, outcome_of_expiry, is_ready};
 ghost use Rattle.machine_scene.specs.Outcomes.{timeout_in};
 ghost use Rattle.machine_scene.specs.Sound.{IsSound, StandsAt};
-ghost use Rattle.machine_scene.specs.Awake.{is_awake, KeepsAwake, AreOthersAwake, may_wake};
+ghost use Rattle.machine_scene.specs.Awake.{is_awake, KeepsAwake, AreOthersAwake, may_wake, is_local_turn};
 ghost use Rattle.machine_scene.specs.Undo.{PhasersWithin, CanUndo, reach_of_row, reach_in, note_of, undone};
 
 use crate::group::{Group, group_of};
@@ -180,6 +180,7 @@ impl Stage {
     }
 
     /// The row that a thread stands at.
+    #[inline(always)]
     pub fn row_of(&self, program: &Loaded, t: usize) -> Row
         requires sound { IsSound program.now 2147483646 (scene_of self.now) }
         requires thread { t < length self.now.threads }
@@ -192,6 +193,7 @@ impl Stage {
     }
 
     /// Whether a thread may take a step.
+    #[inline(always)]
     #[tactic(auto, using(crate::proofs::Awake::asleep))]
     pub fn is_ready(&self, program: &Loaded, t: usize) -> bool
         requires sound { IsSound program.now 2147483646 (scene_of self.now) }
@@ -203,6 +205,7 @@ impl Stage {
     }
 
     /// Whether a thread that is awake may take a step.
+    #[inline(always)]
     fn goes_on(&self, program: &Loaded, t: usize) -> bool
         requires sound { IsSound program.now 2147483646 (scene_of self.now) }
         requires awake { is_awake t program.now (scene_of self.now) ≡ true }
@@ -254,6 +257,9 @@ impl Stage {
         ensures awake { OnOk result (KeepsAwake program.now self.new) }
     {
         let row = self.row_of(program, t);
+        if self.is_local_turn(row, t) {
+            return Ok(self.local_turn(program, row, t));
+        }
         let before = self.awake;
         match self.turn_of_row(program, row, t) {
             Ok(event) => {
@@ -262,6 +268,29 @@ impl Stage {
             }
             Err(refused) => Err(refused),
         }
+    }
+
+    /// The same of a running thread that stands at this row on registers alone: those who were awake are so still.
+    #[inline(always)]
+    fn local_turn(&mut self, program: &Loaded, row: Row, t: usize) -> Event
+        requires sound { IsSound program.now 2147483646 (scene_of self.old) }
+        requires awake { KeepsAwake program.now self.old }
+        requires thread { t < length self.old.threads }
+        requires row { row ≡ row_at program.now.rows (thread_at (scene_of self.old) t).pc }
+        requires at { StandsAt program.now row t self.old }
+        requires local { is_local_turn (thread_at (scene_of self.old) t).status row ≡ true }
+        ensures ok { outcome_of t program.now (scene_of self.old)
+            ≡ Some (record { scene = scene_of self.new; event = result }) }
+        ensures sound { (steps : ℕ) → steps < 2147483647
+            → IsSound program.now steps (scene_of self.old)
+            → IsSound program.now (steps + 1) (scene_of self.new) }
+        ensures undo { undone (note_of t program.now self.old) self.new ≡ self.old }
+        ensures can { CanUndo (note_of t program.now self.old) self.new }
+        ensures threads { length self.new.threads ≡ length self.old.threads }
+        ensures awake { KeepsAwake program.now self.new }
+    {
+        self.phasers_are_stored();
+        self.own_row(row, t)
     }
 
     /// The same of a thread that stands at this row, and which threads are awake is yet to be found out.

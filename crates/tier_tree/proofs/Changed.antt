@@ -97,16 +97,6 @@ changed_then_root before mid after id r stored stored_mid there is one two =
           ∙ one.others n away;
     }
 
--- two calls at one phaser
-pub changed_again : (before mid after : List Stored) (id : ℕ) → ChangedAt id before mid → ChangedAt id mid after → ChangedAt id before after
-changed_again before mid after id one two =
-    let same : (stored_at mid id).line ≡ (stored_at before id).line = ap (λ (p : Place). p.line) (one.places id) in
-    record {
-      many = two.many ∙ one.many;
-      places = λ n. two.places n ∙ one.places n;
-      others = λ n away. two.others n (subst (λ (l : List ℕ). All (λ (m : ℕ). n ≢ m) l) (sym same) away) ∙ one.others n away;
-    }
-
 -- nothing has changed
 pub changed_nothing : (id : ℕ) (before after : List Stored) → after ≡ before → ChangedAt id before after
 changed_nothing id before after is = record {

@@ -163,6 +163,7 @@ impl Forest {
     }
 
     /// What a call at this phaser can change: at most 8 words, from it up to its root.
+    #[inline(never)]
     pub fn save(&self, id: PhaserId) -> Saved
         requires { id.0 < length self.now }
         ensures { result ≡ saved_of id.0 self.now }

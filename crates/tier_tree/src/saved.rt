@@ -11,9 +11,9 @@ use std::marker::Model;
 /// What was kept of one phaser.
 #[derive(Clone, Copy)]
 pub struct KeptWord {
-    pub id: u8,
     pub word: Word,
     pub ended_phases: u32,
+    pub id: u8,
 }
 
 /// What was kept of a forest before a call, so that `Forest::restore` can undo the call: the words

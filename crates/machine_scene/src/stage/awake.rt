@@ -4,10 +4,10 @@ ghost use Rattle.cyclic_barrier.specs.Waits.{wait_at};
 ghost use Rattle.loader.specs.Program.{IsNamed, row_at};
 ghost use Rattle.machine_scene.specs.Scene.{scene_of, counts_in, thread_at, barrier_at};
 ghost use Rattle.machine_scene.specs.Sound.{IsSound, HasItsWait};
-ghost use Rattle.machine_scene.specs.Awake.{is_awake, AreAwake, AreOthersAwake, IsSetAt, begins, is_loud_at, may_wake};
+ghost use Rattle.machine_scene.specs.Awake.{is_awake, AreAwake, AreOthersAwake, IsSetAt, begins, is_loud_at, may_wake, is_local_turn};
 
 use super::Stage;
-use instruction_table::Row;
+use instruction_table::{Row, is_local};
 use loader::Loaded;
 use thread_state::{Event, Mark, Status, What};
 
@@ -59,6 +59,19 @@ fn may_wake(row: Row, event: Event) -> bool
 
 /// Which threads are awake.
 impl Stage {
+    /// Whether the thread runs and its row is one on registers alone. Who is awake before such a turn is so after it, and
+    /// nobody else.
+    #[inline(always)]
+    pub(super) fn is_local_turn(&self, row: Row, t: usize) -> bool
+        requires { t < length self.now.threads }
+        ensures { result ≡ is_local_turn (thread_at (scene_of self.now) t).status row }
+    {
+        match self.players[t].status() {
+            Status::Runs => is_local(row),
+            _ => false,
+        }
+    }
+
     /// The row at which a thread waits.
     fn waiting_row(&self, program: &Loaded, t: usize) -> Row
         requires sound { IsSound program.now 2147483647 (scene_of self.now) }

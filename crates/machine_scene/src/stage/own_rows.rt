@@ -8,6 +8,7 @@ use thread_state::Event;
 
 impl Stage {
     /// `halt`, and the rows on registers alone.
+    #[inline(always)]
     pub(super) fn own_row(&mut self, row: Row, t: usize) -> Event
         requires ready { is_some (outcome_of_own_row row t (scene_of self.old)) ≡ true }
         requires thread { t < length self.old.threads }
@@ -15,6 +16,7 @@ impl Stage {
         ensures outcome { outcome_of_own_row row t (scene_of self.old)
             ≡ Some (record { scene = scene_of self.new; event = result }) }
         ensures phasers { self.new.phasers ≡ self.old.phasers }
+        ensures awake { (self.new).awake ≡ self.old.awake }
     {
         match row {
             Row::Halt => alone(self.players[t].halt()),

@@ -1,4 +1,5 @@
-ghost use Rattle.std.specs.Prelude.{◌≡◌, ◌<◌, ◌≤◌, length};
+ghost use Rattle.std.specs.Prelude.{◌≡◌, ◌<◌, ◌≤◌, length, None};
+ghost use Rattle.machine_scene.specs.declared.note.Touched.TheVariants.{Nothing};
 ghost use Rattle.machine_scene.specs.Scene.{scene_of};
 ghost use Rattle.machine_scene.specs.Sound.{IsSound};
 ghost use Rattle.machine_scene.specs.Undo.{IsThere, CanPutBack, CanUndo};
@@ -8,49 +9,64 @@ use super::Stage;
 use crate::note::{SceneNote, Touched};
 use crate::reach::{Reach, reach_in};
 use loader::Loaded;
+use thread_state::ThreadNote;
 use tier_tree::PhaserId;
 
 impl Stage {
-    /// What is kept before a thread's turn, or before the expiry of its wait, so that either can be undone.
+    /// What is kept before a thread's turn, or before the expiry of its wait, so that either can be undone: it is written
+    /// into a new note.
+    #[inline(never)]
     #[tactic(auto, using(crate::proofs::Reaches::reach_there))]
-    pub fn note(&self, program: &Loaded, t: usize) -> SceneNote
+    pub fn note(&self, program: &Loaded, t: usize, note: &mut SceneNote)
         requires sound { IsSound program.now 2147483646 (scene_of self.now) }
         requires thread { t < length self.now.threads }
-        ensures { result ≡ note_of t program.now self.now }
+        requires top { (note.old).before.top ≡ None }
+        requires touched { (note.old).touched ≡ Nothing }
+        ensures { note.new ≡ note_of t program.now self.now }
     {
+        let player = &self.players[t];
         let row = self.row_of(program, t);
-        let top = self.players[t].top();
+        let top = player.top();
         self.top_is_placed(program, &top, t);
-        let reach = reach_in(self.players[t].status(), row, &top);
-        SceneNote {
-            number: t as u8,
-            own: self.players[t].note(),
-            beside: self.touched(reach),
-            awake: self.awake,
+        let reach = reach_in(player.status(), row, &top);
+        note.number = t as u8;
+        player.note(&mut note.own);
+        if !matches!(reach, Reach::Nothing) {
+            self.touched(reach, &mut note.beside);
         }
+        note.awake = self.awake;
     }
 
     /// What is kept of what a turn may change beside its own thread.
-    fn touched(&self, reach: Reach) -> Touched
+    #[inline(never)]
+    fn touched(&self, reach: Reach, touched: &mut Touched)
         requires there { IsThere reach self.now }
         requires few { length self.now.phasers ≤ 64 }
-        ensures { result ≡ touched_by reach self.now }
+        requires nothing { touched.old ≡ Nothing }
+        ensures { touched.new ≡ touched_by reach self.now }
     {
         match reach {
-            Reach::Nothing => Touched::Nothing,
-            Reach::Cell(cell) => Touched::Cell {
-                cell,
-                number: self.numbers[cell as usize],
-            },
-            Reach::Thread(thread) => Touched::Thread {
-                thread,
-                before: self.players[thread as usize].note(),
-            },
-            Reach::Tree(phaser) => Touched::Tree(self.forest.save(PhaserId(phaser as u8))),
-            Reach::Barrier(barrier) => Touched::Barrier {
-                barrier,
-                before: self.gates[barrier as usize],
-            },
+            Reach::Nothing => {}
+            Reach::Cell(cell) => {
+                *touched = Touched::Cell {
+                    cell,
+                    number: self.numbers[cell as usize],
+                };
+            }
+            Reach::Thread(thread) => {
+                let mut before = ThreadNote::new();
+                self.players[thread as usize].note(&mut before);
+                *touched = Touched::Thread { thread, before };
+            }
+            Reach::Tree(phaser) => {
+                *touched = Touched::Tree(self.forest.save(PhaserId(phaser as u8)));
+            }
+            Reach::Barrier(barrier) => {
+                *touched = Touched::Barrier {
+                    barrier,
+                    before: self.gates[barrier as usize],
+                };
+            }
         }
     }
 

@@ -1,4 +1,4 @@
-ghost use Rattle.std.specs.Prelude.{◌≡◌, ◌≤◌};
+ghost use Rattle.std.specs.Prelude.{◌≡◌, ◌≤◌, None};
 ghost use Rattle.thread_state.specs.Undo.{note_of, undone};
 
 use super::Thread;
@@ -39,20 +39,38 @@ impl Model for ThreadNote {
     ghost invariant = { λ note. (note.depth ≤ 64) × (note.outputs ≤ 4096) };
 }
 
-impl Thread {
-    /// What one turn can change of it.
-    pub fn note(&self) -> ThreadNote
-        ensures { result ≡ note_of self.now }
+impl ThreadNote {
+    /// With no entry in it: to be written by `Thread::note`.
+    pub fn new() -> ThreadNote
+        ensures { result.top ≡ None }
     {
         ThreadNote {
-            place: self.place,
-            values: self.values,
-            state: self.state,
-            was_interrupted: self.was_interrupted,
-            depth: self.entries.len() as u8,
-            top: self.entries.last().copied(),
-            outputs: self.put_out.len() as u16,
+            place: 0,
+            values: Regs::new(),
+            state: Status::Runs,
+            was_interrupted: false,
+            depth: 0,
+            top: None,
+            outputs: 0,
         }
+    }
+}
+
+impl Thread {
+    /// What one turn can change of it, written into a new note in its place: a note that is moved costs more than a step.
+    pub fn note(&self, note: &mut ThreadNote)
+        requires { (note.old).top ≡ None }
+        ensures { note.new ≡ note_of self.now }
+    {
+        note.place = self.place;
+        note.values = self.values;
+        note.state = self.state;
+        note.was_interrupted = self.was_interrupted;
+        note.depth = self.entries.len() as u8;
+        if let Some(top) = self.entries.last() {
+            note.top = Some(*top);
+        }
+        note.outputs = self.put_out.len() as u16;
     }
 
     /// Undoes one turn: it is as it was when the note was taken.

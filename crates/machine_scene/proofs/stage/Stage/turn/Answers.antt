@@ -33,3 +33,6 @@ returns-in-Ok-clause-can c =
 pub returns-in-Ok-clause-awake : goal.returns-in-Ok-clause-awake
 returns-in-Ok-clause-awake c =
     subst (AreAwake c.args.program.now c.awake_after-self-inside.result) (sym c.self-2.view_is) c.awake_after-self-inside.ensures
+
+pub returns-then-is_local_turn-clause-sound : goal.returns-then-is_local_turn-clause-sound
+returns-then-is_local_turn-clause-sound c steps few sound = c.local_turn.ensures.sound steps (omega (arith, few)) sound
