@@ -1,6 +1,7 @@
 pub mod Executions
 pub mod Limits
 pub mod Readiness
+pub mod Idling
 pub mod Sound
 pub mod PhaseNumbers
 pub mod PhaseEnds

@@ -9,7 +9,7 @@ use Rattle.machine_scene.specs.Scene.{Scene, Outcome}
 use Rattle.thread_machine.specs.declared.choice.Choice.{Choice}
 use Rattle.thread_machine.specs.World.{World}
 use Rattle.thread_machine.specs.Ready.{outcome_of_choice, is_choice_ready, can_go_on, some_ready}
-use Rattle.thread_machine.specs.Step.{played, played_by, stepped, idled}
+use Rattle.thread_machine.specs.Step.{played, played_by, idled}
 
 none_by : (outcome : Option Outcome) → is_some outcome ≡ false → outcome ≡ None
 none_by (Some outcome) idle = absurd (cc idle)
@@ -20,11 +20,6 @@ pub idle_choice : (world : World) (choice : Choice) → is_choice_ready world.pr
     → played world choice ≡ idled world
 idle_choice world choice idle =
     ap (λ outcome. played_by outcome world) (none_by (outcome_of_choice world.program choice world.scene) idle)
-
--- one with an outcome is a step
-pub ready_choice : (world : World) (choice : Choice) (outcome : Outcome)
-    → outcome_of_choice world.program choice world.scene ≡ Some outcome → played world choice ≡ stepped outcome world
-ready_choice world choice outcome is = ap (λ o. played_by o world) is
 
 -- one number more that fails the test
 pub one_more : (test : ℕ → Bool) (t : ℕ) → ((k : ℕ) → k < t → test k ≡ false) → test t ≡ false

@@ -82,13 +82,6 @@ step_keeps before after event choice origin machine there is stands =
     subst (λ (play : Played). Keeps (world_of before) choice play.world origin) (sym is)
     (choice_keeps (world_of before) choice origin machine.sound (omega (arith, most, done)) there stands)
 
-pub step_result : (result : Result Event StepFault) (before after : StoredWorld) (choice : Choice) → IsMachine before
-    → choice.thread < length before.scene.threads
-    → IfOk result (λ (event : Event). record { world = world_of after; event = event } ≡ played (world_of before) choice)
-    → OnOk result ((origin : Origin) → StandsFor (phasers_of before.scene.phasers) origin → Keeps (world_of before) choice (world_of after) origin)
-step_result (Ok event) before after choice machine there is = λ origin stands. step_keeps before after event choice origin machine there is stands
-step_result (Err refused) before after choice machine there is = tt
-
 pub result_numbers : (result : Result Event StepFault) (before after : StoredWorld) (choice : Choice) → IsMachine before
     → choice.thread < length before.scene.threads
     → IfOk result (λ (event : Event). record { world = world_of after; event = event } ≡ played (world_of before) choice)

@@ -2,6 +2,7 @@ pub mod World
 pub mod Ready
 pub mod Step
 pub mod Execution
+pub mod Idle
 pub mod Limit
 pub mod DirectCounts
 pub mod Sound

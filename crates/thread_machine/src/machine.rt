@@ -14,13 +14,15 @@ ghost use Rattle.thread_machine.specs.Sound.{IsMachine};
 ghost use Rattle.thread_machine.specs.Step.{played, refusal_of, puts_out};
 ghost use Rattle.thread_machine.specs.Undo.{undone, CanUndo};
 
+mod idle;
+
 use crate::choice::Choice;
 use crate::fault::StepFault;
 use crate::undo::Undo;
 use cyclic_barrier::Barrier;
 use instruction_table::Reg;
 use loader::Loaded;
-use machine_scene::Stage;
+use machine_scene::{SceneNote, Stage};
 use row_code::DeclaredThread;
 use std::alloc::{AllocError, Global};
 use std::marker::Model;
@@ -121,6 +123,7 @@ impl Machine {
 
     /// Plays one choice. An idle choice, a turn of a thread that isn't ready or an expiry of none, only counts as a
     /// choice. `Memory` comes only at the row `out`.
+    #[inline(always)]
     pub fn step(&mut self, choice: Choice) -> Result<Event, StepFault>
         ensures played { IfOk result (λ event.
             record { world = world_of self.new; event = event } ≡ played (world_of self.old) choice) }
@@ -141,6 +144,33 @@ impl Machine {
         ensures err { OnErr result (self.new ≡ self.old) }
     {
         self.is_sound();
+        match self.stepped(choice) {
+            Ok(event) => Ok(event),
+            Err(fault) => Err(fault),
+        }
+    }
+
+    /// The same, and what undoes it where it is an effective step. All steps are played here, so that a step is one
+    /// function when it runs.
+    fn stepped(&mut self, choice: Choice) -> Result<Event, StepFault>
+        ensures played { IfOk result (λ event.
+            record { world = world_of self.new; event = event } ≡ played (world_of self.old) choice) }
+        ensures undo { OnOk result (is_choice_ready self.old.program choice (scene_of self.old.scene) ≡ true
+            → undone (Some (scene.note_of choice.thread self.old.program self.old.scene)) self.new ≡ self.old) }
+        ensures can { OnOk result (is_choice_ready self.old.program choice (scene_of self.old.scene) ≡ true
+            → scene.CanUndo (scene.note_of choice.thread self.old.program self.old.scene) self.new.scene) }
+        ensures counted { OnOk result (0 < self.new.choices) }
+        ensures no_thread { (result ≡ Err StepFault.NoSuchThread)
+            ↔ (refusal_of (world_of self.old) choice ≡ Some StepFault.NoSuchThread) }
+        ensures limit { (result ≡ Err StepFault.StepLimit)
+            ↔ (refusal_of (world_of self.old) choice ≡ Some StepFault.StepLimit) }
+        ensures there { OnOk result (choice.thread < length self.old.scene.threads) }
+        ensures accepted { OnOk result (refusal_of (world_of self.old) choice ≡ None) }
+        ensures memory { result ≡ Err StepFault.Memory → puts_out (world_of self.old) choice ≡ true }
+        ensures threads { length self.new.scene.threads ≡ length self.old.scene.threads }
+        ensures err { OnErr result (self.new ≡ self.old) }
+    {
+        self.is_sound();
         match self.accept(choice) {
             Ok(true) => self.go_on(choice),
             Ok(false) => Ok(self.stay(choice)),
@@ -149,6 +179,7 @@ impl Machine {
     }
 
     /// The same, with what `back` needs to undo it.
+    #[inline(always)]
     #[tactic(auto, using(crate::proofs::Sound::idle_undone))]
     pub fn step_noting(&mut self, choice: Choice) -> Result<(Event, Undo), StepFault>
         ensures played { IfOk result (λ both.
@@ -166,10 +197,18 @@ impl Machine {
     {
         self.is_sound();
         match self.accept(choice) {
-            Ok(true) => self.go_on_noting(choice),
-            Ok(false) => Ok((self.stay(choice), Undo::of_idle())),
-            Err(fault) => Err(fault),
+            Ok(true) => {}
+            Ok(false) => return Ok((self.stay(choice), Undo::of_idle())),
+            Err(fault) => return Err(fault),
         }
+        let mut note = SceneNote::new();
+        self.stage
+            .note(&self.program, choice.thread as usize, &mut note);
+        let event = match self.stepped(choice) {
+            Ok(event) => event,
+            Err(fault) => return Err(fault),
+        };
+        Ok((event, Undo::of_turn(note)))
     }
 
     /// Undoes the last choice, by what was kept of it: the machine is the one of before, word for word.
@@ -185,6 +224,7 @@ impl Machine {
     }
 
     /// Whether a choice that isn't refused is an effective step.
+    #[inline(always)]
     fn accept(&self, choice: Choice) -> Result<bool, StepFault>
         ensures ready { IfOk result (λ ready.
             ready ≡ is_choice_ready self.now.program choice (scene_of self.now.scene)) }
@@ -225,6 +265,7 @@ impl Machine {
     }
 
     /// Whether a choice would not be idle.
+    #[inline(always)]
     fn is_choice_ready(&self, choice: Choice) -> bool
         requires { choice.thread < length self.now.scene.threads }
         ensures { result ≡ is_choice_ready self.now.program choice (scene_of self.now.scene) }
@@ -232,7 +273,7 @@ impl Machine {
         if choice.expiry {
             self.can_expire(choice.thread)
         } else {
-            self.is_ready(choice.thread)
+            self.stage.is_ready(&self.program, choice.thread as usize)
         }
     }
 
@@ -268,29 +309,6 @@ impl Machine {
                 Ok(event)
             }
             Err(_) => Err(StepFault::Memory),
-        }
-    }
-
-    /// The same, with what was kept before it.
-    fn go_on_noting(&mut self, choice: Choice) -> Result<(Event, Undo), StepFault>
-        requires there { choice.thread < length self.old.scene.threads }
-        requires ready { is_choice_ready self.old.program choice (scene_of self.old.scene) ≡ true }
-        requires steps { self.old.steps < self.old.limit }
-        requires choices { self.old.choices < 1000000000000 }
-        ensures played { IfOk result (λ both.
-            record { world = world_of self.new; event = both.0 } ≡ played (world_of self.old) choice) }
-        ensures undo { IfOk result (λ both. undone both.1 self.new ≡ self.old) }
-        ensures can { IfOk result (λ both. CanUndo both.1 self.new) }
-        ensures memory { IfErr result (λ fault. (fault ≡ StepFault.Memory)
-            × (puts_out (world_of self.old) choice ≡ true)) }
-        ensures threads { length self.new.scene.threads ≡ length self.old.scene.threads }
-        ensures err { OnErr result (self.new ≡ self.old) }
-    {
-        self.is_sound();
-        let note = self.stage.note(&self.program, choice.thread as usize);
-        match self.go_on(choice) {
-            Ok(event) => Ok((event, Undo::of_turn(note))),
-            Err(fault) => Err(fault),
         }
     }
 

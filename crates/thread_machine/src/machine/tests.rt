@@ -10,6 +10,7 @@ use std::test::Fail;
 
 mod barriers;
 mod calls;
+mod idle;
 mod limits;
 mod phasers;
 mod routines;

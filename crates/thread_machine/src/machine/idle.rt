@@ -1,0 +1,27 @@
+//! Idle choices in a row.
+ghost use Rattle.std.specs.Prelude.{◌≡◌, ◌+◌, ◌<◌, length, replicate, None};
+ghost use Rattle.thread_machine.specs.World.{world_of};
+ghost use Rattle.thread_machine.specs.Execution.{execution};
+ghost use Rattle.thread_machine.specs.Idle.{idle_event, idle_times};
+
+use super::{MOST_CHOICES, Machine};
+use crate::choice::Choice;
+
+impl Machine {
+    /// Plays a choice again and again as long as it is idle and choices are left, up to so many times, and answers how
+    /// often. The time that this takes doesn't depend on how often.
+    pub fn idle(&mut self, choice: Choice, most: u64) -> u64
+        requires { choice.thread < length self.old.scene.threads }
+        ensures times { result ≡ idle_times (world_of self.old) choice most }
+        ensures played { execution (world_of self.old) (replicate result choice)
+            ≡ record { world = world_of self.new; events = replicate result idle_event; refusal = None } }
+        ensures stored { self.new ≡ record self.old { choices = self.old.choices + result } }
+    {
+        if self.is_choice_ready(choice) {
+            return 0;
+        }
+        let times = most.min(MOST_CHOICES - self.chosen);
+        self.chosen += times;
+        times
+    }
+}
