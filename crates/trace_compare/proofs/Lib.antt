@@ -10,4 +10,7 @@ pub mod WholeLines
 pub mod Naming
 pub mod StateLines
 pub mod OwnTrace
+pub mod NamedThreads
+pub mod StoredOtherwise
+pub mod OneVerdict
 pub mod Starting

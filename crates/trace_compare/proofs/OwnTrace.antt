@@ -15,6 +15,7 @@ use Rattle.thread_machine.specs.Ready.{outcome_of_choice}
 use Rattle.thread_machine.specs.Step.{Played, is_used_up, played, played_by, refusal_of}
 use Rattle.thread_machine.specs.Execution.{execution, execution_by}
 use Rattle.trace_compare.specs.declared.compare.Verdict.TheVariants as verdict
+use Rattle.trace_compare.specs.Brief.{IsBrief}
 use Rattle.trace_compare.specs.Compare.{HasNoLongLine, choice_verdict, is_state_line, is_too_long, lines_verdict, state_verdict}
 use Rattle.trace_compare.specs.Lines.{event_text}
 use Rattle.trace_compare.specs.State.{state_text}
@@ -22,9 +23,9 @@ use Rattle.trace_compare.specs.Trace.{lines_by, lines_of, trace_of}
 use Rattle.trace_compare.proofs.Naming.{IsOwnLine, event-own, refusal-own}
 use Rattle.trace_compare.proofs.Plays.{goes_on, stops}
 use Rattle.trace_compare.proofs.SameTrace.{after_choice, left_by}
-use Rattle.trace_compare.proofs.StateLines.{parts_text, parts-whole, state-is_state, state-line}
+use Rattle.trace_compare.proofs.StateLines.{parts_text, state-is_state, state-line, state-whole}
 use Rattle.trace_compare.proofs.Verdicts.{state-same}
-use Rattle.trace_compare.proofs.WholeLines.{AllWithin, IsWhole, Whole-line, after_line-is, first_line-is, split-line, whole}
+use Rattle.trace_compare.proofs.WholeLines.{AllWithin, IsWhole, after_line-is, first_line-is, split-line, whole}
 
 abbrev IsShort : List ℕ → Type 0
 IsShort line = is_too_long line ≡ false
@@ -53,9 +54,9 @@ state-own (line ∷ lines) n within short =
     ∙ state-own lines (n + 1) within.1 (All-tail IsShort line (slice_split is_line_end rest) each)
 
 -- a state against its own text
-state_again : (text : List ℕ) (n : ℕ) → IsWhole text → HasNoLongLine text
+state_again : (brief : Type 0) (text : List ℕ) (n : ℕ) → IsWhole brief text → HasNoLongLine text
     → state_verdict text n (slice_split is_line_end text) ≡ verdict.Same
-state_again text n p short =
+state_again brief text n p short =
     ap (λ t. state_verdict t n (slice_split is_line_end t)) p.is
     ∙ state-own p.lines n p.within (subst HasNoLongLine p.is short)
 
@@ -80,7 +81,7 @@ states-same accepted world n short =
     ∙ cond-no (is_too_long first.line) (verdict.NotATrace n) _ (All-head IsShort first.line (slice_split is_line_end rest) each)
     ∙ cond-yes (is_state_line first.line) (state_verdict text n (first.line ∷ slice_split is_line_end rest)) _ (state-is_state world)
     ∙ ap (state_verdict text n) (sym split)
-    ∙ state_again text n (Whole-line 141 text rest first (parts-whole world)) short
+    ∙ state_again (All IsBrief world.scene.threads) text n (state-whole world) short
 
 -- a choice's line, by whether there is no such thread and whether nothing is left for it
 line_by : (missing used : Bool) (world : World) (choice : Choice) → world.choices ≤ 1000000000000 → choice.thread ≤ 63

@@ -3,7 +3,7 @@ use Rattle.std.proofs.Common.{◌≡◌, ℕ, Bool, true, false, List, Option, R
 use Rattle.std.specs.Prelude.{IfOk}
 use Rattle.thread_machine.specs.declared.choice.Choice.{Choice}
 use Rattle.thread_machine.specs.World.{World}
-use Rattle.trace_compare.specs.Playing.{PlaysOn, WritesOn, WritesPartOn}
+use Rattle.trace_compare.specs.Playing.{PlaysOn, WritesPartOn}
 use Rattle.trace_compare.specs.Trace.{AppendsPartOf, Plays, lines_of}
 use Rattle.trace_compare.proofs.Plays.{Plays-append, Plays-refused, Part-append}
 
@@ -29,8 +29,3 @@ pub refused-on : (before : World) (was : Bool) (choices : List Choice) (known : 
 refused-on before was choices known is =
     λ first earlier old p. Plays-refused first before earlier choices old known
     (subst (λ b. Plays first before earlier b old known) is p)
-
--- what is played has its lines written
-pub writes-on : (before after : World) (was all : Bool) (choices : List Choice) (known new : Option (List ℕ))
-    → PlaysOn before after was all choices known new → WritesOn before was choices known new
-writes-on before after was all choices known new on = λ first earlier old p. (on first earlier old p).lines

@@ -1,6 +1,6 @@
 -- Choices that are played one list after another.
-use Rattle.std.proofs.Common.{◌≡◌, ◌∙◌, ◌↔◌, ◌+◌, ◌<◌, ◌≤◌, ℕ, suc, Bool, true, false, List, [], ◌∷◌, ◌++◌, Option, Some, None, IsTrue, refl, sym, ap, subst, append_assoc, append-nil, length, nat_le, if◌then◌else◌, Result, Ok, Err, ◌-◌, replicate, drop, get_or, arith}
-use Rattle.std.proofs.lemmas.List.{drop_all}
+use Rattle.std.proofs.Common.{◌≡◌, ◌∙◌, ◌↔◌, ◌+◌, ◌<◌, ◌≤◌, ℕ, zero, suc, Bool, true, false, List, [], ◌∷◌, ◌++◌, Option, Some, None, IsTrue, refl, sym, ap, subst, append_assoc, append-nil, length, nat_le, if◌then◌else◌, Result, Ok, Err, ◌-◌, replicate, drop, get_or, arith, min}
+use Rattle.std.proofs.lemmas.List.{drop_all, replicate-append-replicate}
 use Rattle.std.proofs.KnownBytes.{Appends-nil, Appends-trans}
 use Rattle.std.specs.Io.KnownBytes.{Appends}
 use Rattle.thread_machine.specs.declared.choice.Choice.{Choice}
@@ -9,13 +9,17 @@ use Rattle.thread_machine.specs.declared.fault.StepFault.{StepFault}
 use Rattle.thread_machine.specs.declared.fault.StepFault.TheVariants.{NoSuchThread, StepLimit, Memory}
 use Rattle.thread_machine.specs.World.{World}
 use Rattle.machine_scene.specs.Scene.{Outcome, thread_at}
-use Rattle.thread_machine.specs.Step.{Played, played, played_by, refusal_of, is_used_up}
-use Rattle.thread_machine.specs.Ready.{outcome_of_choice}
+use Rattle.thread_machine.specs.Step.{Played, played, played_by, idled, refusal_of, is_used_up}
+use Rattle.thread_machine.specs.Ready.{outcome_of_choice, is_choice_ready}
 use Rattle.thread_machine.specs.Execution.{Execution, execution, execution_by}
+use Rattle.thread_machine.specs.Idle.{idle_event, idle_times}
+use Rattle.thread_machine.proofs.Readiness.{idle_choice}
+use Rattle.thread_machine.proofs.Idling.{idle_accepted}
 use Rattle.schedule_reader.specs.declared.run.Run.{Run}
 use Rattle.schedule_reader.specs.Schedule.{choices_of}
 use Rattle.trace_compare.proofs.Traces.{flat_map-drop}
 use Rattle.trace_compare.specs.Lines.{event_text}
+use Rattle.trace_compare.specs.Playing.{ChoiceLine, text_of, idle_lines}
 use Rattle.trace_compare.specs.Trace.{AppendsPartOf, Plays, lines_of, lines_by}
 
 -- after a first choice, where the others go on from the world that it leaves
@@ -167,11 +171,6 @@ Plays-played world after choice event step pc old new accepted both step_is pc_i
       answer = (λ yes. ap (λ refusal. (by refusal).refusal) accepted, λ none. refl);
     }
 
--- nothing is a part of any text
-pub Part-nil : (known new : Option (List ℕ)) (text : List ℕ) → new ≡ known → AppendsPartOf known new text
-Part-nil known new text same =
-    ([], (text, (refl, subst (λ bytes. Appends known bytes []) (sym same) (Appends-nil known))))
-
 -- a part of a text's beginning is a part of the text
 pub Part-more : (old new : Option (List ℕ)) (text more : List ℕ)
     → AppendsPartOf old new text → AppendsPartOf old new (text ++ more)
@@ -218,11 +217,6 @@ pub record Continues (first now : World) (whole rest : List Choice) (old known :
       → Plays first last whole all old new
   pub partly : (new : Option (List ℕ)) → AppendsPartOf known new (lines_of now rest)
       → AppendsPartOf old new (lines_of first whole)
-
--- nothing is played yet
-pub Continues-refl : (world : World) (choices : List Choice) (known : Option (List ℕ))
-    → Continues world world choices choices known known
-Continues-refl world choices known = record { completed = λ all last new plays. plays; partly = λ new part. part }
 
 -- a part of the lines of what is played first
 pub Continues-part : (first now : World) (whole rest xs ys : List Choice) (old known new : Option (List ℕ))
@@ -286,3 +280,88 @@ Part-longer first xs ys old new p = part_by first xs ys old new (execution first
 -- the whole text is a part
 pub Part-whole : (old new : Option (List ℕ)) (text : List ℕ) → Appends old new text → AppendsPartOf old new text
 Part-whole old new text whole = (text, ([], (sym (append-nil text), whole)))
+
+-- the lines of one idle choice more
+more_idle_lines : (n before : ℕ) (choice : Choice) (pc : ℕ)
+    → idle_lines (suc n) before choice pc ≡ idle_lines n before choice pc ++ event_text (before + n + 1) choice pc idle_event
+more_idle_lines zero before choice pc =
+    let none : before + 1 ≡ before + 0 + 1 = omega arith in
+    append-nil _ ∙ ap (λ step. event_text step choice pc idle_event) none
+more_idle_lines (suc n) before choice pc =
+    let line = event_text (before + 1) choice pc idle_event in
+    let rest = idle_lines n (before + 1) choice pc in
+    let last = event_text (before + 1 + n + 1) choice pc idle_event in
+    let counted : before + 1 + n + 1 ≡ before + suc n + 1 = omega arith in
+    ap (λ lines. line ++ lines) (more_idle_lines n (before + 1) choice pc)
+    ∙ sym (append_assoc line rest last)
+    ∙ ap (λ step. (line ++ rest) ++ event_text step choice pc idle_event) counted
+
+idle_lines-more : (n before : ℕ) (choice : Choice) (pc : ℕ)
+    → idle_lines (n + 1) before choice pc ≡ idle_lines n before choice pc ++ event_text (before + n + 1) choice pc idle_event
+idle_lines-more n before choice pc =
+    let next : n + 1 ≡ suc n = omega arith in
+    ap (λ k. idle_lines k before choice pc) next ∙ more_idle_lines n before choice pc
+
+pub idle_lines-next : (n before : ℕ) (choice : Choice) (pc : ℕ) (line : ChoiceLine) (old now new : Option (List ℕ))
+    → line ≡ record { step = before + (n + 1); choice = choice; pc = pc; event = idle_event }
+    → Appends old now (idle_lines n before choice pc) → Appends now new (text_of line)
+    → Appends old new (idle_lines (n + 1) before choice pc)
+idle_lines-next n before choice pc line old now new is lines next =
+    let counted : before + (n + 1) ≡ before + n + 1 = omega arith in
+    let text : text_of line ≡ event_text (before + n + 1) choice pc idle_event =
+    ap text_of is ∙ ap (λ step. event_text step choice pc idle_event) counted in
+    subst (λ bytes. Appends old new bytes) (sym (idle_lines-more n before choice pc))
+    (Appends-trans old now new _ _ lines (subst (λ bytes. Appends now new bytes) text next))
+
+-- the lines of idle choices in a row
+lines_of-idle : (n : ℕ) (world : World) (choice : Choice) → choice.thread < length world.scene.threads
+    → is_choice_ready world.program choice world.scene ≡ false → world.choices + n ≤ 1000000000000
+    → lines_of world (replicate n choice) ≡ idle_lines n world.choices choice (thread_at world.scene choice.thread).pc
+lines_of-idle zero world choice there idle few = refl
+lines_of-idle (suc n) world choice there idle few =
+    let pc = (thread_at world.scene choice.thread).pc in
+    ap (λ refusal. lines_by refusal world choice (λ after. lines_of after (replicate n choice)))
+    (idle_accepted world choice there idle (omega (arith, few)))
+    ∙ ap (λ (play : Played). event_text (world.choices + 1) choice pc play.event ++ lines_of play.world (replicate n choice))
+    (idle_choice world choice idle)
+    ∙ ap (λ lines. event_text (world.choices + 1) choice pc idle_event ++ lines)
+    (lines_of-idle n (idled world).world choice there idle (omega (arith, few)))
+
+-- by whether the choice is ready
+idle_lines_by : (ready : Bool) (world : World) (choice : Choice) (most n : ℕ)
+    → is_choice_ready world.program choice world.scene ≡ ready
+    → n ≡ (if ready then 0 else min most (1000000000000 - world.choices))
+    → choice.thread < length world.scene.threads → world.choices ≤ 1000000000000
+    → lines_of world (replicate n choice) ≡ idle_lines n world.choices choice (thread_at world.scene choice.thread).pc
+idle_lines_by true world choice most n is times there few =
+    ap (λ k. lines_of world (replicate k choice)) times
+    ∙ ap (λ k. idle_lines k world.choices choice (thread_at world.scene choice.thread).pc) (sym times)
+idle_lines_by false world choice most n is times there few =
+    lines_of-idle n world choice there is (omega (arith, times, few))
+
+-- a choice is played as long as it is idle
+pub Plays-idle : (world after : World) (choice : Choice) (most n before pc : ℕ) (old new : Option (List ℕ))
+    → n ≡ idle_times world choice most
+    → execution world (replicate n choice) ≡ record { world = after; events = replicate n idle_event; refusal = None }
+    → choice.thread < length world.scene.threads → before ≤ 1000000000000 → before ≡ world.choices
+    → pc ≡ (thread_at world.scene choice.thread).pc
+    → Appends old new (idle_lines n before choice pc)
+    → Plays world after (replicate n choice) true old new
+Plays-idle world after choice most n before pc old new times played there few before_is pc_is lines =
+    let text : idle_lines n before choice pc ≡ lines_of world (replicate n choice) =
+    ap (λ step. idle_lines n step choice pc) before_is
+    ∙ ap (λ row. idle_lines n world.choices choice row) pc_is
+    ∙ sym (idle_lines_by (is_choice_ready world.program choice world.scene) world choice most n refl times there
+    (subst (λ k. k ≤ 1000000000000) before_is few)) in
+    record {
+      lines = subst (λ t. Appends old new t) text lines;
+      world = sym (ap (λ (done : Execution). done.world) played);
+      answer = (λ yes. ap (λ (done : Execution). done.refusal) played, λ none. refl);
+    }
+
+-- some of the same choices, and the others
+pub replicate-some : (n times : ℕ) (choice : Choice) → times ≤ n
+    → replicate n choice ≡ replicate times choice ++ replicate (n - times) choice
+replicate-some n times choice few =
+    let is : n ≡ times + (n - times) = omega (arith, few) in
+    ap (λ k. replicate k choice) is ∙ sym (replicate-append-replicate times (n - times) choice)

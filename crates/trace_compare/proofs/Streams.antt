@@ -5,9 +5,15 @@ use Rattle.std.proofs.KnownBytes.{Appends-trans, Consumes-trans}
 use Rattle.std.specs.Io.KnownBytes.{Appends, Consumes, IsAtEnd}
 use Rattle.std.specs.Prelude.{Result, Ok, Err, OnOk, None}
 use Rattle.schedule_reader.specs.declared.fault.ScheduleFault.{ScheduleFault}
+use Rattle.schedule_reader.specs.declared.run.Run.{Run}
 use Rattle.schedule_reader.specs.Schedule.{Schedule, finished_schedule, choices_of}
 use Rattle.thread_machine.specs.World.{World}
 use Rattle.thread_machine.specs.declared.choice.Choice.{Choice}
+use Rattle.thread_machine.specs.Execution.{execution}
+use Rattle.trace_compare.specs.declared.compare.Verdict.TheVariants.{Same}
+use Rattle.trace_compare.specs.Compare.{HasNoLongLine, verdict_of}
+use Rattle.trace_compare.proofs.NamedThreads.{named-threads}
+use Rattle.trace_compare.proofs.OwnTrace.{own-trace}
 use Rattle.trace_compare.specs.Playing.{HasPlayed, HasPlayedAll, HasPlayedInPart, HasTraced}
 use Rattle.trace_compare.specs.RunText.{HasRun, HasRunInPart}
 use Rattle.trace_compare.specs.Start.{Begins}
@@ -52,14 +58,36 @@ traced first last choices state pushed old between new played is same end =
     (same ∙ is ∙ ap (λ (world : World). state_text world) played.1)
     (Appends-trans old between new _ pushed played.0 end)
 
+-- the same of a whole schedule
+pub traced-all : {E : Type 0} (result : Result (Unit {0}) E) (first last : World)
+    (schedule_before schedule_after old between new : Option (List ℕ))
+    → HasPlayedAll first last schedule_before schedule_after old between
+    → OnOk result (Appends between new (state_text last)) → OnOk result (HasNoLongLine (state_text last))
+    → OnOk result (HasTraced first schedule_before schedule_after old new)
+traced-all (Ok x) first last schedule_before schedule_after old between new
+    (bytes, (runs, (consumed, end, is, played))) appends short =
+    let lines = subst (λ (world : World). HasNoLongLine (state_text world)) played.1 short in
+    let text = state_text last in
+    (bytes, (runs, (consumed, end, is, lines, traced first last (choices_of runs) text text old between new played refl refl appends)))
+traced-all (Err e) first last schedule_before schedule_after old between new played appends short = appends
+
+-- a trace is the same as the run of the program that it is of
+begun-same : (image : Image) (world : World) (bytes : List ℕ) (runs : List Run) → Begins image world
+    → finished_schedule bytes ≡ record { runs = runs; fault = None }
+    → HasNoLongLine (state_text (execution world (choices_of runs)).world)
+    → verdict_of world (trace_of world (choices_of runs)) ≡ Same
+begun-same image world bytes runs (program, (declares, first)) is short =
+    own-trace (choices_of runs) world 1 (omega (arith, ap (λ (w : World). w.choices) first)) (named-threads bytes runs None is) short
+
 -- the same of an image whose program begins in that world
 pub begun : {E : Type 0} (result : Result (Unit {0}) E) (image : Image) (world : World)
     (schedule_before schedule_after old new : Option (List ℕ)) → Begins image world
     → OnOk result (HasTraced world schedule_before schedule_after old new)
     → OnOk result (HasRun image schedule_before schedule_after old new)
 begun (Ok x) image world schedule_before schedule_after old new begins p =
-    let (bytes, (runs, (consumed, end, is, appends))) = p in
-    (bytes, (trace_of world (choices_of runs), (consumed, end, (world, (runs, (begins, is, refl))), appends)))
+    let (bytes, (runs, (consumed, end, is, short, appends))) = p in
+    let same = begun-same image world bytes runs begins is short in
+    (bytes, (trace_of world (choices_of runs), (consumed, end, (world, (runs, (begins, is, refl, same))), appends)))
 begun (Err e) image world schedule_before schedule_after old new begins p = p
 
 pub begun_part : (image : Image) (world : World) (schedule_before schedule_after old new : Option (List ℕ)) → Begins image world

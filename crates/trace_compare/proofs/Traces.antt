@@ -1,13 +1,14 @@
 -- Texts of lists, element by element.
-use Rattle.std.proofs.Common.{◌≡◌, ◌∙◌, ◌+◌, ◌<◌, ℕ, List, ◌∷◌, ◌++◌, length, get_or, drop, refl, ap, append_assoc}
+use Rattle.std.proofs.Common.{◌≡◌, ◌∙◌, ◌+◌, ◌*◌, ◌<◌, ◌≤◌, ℕ, ℤ, List, ◌++◌, codes, length, length-append, get_or, drop, refl, ap, sym, arith, append_assoc}
 use Rattle.std.proofs.lemmas.List.{drop_more}
+use Rattle.std.specs.Fmt.{signed_decimal}
 use Rattle.std.proofs.lemmas.Option.{slice_get_within, get_or_from_slice_get}
 use Rattle.std.specs.Prelude.{flat_map, slice_get, Option, Some, None}
 use Rattle.std.specs.Option.{option_map}
 use Rattle.thread_state.specs.declared.frame.Entry.{Entry}
 use Rattle.thread_state.specs.declared.frame.Frame.{Frame}
 use Rattle.thread_state.specs.Frame.{entry_of}
-use Rattle.trace_compare.specs.State.{entry_text, stack_text, numbered_texts}
+use Rattle.trace_compare.specs.State.{entry_text, stack_text, numbered_texts, value_text}
 
 -- from one element on: its text, and the texts from the next on
 pub flat_map-drop : {A B : Type 0} (text : A → List B) (xs : List A) (i : ℕ) (d : A) → i < length xs
@@ -20,6 +21,21 @@ pub numbered_texts-drop : {A : Type 0} (text : ℕ → A → List ℕ) (xs : Lis
 numbered_texts-drop text xs i d there = ap (numbered_texts text i) (drop_more xs i d there)
 
 pub ruleset text_steps = (flat_map-drop, numbered_texts-drop)
+
+-- one text more was written, the first of the rest
+pub one_text_more : (now next start one rest more all : List ℕ) → next ≡ now ++ one → rest ≡ one ++ more
+    → now ++ rest ≡ start ++ all → next ++ more ≡ start ++ all
+one_text_more now next start one rest more all is first before =
+    ap (λ text. text ++ more) is ∙ append_assoc now one more ∙ ap (λ text. now ++ text) (sym first) ∙ before
+
+-- what one number more adds to the length of what is written
+pub one_value_more : (values : List ℤ) (i : ℕ) (d : ℤ) → i < length values → length (signed_decimal (get_or values i d)) ≤ 11
+    → length (flat_map value_text values) ≤ 12 * i + length (flat_map value_text (drop i values))
+    → length (flat_map value_text values) ≤ 12 * (i + 1) + length (flat_map value_text (drop (i + 1) values))
+one_value_more values i d there short few =
+    let rest = flat_map value_text (drop (i + 1) values) in
+    let is = ap length (flat_map-drop value_text values i d there) in
+    omega (arith, is, length-append (value_text (get_or values i d)) rest, length-append (codes " ") (signed_decimal (get_or values i d)), short, few)
 
 -- from one stack entry on, by what the machine shows of it
 stack_text-drop_by : (stack : List Frame) (i : ℕ) (entry : Entry) (read : Option Frame) → slice_get stack i ≡ read

@@ -1,14 +1,15 @@
 -- Texts of whole lines.
-use Rattle.std.proofs.Common.{◌≡◌, ◌∙◌, ◌+◌, ◌/◌, ◌%◌, ◌≤◌, ◌==◌, not, ℕ, zero, suc, Bool, true, false, List, [], ◌∷◌, ◌++◌, length, take, drop, cond, codes, decimal, refl, ap, sym, arith, append_assoc, length-append, All, flat_map, ℤ, pos, negsuc}
+use Rattle.std.proofs.Common.{◌≡◌, ◌∙◌, ◌+◌, ◌/◌, ◌%◌, ◌≤◌, ◌==◌, not, ℕ, zero, suc, Bool, true, false, List, [], ◌∷◌, ◌++◌, length, take, drop, cond, codes, decimal, refl, ap, sym, subst, arith, append_assoc, length-append, All, flat_map, ℤ, pos, negsuc}
 use Rattle.std.specs.List.{slice_split, list_all, position_or_len}
 use Rattle.std.specs.Fmt.{digits, digits_onto, digit_glyph, signed_decimal}
+use Rattle.std.proofs.lemmas.List.Elements.{All-cons, All-nil}
 use Rattle.std.proofs.lemmas.List.Folds.{list_all-append}
-use Rattle.std.proofs.lemmas.Bool.{and_from, ne_eqb, and_parts, not-true}
+use Rattle.std.proofs.lemmas.Bool.{and_from, le-ltb, ne_eqb, and_parts, not-true}
 use Rattle.std.proofs.lemmas.List.Sums.{AllPass-from_list_all}
 use Rattle.std.proofs.lemmas.List.Splits.{slice_split_at}
 use Rattle.std.proofs.Math.Seq.{take-append_seam, drop-append_seam}
 use Rattle.line_reader.specs.Words.{is_line_end}
-use Rattle.trace_compare.specs.Compare.{first_line, after_line}
+use Rattle.trace_compare.specs.Compare.{HasNoLongLine, after_line, first_line, is_too_long}
 
 -- a byte within a line
 abbrev pub is_within : ℕ → Bool
@@ -109,21 +110,50 @@ within-append : (xs ys : List (List ℕ)) → AllWithin xs → AllWithin ys → 
 within-append [] ys p q = q
 within-append (x ∷ xs) ys p q = (p.0, within-append xs ys p.1 q)
 
--- a text of whole lines
-pub record IsWhole (text : List ℕ) : Type 0 where
+-- none of them is longer than a comparison reads
+abbrev pub AllFew : List (List ℕ) → Type 0
+AllFew [] = Unit {0}
+AllFew (line ∷ lines) = (length line ≤ 65536) × AllFew lines
+
+few-append : (xs ys : List (List ℕ)) → AllFew xs → AllFew ys → AllFew (xs ++ ys)
+few-append [] ys p q = q
+few-append (x ∷ xs) ys p q = (p.0, few-append xs ys p.1 q)
+
+-- a text of whole lines, none of them too long where this is so
+pub record IsWhole (short : Type 0) (text : List ℕ) : Type 0 where
   pub lines : List (List ℕ)
   pub within : AllWithin lines
+  pub few : short → AllFew lines
   pub is : text ≡ whole lines
 
-pub Whole-nil : IsWhole []
-Whole-nil = record { lines = []; within = tt; is = refl }
+pub Whole-nil : (short : Type 0) → IsWhole short []
+Whole-nil short = record { lines = []; within = tt; few = λ p. tt; is = refl }
 
-pub Whole-append : (xs ys : List ℕ) → IsWhole xs → IsWhole ys → IsWhole (xs ++ ys)
-Whole-append xs ys p q = record {
+pub Whole-append : (short : Type 0) (xs ys : List ℕ) → IsWhole short xs → IsWhole short ys → IsWhole short (xs ++ ys)
+Whole-append short xs ys p q = record {
   lines = p.lines ++ q.lines;
   within = within-append p.lines q.lines p.within q.within;
+  few = λ s. few-append p.lines q.lines (p.few s) (q.few s);
   is = ap (λ t. t ++ ys) p.is ∙ ap (λ t. whole p.lines ++ t) q.is ∙ sym (whole-append p.lines q.lines);
 }
+
+-- where more is so
+pub Whole-where : (short more : Type 0) (text : List ℕ) → (more → short) → IsWhole short text → IsWhole more text
+Whole-where short more text so p = record { lines = p.lines; within = p.within; few = λ s. p.few (so s); is = p.is }
+
+is_short : (line : List ℕ) → length line ≤ 65536 → is_too_long line ≡ false
+is_short line few = le-ltb 65536 (length line) few
+
+lines-short : (lines : List (List ℕ)) → AllWithin lines → AllFew lines → HasNoLongLine (whole lines)
+lines-short [] within few = All-cons (λ line. is_too_long line ≡ false) [] [] refl (All-nil (λ line. is_too_long line ≡ false))
+lines-short (line ∷ lines) within few =
+    subst (All (λ l. is_too_long l ≡ false)) (sym (split-line line (whole lines) within.0))
+    (All-cons (λ l. is_too_long l ≡ false) line (slice_split is_line_end (whole lines)) (is_short line few.0)
+    (lines-short lines within.1 few.1))
+
+-- a comparison reads all lines of such a text
+pub Whole-short : (short : Type 0) (text : List ℕ) → IsWhole short text → short → HasNoLongLine text
+Whole-short short text p s = subst HasNoLongLine (sym p.is) (lines-short p.lines p.within (p.few s))
 
 -- a line of at most so many bytes before its LF, and what follows it
 pub record IsLine (n : ℕ) (text rest : List ℕ) : Type 0 where
@@ -142,9 +172,11 @@ Line-after m n part text rest p q = record {
   is = ap (λ t. part ++ t) q.is ∙ sym (append_assoc part q.line (10 ∷ rest));
 }
 
-pub Whole-line : (n : ℕ) (text rest : List ℕ) → IsLine n text rest → IsWhole rest → IsWhole text
-Whole-line n text rest p q = record {
+pub Whole-line : (short : Type 0) (n : ℕ) (text rest : List ℕ) → (short → n ≤ 65536) → IsLine n text rest → IsWhole short rest
+    → IsWhole short text
+Whole-line short n text rest few p q = record {
   lines = p.line ∷ q.lines;
   within = (p.part.within, q.within);
+  few = λ s. (let size = p.part.few in let least = few s in omega (arith, size, least), q.few s);
   is = p.is ∙ ap (λ t. p.line ++ 10 ∷ t) q.is ∙ sym (append_assoc p.line (10 ∷ []) (whole q.lines));
 }

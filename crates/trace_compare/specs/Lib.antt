@@ -2,7 +2,8 @@ pub mod Lines
 pub mod State
 pub mod Trace
 pub mod Start
-pub mod Playing
-pub mod RunText
 pub mod Compare
+pub mod RunText
+pub mod Brief
+pub mod Playing
 pub mod Comparing

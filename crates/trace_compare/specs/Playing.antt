@@ -1,15 +1,35 @@
 -- How one part of a schedule after another is played. Nobody has to believe this: it is what proofs go by, from call to call.
-use Rattle.std.specs.Prelude.{◌≡◌, ◌⊎◌, ℕ, Bool, List, ◌++◌, Option, None}
+use Rattle.std.specs.Prelude.{◌≡◌, ◌⊎◌, ◌+◌, ℕ, zero, suc, Bool, List, [], ◌++◌, Option, None}
 use Rattle.std.specs.Io.KnownBytes.{Appends, Consumes, IsAtEnd}
+use Rattle.thread_state.specs.declared.event.Event.{Event}
 use Rattle.schedule_reader.specs.declared.fault.ScheduleFault.{ScheduleFault}
 use Rattle.schedule_reader.specs.declared.run.Run.{Run}
 use Rattle.schedule_reader.specs.Places.{Progress, HasRead}
 use Rattle.schedule_reader.specs.Schedule.{Schedule, open_schedule, finished_schedule, choices_of}
 use Rattle.thread_machine.specs.declared.choice.Choice.{Choice}
 use Rattle.thread_machine.specs.Execution.{execution}
+use Rattle.thread_machine.specs.Idle.{idle_event}
 use Rattle.thread_machine.specs.World.{World}
+use Rattle.trace_compare.specs.Compare.{HasNoLongLine}
+use Rattle.trace_compare.specs.Lines.{event_text}
 use Rattle.trace_compare.specs.RunText.{HasFault}
+use Rattle.trace_compare.specs.State.{state_text}
 use Rattle.trace_compare.specs.Trace.{AppendsPartOf, Plays, lines_of, trace_of}
+
+-- what the line of a choice tells: its number, the choice, the row of its thread and what it did
+pub record ChoiceLine : Type 0 where
+  pub step : ℕ
+  pub choice : Choice
+  pub pc : ℕ
+  pub event : Event
+
+abbrev pub text_of : ChoiceLine → List ℕ
+text_of line = event_text line.step line.choice line.pc line.event
+
+-- the lines of so many idle choices of a thread at this row, behind that many choices
+abbrev pub idle_lines : ℕ → ℕ → Choice → ℕ → List ℕ
+idle_lines zero before choice pc = []
+idle_lines (suc n) before choice pc = event_text (before + 1) choice pc idle_event ++ idle_lines n (before + 1) choice pc
 
 -- whatever was played before, with these choices it is all played
 abbrev pub PlaysOn : World → World → Bool → Bool → List Choice → Option (List ℕ) → Option (List ℕ) → Type 0
@@ -46,12 +66,14 @@ HasPlayedAll first last schedule_before schedule_after old new =
     × (Consumes schedule_before schedule_after bytes × IsAtEnd schedule_after
     × (finished_schedule bytes ≡ record { runs = runs; fault = None }) × HasPlayed first last (choices_of runs) old new))
 
--- the same, and the state was written
+-- the same, and the state was written, of which no line is too long to be compared
 abbrev pub HasTraced : World → Option (List ℕ) → Option (List ℕ) → Option (List ℕ) → Option (List ℕ) → Type 0
 HasTraced first schedule_before schedule_after old new =
     (bytes : List ℕ) × ((runs : List Run)
     × (Consumes schedule_before schedule_after bytes × IsAtEnd schedule_after
-    × (finished_schedule bytes ≡ record { runs = runs; fault = None }) × Appends old new (trace_of first (choices_of runs))))
+    × (finished_schedule bytes ≡ record { runs = runs; fault = None })
+    × HasNoLongLine (state_text (execution first (choices_of runs)).world)
+    × Appends old new (trace_of first (choices_of runs))))
 
 abbrev pub HasPlayedToFault : World → ScheduleFault → Option (List ℕ) → Option (List ℕ) → Option (List ℕ) → Option (List ℕ)
     → Type 0

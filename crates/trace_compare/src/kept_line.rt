@@ -1,5 +1,6 @@
-ghost use Rattle.std.specs.Prelude.{◌≡◌, true};
-ghost use Rattle.trace_compare.specs.Lines.{event_text};
+ghost use Rattle.std.specs.Prelude.{◌≡◌, ◌↔◌, ◌+◌, ◌<◌, ◌^◌, true};
+ghost use Rattle.thread_machine.specs.Idle.{idle_event};
+ghost use Rattle.trace_compare.specs.Playing.{text_of};
 
 use crate::line::put_event;
 use crate::line_end::LineEnd;
@@ -15,7 +16,7 @@ fn are_same(one: Choice, other: Choice) -> bool
 
 /// Whether nothing happened.
 fn is_idle(event: &Event) -> bool
-    ensures { result ≡ true → event.now ≡ record { what = What.Idle; mark = Mark.Nothing } }
+    ensures { result ≡ true → event.now ≡ idle_event }
 {
     match (event.what, event.mark) {
         (What::Idle, Mark::Nothing) => true,
@@ -23,7 +24,7 @@ fn is_idle(event: &Event) -> bool
     }
 }
 
-/// The line of the last choice. In a row of idle choices of one thread its number is counted up in place.
+/// The line of the last choice. Where one idle choice of a thread follows another, its number is counted up in place.
 #[derive(Drop)]
 pub struct KeptLine {
     text: LineEnd,
@@ -35,13 +36,14 @@ pub struct KeptLine {
 }
 
 impl Model for KeptLine {
-    ghost use Rattle.std.specs.Prelude.{◌≡◌, ◌+◌, ◌≤◌, List, ℕ, length};
+    ghost use Rattle.std.specs.Prelude.{◌≡◌, ◌+◌, ◌≤◌, length};
     ghost use Rattle.std.specs.Fmt.{decimal};
     ghost use Rattle.trace_compare.specs.Lines.{event_text};
+    ghost use Rattle.trace_compare.specs.Playing.{ChoiceLine};
 
-    ghost Value = { List ℕ };
+    ghost Value = { ChoiceLine };
 
-    ghost view = { λ line. line.text };
+    ghost view = { λ line. record { step = line.step; choice = line.choice; pc = line.pc; event = line.event } };
 
     ghost invariant = { λ line. (line.text ≡ event_text line.step line.choice line.pc line.event)
         × (line.digits ≡ length (decimal line.step)) × (line.digits ≤ 20)
@@ -73,14 +75,22 @@ impl KeptLine {
 
     /// The line.
     pub fn as_slice(&self) -> &[u8]
-        ensures { result.now ≡ self.now }
+        ensures { result.now ≡ text_of self.now }
     {
         self.text.as_slice()
     }
 
+    /// Whether the choice was idle.
+    #[inline(always)]
+    pub fn is_idle(&self) -> bool
+        ensures { result ≡ true → self.now.event ≡ idle_event }
+    {
+        is_idle(&self.event)
+    }
+
     /// Makes it the line of a choice that was played by a thread at this row.
     pub fn put(&mut self, step: u64, choice: Choice, pc: u16, event: &Event)
-        ensures { self.new ≡ event_text step choice pc event.now }
+        ensures { self.new ≡ record { step = step; choice = choice; pc = pc; event = event.now } }
     {
         if 0 < step
             && step - 1 == self.step
@@ -89,8 +99,7 @@ impl KeptLine {
             && is_idle(&self.event)
             && is_idle(event)
         {
-            self.digits = self.text.count_up(step - 1, self.digits);
-            self.step = step;
+            self.count_up();
             return;
         }
         self.digits = put_event(&mut self.text, step, choice, pc, event);
@@ -98,5 +107,15 @@ impl KeptLine {
         self.choice = choice;
         self.pc = pc;
         self.event = *event;
+    }
+
+    /// Makes it the line of the next choice, which is the same and did the same.
+    #[inline(always)]
+    pub fn count_up(&mut self)
+        requires { self.old.step + 1 < 2 ^ 64 }
+        ensures { self.new ≡ record self.old { step = self.old.step + 1 } }
+    {
+        self.digits = self.text.count_up(self.step, self.digits);
+        self.step += 1;
     }
 }

@@ -3,7 +3,8 @@
 //! A trace has a line for each choice of a schedule, and then the state of the machine. `run_text` plays an image's program
 //! under a schedule, which it reads a piece at a time, and writes each line as it comes: what was written is exactly the trace
 //! of the schedule's choices, and after a fault just the lines before it. `compare` goes the other way: it plays the choices
-//! that a trace's lines name, and answers the first line that isn't the run's, byte for byte, the state too.
+//! that a trace's lines name, and answers the first line that isn't the run's, byte for byte, the state too; a trace that was
+//! written it finds the same.
 //!
 //! How a machine is made of an image stands in `start`, and what is shown of its state in `state`; the rest knows a machine by
 //! its steps alone.
@@ -21,4 +22,7 @@ pub mod start;
 pub mod state;
 mod trace_line;
 
-pub use law::{the_trace_of_any_choices_is_the_same, what_is_the_same_is_the_trace_of_its_choices};
+pub use law::{
+    a_trace_is_found_the_same, the_trace_of_any_choices_is_the_same,
+    what_is_the_same_is_the_trace_of_its_choices,
+};

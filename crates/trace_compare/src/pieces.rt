@@ -1,5 +1,5 @@
 // What lines are made of.
-ghost use Rattle.std.specs.Prelude.{◌≡◌, ◌++◌, OnOk};
+ghost use Rattle.std.specs.Prelude.{◌≡◌, ◌≤◌, ◌++◌, OnOk, length};
 ghost use Rattle.std.specs.Fmt.{decimal, signed_decimal};
 
 use itoa::Buffer;
@@ -14,7 +14,8 @@ pub(super) fn add_count(text: &mut Vec<u8>, count: u64) -> Result<(), AllocError
 
 /// A word that ends in a space, and a number.
 pub(super) fn add_with_value(text: &mut Vec<u8>, word: &[u8], value: i32) -> Result<(), AllocError>
-    ensures { OnOk result (text.new.items ≡ text.old.items ++ (word.now ++ signed_decimal value)) }
+    ensures text { OnOk result (text.new.items ≡ text.old.items ++ (word.now ++ signed_decimal value)) }
+    ensures few { length (signed_decimal value) ≤ 11 }
 {
     text.extend_from_slice(word)?;
     text.extend_from_slice(Buffer::new().format(value).as_bytes())

@@ -1,8 +1,10 @@
-ghost use Rattle.std.specs.Prelude.{◌≡◌, ◌≢◌, ◌+◌, ◌<◌, ◌∷◌, length, [], Some, None, replicate, IsTrue, IfOk, OnOk};
+ghost use Rattle.std.specs.Prelude.{◌≡◌, ◌≢◌, ◌+◌, ◌<◌, ◌≤◌, ◌∷◌, length, [], Some, None, replicate, IsTrue, true, IfOk, OnOk};
 ghost use Rattle.std.specs.Io.KnownBytes.{Appends};
+ghost use Rattle.thread_machine.specs.Idle.{idle_times};
 ghost use Rattle.thread_machine.specs.World.{world_of};
 ghost use Rattle.schedule_reader.specs.Schedule.{choices_of};
 ghost use Rattle.trace_compare.specs.Lines.{event_text, refusal_text};
+ghost use Rattle.trace_compare.specs.Playing.{idle_lines};
 ghost use Rattle.trace_compare.specs.Trace.{AppendsPartOf, Plays, lines_of};
 
 use crate::kept_line::KeptLine;
@@ -11,7 +13,7 @@ use crate::line_end::LineEnd;
 use byte_ports::Sink;
 use schedule_reader::Run;
 use std::alloc::AllocError;
-use thread_machine::{Choice, Event, Machine, StepFault};
+use thread_machine::{Choice, Event, Machine, Mark, StepFault, What};
 
 /// Why a trace is cut short.
 #[derive(Clone, Copy, Debug, PartialEq, Eq)]
@@ -146,6 +148,68 @@ pub fn line_of_choice(
     }
 }
 
+/// Writes the lines of idle choices of a thread at this row, behind that many choices. `line` keeps the last one.
+fn push_idle_lines<W: Sink>(
+    times: u64,
+    before: u64,
+    choice: Choice,
+    pc: u16,
+    line: &mut KeptLine,
+    output: &mut W,
+) -> Result<(), PlayFault>
+    requires { before + times ≤ 1000000000000 }
+    ensures lines { OnOk result (Appends (W.written output.old) (W.written output.new)
+        (idle_lines times before choice pc)) }
+    ensures write { result ≡ Err PlayFault.Write → IsTrue (W.has_failed output.new) }
+    ensures memory { result ≢ Err PlayFault.Memory }
+{
+    let event = Event {
+        what: What::Idle,
+        mark: Mark::Nothing,
+    };
+    line.put(before, choice, pc, &event);
+    let mut done = 0;
+    while done < times {
+        line.count_up();
+        match push_line(line.as_slice(), output) {
+            Ok(()) => done += 1,
+            Err(fault) => return Err(fault),
+        }
+    }
+    Ok(())
+}
+
+/// Plays a choice as long as it is idle, up to so many times, writes the lines and answers how often. It stands apart from
+/// the loop of `play_run`, whose usual choices are ready, so that they don't pay for it.
+#[inline(never)]
+fn play_idle<W: Sink>(
+    machine: &mut Machine,
+    choice: Choice,
+    most: u64,
+    line: &mut KeptLine,
+    output: &mut W,
+) -> Result<u64, PlayFault>
+    ensures few { IfOk result (λ times. times ≤ most) }
+    ensures times { choice.thread < length machine.old.scene.threads
+        → IfOk result (λ times. times ≡ idle_times (world_of machine.old) choice most) }
+    ensures plays { IfOk result (λ times.
+        Plays (world_of machine.old) (world_of machine.new) (replicate times choice) true
+        (W.written output.old) (W.written output.new)) }
+    ensures write { result ≡ Err PlayFault.Write → IsTrue (W.has_failed output.new) }
+    ensures memory { result ≢ Err PlayFault.Memory }
+{
+    if usize::from(choice.thread) >= machine.thread_count() {
+        return Ok(0);
+    }
+    let before = machine.choices();
+    let pc = machine.pc(choice.thread);
+    let times = machine.idle(choice, most);
+    match push_idle_lines(times, before, choice, pc, line, output) {
+        Ok(()) => Ok(times),
+        Err(fault) => Err(fault),
+    }
+}
+
 /// Plays one choice as often as the run says, up to a refusal; whether all choices were accepted.
 fn play_run<W: Sink>(
     machine: &mut Machine,
@@ -161,12 +225,18 @@ fn play_run<W: Sink>(
         → AppendsPartOf (W.written output.old) (W.written output.new)
         (lines_of (world_of machine.old) (replicate run.now.times run.now.choice)) }
 {
-    let mut left = run.times;
+    let mut left = u64::from(run.times);
     while left > 0 {
         if !play_choice(machine, run.choice, line, output)? {
             return Ok(false);
         }
         left -= 1;
+        if left > 0 && line.is_idle() {
+            match play_idle(machine, run.choice, left, line, output) {
+                Ok(times) => left -= times,
+                Err(fault) => return Err(fault),
+            }
+        }
     }
     Ok(true)
 }

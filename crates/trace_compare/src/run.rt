@@ -4,6 +4,7 @@ ghost use Rattle.schedule_reader.specs.Places.{HasRead};
 ghost use Rattle.schedule_reader.specs.Reading.{Adds, answer_of};
 ghost use Rattle.schedule_reader.specs.Schedule.{choices_of, finished_schedule, open_schedule};
 ghost use Rattle.thread_machine.specs.World.{World, world_of};
+ghost use Rattle.trace_compare.specs.Compare.{HasNoLongLine};
 ghost use Rattle.trace_compare.specs.Playing.{HasPlayed, HasPlayedAll, HasPlayedInPart, HasPlayedSoFar, HasPlayedToFault, HasTraced, IsUpTo, PlaysOn, WritesOn, WritesPartOn};
 ghost use Rattle.trace_compare.specs.RunText.{GivesOnAndOn, HasRun, HasRunInPart, HasRunSoFar, HasRunToFault, faulty_after};
 ghost use Rattle.trace_compare.specs.Start.{IsRefused, is_want_of_memory};
@@ -243,6 +244,7 @@ fn play_stream<S: Source, W: Sink>(
 fn push_state<W: Sink>(alloc: Global, machine: &Machine, output: &mut W) -> Result<(), RunFault>
     ensures state { OnOk result (Appends (W.written output.old) (W.written output.new)
         (state_text (world_of machine.now))) }
+    ensures lines { OnOk result (HasNoLongLine (state_text (world_of machine.now))) }
     ensures memory { result ≡ Err RunFault.Memory → W.written output.new ≡ W.written output.old }
     ensures write { result ≡ Err RunFault.Write → IsTrue (W.has_failed output.new) }
     ensures others { IfErr result (λ fault. (fault ≡ RunFault.Memory) ⊎ (fault ≡ RunFault.Write)) }

@@ -1,10 +1,12 @@
-ghost use Rattle.std.specs.Prelude.{◌≡◌, ◌++◌, ◌<◌, pos, length, flat_map, codes, IfOk, OnOk, if◌then◌else◌};
+ghost use Rattle.std.specs.Prelude.{◌≡◌, ◌++◌, ◌*◌, ◌<◌, ◌≤◌, All, pos, length, flat_map, codes, IfOk, OnOk, if◌then◌else◌};
 ghost use Rattle.std.specs.Fmt.{decimal};
 ghost use Rattle.packed_phaser.specs.Flat.{unarrived_of};
 ghost use Rattle.machine_scene.specs.Scene.{scene_of, thread_at};
 ghost use Rattle.tier_tree.specs.Forest.{phaser_at, flat_at};
 ghost use Rattle.tier_tree.specs.Stored.{phasers_of};
 ghost use Rattle.thread_machine.specs.World.{world_of};
+ghost use Rattle.trace_compare.specs.Brief.{IsBrief};
+ghost use Rattle.trace_compare.specs.Compare.{HasNoLongLine};
 ghost use Rattle.trace_compare.specs.State.{word_text, status_text, entry_text, stack_text, registers_text, value_text, numbered_texts, thread_text, phaser_text, barrier_text, cell_text, state_text};
 
 use super::pieces::{add_with_count, add_with_value};
@@ -77,8 +79,9 @@ fn add_entry(text: &mut Vec<u8>, entry: Entry) -> Result<(), AllocError>
 #[tactic(auto, using(crate::proofs::Traces::stack_steps))]
 fn add_stack(text: &mut Vec<u8>, machine: &Machine, thread: u8) -> Result<(), AllocError>
     requires { thread < length machine.now.scene.threads }
-    ensures { OnOk result (text.new.items
+    ensures text { OnOk result (text.new.items
         ≡ text.old.items ++ stack_text (thread_at (scene_of machine.now.scene) thread).stack) }
+    ensures few { length (thread_at (scene_of machine.now.scene) thread).stack ≤ 64 }
 {
     for number in 0..machine.depth(thread) {
         add_entry(text, machine.entry(thread, number))?;
@@ -105,7 +108,8 @@ fn add_registers(
 
 #[tactic(auto, using(crate::proofs::Traces::text_steps))]
 fn add_values(text: &mut Vec<u8>, values: &[i32]) -> Result<(), AllocError>
-    ensures { OnOk result (text.new.items ≡ text.old.items ++ flat_map value_text values.now) }
+    ensures text { OnOk result (text.new.items ≡ text.old.items ++ flat_map value_text values.now) }
+    ensures few { OnOk result (length (flat_map value_text values.now) ≤ 12 * length values.now) }
 {
     for value in values {
         add_with_value(text, b" ", *value)?;
@@ -113,17 +117,25 @@ fn add_values(text: &mut Vec<u8>, values: &[i32]) -> Result<(), AllocError>
     Ok(())
 }
 
-/// The beginning of a thread's line, up to its registers.
-fn add_thread_head(text: &mut Vec<u8>, machine: &Machine, thread: u8) -> Result<(), AllocError>
+/// The beginning of a thread's line: its number, and the row that it stands at.
+fn add_thread_place(text: &mut Vec<u8>, machine: &Machine, thread: u8) -> Result<(), AllocError>
     requires { thread < length machine.now.scene.threads }
     ensures { let state = thread_at (scene_of machine.now.scene) thread in OnOk result
         (text.new.items ≡ text.old.items ++ (codes "t" ++ (decimal thread ++ (codes " "
-        ++ (decimal state.pc ++ (codes " " ++ (status_text state.status
-        ++ (if state.interrupted then codes " 1 regs" else codes " 0 regs")))))))) }
+        ++ (decimal state.pc ++ codes " "))))) }
 {
     add_with_count(text, b"t", u64::from(thread))?;
     add_with_count(text, b" ", u64::from(machine.pc(thread)))?;
-    text.extend_from_slice(b" ")?;
+    text.extend_from_slice(b" ")
+}
+
+/// What follows, up to its registers: its status, and whether it was interrupted.
+fn add_thread_status(text: &mut Vec<u8>, machine: &Machine, thread: u8) -> Result<(), AllocError>
+    requires { thread < length machine.now.scene.threads }
+    ensures { let state = thread_at (scene_of machine.now.scene) thread in OnOk result
+        (text.new.items ≡ text.old.items ++ (status_text state.status
+        ++ (if state.interrupted then codes " 1 regs" else codes " 0 regs"))) }
+{
     add_status(text, machine.status(thread))?;
     text.extend_from_slice(if machine.interrupted(thread) {
         b" 1 regs"
@@ -135,9 +147,10 @@ fn add_thread_head(text: &mut Vec<u8>, machine: &Machine, thread: u8) -> Result<
 /// The end of a thread's line, after its registers.
 fn add_thread_tail(text: &mut Vec<u8>, machine: &Machine, thread: u8) -> Result<(), AllocError>
     requires { thread < length machine.now.scene.threads }
-    ensures { let state = thread_at (scene_of machine.now.scene) thread in OnOk result
+    ensures text { let state = thread_at (scene_of machine.now.scene) thread in OnOk result
         (text.new.items ≡ text.old.items ++ (codes " stack" ++ (stack_text state.stack
         ++ (codes " out" ++ (flat_map value_text state.output ++ codes "\n"))))) }
+    ensures brief { OnOk result (IsBrief (thread_at (scene_of machine.now.scene) thread)) }
 {
     text.extend_from_slice(b" stack")?;
     add_stack(text, machine, thread)?;
@@ -148,18 +161,21 @@ fn add_thread_tail(text: &mut Vec<u8>, machine: &Machine, thread: u8) -> Result<
 
 fn add_thread(text: &mut Vec<u8>, machine: &Machine, thread: u8) -> Result<(), AllocError>
     requires { thread < length machine.now.scene.threads }
-    ensures { OnOk result (text.new.items
+    ensures text { OnOk result (text.new.items
         ≡ text.old.items ++ thread_text thread (thread_at (scene_of machine.now.scene) thread)) }
+    ensures brief { OnOk result (IsBrief (thread_at (scene_of machine.now.scene) thread)) }
 {
-    add_thread_head(text, machine, thread)?;
+    add_thread_place(text, machine, thread)?;
+    add_thread_status(text, machine, thread)?;
     add_registers(text, machine, thread, &REGISTERS)?;
     add_thread_tail(text, machine, thread)
 }
 
 #[tactic(auto, using(crate::proofs::Traces::text_steps))]
 fn add_threads(text: &mut Vec<u8>, machine: &Machine) -> Result<(), AllocError>
-    ensures { OnOk result (text.new.items
+    ensures text { OnOk result (text.new.items
         ≡ text.old.items ++ numbered_texts thread_text 0 machine.now.scene.threads) }
+    ensures brief { OnOk result (All IsBrief machine.now.scene.threads) }
 {
     for thread in 0..machine.thread_count() {
         add_thread(text, machine, thread as u8)?;
@@ -258,9 +274,10 @@ fn add_objects(text: &mut Vec<u8>, machine: &Machine) -> Result<(), AllocError>
     add_cells(text, machine.cells())
 }
 
-/// The text of a machine's state, which ends a trace.
+/// The text of a machine's state, which ends a trace. A comparison reads each of its lines.
 pub fn state_text(alloc: Global, machine: &Machine) -> Result<Vec<u8>, AllocError>
-    ensures { IfOk result (λ text. text.items ≡ state_text (world_of machine.now)) }
+    ensures text { IfOk result (λ text. text.items ≡ state_text (world_of machine.now)) }
+    ensures lines { OnOk result (HasNoLongLine (state_text (world_of machine.now))) }
 {
     let mut text = Vec::new(alloc);
     add_counts(&mut text, machine)?;

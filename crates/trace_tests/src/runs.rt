@@ -15,7 +15,9 @@ const MEETING: &str =
 
 const LONELY: &str = ".phaser p 2\n.thread a main\nmain: paaa r0 p\nhalt\n";
 
-const CASES: [Case; 7] = [
+const TIMED: &str = ".phaser p 2\n.thread a main\nmain: ldi r2 1\npawaitt r0 p r1 r2\nhalt\n";
+
+const CASES: [Case; 10] = [
     (
         MEETING,
         "t0 t1 t0*3 t1*2\n",
@@ -32,6 +34,28 @@ t0 2 ended 0 regs 1 0 0 0 0 0 0 0 stack out 1\nt1 2 ended 0 regs 1 0 0 0 0 0 0 0
         "t0*3 x0*2",
         "1 t0 0 wait\n2 t0 0 idle\n3 t0 0 idle\n4 x0 0 idle\n5 x0 0 idle\nstate 5 1 stuck\n\
 t0 0 waits 0 regs 0 0 0 0 0 0 0 0 stack out\np0 0 2 1 1\n",
+    ),
+    (
+        MEETING,
+        "t0*12 t1 t0*5",
+        "1 t0 0 wait\n2 t0 0 idle\n3 t0 0 idle\n4 t0 0 idle\n5 t0 0 idle\n6 t0 0 idle\n7 t0 0 idle\n8 t0 0 idle\n\
+9 t0 0 idle\n10 t0 0 idle\n11 t0 0 idle\n12 t0 0 idle\n13 t1 0 = 1 +p0 1\n14 t0 0 = 1\n15 t0 1 out 1\n\
+16 t0 2 end\n17 t0 2 idle\n18 t0 2 idle\nstate 18 5 live\n\
+t0 2 ended 0 regs 1 0 0 0 0 0 0 0 stack out 1\nt1 1 runs 0 regs 1 0 0 0 0 0 0 0 stack out\np0 1 2 0 2\n",
+    ),
+    (
+        TIMED,
+        "x0*2 t0*3 x0*3 t0*3",
+        "1 x0 0 idle\n2 x0 0 idle\n3 t0 0 = 1\n4 t0 1 wait\n5 t0 1 idle\n6 x0 1 throw 5\n7 x0 1 idle\n8 x0 1 idle\n\
+9 t0 1 die 5\n10 t0 1 idle\n11 t0 1 idle\nstate 11 4 all\n\
+t0 1 died:5 0 regs 0 0 1 0 0 0 0 0 stack out\np0 0 2 0 2\n",
+    ),
+    (
+        MEETING,
+        "t0*2 t0*3 t0 t0 t1*2 t1*2 t0 t9",
+        "1 t0 0 wait\n2 t0 0 idle\n3 t0 0 idle\n4 t0 0 idle\n5 t0 0 idle\n6 t0 0 idle\n7 t0 0 idle\n8 t1 0 = 1 +p0 1\n\
+9 t1 1 out 1\n10 t1 2 end\n11 t1 2 idle\n12 t0 0 = 1\n13 t9 - none\nstate 12 5 live\n\
+t0 1 runs 0 regs 1 0 0 0 0 0 0 0 stack out\nt1 2 ended 0 regs 1 0 0 0 0 0 0 0 stack out 1\np0 1 2 0 2\n",
     ),
     (
         ".thread a #0\nhalt",
@@ -78,6 +102,31 @@ fn runs_have_their_traces(rt: HostRuntime) -> Result<(), Fail> {
         let verdict = compare(rt.alloc(), image_of(rt.alloc(), text)?, &mut source);
         assert!(rt; verdict == Ok(Verdict::Same));
     }
+    Ok(())
+}
+
+/// The lines of the idle choices with these numbers, of thread 0 at row 0.
+fn idle_lines(alloc: Global, first: u32, last: u32) -> Result<Vec<u8>, Fail> {
+    let mut lines = Vec::new(alloc);
+    for step in first..=last {
+        lines.extend_from_slice(format!(in alloc; "{step} t0 0 idle\n")?.as_bytes())?;
+    }
+    Ok(lines)
+}
+
+#[test]
+fn idle_choices_are_numbered_one_by_one(rt: HostRuntime) -> Result<(), Fail> {
+    let mut output = MemorySink::new(rt.alloc(), 60_000, None)?;
+    let mut source = MemorySource::new(b"t0*98 t0*2345 t0", None);
+    let image = image_of(rt.alloc(), LONELY)?;
+    let result = run_text(rt.alloc(), image, &mut source, &mut output);
+    assert!(rt; result.is_ok());
+    let mut trace = Vec::from_slice(rt.alloc(), b"1 t0 0 wait\n")?;
+    trace.extend_from_slice(idle_lines(rt.alloc(), 2, 2444)?.as_slice())?;
+    trace.extend_from_slice(
+        b"state 2444 1 stuck\nt0 0 waits 0 regs 0 0 0 0 0 0 0 0 stack out\np0 0 2 1 1\n",
+    )?;
+    assert!(rt; output.bytes() == trace.as_slice());
     Ok(())
 }
 
@@ -145,6 +194,17 @@ fn a_sink_that_fails_cuts_the_trace_short(rt: HostRuntime) -> Result<(), Fail> {
     );
     assert!(rt; result == Err(RunFault::Write));
     assert!(rt; output.bytes() == b"1 t0 0 wait\n2 t1 0 = 1 +p0 1\n".as_slice());
+    Ok(())
+}
+
+#[test]
+fn a_sink_that_fails_among_idle_choices(rt: HostRuntime) -> Result<(), Fail> {
+    let mut output = MemorySink::new(rt.alloc(), 1000, Some(3))?;
+    let mut source = MemorySource::new(b"t0*9", None);
+    let image = image_of(rt.alloc(), LONELY)?;
+    let result = run_text(rt.alloc(), image, &mut source, &mut output);
+    assert!(rt; result == Err(RunFault::Write));
+    assert!(rt; output.bytes() == b"1 t0 0 wait\n2 t0 0 idle\n3 t0 0 idle\n".as_slice());
     Ok(())
 }
 

@@ -1,5 +1,5 @@
-use Rattle.std.proofs.Common.{◌≡◌, ◌-◌, [], replicate, arith}
-use Rattle.trace_compare.proofs.Plays.{Continues-next, Continues-refused, Continues-end, replicate-first}
+use Rattle.std.proofs.Common.{◌≡◌, ◌-◌, [], replicate, refl, arith}
+use Rattle.trace_compare.proofs.Plays.{Continues-next, Continues-refused, Continues-end, replicate-first, replicate-some}
 use Rattle.trace_compare.proofs.play.play_run.Goals as goal
 
 pub returns-then-not-branch-clause-plays : goal.returns-then-not-branch-clause-plays
@@ -14,6 +14,14 @@ loop-left-preserved g c =
     Continues-next _ _ _ _ _ _ _ _ _ _ _
     (replicate-first c.loop-left.left c.args.run.now.choice c.loop-left-test.true)
     c.loop-left.invariant c.in_ok-play_choice.ensures.plays c.if-not-branch.false
+
+pub loop-left-preserved-then-is_idle : goal.loop-left-preserved-then-is_idle
+loop-left-preserved-then-is_idle g c =
+    let choice = c.args.run.now.choice in
+    let on = Continues-next _ _ _ _ _ _ _ _ _ _ _ (replicate-first c.loop-left.left choice c.loop-left-test.true)
+    c.loop-left.invariant c.in_ok-play_choice.ensures.plays c.if-not-branch.false in
+    Continues-next _ _ _ _ _ _ _ _ _ _ _ (replicate-some (c.loop-left.left - 1) c.in-Ok.times choice c.in-Ok.ensures.few)
+    on c.in-Ok.ensures.plays refl
 
 pub returns-clause-plays : goal.returns-clause-plays
 returns-clause-plays g c =

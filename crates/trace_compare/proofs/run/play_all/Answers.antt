@@ -4,7 +4,13 @@ use Rattle.std.specs.Io.KnownBytes.{Appends}
 use Rattle.thread_machine.specs.World.{world_of}
 use Rattle.trace_compare.specs.Trace.{AppendsPartOf, lines_of}
 use Rattle.trace_compare.proofs.Plays.{Part-whole}
+use Rattle.trace_compare.proofs.Streams.{traced-all}
 use Rattle.trace_compare.proofs.run.play_all.Goals as goal
+
+pub returns-in-Ok-play_stream-clause-done : goal.returns-in-Ok-play_stream-clause-done
+returns-in-Ok-play_stream-clause-done g c =
+    traced-all c.push_state.result _ _ _ _ _ _ _ c.in-Ok-play_stream.ensures.done c.push_state.ensures.state
+    c.push_state.ensures.lines
 
 pub returns-in-Ok-play_stream-clause-memory : goal.returns-in-Ok-play_stream-clause-memory
 returns-in-Ok-play_stream-clause-memory g c = λ want.

@@ -1,0 +1,105 @@
+-- A schedule names threads from 0 to 63.
+use Rattle.std.proofs.Common.{◌≡◌, ◌+◌, ◌≤◌, ◌==◌, ◌||◌, ◌&&◌, not, ℕ, Bool, true, false, List, [], ◌∷◌, length, drop, replicate, cond, All, Option, Some, None, refl, subst, nat_lt}
+use Rattle.std.specs.Prelude.{IfSome}
+use Rattle.std.specs.List.{slice_split}
+use Rattle.std.specs.Str.Parse.{digits_value}
+use Rattle.std.proofs.lemmas.Bool.{ltb-false}
+use Rattle.std.proofs.lemmas.List.Elements.{All-append, All-cons, All-head, All-nil, All-replicate, All-tail}
+use Rattle.thread_machine.specs.declared.choice.Choice.{Choice}
+use Rattle.schedule_reader.specs.declared.fault.ScheduleFault.{ScheduleFault}
+use Rattle.schedule_reader.specs.declared.fault.ScheduleFault.TheVariants as fault
+use Rattle.schedule_reader.specs.declared.run.Run.{Run}
+use Rattle.schedule_reader.specs.Schedule.{Reading, Token, Faulty, Unfinished, Schedule, choice_of, choices_of, digits_of, finished_schedule, is_blank, no_runs, number_within, reading_after_letter, reading_after_star, reading_by_thread, reading_by_times, reading_of, reading_of_count, reading_of_thread, reading_of_times, run_of, schedule_in, schedule_with, schedule_with_piece, whole}
+use Rattle.trace_compare.proofs.OwnTrace.{IsNamed}
+
+-- a run of such a thread
+abbrev HasName : Run → Type 0
+HasName run = run.choice.thread ≤ 63
+
+-- a token of such a thread, or none
+abbrev Names : Reading → Type 0
+Names (Token run) = HasName run
+Names (Faulty fault) = Unit {0}
+Names (Unfinished fault) = Unit {0}
+
+names-if : (test : Bool) (here there : Reading) → Names here → Names there → Names (cond test here there)
+names-if true here there p q = p
+names-if false here there p q = q
+
+names-by_times : (at : ℕ) (choice : Choice) (times count : ℕ) (rest : List ℕ) → choice.thread ≤ 63
+    → Names (reading_by_times at choice times count rest)
+names-by_times at choice times count (byte ∷ rest) there = tt
+names-by_times at choice times count [] there =
+    names-if (count == 0) (Unfinished (fault.Byte at)) (reading_of_times at choice times) tt
+    (names-if (times == 0) (Unfinished (fault.Repeat at)) (Token (run_of choice times)) tt there)
+
+names-of_count : (at : ℕ) (choice : Choice) (count : ℕ) (rest : List ℕ) (times : Option ℕ) → choice.thread ≤ 63
+    → Names (reading_of_count at choice count rest times)
+names-of_count at choice count rest None there = tt
+names-of_count at choice count rest (Some times) there = names-by_times at choice times count rest there
+
+names-by_thread : (at : ℕ) (choice : Choice) (count : ℕ) (rest : List ℕ) → choice.thread ≤ 63
+    → Names (reading_by_thread at choice count rest)
+names-by_thread at choice count [] there =
+    names-if (count == 0) (Unfinished (fault.Byte at)) (Token (run_of choice 1)) tt there
+names-by_thread at choice count (byte ∷ rest) there =
+    names-if ((byte == 42) && not (count == 0)) (reading_after_star (at + count + 1) choice rest) (Faulty (fault.Byte (at + count)))
+    (names-of_count (at + count + 1) choice (length (digits_of rest)) (drop (length (digits_of rest)) rest)
+    (number_within rest 10 1000000000) there) tt
+
+names-of_thread : (at : ℕ) (expiry : Bool) (count : ℕ) (rest : List ℕ) (thread : Option ℕ) → IfSome thread (λ n. n ≤ 63)
+    → Names (reading_of_thread at expiry count rest thread)
+names-of_thread at expiry count rest None there = tt
+names-of_thread at expiry count rest (Some thread) there = names-by_thread at (choice_of expiry thread) count rest there
+
+-- a number that isn't above the largest
+within_by : (long above : Bool) (n : ℕ) → nat_lt 63 n ≡ above → IfSome (cond (long || above) None (Some n)) (λ m. m ≤ 63)
+within_by true above n is = tt
+within_by false true n is = tt
+within_by false false n is = ltb-false 63 n is
+
+names-after_letter : (at : ℕ) (expiry : Bool) (part : List ℕ) → Names (reading_after_letter at expiry part)
+names-after_letter at expiry part =
+    let count = length (digits_of part) in
+    let number = digits_value 10 (digits_of part) in
+    names-of_thread at expiry count (drop count part) (number_within part 2 63) (within_by (nat_lt 2 count) (nat_lt 63 number) number refl)
+
+names-of : (at : ℕ) (piece : List ℕ) → Names (reading_of at piece)
+names-of at [] = tt
+names-of at (byte ∷ part) =
+    let other = cond (byte == 120) (reading_after_letter (at + 1) true part) (Faulty (fault.Byte at)) in
+    names-if (byte == 116) (reading_after_letter (at + 1) false part) other (names-after_letter (at + 1) false part)
+    (names-if (byte == 120) (reading_after_letter (at + 1) true part) (Faulty (fault.Byte at)) (names-after_letter (at + 1) true part) tt)
+
+-- a piece and what comes after it
+named-with : (reading : Reading) (rest : Schedule) → Names reading → All HasName rest.runs
+    → All HasName (schedule_with (whole reading) rest).runs
+named-with (Token run) rest there others = All-cons HasName run rest.runs there others
+named-with (Faulty fault) rest there others = All-nil HasName
+named-with (Unfinished fault) rest there others = All-nil HasName
+
+named-with_piece : (at : ℕ) (piece : List ℕ) (rest : Schedule) → All HasName rest.runs
+    → All HasName (schedule_with_piece at piece rest).runs
+named-with_piece at [] rest others = others
+named-with_piece at (byte ∷ part) rest others =
+    named-with (reading_of at (byte ∷ part)) rest (names-of at (byte ∷ part)) others
+
+named-in : (at : ℕ) (pieces : List (List ℕ)) → All HasName (schedule_in true at pieces).runs
+named-in at [] = All-nil HasName
+named-in at (piece ∷ []) = named-with_piece at piece no_runs (All-nil HasName)
+named-in at (piece ∷ next ∷ pieces) =
+    let after = at + length piece + 1 in
+    named-with_piece at piece (schedule_in true after (next ∷ pieces)) (named-in after (next ∷ pieces))
+
+named-choices : (runs : List Run) → All HasName runs → All IsNamed (choices_of runs)
+named-choices [] there = All-nil IsNamed
+named-choices (run ∷ runs) there =
+    All-append IsNamed (replicate run.times run.choice) (choices_of runs)
+    (All-replicate IsNamed run.times run.choice (All-head HasName run runs there))
+    (named-choices runs (All-tail HasName run runs there))
+
+pub named-threads : (bytes : List ℕ) (runs : List Run) (fault : Option ScheduleFault)
+    → finished_schedule bytes ≡ record { runs = runs; fault = fault } → All IsNamed (choices_of runs)
+named-threads bytes runs fault is =
+    named-choices runs
+    (subst (λ (schedule : Schedule). All HasName schedule.runs) is (named-in 0 (slice_split is_blank bytes)))

@@ -1,0 +1,181 @@
+-- A trace has one verdict: how the phasers of its program are stored makes no difference.
+use Rattle.std.proofs.Common.{◌≡◌, ◌∙◌, ◌+◌, ◌==◌, ◌&&◌, ◌||◌, not, nat_le, codes, decimal, length, is_some, ℕ, Bool, List, [], ◌∷◌, ◌++◌, cond, true, Option, Some, None, is_none, inl, inr, refl, ap, sym, append-nil}
+use Rattle.std.specs.List.{slice_split}
+use Rattle.std.specs.Str.{bytes_eq}
+use Rattle.instruction_table.specs.declared.row.Row.{Row}
+use Rattle.line_reader.specs.Words.{is_line_end}
+use Rattle.row_code.specs.declared.image.Image.{Image}
+use Rattle.row_code.specs.declared.threads.DeclaredThread.{DeclaredThread}
+use Rattle.cyclic_barrier.specs.Barrier.{BarrierState}
+use Rattle.tier_tree.specs.Forest.{PhaserState}
+use Rattle.tier_tree.specs.Stored.{Stored, phasers_of}
+use Rattle.loader.specs.Program.{Program, IsProgramOf}
+use Rattle.machine_scene.specs.Scene.{Outcome, first_scene, thread_at}
+use Rattle.thread_machine.specs.declared.choice.Choice.{Choice}
+use Rattle.thread_machine.specs.declared.fault.StepFault.{StepFault}
+use Rattle.thread_machine.specs.declared.fault.StepFault.TheVariants.{NoSuchThread, StepLimit, Memory}
+use Rattle.thread_machine.specs.World.{World, first_world}
+use Rattle.thread_machine.specs.Ready.{all_finished, has_ended, outcome_of_choice}
+use Rattle.thread_machine.specs.Step.{Played, played, played_by, refusal_of}
+use Rattle.thread_machine.specs.Execution.{Execution, execution, execution_by}
+use Rattle.trace_compare.specs.declared.compare.Verdict.{Verdict}
+use Rattle.trace_compare.specs.declared.compare.Verdict.TheVariants as verdict
+use Rattle.trace_compare.specs.Compare.{HasCompared, choice_in, choice_verdict, is_state_line, is_too_long, lines_verdict, state_verdict, verdict_of}
+use Rattle.trace_compare.specs.Lines.{event_text}
+use Rattle.trace_compare.specs.RunText.{IsTraceOf}
+use Rattle.trace_compare.specs.Start.{Begins}
+use Rattle.trace_compare.specs.State.{state_text}
+use Rattle.trace_compare.specs.Trace.{lines_by, lines_of}
+use Rattle.trace_compare.proofs.StateLines.{parts_text}
+use Rattle.trace_compare.proofs.StoredOtherwise.{outcome-same, some_ready-same, stored_in}
+
+-- a world of a program whose phasers are stored otherwise
+abbrev stored : List Stored → World → World
+stored phasers world = record world { program = stored_in phasers world.program }
+
+refusal-same : (phasers : List Stored) (world : World) (choice : Choice)
+    → refusal_of (stored phasers world) choice ≡ refusal_of world choice
+refusal-same phasers world choice =
+    ap (λ outcome. cond (nat_le (length world.scene.threads) choice.thread) (Some NoSuchThread)
+    (cond ((world.choices == 1000000000000) || (nat_le world.limit world.steps && is_some outcome)) (Some StepLimit) None))
+    (outcome-same phasers world.program choice world.scene)
+
+-- what is shown of how far the program is
+text_by : Bool → World → List ℕ
+text_by ready world =
+    codes "state " ++ (decimal world.choices ++ (codes " " ++ (decimal world.steps ++ (codes " "
+    ++ (cond (has_ended world) (codes "all") (cond (not (all_finished world.scene) && not ready) (codes "stuck") (codes "live"))
+    ++ (codes "\n" ++ parts_text world))))))
+
+state-same : (phasers : List Stored) (world : World) → state_text (stored phasers world) ≡ state_text world
+unfolding text_by
+state-same phasers world = ap (λ ready. text_by ready world) (some_ready-same phasers world.program world.scene)
+
+played-world : (phasers : List Stored) (outcome : Option Outcome) (world : World)
+    → (played_by outcome (stored phasers world)).world ≡ stored phasers (played_by outcome world).world
+played-world phasers (Some outcome) world = refl
+played-world phasers None world = refl
+
+played-event : (phasers : List Stored) (outcome : Option Outcome) (world : World)
+    → (played_by outcome (stored phasers world)).event ≡ (played_by outcome world).event
+played-event phasers (Some outcome) world = refl
+played-event phasers None world = refl
+
+abbrev one_by : Option StepFault → World → Choice → Execution
+one_by refusal world choice = execution_by refusal world choice (λ after. execution after [])
+
+-- a choice is played by what it comes to
+plays-same : (phasers : List Stored) (world : World) (choice : Choice)
+    → played (stored phasers world) choice ≡ played_by (outcome_of_choice world.program choice world.scene) (stored phasers world)
+plays-same phasers world choice =
+    ap (λ outcome. played_by outcome (stored phasers world)) (outcome-same phasers world.program choice world.scene)
+
+executed-by : (phasers : List Stored) (refusal : Option StepFault) (world : World) (choice : Choice)
+    → (one_by refusal (stored phasers world) choice).world ≡ stored phasers (one_by refusal world choice).world
+executed-by phasers (Some fault) world choice = refl
+executed-by phasers None world choice =
+    ap (λ (play : Played). play.world) (plays-same phasers world choice)
+    ∙ played-world phasers (outcome_of_choice world.program choice world.scene) world
+
+refused-by : (phasers : List Stored) (refusal : Option StepFault) (world : World) (choice : Choice)
+    → (one_by refusal (stored phasers world) choice).refusal ≡ (one_by refusal world choice).refusal
+refused-by phasers (Some fault) world choice = refl
+refused-by phasers None world choice = refl
+
+line-by : (phasers : List Stored) (refusal : Option StepFault) (world : World) (choice : Choice)
+    → lines_by refusal (stored phasers world) choice (λ after. []) ≡ lines_by refusal world choice (λ after. [])
+line-by phasers (Some NoSuchThread) world choice = refl
+line-by phasers (Some StepLimit) world choice = refl
+line-by phasers (Some Memory) world choice = refl
+line-by phasers None world choice =
+    ap (λ event. event_text (world.choices + 1) choice (thread_at world.scene choice.thread).pc event ++ [])
+    (ap (λ (play : Played). play.event) (plays-same phasers world choice)
+    ∙ played-event phasers (outcome_of_choice world.program choice world.scene) world)
+
+-- a line that names a choice has the same verdict, if the lines after it have
+choice-same : (phasers : List Stored) (named : Option Choice) (accepted : Bool) (world : World) (n : ℕ) (line : List ℕ)
+    (rest : Bool → World → Verdict) → ((all : Bool) (after : World) → rest all (stored phasers after) ≡ rest all after)
+    → choice_verdict named accepted (stored phasers world) n line rest ≡ choice_verdict named accepted world n line rest
+choice-same phasers None accepted world n line rest same = refl
+choice-same phasers (Some choice) accepted world n line rest same =
+    let refusal = refusal_of world choice in
+    let other = stored phasers world in
+    let lines = lines_of world (choice ∷ []) in
+    let ended = λ (text : List ℕ) (then : Verdict). cond (accepted && bytes_eq (line ++ (10 ∷ [])) text) then (verdict.Differs n) in
+    let after = one_by refusal world choice in
+    ap (λ why. ended (lines_by why other choice (λ later. [])) (rest (is_none (one_by why other choice).refusal) (one_by why other choice).world))
+    (refusal-same phasers world choice)
+    ∙ ap (λ text. ended text (rest (is_none (one_by refusal other choice).refusal) (one_by refusal other choice).world))
+    (line-by phasers refusal world choice)
+    ∙ ap (λ why. ended lines (rest (is_none why) (one_by refusal other choice).world)) (refused-by phasers refusal world choice)
+    ∙ ap (λ left. ended lines (rest (is_none after.refusal) left)) (executed-by phasers refusal world choice)
+    ∙ ap (λ then. ended lines then) (same (is_none after.refusal) after.world)
+
+lines-same : (phasers : List Stored) (lines : List (List ℕ)) (accepted : Bool) (world : World) (n : ℕ)
+    → lines_verdict accepted (stored phasers world) n lines ≡ lines_verdict accepted world n lines
+lines-same phasers [] accepted world n = refl
+lines-same phasers (line ∷ lines) accepted world n =
+    let rest = λ (all : Bool) (after : World). lines_verdict all after (n + 1) lines in
+    ap (λ text. cond (is_too_long line) (verdict.NotATrace n) (cond (is_state_line line) (state_verdict text n (line ∷ lines))
+    (choice_verdict (choice_in line) accepted (stored phasers world) n line rest)))
+    (state-same phasers world)
+    ∙ ap (λ v. cond (is_too_long line) (verdict.NotATrace n) (cond (is_state_line line) (state_verdict (state_text world) n (line ∷ lines)) v))
+    (choice-same phasers (choice_in line) accepted world n line rest (λ all after. lines-same phasers lines all after (n + 1)))
+
+-- a program by its parts, and its first world
+abbrev program_by : List Row → List DeclaredThread → List Stored → List ℕ → List BarrierState → List ℕ → Program
+program_by rows threads phasers routines barriers actions = record {
+  rows = rows;
+  threads = threads;
+  phasers = phasers;
+  routines = routines;
+  barriers = barriers;
+  actions = actions;
+}
+
+abbrev world_by : Program → List PhaserState → World
+world_by program phasers = record {
+  program = program;
+  limit = 1000000000;
+  scene = record (first_scene program) { phasers = phasers };
+  choices = 0;
+  steps = 0;
+}
+
+same-parts : {A B C D E F : Type 0} (make : A → B → C → D → E → F) (a x : A) (b y : B) (c z : C) (d v : D) (e w : E)
+    → a ≡ x → b ≡ y → c ≡ z → d ≡ v → e ≡ w → make a b c d e ≡ make x y z v w
+same-parts make a x b y c z d v e w p q r s t =
+    ap (λ i. make i b c d e) p ∙ ap (λ i. make x i c d e) q ∙ ap (λ i. make x y i d e) r ∙ ap (λ i. make x y z i e) s
+    ∙ ap (λ i. make x y z v i) t
+
+same-program : (image : Image) (one other : Program) → IsProgramOf image one → IsProgramOf image other
+    → other ≡ stored_in other.phasers one
+same-program image one other p q =
+    same-parts (λ rows threads routines barriers actions. program_by rows threads other.phasers routines barriers actions)
+    other.rows one.rows other.threads one.threads other.routines one.routines other.barriers one.barriers other.actions one.actions
+    (q.rows ∙ sym p.rows) (q.threads ∙ sym p.threads) (q.routines ∙ sym p.routines) (q.barriers ∙ sym p.barriers)
+    (q.actions ∙ sym p.actions)
+
+same-world : (image : Image) (one other : Program) → IsProgramOf image one → IsProgramOf image other
+    → first_world other 1000000000 ≡ stored other.phasers (first_world one 1000000000)
+same-world image one other p q =
+    ap (λ program. world_by program (phasers_of other.phasers)) (same-program image one other p q)
+    ∙ ap (λ phasers. world_by (stored_in other.phasers one) phasers) (q.phasers ∙ sym p.phasers)
+
+-- an image's traces have one verdict
+one-verdict : (image : Image) (one other : World) (trace : List ℕ) → Begins image one → Begins image other
+    → verdict_of one trace ≡ verdict_of other trace
+one-verdict image one other trace (p, (declares, first)) (q, (declares', first')) =
+    let lines = slice_split is_line_end trace in
+    ap (λ world. lines_verdict true world 1 lines) first
+    ∙ sym (lines-same q.phasers lines true (first_world p 1000000000) 1)
+    ∙ ap (λ world. lines_verdict true world 1 lines) (sym (first' ∙ same-world image p q declares declares'))
+
+-- a comparison with its program finds a trace the same
+pub found-same : (image : Image) (schedule trace left : List ℕ) (v : Verdict) → IsTraceOf image schedule trace
+    → HasCompared image (Some trace) (Some left) v → v ≡ verdict.Same
+found-same image schedule trace left v (one, (runs, (begins, is, trace_is, same))) (other, (bytes, (begins', consumed, inl (end, found)))) =
+    let all : bytes ≡ trace = sym (append-nil bytes) ∙ ap (λ rest. bytes ++ rest) (sym end) ∙ sym consumed in
+    sym found ∙ ap (verdict_of other) all ∙ one-verdict image other one trace begins' begins ∙ same
+found-same image schedule trace left v (one, (runs, (begins, is, trace_is, same))) (other, (bytes, (begins', consumed, inr later))) =
+    sym (later left) ∙ ap (verdict_of other) (sym consumed) ∙ one-verdict image other one trace begins' begins ∙ same
