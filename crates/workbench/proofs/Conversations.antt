@@ -2,12 +2,10 @@
 use Rattle.std.proofs.Common.{◌≡◌, ◌≢◌, ◌≤◌, ◌+◌, ◌∙◌, ◌⊎◌, inl, inr, ℕ, Bool, true, false, List, [], ◌∷◌, ◌++◌, Option, refl, ap, sym, subst, length, append_assoc, append-nil, length-append, arith}
 use Rattle.std.proofs.KnownBytes.{Appends-nil, Appends-trans, Consumes-nil, Consumes-trans}
 use Rattle.std.proofs.lemmas.List.Elements.{All-nil, All-cons, All-append}
-use Rattle.std.specs.Prelude.{All}
-use Rattle.std.specs.Io.KnownBytes.{Appends, Consumes, IsAtEnd}
+use Rattle.std.specs.Io.KnownBytes.{Consumes, IsAtEnd}
 use Rattle.trace_compare.specs.RunText.{GivesOnAndOn}
 use Rattle.debugger.specs.Session.{Session}
 use Rattle.debugger.specs.Command.{goes_on, line_order}
-use Rattle.debugger.specs.Reply.{Replies}
 use Rattle.workbench.specs.Debug.{AreReplies, GivesLines, GoOn, HasAnswered, HasConversed, HasConversedAtMost, HasConversedSoFar, HasNoEnd, HasReadLines, last_line, with_ends}
 
 abbrev goes-on : List ℕ → Type 0
@@ -80,10 +78,6 @@ pub record HasGoneOn (before now : Session) (commands_before commands_now output
   pub go_on : GoOn lines
   pub given : GivesLines commands_before commands_now lines []
   pub answered : HasAnswered before lines now output_before output_now
-
-pub gone_nowhere : (session : Session) (commands output : Option (List ℕ)) → HasGoneOn session session commands commands output output
-gone_nowhere session commands output =
-    record { lines = []; go_on = All-nil goes-on; given = no_lines commands; answered = no_answers output session }
 
 -- a line more, in a turn more
 pub gone_on : (before now after : Session) (a b c x y z : Option (List ℕ)) (line : List ℕ) (n : ℕ) → (on : HasGoneOn before now a b x y)
@@ -221,11 +215,6 @@ line_given a b line given no_end = (
 
 pub part_given : (a b : Option (List ℕ)) (part : List ℕ) → Consumes a b part → HasNoEnd part → GivesLines a b [] part
 part_given a b part given no_end = (given, All-nil HasNoEnd, no_end)
-
-pub one_answered : (before after : Session) (line text : List ℕ) (x y : Option (List ℕ)) → Replies before (line_order line) after text
-    → Appends x y text → HasAnswered before (line ∷ []) after x y
-one_answered before after line text x y replies written =
-    (text, ((after, (text, ([], (replies, (refl, refl), sym (append-nil text))))), written))
 
 pub ends_without_a_line : (session : Session) (a b x y : Option (List ℕ)) (line : List ℕ) → line ≡ [] → Consumes a b line → IsAtEnd b
     → HasNoEnd line → y ≡ x → HasConversed session a b x y

@@ -1,19 +1,17 @@
 -- What becomes of a run that was recorded.
-use Rattle.std.proofs.Common.{◌≡◌, ◌≢◌, ◌∙◌, ◌++◌, ◌⊎◌, ◌≤◌, inl, inr, ℕ, Bool, true, false, List, [], length, Ok, Err, Result, Option, Some, None, ap, sym, refl, subst, append-nil, length-append, arith}
-use Rattle.std.specs.Prelude.{OnOk, IfErr, IsTrue}
+use Rattle.std.proofs.Common.{◌≡◌, ◌∙◌, ◌⊎◌, ◌≤◌, inl, inr, ℕ, List, [], length, Ok, Err, Result, Option, Some, None, ap, sym, refl, subst, length-append, arith}
+use Rattle.std.specs.Prelude.{OnOk, IfErr}
 use Rattle.std.specs.Io.KnownBytes.{Appends}
 use Rattle.row_code.specs.declared.image.Image.{Image}
-use Rattle.row_code.specs.Reading.{image_of}
 use Rattle.row_code.specs.declared.image_fault.ImageFault.{ImageFault}
 use Rattle.row_code.specs.declared.image_fault.ImageFault.TheVariants as image
 use Rattle.loader.specs.declared.load_fault.LoadFault.{LoadFault}
 use Rattle.loader.specs.declared.load_fault.LoadFault.TheVariants as load
-use Rattle.assembler.specs.Meaning.{StandsFor}
 use Rattle.assembler.proofs.ReadLines.{one_image}
 use Rattle.schedule_reader.specs.declared.fault.ScheduleFault.{ScheduleFault}
 use Rattle.schedule_reader.specs.declared.fault.ScheduleFault.TheVariants as schedule
 use Rattle.schedule_reader.specs.Schedule.{Schedule, finished_schedule, open_schedule, choices_of}
-use Rattle.trace_compare.specs.RunText.{GivesOnAndOn, HasRun, HasRunSoFar, HasRunToFault, IsTraceOf}
+use Rattle.trace_compare.specs.RunText.{GivesOnAndOn, HasRunSoFar, HasRunToFault, IsTraceOf}
 use Rattle.trace_compare.specs.Trace.{lines_of}
 use Rattle.trace_compare.proofs.Plays.{Part-whole}
 use Rattle.workbench.specs.declared.fault.Fault.{Fault}
@@ -21,7 +19,7 @@ use Rattle.workbench.specs.declared.fault.Fault.TheVariants as fault
 use Rattle.workbench.specs.Fault.{image_status, load_status, number_of, schedule_status, status_of, text_status}
 use Rattle.workbench.specs.Live.{IsLived, IsLivedAtMost, IsLivedLong, IsRecorded}
 use Rattle.workbench.specs.Play.{HasRunAtMost}
-use Rattle.workbench.specs.ProgramFile.{IsProgramFile, is_image_file}
+use Rattle.workbench.specs.ProgramFile.{IsProgramFile}
 use Rattle.workbench.proofs.Runs.{whole_fault}
 
 ok_is : {A E : Type 0} (a b : A) → (◌≡◌ {A = Result A E} (Ok a) (Ok b)) → a ≡ b
@@ -38,14 +36,6 @@ recorded_again : (limit : ℕ) (file schedule : List ℕ) (a b : Image) → IsPr
     → IsRecorded a limit schedule → IsRecorded b limit schedule
 recorded_again limit file schedule a b first again recorded =
     subst (λ image. IsRecorded image limit schedule) (one_program file a b first again) recorded
-
--- a schedule that is known as a whole was read to its end
-pub traced_whole : (image : Image) (schedule after : List ℕ) (output_before output_after : Option (List ℕ))
-    → HasRun image (Some schedule) (Some after) output_before output_after
-    → (trace : List ℕ) × (IsTraceOf image schedule trace × Appends output_before output_after trace)
-traced_whole image schedule after output_before output_after (bytes, (trace, (consumed, end, traced, appended))) =
-    let whole : bytes ≡ schedule = sym (append-nil bytes) ∙ ap (λ rest. bytes ++ rest) (sym end) ∙ sym consumed in
-    (trace, (subst (λ given. IsTraceOf image given trace) whole traced, appended))
 
 -- a schedule without a fault isn't refused
 pub no_fault : (image : Image) (f : ScheduleFault) (schedule after : List ℕ) (output_before output_after : Option (List ℕ))

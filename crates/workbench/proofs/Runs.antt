@@ -14,43 +14,12 @@ use Rattle.trace_compare.specs.RunText.{HasFault, HasRun, HasRunToFault, faulty_
 use Rattle.trace_compare.specs.RunText as run
 use Rattle.trace_compare.specs.Start.{IsRefused}
 use Rattle.trace_compare.specs.Trace.{AppendsPartOf, lines_of}
-use Rattle.trace_compare.proofs.Plays.{Part-whole}
 use Rattle.workbench.specs.declared.fault.Fault.{Fault}
 use Rattle.workbench.specs.declared.fault.Fault.TheVariants as fault
 use Rattle.workbench.specs.Both.{AreLinesOf, AreRefusedFor, IsTraceOf}
 use Rattle.workbench.specs.Fault.{status_of}
 use Rattle.workbench.specs.Play.{HasRunAtMost}
 use Rattle.workbench.specs.RunLine.{program_part, schedule_part}
-
--- the runs before a fault are those of the bytes that were read
-fault-runs : (bytes : List ℕ) (left : Option (List ℕ)) (runs : List Run) (f : ScheduleFault)
-    → HasFault bytes left runs f → runs ≡ (finished_schedule bytes).runs
-fault-runs bytes left runs f (inl (end, is)) = ap (λ (schedule : Schedule). schedule.runs) (sym is)
-fault-runs bytes left runs f (inr later) =
-    ap (λ (schedule : Schedule). schedule.runs) (sym (later []))
-    ∙ ap (λ given. (finished_schedule given).runs) (append-nil bytes)
-
--- the lines up to a fault are a part of those of the choices that were read
-pub fault-at_most : (image : Image) (f : ScheduleFault) (schedule_before schedule_after output_before output_after : Option (List ℕ))
-    → HasRunToFault image f schedule_before schedule_after output_before output_after
-    → HasRunAtMost image schedule_before schedule_after output_before output_after
-fault-at_most image f schedule_before schedule_after output_before output_after
-    (world, (bytes, (runs, (begins, consumed, faulty, appended)))) =
-    inr (
-      world,
-      (
-        bytes,
-        (
-          runs,
-          (
-            begins,
-            consumed,
-            inr (fault-runs bytes schedule_after runs f faulty),
-            Part-whole output_before output_after (lines_of world (choices_of runs)) appended,
-          ),
-        ),
-      ),
-    )
 
 -- the fault of a known schedule
 pub whole_fault : (schedule bytes after : List ℕ) (runs : List Run) (f : ScheduleFault) → schedule ≡ bytes ++ after

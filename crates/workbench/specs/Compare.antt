@@ -1,5 +1,5 @@
 -- What `compare` makes of a program's file and a trace.
-use Rattle.std.specs.Prelude.{◌≡◌, ℕ, List, Option, codes}
+use Rattle.std.specs.Prelude.{ℕ, List, Option, codes}
 use Rattle.std.specs.Io.KnownBytes.{Appends}
 use Rattle.row_code.specs.declared.image.Image.{Image}
 use Rattle.trace_compare.specs.declared.compare.Verdict.{Verdict}

@@ -17,7 +17,6 @@ ghost use Rattle.workbench.specs.Run.{HasNoRun};
 use crate::fault::{DONE, Fault, UNLIKE, push_counted_line};
 use crate::program_file::read_program;
 use byte_ports::{Failed, Sink, Source};
-use loader::LoadFault;
 use row_code::Image;
 use std::alloc::Global;
 use trace_compare::compare::{CompareFault, Verdict, compare};
@@ -107,7 +106,6 @@ fn verdict_on<S: Source>(alloc: Global, image: Image, trace: &mut S) -> Result<V
 {
     match compare(alloc, image, trace) {
         Ok(verdict) => Ok(verdict),
-        Err(CompareFault::Load(LoadFault::Memory)) => Err(Fault::Memory),
         Err(CompareFault::Load(fault)) => Err(Fault::Load(fault)),
         Err(CompareFault::Memory) => Err(Fault::Memory),
         Err(CompareFault::Read) => Err(Fault::Read),

@@ -10,9 +10,7 @@ ghost use Rattle.workbench.specs.Play.{HasRunAtMost};
 
 use crate::fault::Fault;
 use byte_ports::{Sink, Source};
-use loader::LoadFault;
 use row_code::Image;
-use schedule_reader::ScheduleFault;
 use std::alloc::Global;
 use trace_compare::run::{RunFault, run_text};
 
@@ -44,9 +42,7 @@ pub fn play<S: Source, K: Sink>(
 {
     match run_text(alloc, image, schedule, output) {
         Ok(()) => Ok(()),
-        Err(RunFault::Load(LoadFault::Memory)) => Err(Fault::Memory),
         Err(RunFault::Load(fault)) => Err(Fault::Load(fault)),
-        Err(RunFault::Schedule(ScheduleFault::Memory)) => Err(Fault::Memory),
         Err(RunFault::Schedule(fault)) => Err(Fault::Schedule(fault)),
         Err(RunFault::Memory) => Err(Fault::Memory),
         Err(RunFault::Read) => Err(Fault::Read),
