@@ -1,5 +1,11 @@
--- What holds of each request that a command line comes to.
-use Rattle.std.specs.Prelude.{◌≤◌}
+-- What a command line asks for, by the subcommand that its words name and by that one's matches.
+use Rattle.std.specs.Prelude.{◌≡◌, ◌≢◌, ◌≤◌, ◌⊎◌, ℕ, List, [], ◌∷◌, Option, Some, None, length}
+use Rattle.std.specs.Prelude.{All, codes, true, unwrap_or}
+use Rattle.std.specs.Str.Parse.{IsNumeral, digits_value}
+use Rattle.clap.specs.Words.{Row, Text, first_of, kind_of, subcommand_of, takes}
+use Rattle.clap.specs.declared.error.Error.{Error}
+use Rattle.clap.specs.declared.error.kind.ErrorKind.TheVariants.{OutOfMemory, ValueValidation}
+use Rattle.command_line.specs.Commands.{vuthgal}
 use Rattle.command_line.specs.declared.request.Request.{Request}
 use Rattle.command_line.specs.declared.request.Request.TheVariants as request
 
@@ -8,3 +14,65 @@ abbrev pub IsInRange : Request → Type 0
 IsInRange (request.Live file limit) = (1 ≤ limit) × (limit ≤ 1000000000)
 IsInRange (request.Race parties rounds) = ((1 ≤ parties) × (parties ≤ 16)) × ((1 ≤ rounds) × (rounds ≤ 1000000))
 IsInRange _ = Unit {0}
+
+-- the word that stands in this place, empty where there is none
+abbrev pub word_at : Text → List Row → Text
+word_at place rows = unwrap_or (first_of place rows) []
+
+-- one to ten digits, and nothing else, spell this number, which is one of 1 to `most`
+abbrev pub Spells : Text → ℕ → ℕ → Type 0
+Spells text most number = (length text ≤ 10) × IsNumeral 10 text × (digits_value 10 text ≡ number)
+    × (1 ≤ number) × (number ≤ most)
+
+abbrev pub SpellsNone : Text → ℕ → Type 0
+SpellsNone text most = (number : ℕ) → Spells text most number → ⊥
+
+abbrev pub command_names : List Text
+command_names = codes "asm" ∷ codes "list" ∷ codes "run" ∷ codes "compare" ∷ codes "debug" ∷ codes "live" ∷ codes "race" ∷ []
+
+-- the request is what the subcommand of this name asks for by these matches
+abbrev pub IsAskedBy : Text → List Row → Request → Type 0
+IsAskedBy name rows request.Both = All (λ other. name ≢ other) command_names
+IsAskedBy name rows (request.Asm source image) = (name ≡ codes "asm")
+    × (source.now ≡ word_at (codes "SRC") rows) × (image.now ≡ word_at (codes "OUT") rows)
+IsAskedBy name rows (request.List file) = (name ≡ codes "list")
+    × (file.now ≡ word_at (codes "FILE") rows)
+IsAskedBy name rows (request.Run file schedule) = (name ≡ codes "run")
+    × (file.now ≡ word_at (codes "FILE") rows) × (schedule.now ≡ word_at (codes "SCHEDULE") rows)
+IsAskedBy name rows (request.Compare file trace) = (name ≡ codes "compare")
+    × (file.now ≡ word_at (codes "FILE") rows) × (trace.now ≡ word_at (codes "TRACE") rows)
+IsAskedBy name rows (request.Debug file) = (name ≡ codes "debug")
+    × (file.now ≡ word_at (codes "FILE") rows)
+IsAskedBy name rows (request.Live file limit) = (name ≡ codes "live")
+    × (file.now ≡ word_at (codes "FILE") rows) × Spells (word_at (codes "limit") rows) 1000000000 limit
+IsAskedBy name rows (request.Race parties rounds) = (name ≡ codes "race")
+    × Spells (word_at (codes "parties") rows) 16 parties
+    × Spells (word_at (codes "rounds") rows) 1000000 rounds
+
+-- the subcommand of this name has a number in its matches that is none or out of its range
+abbrev pub IsRefusedBy : Text → List Row → Type 0
+IsRefusedBy name rows = ((name ≡ codes "live") × SpellsNone (word_at (codes "limit") rows) 1000000000)
+    ⊎ ((name ≡ codes "race") × (SpellsNone (word_at (codes "parties") rows) 16
+    ⊎ SpellsNone (word_at (codes "rounds") rows) 1000000))
+
+-- the same of the words as a whole: with no subcommand they ask for `Both`
+abbrev pub IsAsked : Option (Text × List Row) → Request → Type 0
+IsAsked None asked = asked ≡ request.Both
+IsAsked (Some named) asked = IsAskedBy named.0 named.1 asked
+
+abbrev pub IsRefused : Option (Text × List Row) → Type 0
+IsRefused None = ⊥
+IsRefused (Some named) = IsRefusedBy named.0 named.1
+
+-- a command line, whose first word is the program's own name, asks for this
+abbrev pub Asks : List Text → Request → Type 0
+Asks words = IsAsked (subcommand_of vuthgal words)
+
+-- it has a number that is none or out of its range
+abbrev pub Refuses : List Text → Type 0
+Refuses words = IsRefused (subcommand_of vuthgal words)
+
+-- an error where no memory is left, where `clap` doesn't take the words, or where a number is refused
+abbrev pub Fails : List Text → Error → Type 0
+Fails words error = takes vuthgal words ≡ true → (kind_of error ≡ OutOfMemory)
+    ⊎ ((kind_of error ≡ ValueValidation) × Refuses words)

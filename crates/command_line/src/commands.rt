@@ -1,3 +1,9 @@
+ghost use Rattle.std.specs.Prelude.{◌≡◌, IfOk, IsOkAnd, false};
+ghost use Rattle.clap.specs.Words.{AddsSubcommand, app_of, rule_of};
+ghost use Rattle.command_line.specs.Commands.{alone, limit_rule, number_rule, place_rule, vuthgal};
+ghost use Rattle.command_line.specs.Commands.{asm_shape, compare_shape, debug_shape, list_shape};
+ghost use Rattle.command_line.specs.Commands.{live_shape, race_shape, run_shape};
+
 use clap::{Arg, Command};
 use std::alloc::{AllocError, Global};
 
@@ -119,11 +125,16 @@ and B and C are N, whatever the threads' order was.
 Example: vuthgal race --parties 4 --rounds 10000";
 
 /// A word that has to be there, in its place.
-fn place<'a>(alloc: Global, name: &'a str, help: &'a str) -> Arg<'a> {
+fn place<'a>(alloc: Global, name: &'a str, help: &'a str) -> Arg<'a>
+    ensures rule { rule_of result ≡ place_rule name.entry.now }
+    ensures local { result.global ≡ false }
+{
     Arg::new(alloc, name).required(true).help(help)
 }
 
-fn asm<'a>(alloc: Global) -> Result<Command<'a>, AllocError> {
+fn asm<'a>(alloc: Global) -> Result<Command<'a>, AllocError>
+    ensures { IfOk result (λ command. app_of command ≡ alone asm_shape) }
+{
     Command::new(alloc, ASM)
         .about("Assembles a program text into an image")
         .long_about(ASM_ABOUT)
@@ -132,7 +143,9 @@ fn asm<'a>(alloc: Global) -> Result<Command<'a>, AllocError> {
         .arg(place(alloc, OUT, "The file that the image is written to"))
 }
 
-fn list<'a>(alloc: Global) -> Result<Command<'a>, AllocError> {
+fn list<'a>(alloc: Global) -> Result<Command<'a>, AllocError>
+    ensures { IfOk result (λ command. app_of command ≡ alone list_shape) }
+{
     Command::new(alloc, LIST)
         .about("Writes the canonical text of a program")
         .long_about(LIST_ABOUT)
@@ -140,7 +153,9 @@ fn list<'a>(alloc: Global) -> Result<Command<'a>, AllocError> {
         .arg(place(alloc, FILE, "The file of the image or of the program text"))
 }
 
-fn run<'a>(alloc: Global) -> Result<Command<'a>, AllocError> {
+fn run<'a>(alloc: Global) -> Result<Command<'a>, AllocError>
+    ensures { IfOk result (λ command. app_of command ≡ alone run_shape) }
+{
     Command::new(alloc, RUN)
         .about("Plays a program under a schedule and writes the trace")
         .long_about(RUN_ABOUT)
@@ -153,7 +168,9 @@ fn run<'a>(alloc: Global) -> Result<Command<'a>, AllocError> {
         ))
 }
 
-fn compare<'a>(alloc: Global) -> Result<Command<'a>, AllocError> {
+fn compare<'a>(alloc: Global) -> Result<Command<'a>, AllocError>
+    ensures { IfOk result (λ command. app_of command ≡ alone compare_shape) }
+{
     Command::new(alloc, COMPARE)
         .about("Compares a trace with the run that it names")
         .long_about(COMPARE_ABOUT)
@@ -166,7 +183,9 @@ fn compare<'a>(alloc: Global) -> Result<Command<'a>, AllocError> {
         ))
 }
 
-fn debug<'a>(alloc: Global) -> Result<Command<'a>, AllocError> {
+fn debug<'a>(alloc: Global) -> Result<Command<'a>, AllocError>
+    ensures { IfOk result (λ command. app_of command ≡ alone debug_shape) }
+{
     Command::new(alloc, DEBUG)
         .about("Plays a program by commands, forwards and backwards")
         .long_about(DEBUG_ABOUT)
@@ -174,23 +193,34 @@ fn debug<'a>(alloc: Global) -> Result<Command<'a>, AllocError> {
         .arg(place(alloc, FILE, "The file of the image or of the program text"))
 }
 
-fn live<'a>(alloc: Global) -> Result<Command<'a>, AllocError> {
+/// How many steps a live run takes at most.
+fn limit<'a>(alloc: Global) -> Arg<'a>
+    ensures rule { rule_of result ≡ limit_rule }
+    ensures local { result.global ≡ false }
+{
+    Arg::new(alloc, LIMIT)
+        .long(LIMIT)
+        .value_name("N")
+        .default_value("1000000")
+        .help("How many steps at most, 1 to 1000000000")
+}
+
+fn live<'a>(alloc: Global) -> Result<Command<'a>, AllocError>
+    ensures { IfOk result (λ command. app_of command ≡ alone live_shape) }
+{
     Command::new(alloc, LIVE)
         .about("Plays a program on real threads and writes the trace")
         .long_about(LIVE_ABOUT)
         .after_help(STATUSES)
         .arg(place(alloc, FILE, "The file of the image or of the program text"))?
-        .arg(
-            Arg::new(alloc, LIMIT)
-                .long(LIMIT)
-                .value_name("N")
-                .default_value("1000000")
-                .help("How many steps at most, 1 to 1000000000"),
-        )
+        .arg(limit(alloc))
 }
 
 /// An option that has to be there, with a number.
-fn number<'a>(alloc: Global, name: &'a str, value: &'a str, help: &'a str) -> Arg<'a> {
+fn number<'a>(alloc: Global, name: &'a str, value: &'a str, help: &'a str) -> Arg<'a>
+    ensures rule { rule_of result ≡ number_rule name.entry.now }
+    ensures local { result.global ≡ false }
+{
     Arg::new(alloc, name)
         .long(name)
         .value_name(value)
@@ -198,7 +228,9 @@ fn number<'a>(alloc: Global, name: &'a str, value: &'a str, help: &'a str) -> Ar
         .help(help)
 }
 
-fn race<'a>(alloc: Global) -> Result<Command<'a>, AllocError> {
+fn race<'a>(alloc: Global) -> Result<Command<'a>, AllocError>
+    ensures { IfOk result (λ command. app_of command ≡ alone race_shape) }
+{
     Command::new(alloc, RACE)
         .about("Lets real threads meet at a shared phaser")
         .long_about(RACE_ABOUT)
@@ -207,18 +239,30 @@ fn race<'a>(alloc: Global) -> Result<Command<'a>, AllocError> {
         .arg(number(alloc, ROUNDS, "R", "How many phases, 1 to 1000000"))
 }
 
+/// The program with one command more.
+fn with<'a>(
+    program: Command<'a>,
+    command: Result<Command<'a>, AllocError>,
+) -> Result<Command<'a>, AllocError>
+    ensures { IfOk result (λ grown. IsOkAnd command.entry (λ added. AddsSubcommand program.entry added grown)) }
+{
+    program.subcommand(command?)
+}
+
 /// The program with all its commands.
-pub fn program<'a>(alloc: Global) -> Result<Command<'a>, AllocError> {
-    Command::new(alloc, "vuthgal")
+pub fn program<'a>(alloc: Global) -> Result<Command<'a>, AllocError>
+    ensures { IfOk result (λ program. app_of program ≡ vuthgal) }
+{
+    let program = Command::new(alloc, "vuthgal")
         .version("0.1.0")
         .about("Plays programs of threads that call phasers and barriers")
         .long_about(PROGRAM)
-        .after_help(STATUSES)
-        .subcommand(asm(alloc)?)?
-        .subcommand(list(alloc)?)?
-        .subcommand(run(alloc)?)?
-        .subcommand(compare(alloc)?)?
-        .subcommand(debug(alloc)?)?
-        .subcommand(live(alloc)?)?
-        .subcommand(race(alloc)?)
+        .after_help(STATUSES);
+    let program = with(program, asm(alloc))?;
+    let program = with(program, list(alloc))?;
+    let program = with(program, run(alloc))?;
+    let program = with(program, compare(alloc))?;
+    let program = with(program, debug(alloc))?;
+    let program = with(program, live(alloc))?;
+    with(program, race(alloc))
 }

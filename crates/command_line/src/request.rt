@@ -1,12 +1,18 @@
-ghost use Rattle.std.specs.Prelude.{◌≡◌, ◌≤◌, ◌^◌, IfOk, IfSome};
-ghost use Rattle.command_line.specs.Request.{IsInRange};
+ghost use Rattle.std.specs.Prelude.{◌≡◌, ◌≤◌, ◌^◌, IfErr, IfOk, IfSome, MatchOption, codes, map, true};
+ghost use Rattle.clap.specs.Words.{app_of, found_of, kind_of, rows_of, subcommand_rows_of, takes};
+ghost use Rattle.clap.specs.declared.error.kind.ErrorKind.TheVariants.{OutOfMemory};
+ghost use Rattle.std.specs.String.{string_bytes};
+ghost use Rattle.command_line.specs.Commands.{vuthgal};
+ghost use Rattle.command_line.specs.Request.{Asks, Fails, Refuses};
+ghost use Rattle.command_line.specs.Request.{IsAsked, IsAskedBy, IsInRange, IsRefused, IsRefusedBy};
+ghost use Rattle.command_line.specs.Request.{Spells, SpellsNone, word_at};
 
 use crate::commands::{
     ASM, COMPARE, DEBUG, FILE, LIMIT, LIST, LIVE, OUT, PARTIES, RACE, ROUNDS, RUN, SCHEDULE, SRC,
     TRACE, program,
 };
 use clap::error::ErrorKind;
-use clap::{ArgMatches, Error};
+use clap::{ArgMatches, Command, Error};
 use std::alloc::Global;
 
 /// What a command line asks for. A file is named as it was written.
@@ -36,15 +42,18 @@ const NUMBERS: &str =
                        1000000000";
 
 /// The word in this place, which is there where the place has to be filled.
-fn word<'a>(matches: &ArgMatches<'a>, place: &str) -> &'a str {
+fn word<'a>(matches: &ArgMatches<'a>, place: &str) -> &'a str
+    ensures { result.now ≡ word_at place.now (rows_of (found_of matches.now)) }
+{
     matches.get_str(place).unwrap_or("")
 }
 
 /// The number that one to ten digits spell, where it is one of 1 to `most`; no sign may stand before them.
 fn number(text: &str, most: u32) -> Option<u32>
-    ensures { IfSome result (λ n. (1 ≤ n) × (n ≤ most)) }
+    ensures range { IfSome result (λ n. (1 ≤ n) × (n ≤ most)) }
+    ensures spelled { MatchOption result (SpellsNone text.now most) (λ n. Spells text.now most n) }
 {
-    if text.len() > 10 || !text.bytes().all(|byte| byte.is_ascii_digit()) {
+    if text.len() > 10 || text.as_bytes().first() == Some(&b'+') {
         return None;
     }
     match text.parse::<u32>() {
@@ -55,30 +64,41 @@ fn number(text: &str, most: u32) -> Option<u32>
 
 /// The live run that these matches ask for, where its limit is in range.
 fn live<'a>(matches: &ArgMatches<'a>) -> Option<Request<'a>>
-    ensures { IfSome result (λ request. IsInRange request) }
+    ensures range { IfSome result (λ request. IsInRange request) }
+    ensures asked { let rows = rows_of (found_of matches.now) in
+        MatchOption result (IsRefusedBy (codes "live") rows) (IsAskedBy (codes "live") rows) }
 {
-    let limit = number(word(matches, LIMIT), 1_000_000_000)?;
-    Some(Request::Live {
-        file: word(matches, FILE),
-        limit,
-    })
+    match number(word(matches, LIMIT), 1_000_000_000) {
+        Some(limit) => Some(Request::Live {
+            file: word(matches, FILE),
+            limit,
+        }),
+        None => None,
+    }
 }
 
 /// The race that these matches ask for, where both numbers are in range.
 fn race<'a>(matches: &ArgMatches<'a>) -> Option<Request<'a>>
-    ensures { IfSome result (λ request. IsInRange request) }
+    ensures range { IfSome result (λ request. IsInRange request) }
+    ensures asked { let rows = rows_of (found_of matches.now) in
+        MatchOption result (IsRefusedBy (codes "race") rows) (IsAskedBy (codes "race") rows) }
 {
-    let parties = number(word(matches, PARTIES), 16)?;
-    let rounds = number(word(matches, ROUNDS), 1_000_000)?;
-    Some(Request::Race {
-        parties: parties as u16,
-        rounds,
-    })
+    let parties = number(word(matches, PARTIES), 16);
+    let rounds = number(word(matches, ROUNDS), 1_000_000);
+    match (parties, rounds) {
+        (Some(parties), Some(rounds)) => Some(Request::Race {
+            parties: parties as u16,
+            rounds,
+        }),
+        _ => None,
+    }
 }
 
 /// What a subcommand with these matches asks for; `None` where a number is out of range.
 fn request_by<'a>(name: &str, matches: &ArgMatches<'a>) -> Option<Request<'a>>
-    ensures { IfSome result (λ request. IsInRange request) }
+    ensures range { IfSome result (λ request. IsInRange request) }
+    ensures asked { let rows = rows_of (found_of matches.now) in
+        MatchOption result (IsRefusedBy name.now rows) (IsAskedBy name.now rows) }
 {
     match name {
         ASM => Some(Request::Asm {
@@ -105,21 +125,59 @@ fn request_by<'a>(name: &str, matches: &ArgMatches<'a>) -> Option<Request<'a>>
     }
 }
 
+/// What these matches ask for; `None` where a number is out of range.
+fn request_of<'a>(matches: &ArgMatches<'a>) -> Option<Request<'a>>
+    ensures range { IfSome result (λ request. IsInRange request) }
+    ensures asked { let named = subcommand_rows_of matches.now in
+        MatchOption result (IsRefused named) (IsAsked named) }
+{
+    match matches.subcommand() {
+        Some((name, matches)) => request_by(name, matches),
+        None => Some(Request::Both),
+    }
+}
+
+/// What the words ask for by the program's commands; `Ok(None)` where a number is out of range.
+fn request_in<'a>(
+    program: &mut Command<'a>,
+    words: &'a [String],
+) -> Result<Option<Request<'a>>, Error>
+    requires { app_of program.old ≡ vuthgal }
+    ensures range { IfOk result (λ asked. IfSome asked (λ request. IsInRange request)) }
+    ensures asked { let texts = map string_bytes words.entry.now in
+        IfOk result (λ asked. MatchOption asked (Refuses texts) (Asks texts)) }
+    ensures failed { let texts = map string_bytes words.entry.now in
+        IfErr result (λ error. takes vuthgal texts ≡ true → kind_of error ≡ OutOfMemory) }
+{
+    match program.try_get_matches_from_mut(words) {
+        Ok(matches) => Ok(request_of(&matches)),
+        Err(error) => Err(error),
+    }
+}
+
+/// The same, with the error of a number that is out of range.
+fn told_request<'a>(program: &mut Command<'a>, words: &'a [String]) -> Result<Request<'a>, Error>
+    requires { app_of program.old ≡ vuthgal }
+    ensures range { IfOk result (λ request. IsInRange request) }
+    ensures asked { IfOk result (Asks (map string_bytes words.entry.now)) }
+    ensures failed { IfErr result (Fails (map string_bytes words.entry.now)) }
+{
+    match request_in(program, words) {
+        Ok(Some(request)) => Ok(request),
+        Ok(None) => Err(program.error(ErrorKind::ValueValidation, NUMBERS)?),
+        Err(error) => Err(error),
+    }
+}
+
 /// What the words of a command line ask for, the program's own name the first of them. An error is also what `--help` and
 /// `--version` come to: its `exit_code` is 0 then, and 2 where the words are wrong.
 pub fn parse<'a>(alloc: Global, words: &'a [String]) -> Result<Request<'a>, Error>
-    ensures { IfOk result (λ request. IsInRange request) }
+    ensures range { IfOk result (λ request. IsInRange request) }
+    ensures asked { IfOk result (Asks (map string_bytes words.entry.now)) }
+    ensures failed { IfErr result (Fails (map string_bytes words.entry.now)) }
 {
-    let mut command = program(alloc)?;
-    let matches = command.try_get_matches_from_mut(words)?;
-    let request = match matches.subcommand() {
-        Some((name, matches)) => request_by(name, matches),
-        None => Some(Request::Both),
-    };
-    match request {
-        Some(request) => Ok(request),
-        None => Err(command.error(ErrorKind::ValueValidation, NUMBERS)?),
-    }
+    let mut program = program(alloc)?;
+    told_request(&mut program, words)
 }
 
 #[cfg(test)]
