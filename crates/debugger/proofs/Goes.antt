@@ -163,9 +163,6 @@ pub record Continues (session now : Session) (whole rest : List Choice) : Type 0
   pub plays : PlaysOn session.breaks (world_of session.machine) done
   pub steps : AreSteps session done now
 
-pub continues_first : (session : Session) (whole : List Choice) → Continues session session whole whole
-continues_first session whole = record { done = []; all = refl; plays = tt; steps = refl }
-
 more_plays : (session now : Session) (done xs : List Choice) → PlaysOn session.breaks (world_of session.machine) done
     → AreSteps session done now → PlaysOn now.breaks (world_of now.machine) xs
     → PlaysOn session.breaks (world_of session.machine) (done ++ xs)
@@ -214,15 +211,6 @@ continues_fault why session now after whole rest xs ys is on at = record {
   refuses = carried_on (λ breaks world. Refuses world at.refused why) on.done at.first session now on.steps at.refuses;
   steps = steps-append on.done at.first session now after on.steps at.steps;
 }
-
-pub continues_end : (session now : Session) (whole rest : List Choice) → rest ≡ [] → Continues session now whole rest
-    → Ends session whole now
-continues_end session now whole rest is on =
-    let all : whole ≡ on.done = on.all ∙ ap (λ l. on.done ++ l) is ∙ append-nil on.done in
-    record {
-      plays = subst (PlaysOn session.breaks (world_of session.machine)) (sym all) on.plays;
-      steps = subst (λ choices. AreSteps session choices now) (sym all) on.steps;
-    }
 
 -- each choice is counted
 choices_by : (outcome : Option Outcome) (world : World) → (played_by outcome world).world.choices ≡ world.choices + 1

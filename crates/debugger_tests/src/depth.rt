@@ -1,5 +1,5 @@
-use crate::fresh::machine_of;
-use debugger::{Debugger, NoHistory};
+use crate::fresh::debugger_of;
+use debugger::Debugger;
 use std::alloc::Global;
 use std::test::Fail;
 use thread_machine::Choice;
@@ -11,8 +11,13 @@ const FIRST: Choice = Choice {
     expiry: false,
 };
 
-/// How many choices are played of which 4096 are kept, and how many are left when these are taken back.
-static DEPTHS: [(u32, u64); 3] = [(4096, 0), (5000, 904), (1_000_000, 995_904)];
+/// How many choices can be taken back, how many are played, and how many are left when as many as can be are taken back.
+static DEPTHS: [(u16, u32, u64); 4] = [
+    (4096, 4096, 0),
+    (4096, 5000, 904),
+    (4096, 1_000_000, 995_904),
+    (2, 3, 1),
+];
 
 fn steps(debugger: &mut Debugger, count: u32) -> bool {
     for _ in 0..count {
@@ -32,16 +37,23 @@ fn backs(debugger: &mut Debugger, count: u32) -> bool {
     true
 }
 
-fn goes_back_to(alloc: Global, count: u32, left: u64) -> Result<bool, Fail> {
-    let mut debugger = Debugger::new(alloc, machine_of(alloc, FOREVER)?, 4096)?;
-    let is_back = steps(&mut debugger, count) && backs(&mut debugger, 4096);
-    Ok(is_back && debugger.back() == Err(NoHistory) && debugger.machine().choices() == left)
+/// Whether so many steps back are made and no more, and so many choices are left then.
+fn goes_back_to(debugger: &mut Debugger, kept: u16, count: u32, left: u64) -> bool {
+    steps(debugger, count)
+        && backs(debugger, u32::from(kept))
+        && debugger.back().is_err()
+        && debugger.machine().choices() == left
+}
+
+fn is_kept(alloc: Global, kept: u16, count: u32, left: u64) -> Result<bool, Fail> {
+    let mut debugger = debugger_of(alloc, FOREVER, kept)?;
+    Ok(goes_back_to(&mut debugger, kept, count, left))
 }
 
 #[test]
 fn as_many_steps_back_as_are_kept(rt: HostRuntime) -> Result<(), Fail> {
-    for (count, left) in &DEPTHS {
-        assert!(rt; goes_back_to(rt.alloc(), *count, *left)?);
+    for (kept, count, left) in &DEPTHS {
+        assert!(rt; is_kept(rt.alloc(), *kept, *count, *left)?);
     }
     Ok(())
 }

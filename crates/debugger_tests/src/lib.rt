@@ -7,6 +7,12 @@ mod depth;
 #[cfg(test)]
 mod fresh;
 #[cfg(test)]
+mod orders;
+#[cfg(test)]
+mod reply;
+#[cfg(test)]
 mod sessions;
+#[cfg(test)]
+mod walk;
 #[cfg(test)]
 mod walks;

@@ -1,5 +1,5 @@
 -- Where an image has no fault, the program that it declares has what is true of each.
-use Rattle.std.proofs.Common.{◌≡◌, ℕ, ◌+◌, ◌-◌, ◌<◌, ◌≤◌, ltb, Bool, true, false, List, [], ◌∷◌, length, get_or, map, All, Option, Some, None, unwrap_or, refl, sym, ap, subst, ◌∙◌, arith}
+use Rattle.std.proofs.Common.{◌≡◌, ℕ, ◌+◌, ◌-◌, ◌<◌, ◌≤◌, ltb, Bool, true, false, List, length, get_or, map, All, Option, Some, None, unwrap_or, refl, sym, ap, subst, ◌∙◌, arith}
 use Rattle.std.proofs.lemmas.Bool.{ltb-true}
 use Rattle.std.proofs.lemmas.List.{length-map}
 use Rattle.std.proofs.lemmas.List.Elements.{All-map}
@@ -21,7 +21,7 @@ use Rattle.loader.specs.Named.{named_by, stops}
 use Rattle.tier_tree.specs.Stored.{Stored}
 use Rattle.loader.specs.Declarations.{row_in, routine_row, new_barrier, action_row, declared_origin, AreDeclared}
 use Rattle.loader.specs.Program.{Program, IsThere, IsNamed, IsNewBarrier, IsProgram, row_at}
-use Rattle.loader.specs.Fault.{unless, earliest, earliest_in, target_fault, routine_fault, listed_phaser_fault, action_fault, barrier_fault, thread_fault, named_fault, row_fault, last_fault, counts_in}
+use Rattle.loader.specs.Fault.{unless, earliest_in, first_fault, target_fault, routine_fault, listed_phaser_fault, action_fault, barrier_fault, thread_fault, named_fault, row_fault, last_fault, counts_in}
 use Rattle.loader.proofs.Search.{none_left, none_in}
 
 -- a check that found no fault has passed its test
@@ -107,14 +107,18 @@ declared_by image forest = record {
   actions = map action_row image.barriers;
 }
 
-pub whole : (image : Image) (forest : List Stored) → length image.rows ≤ 65535 → 0 < length image.threads → length image.threads ≤ 64
-    → length image.barriers ≤ 64 → earliest_in (listed_phaser_fault (length image.rows) image.phasers) 0 image.phasers ≡ None
-    → earliest_in (barrier_fault (length image.rows)) 0 image.barriers ≡ None
-    → earliest (earliest_in (thread_fault (length image.rows)) 0 image.threads
-    ∷ earliest_in (row_fault (counts_in image)) 0 image.rows ∷ last_fault image.rows ∷ []) ≡ None
-    → AreDeclared (length image.phasers) image.phasers forest → IsProgram (declared_by image forest)
-whole image forest few some few_threads few_barriers phasers barriers code declared =
-    let threads = none_left (earliest_in (thread_fault (length image.rows)) 0 image.threads) _ code in
+pub whole : (image : Image) (forest : List Stored) → length image.rows ≤ 65535 → length image.threads ≤ 64
+    → length image.barriers ≤ 64 → first_fault image ≡ None → AreDeclared (length image.phasers) image.phasers forest
+    → IsProgram (declared_by image forest)
+whole image forest few few_threads few_barriers none declared =
+    let test = ltb 0 (length image.threads) in
+    let some_thread = none_left (unless test fault.NoThread) _ none in
+    let some = ltb-true 0 (length image.threads) (passed test fault.NoThread some_thread.0) in
+    let all_phasers = none_left (earliest_in (listed_phaser_fault (length image.rows) image.phasers) 0 image.phasers) _ some_thread.1 in
+    let all_barriers = none_left (earliest_in (barrier_fault (length image.rows)) 0 image.barriers) _ all_phasers.1 in
+    let phasers = all_phasers.0 in
+    let barriers = all_barriers.0 in
+    let threads = none_left (earliest_in (thread_fault (length image.rows)) 0 image.threads) _ all_barriers.1 in
     let rows = none_left (earliest_in (row_fault (counts_in image)) 0 image.rows) _ threads.1 in
     let last = none_left (last_fault image.rows) None rows.1 in
     let begin = threads_begin (length image.rows) image.threads threads.0 in

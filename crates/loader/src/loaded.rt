@@ -79,17 +79,39 @@ impl Loaded {
         self.actions.as_slice()
     }
 
+    /// The phasers again, and the row that each one's routine begins at.
+    fn copied_phasers(&self, alloc: Global) -> Result<(Forest, Vec<u16>), AllocError>
+        ensures phasers { IfOk result (λ both. both.0 ≡ self.now.phasers) }
+        ensures routines { IfOk result (λ both. both.1.items ≡ self.now.routines) }
+    {
+        let phasers = self.phasers.copy(alloc)?;
+        Ok((phasers, Vec::from_slice(alloc, self.routines.as_slice())?))
+    }
+
+    /// The barriers again, and the row that each one's action begins at.
+    fn copied_barriers(&self, alloc: Global) -> Result<(Vec<Barrier>, Vec<u16>), AllocError>
+        ensures barriers { IfOk result (λ both. both.0.items ≡ self.now.barriers) }
+        ensures actions { IfOk result (λ both. both.1.items ≡ self.now.actions) }
+    {
+        let barriers = Vec::from_slice(alloc, self.barriers.as_slice())?;
+        Ok((barriers, Vec::from_slice(alloc, self.actions.as_slice())?))
+    }
+
     /// The same program again.
     pub fn copy(&self, alloc: Global) -> Result<Loaded, AllocError>
         ensures { IfOk result (λ copy. copy ≡ self.now) }
     {
+        let rows = Vec::from_slice(alloc, self.rows.as_slice())?;
+        let threads = Vec::from_slice(alloc, self.threads.as_slice())?;
+        let (phasers, routines) = self.copied_phasers(alloc)?;
+        let (barriers, actions) = self.copied_barriers(alloc)?;
         Ok(Loaded {
-            rows: Vec::from_slice(alloc, self.rows.as_slice())?,
-            threads: Vec::from_slice(alloc, self.threads.as_slice())?,
-            phasers: self.phasers.copy(alloc)?,
-            routines: Vec::from_slice(alloc, self.routines.as_slice())?,
-            barriers: Vec::from_slice(alloc, self.barriers.as_slice())?,
-            actions: Vec::from_slice(alloc, self.actions.as_slice())?,
+            rows,
+            threads,
+            phasers,
+            routines,
+            barriers,
+            actions,
         })
     }
 

@@ -21,7 +21,7 @@ const THREADS: u8 = 64;
 const ROUNDS: u8 = 5;
 
 /// `ldi` and `parr` in turn, and `halt`.
-fn rows(alloc: Global) -> Result<Vec<Row>, AllocError> {
+fn rows(alloc: Global) -> Result<Option<Rows>, AllocError> {
     let mut rows = Vec::new(alloc);
     for n in 0..ROWS / 2 {
         rows.push(Row::Ldi {
@@ -34,49 +34,66 @@ fn rows(alloc: Global) -> Result<Vec<Row>, AllocError> {
         })?;
     }
     rows.push(Row::Halt)?;
-    Ok(rows)
+    Ok(Rows::new(rows).ok())
 }
 
-/// The program: its threads begin at the first row, and its phaser has 3 parties.
-fn image(alloc: Global) -> Result<Option<Image>, AllocError> {
-    let mut threads = Vec::new(alloc);
-    for _ in 0..THREADS {
-        threads.push(DeclaredThread { first_row: 0 })?;
-    }
-    let mut phasers = Vec::new(alloc);
-    phasers.push(DeclaredPhaser {
+/// The threads, which begin at the first row.
+fn threads(alloc: Global) -> Result<Option<Threads>, AllocError> {
+    let thread = DeclaredThread { first_row: 0 };
+    Ok(Threads::new(Vec::from_elem(alloc, thread, THREADS as usize)?).ok())
+}
+
+/// A phaser of 3 parties.
+fn phasers(alloc: Global) -> Result<Option<Phasers>, AllocError> {
+    let phaser = DeclaredPhaser {
         parent: None,
         policy: DeclaredPolicy::Never,
         parties: 3,
         first_phase: 0,
-    })?;
-    let rows = rows(alloc)?;
-    let (Ok(phasers), Ok(barriers), Ok(threads), Ok(rows)) = (
-        Phasers::new(phasers),
-        Barriers::new(Vec::new(alloc)),
-        Threads::new(threads),
-        Rows::new(rows),
-    ) else {
-        return Ok(None);
     };
-    Ok(Some(Image {
-        phasers,
-        barriers,
-        threads,
-        rows,
-    }))
+    Ok(Phasers::new(Vec::from_elem(alloc, phaser, 1)?).ok())
 }
 
-/// Plays each thread's rows, one choice of each thread after another, and answers the effective
-/// steps.
-fn steps_of_round(alloc: Global) -> Result<Option<u32>, AllocError> {
+/// The program of these rows and threads.
+fn image_of(alloc: Global, rows: Rows, threads: Threads) -> Result<Option<Image>, AllocError> {
+    let Some(phasers) = phasers(alloc)? else {
+        return Ok(None);
+    };
+    match Barriers::new(Vec::new(alloc)) {
+        Ok(barriers) => Ok(Some(Image {
+            phasers,
+            barriers,
+            threads,
+            rows,
+        })),
+        Err(_) => Ok(None),
+    }
+}
+
+/// The whole program.
+fn image(alloc: Global) -> Result<Option<Image>, AllocError> {
+    let Some(rows) = rows(alloc)? else {
+        return Ok(None);
+    };
+    match threads(alloc)? {
+        Some(threads) => image_of(alloc, rows, threads),
+        None => Ok(None),
+    }
+}
+
+/// The program's machine before its first choice.
+fn machine(alloc: Global) -> Result<Option<Machine>, AllocError> {
     let Some(image) = image(alloc)? else {
         return Ok(None);
     };
     let Ok(program) = load(alloc, image) else {
         return Ok(None);
     };
-    let mut machine = Machine::new(alloc, program, 1_000_000_000)?;
+    Ok(Some(Machine::new(alloc, program, 1_000_000_000)?))
+}
+
+/// Plays each thread's rows, one choice of each thread after another; whether none was refused.
+fn are_played(machine: &mut Machine) -> bool {
     for _ in 0..ROWS {
         for thread in 0..THREADS {
             let choice = Choice {
@@ -84,11 +101,23 @@ fn steps_of_round(alloc: Global) -> Result<Option<u32>, AllocError> {
                 expiry: false,
             };
             if machine.step(choice).is_err() {
-                return Ok(None);
+                return false;
             }
         }
     }
-    Ok(Some(machine.steps()))
+    true
+}
+
+/// Plays the program, and answers the effective steps.
+fn steps_of_round(alloc: Global) -> Result<Option<u32>, AllocError> {
+    let Some(mut machine) = machine(alloc)? else {
+        return Ok(None);
+    };
+    if are_played(&mut machine) {
+        Ok(Some(machine.steps()))
+    } else {
+        Ok(None)
+    }
 }
 
 fn main(rt: HostRuntime) -> io::Result<()> {

@@ -1,4 +1,5 @@
-ghost use Rattle.std.specs.Prelude.{◌≡◌, ◌≢◌, ◌∷◌, [], None, Some, IfOk, IfErr, OnOk, length};
+ghost use Rattle.std.specs.Prelude.{◌≡◌, ◌≢◌, ◌∷◌, [], None, Some, IfOk, IfErr, OnOk, length, map, ◌≤◌};
+ghost use Rattle.loader.specs.Declarations.{new_barrier, routine_row, action_row, AreDeclared};
 ghost use Rattle.loader.specs.Program.{IsProgramOf};
 ghost use Rattle.loader.specs.Fault.{first_fault, counts_in, earliest, earliest_in};
 ghost use Rattle.loader.specs.Fault.{thread_fault, row_fault, last_fault};
@@ -8,8 +9,10 @@ use crate::counts::Counts;
 use crate::load_fault::LoadFault;
 use crate::row_checks::{last_fault, row_fault, thread_fault};
 use crate::{barriers, phasers};
+use cyclic_barrier::Barrier;
 use row_code::Image;
-use std::alloc::Global;
+use std::alloc::{AllocError, Global};
+use tier_tree::Forest;
 
 /// How many there are of each thing in the image.
 fn counts_in(image: &Image) -> Counts
@@ -41,6 +44,39 @@ fn code_fault(image: &Image) -> Option<LoadFault>
     last_fault(rows)
 }
 
+/// Makes all checks in their order, and on the way the phasers and the barriers.
+fn checked(alloc: Global, image: &Image) -> Result<(Forest, Vec<Barrier>), LoadFault>
+    ensures fault { IfErr result (λ fault. fault ≢ LoadFault.Memory
+        → first_fault image.now ≡ Some fault) }
+    ensures none { OnOk result (first_fault image.now ≡ None) }
+    ensures phasers { IfOk result (λ both.
+        AreDeclared (length image.now.phasers) image.now.phasers both.0) }
+    ensures barriers { IfOk result (λ both.
+        both.1.items ≡ map new_barrier image.now.barriers) }
+    ensures few { OnOk result (length image.now.barriers ≤ 64) }
+{
+    if image.threads.as_slice().is_empty() {
+        return Err(LoadFault::NoThread);
+    }
+    let rows = image.rows.as_slice().len();
+    let phasers = phasers::declare_all(alloc, rows, image.phasers.as_slice())?;
+    let barriers = barriers::make_all(alloc, rows, image.barriers.as_slice())?;
+    match code_fault(image) {
+        Some(fault) => Err(fault),
+        None => Ok((phasers, barriers)),
+    }
+}
+
+/// The rows that the phasers' routines and the barriers' actions begin at.
+fn entry_rows(alloc: Global, image: &Image) -> Result<(Vec<u16>, Vec<u16>), AllocError>
+    ensures routines { IfOk result (λ both. both.0.items ≡ map routine_row image.now.phasers) }
+    ensures actions { IfOk result (λ both. both.1.items ≡ map action_row image.now.barriers) }
+{
+    let routines = phasers::routine_rows(alloc, image.phasers.as_slice())?;
+    let actions = barriers::action_rows(alloc, image.barriers.as_slice())?;
+    Ok((routines, actions))
+}
+
 /// Checks the image and makes the program that it declares. There must be a thread; then the phasers
 /// are checked and declared in their order, a routine's row before its phaser; then the barriers are
 /// checked and made; then the threads' rows and what each row names are looked for; and last the last
@@ -52,17 +88,8 @@ pub fn load(alloc: Global, image: Image) -> Result<Loaded, LoadFault>
     ensures none { OnOk result (first_fault image ≡ None) }
     ensures loaded { IfOk result (IsProgramOf image) }
 {
-    if image.threads.as_slice().is_empty() {
-        return Err(LoadFault::NoThread);
-    }
-    let rows = image.rows.as_slice().len();
-    let phasers = phasers::declare_all(alloc, rows, image.phasers.as_slice())?;
-    let barriers = barriers::make_all(alloc, rows, image.barriers.as_slice())?;
-    if let Some(fault) = code_fault(&image) {
-        return Err(fault);
-    }
-    let routines = phasers::routine_rows(alloc, image.phasers.as_slice())?;
-    let actions = barriers::action_rows(alloc, image.barriers.as_slice())?;
+    let (phasers, barriers) = checked(alloc, &image)?;
+    let (routines, actions) = entry_rows(alloc, &image)?;
     Ok(Loaded {
         rows: image.rows.into_vec(),
         threads: image.threads.into_vec(),
