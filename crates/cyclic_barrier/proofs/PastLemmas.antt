@@ -11,7 +11,7 @@ use Rattle.cyclic_barrier.specs.Waits.{wait_at, is_waiting, released, release}
 use Rattle.cyclic_barrier.specs.PlainBarrier as plain
 use Rattle.cyclic_barrier.specs.PlainBarrier.{PlainBarrier, Wait, End, state_after, state_of_wait, wait_of, state_of, is_unreleased, end_generation}
 use Rattle.cyclic_barrier.specs.Barrier as now
-use Rattle.cyclic_barrier.specs.Barrier.{BarrierState, Entry, number_waiting, IsBarrier}
+use Rattle.cyclic_barrier.specs.Barrier.{BarrierState, number_waiting, IsBarrier}
 use Rattle.cyclic_barrier.specs.Past.{StandsFor, HasPast, HasBegun, OneWaitEach, Agrees, FollowsPast}
 use Rattle.cyclic_barrier.proofs.PlainBarrierLemmas.{ended_by, state_of-end, none_waiting, begun_still, waiting_now, wait_of-others, waiting-others, one_each-others}
 use Rattle.cyclic_barrier.proofs.WaitsLemmas.{wait_at-release, wait_at-set}

@@ -6,7 +6,7 @@ use Rattle.std.proofs.lemmas.List.Sums.{sum_by-cons}
 use Rattle.cyclic_barrier.specs.declared.answer.WaitState.{WaitState}
 use Rattle.cyclic_barrier.specs.declared.answer.WaitState.TheVariants as state
 use Rattle.cyclic_barrier.specs.PlainBarrier as plain
-use Rattle.cyclic_barrier.specs.PlainBarrier.{PlainBarrier, Wait, End, state_after, state_of_wait, wait_of, state_of, is_unreleased, number_waiting, end_generation, reset}
+use Rattle.cyclic_barrier.specs.PlainBarrier.{Wait, End, state_after, state_of_wait, wait_of, is_unreleased}
 use Rattle.cyclic_barrier.specs.Waits.{is_at}
 use Rattle.cyclic_barrier.specs.Past.{OneWaitEach, HasBegun}
 

@@ -1,14 +1,12 @@
 -- Decimal digits and the number that they spell.
-use Rattle.std.proofs.lemmas.List.{get_or-take, get_or_default}
-use Rattle.std.proofs.lemmas.List.Folds.{length-prefix_len}
+use Rattle.std.proofs.lemmas.List.{get_or_default}
 use Rattle.std.proofs.Common.{suc, ◌≡◌, ◌∙◌, ◌+◌, ◌-◌, ◌*◌, ◌^◌, ◌<◌, ◌≤◌, ℕ, true, List, [], ◌∷◌, length, take, get_or, ap, arith}
-use Rattle.std.specs.List.{prefix_len, AllPass}
+use Rattle.std.specs.List.{AllPass}
 use Rattle.std.specs.Char.{is_ascii_digit, digit_value}
 use Rattle.std.specs.Str.Parse.{AllDigits, digits_value}
 use Rattle.std.proofs.lemmas.Bool.Decides.{nat_tests}
 use Rattle.std.proofs.lemmas.Int.Digits.{digits_value-lt, digits_value_more}
 use Rattle.std.proofs.lemmas.Str.Parse.{digits_value-take-le}
-use Rattle.std.proofs.lemmas.List.Sums.{prefix_len_passes}
 use Rattle.std.proofs.Math.Nat.{pow-le-pow_right}
 
 -- a digit's value is below 10
@@ -49,10 +47,3 @@ digits_value-next_few cs i d all few there =
     let less = digits_value-take-le 10 cs (i + 1) (omega arith) in
     let whole = digits_value-few cs all few in
     omega (arith, next, less, whole)
-
--- the bytes up to the first that is no digit
-pub AllPass-digits : (cs : List ℕ) → AllPass is_ascii_digit (take (prefix_len is_ascii_digit cs) cs)
-AllPass-digits cs k d there =
-    let count = length-prefix_len is_ascii_digit cs in
-    let within : k < prefix_len is_ascii_digit cs = omega (arith, count) in
-    rw (get_or-take (prefix_len is_ascii_digit cs) cs k d within) (prefix_len_passes is_ascii_digit cs k d within)

@@ -1,5 +1,5 @@
 -- A line that is written piece by piece.
-use Rattle.std.proofs.Common.{◌≡◌, ◌++◌, ℕ, List, sym, subst}
+use Rattle.std.proofs.Common.{◌≡◌, ◌++◌, ℕ, List, subst}
 use Rattle.std.proofs.KnownBytes.{Appends-trans}
 use Rattle.std.specs.Prelude.{Option, Result, Ok, Err, OnOk, codes}
 use Rattle.std.specs.Fmt.{decimal}

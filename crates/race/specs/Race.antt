@@ -4,7 +4,6 @@ use Rattle.std.specs.Fmt.{decimal}
 use Rattle.std.specs.Io.KnownBytes.{Appends}
 use Rattle.packed_phaser.specs.declared.policy.Policy.TheVariants.{Default}
 use Rattle.packed_phaser.specs.Flat.{Flat, unarrived_of}
-use Rattle.packed_phaser.specs.Word.{record_of}
 use Rattle.shared_phaser.specs.declared.history.Known.{Known}
 use Rattle.shared_phaser.specs.Known.{EndsAs}
 use Rattle.race.specs.declared.fault.RaceFault.{RaceFault}

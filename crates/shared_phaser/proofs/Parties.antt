@@ -1,26 +1,22 @@
 -- Callers are split off and joined again, and the phaser is closed.
-use Rattle.std.proofs.Common.{◌≡◌, ◌≢◌, ◌⊎◌, ℕ, zero, suc, ◌+◌, ◌<◌, ◌≤◌, true, false, List, [], ◌∷◌, ◌++◌, length, set, get_or, All, refl, sym, ap, ◌∙◌, subst, inl, inr, ⊎_elim, arith, length-set, length-append}
-use mathlib.Core.List.{IsPrefix}
-use mathlib.Core.Logic.{dite}
+use Rattle.std.proofs.Common.{◌≡◌, ◌≢◌, ◌⊎◌, ℕ, zero, suc, ◌+◌, ◌<◌, ◌≤◌, true, List, [], ◌∷◌, ◌++◌, length, set, All, refl, sym, ap, ◌∙◌, subst, inl, inr, ⊎_elim, arith, length-set, length-append}
 use mathlib.Core.Option.{some, some-injective, some-ne-none}
 use native.Mathlib.Decide.{dec_le}
 use lib.ListN.{get_elem?}
 use Rattle.std.proofs.lemmas.List.Elements.{All-append, All-cons}
-use Rattle.atomic_table.specs.Table.{State, Splits, Joins, Final, Seen, opening}
-use Rattle.atomic_table.proofs.Lists.{at_set, set_here, set_else, at_longer, at_last}
+use Rattle.atomic_table.specs.Table.{Splits, Joins, Final, Seen, opening}
+use Rattle.atomic_table.proofs.Lists.{at_set, set_here, set_else, at_longer}
 use Rattle.packed_phaser.specs.Flat.{fresh}
 use Rattle.packed_phaser.specs.Word.{IsWord, record_of}
 use Rattle.shared_phaser.specs.declared.history.Entry.{Entry}
 use Rattle.shared_phaser.specs.declared.history.Kept.{Kept}
 use Rattle.shared_phaser.specs.declared.history.Setup.{Setup}
-use Rattle.shared_phaser.specs.declared.history.Known.{Known}
 use Rattle.shared_phaser.specs.declared.history.View.{View}
-use Rattle.shared_phaser.specs.History.{calls_by, opened, at_end, IsLegal}
-use Rattle.shared_phaser.specs.Known.{Owns, giving, given, receiving, seeing, IsWhole, IsApart, EndsAs, JoinsCaller}
-use Rattle.shared_phaser.specs.Rule.{first_view, Knows, IsSpent, Stands, Keeps, IsKept, Finds, Watches, giving_view, given_view, receiving_view, spent_view, knowing}
-use Rattle.shared_phaser.proofs.Stories.{prefix_self, prefix_nil, in_range}
+use Rattle.shared_phaser.specs.History.{calls_by, at_end, IsLegal}
+use Rattle.shared_phaser.specs.Known.{IsWhole, IsApart, EndsAs}
+use Rattle.shared_phaser.specs.Rule.{first_view, IsSpent, Stands, Keeps, IsKept, giving_view, given_view, receiving_view, spent_view}
+use Rattle.shared_phaser.proofs.Stories.{prefix_nil, in_range}
 use Rattle.shared_phaser.proofs.Steps.{spent_apart, spent_stays}
-use Rattle.shared_phaser.proofs.Plays.{finds}
 
 -- what stands in a list with one more at its end
 at_end_of : {A : Type 0} (l : List A) (a b : A) (j : ℕ) → get_elem? (l ++ a ∷ []) j ≡ some b → (get_elem? l j ≡ some b) ⊎ ((j ≡ length l) × (a ≡ b))
@@ -208,18 +204,6 @@ pub joins : (o : Setup) (id oid : ℕ) (v w : View) → v.live ≡ true → v.kn
 joins o id oid v w live first live_other s kept at other at_both =
     let at_other : get_elem? s.views oid ≡ some w = sym (set_else s.views id oid (receiving_view v w) other) ∙ at_both in
     record { word = kept.word; log = kept.log; words = kept.words; keeps = join_keeps o kept.word s.views kept.log id oid v w kept.keeps at live first other at_other live_other }
-
--- the first caller has then seen what both had
-pub joined_is : (v w u : View) (n : ℕ) (log : List Entry) → Finds (receiving_view v w) n log → u ≡ knowing (receiving_view v w) (seeing (receiving_view v w).known log)
-    → JoinsCaller v.known w.known u.known
-joined_is v w u n log finds is =
-    subst (λ (z : View). JoinsCaller v.known w.known z.known) (sym is) record {
-      is = refl;
-      legal = finds.legal;
-      begins = finds.knows.begins;
-      informed = finds.knows.informed;
-      owns = record { own = finds.knows.owns.own; kept = finds.knows.owns.kept; apart = finds.knows.owns.apart };
-    }
 
 -- the phaser as it is made
 pub starts : (o : Setup) (word : ℕ) → record_of word ≡ fresh o.phase o.parties → IsWord word → IsKept o (opening (word ∷ []) [] (first_view o))

@@ -1,10 +1,10 @@
 -- Each load and each exchange keeps the rule, and tells what it says.
-use Rattle.std.proofs.Common.{◌≡◌, ◌≢◌, ℕ, ◌+◌, ◌<◌, ◌==◌, Bool, true, false, List, [], ◌∷◌, ◌++◌, set, get_or, refl, sym, ap, ◌∙◌, subst, eqb-true}
+use Rattle.std.proofs.Common.{◌≡◌, ℕ, ◌==◌, Bool, true, false, List, [], ◌∷◌, ◌++◌, set, refl, sym, ap, ◌∙◌, subst, eqb-true}
 use Rattle.std.specs.Prelude.{slice_index, slice_set}
 use mathlib.Core.Option.{none, some}
 use lib.ListN.{get_elem?}
 use prog.Atomic.{either}
-use Rattle.atomic_table.specs.Table.{State, Me, step, Act, keeps, homes_after, carried_after, Valid, Allows}
+use Rattle.atomic_table.specs.Table.{Me, step, Act, keeps, homes_after, carried_after, Valid, Allows}
 use Rattle.packed_phaser.specs.Word.{IsWord, record_of}
 use Rattle.shared_phaser.specs.declared.history.Call.{Call}
 use Rattle.shared_phaser.specs.declared.history.Answer.{Answer}
@@ -17,7 +17,7 @@ use Rattle.shared_phaser.specs.History.{Effect, Shows, Tells, Makes, Waits, effe
 use Rattle.shared_phaser.specs.Known.{Owns, entry, making, seeing}
 use Rattle.shared_phaser.specs.Rule.{knowing, Knows, Keeps, IsKept, Finds, loaded, won, exchanged, effect_at, Loads, Exchanges, Watches}
 use Rattle.shared_phaser.proofs.Stories.{prefix_self, prefix_nil, prefix_more, after_all-push, legal_push, calls_by-own, calls_by-other}
-use Rattle.shared_phaser.proofs.Steps.{Grown, Same, step_keeps}
+use Rattle.shared_phaser.proofs.Steps.{step_keeps}
 
 -- the caller goes on with a view that keeps the rule
 pub record Goes (o : Setup) (id : ℕ) (views : List View) (f : ℕ → ℕ) (word : ℕ) (tell : View → Type 0) : Type 0 where

@@ -1,5 +1,5 @@
 -- A step of one caller keeps the rule.
-use Rattle.std.proofs.Common.{◌≡◌, ◌≢◌, ◌⊎◌, ℕ, ◌+◌, ◌<◌, ◌≤◌, true, false, List, [], ◌∷◌, ◌++◌, length, set, All, get_or, refl, sym, ap, ◌∙◌, subst, ⊎_elim, arith, length-set}
+use Rattle.std.proofs.Common.{◌≡◌, ◌≢◌, ℕ, ◌+◌, ◌<◌, ◌≤◌, true, false, List, [], length, set, All, sym, ap, ◌∙◌, subst, ⊎_elim, arith, length-set}
 use mathlib.Core.List.{IsPrefix}
 use mathlib.Core.Logic.{dite}
 use mathlib.Core.Option.{some, some-injective}
@@ -12,7 +12,6 @@ use Rattle.shared_phaser.specs.declared.history.Kept.{Kept}
 use Rattle.shared_phaser.specs.declared.history.Setup.{Setup}
 use Rattle.shared_phaser.specs.declared.history.View.{View}
 use Rattle.shared_phaser.specs.History.{IsLegal, at_end, calls_by}
-use Rattle.shared_phaser.specs.Known.{Owns}
 use Rattle.shared_phaser.specs.Rule.{Knows, IsSpent, Stands, Keeps}
 use Rattle.shared_phaser.proofs.Stories.{prefix_trans, in_range}
 

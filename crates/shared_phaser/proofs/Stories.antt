@@ -1,10 +1,10 @@
 -- Histories and their beginnings.
-use Rattle.std.proofs.Common.{◌≡◌, ◌≢◌, ℕ, zero, suc, ◌+◌, ◌<◌, ◌≤◌, ◌==◌, Bool, true, false, cond, List, [], ◌∷◌, ◌++◌, length, refl, sym, ap, ◌∙◌, subst, arith, append_assoc, append-nil, eq-eqb, ne_eqb}
+use Rattle.std.proofs.Common.{◌≡◌, ◌≢◌, ℕ, zero, suc, ◌+◌, ◌<◌, ◌==◌, Bool, cond, List, [], ◌∷◌, ◌++◌, length, refl, sym, ap, ◌∙◌, arith, append_assoc, append-nil, eq-eqb, ne_eqb}
 use Rattle.std.proofs.lemmas.List.Elements.{filter-append}
 use mathlib.Core.List.{IsPrefix}
 use mathlib.Core.Option.{some, some-ne-none}
 use lib.ListN.{get_elem?}
-use Rattle.packed_phaser.specs.Flat.{Flat, register, arrive, settled, force}
+use Rattle.packed_phaser.specs.Flat.{Flat}
 use Rattle.packed_phaser.specs.declared.policy.Policy.{Policy}
 use Rattle.shared_phaser.specs.declared.history.Call.{Call}
 use Rattle.shared_phaser.specs.declared.history.Answer.{Answer}

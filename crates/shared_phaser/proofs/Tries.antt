@@ -1,8 +1,7 @@
 -- What the tries of a call come to.
-use Rattle.std.proofs.Common.{◌≡◌, ◌≢◌, ◌⊎◌, ℕ, ℤ, zero, suc, pos, ◌+◌, ◌-◌, ◌<◌, ◌≤◌, ◌==◌, nat_lt, if◌then◌else◌, Bool, true, false, List, [], ◌∷◌, ◌++◌, refl, sym, ap, ◌∙◌, subst, inl, inr, ⊎_elim, arith, append_assoc, eq-zero-or-pos, eqb-true, ne_eqb, int_eq}
-use mathlib.Core.List.{IsPrefix}
+use Rattle.std.proofs.Common.{◌≡◌, ◌≢◌, ◌⊎◌, ℕ, ℤ, pos, ◌+◌, ◌-◌, ◌≤◌, ◌==◌, nat_lt, if◌then◌else◌, Bool, true, false, List, [], ◌++◌, refl, sym, ap, ◌∙◌, subst, inl, inr, ⊎_elim, arith, append_assoc, eq-zero-or-pos, int_eq}
 use Rattle.atomic_table.specs.Table.{Me, Step}
-use Rattle.packed_phaser.specs.Flat.{Flat, Registration, Joins, JoinsLate, MustWait, Overfull, Counts, Turns, ComesLate, IsUnregistered, register, arrive, settled, advance, force, view_of}
+use Rattle.packed_phaser.specs.Flat.{Flat, Joins, JoinsLate, MustWait, Overfull, Counts, Turns, ComesLate, IsUnregistered, settled, force, view_of}
 use Rattle.packed_phaser.specs.Word.{IsWord, record_of}
 use Rattle.packed_phaser.specs.declared.policy.Policy.{Policy}
 use Rattle.shared_phaser.specs.declared.history.Call.{Call}
@@ -12,10 +11,10 @@ use Rattle.shared_phaser.specs.declared.history.Answer.TheVariants.{Saw, Replied
 use Rattle.shared_phaser.specs.declared.history.Entry.{Entry}
 use Rattle.shared_phaser.specs.declared.history.Known.{Known}
 use Rattle.shared_phaser.specs.declared.history.View.{View}
-use Rattle.shared_phaser.specs.History.{Effect, Shows, Tells, Makes, Waits, effect, registering, arriving, forcing, awaiting, Answers, IsLegal, at_end, after_all, changes, opened}
-use Rattle.shared_phaser.specs.Known.{Owns, making, seeing, MakesCall, SeesMore}
-use Rattle.shared_phaser.specs.Outcome.{IsTried, IsPrompt, Suits}
-use Rattle.shared_phaser.specs.Rule.{knowing, Finds, loaded, exchanged, effect_at, Loads, Exchanges, Watches}
+use Rattle.shared_phaser.specs.History.{Effect, Shows, Tells, Makes, Waits, effect, registering, arriving, Answers, at_end, after_all, changes, opened}
+use Rattle.shared_phaser.specs.Known.{making, seeing, MakesCall, SeesMore}
+use Rattle.shared_phaser.specs.Outcome.{IsPrompt, Suits}
+use Rattle.shared_phaser.specs.Rule.{Finds, loaded, exchanged, effect_at, Loads, Exchanges}
 use Rattle.shared_phaser.proofs.Stories.{after_all-append, changes-append, unchanged}
 use Rattle.shared_phaser.proofs.Plays.{made_legal, made_owns}
 
@@ -214,14 +213,6 @@ pub race_more : (k l m : Known) (n word word' : ℕ) → RacesSoFar k n word l �
 race_more k l m n word word' (inl h) sees is = inr (subst (λ (z : Known × ℕ). SeesMore z.0 (z.1 + 1) m) (λ i. (h.1 i, sym h.0 i)) sees, is)
 race_more k l m n word word' (inr h) sees is = inr (then_sees k l m n 1 h.0 sees, is)
 
-pub race_makes : (k l m : Known) (n word : ℕ) (c : Call) (a : Answer) → RacesSoFar k n word l → MakesCall l c a m → MakesCall k c a m
-race_makes k l m n word c a (inl h) makes = subst (λ (z : Known). MakesCall z c a m) h.1 makes
-race_makes k l m n word c a (inr h) makes = then_makes k l m n c a h.0 makes
-
-pub race_done : (k l : Known) (n word : ℕ) → RacesSoFar k n word l → 0 < n → SeesMore k n l × (record_of word ≡ at_end l.opening l.seen)
-race_done k l n word (inl h) some = let none = h.0 in absurd (omega arith)
-race_done k l n word (inr h) some = h
-
 -- the tries of a call that is tried until it has an answer
 abbrev pub LaterThan : Known → Known → Type 0
 LaterThan k l = (l ≡ k) ⊎ SeesMore k 0 l
@@ -232,10 +223,6 @@ weaker k l n sees = record { between = sees.between; is = sees.is; legal = sees.
 pub later_more : (k l m : Known) (n : ℕ) → LaterThan k l → SeesMore l n m → LaterThan k m
 later_more k l m n (inl h) sees = inr (weaker k m n (subst (λ (z : Known). SeesMore z n m) h sees))
 later_more k l m n (inr h) sees = inr (weaker k m (0 + n) (then_sees k l m 0 n h sees))
-
-pub later_makes : (k l m : Known) (c : Call) (a : Answer) → LaterThan k l → MakesCall l c a m → MakesCall k c a m
-later_makes k l m c a (inl h) makes = subst (λ (z : Known). MakesCall z c a m) h makes
-later_makes k l m c a (inr h) makes = then_makes k l m 0 c a h makes
 
 -- a call that waits for nobody has a reply
 abbrev pub IsReply : Answer → Type 0
@@ -255,10 +242,3 @@ prompt_replies Force (Saw w) prompt suits = suits
 prompt_replies Force (Replied r) prompt suits = tt
 prompt_replies Force (Passed v) prompt suits = suits
 prompt_replies (Await n) a prompt suits = absurd prompt
-
-pub prompt_tries : (c : Call) → IsPrompt c → IsTried c
-prompt_tries Look prompt = prompt
-prompt_tries (Register k) prompt = tt
-prompt_tries (Arrive leave) prompt = tt
-prompt_tries Force prompt = tt
-prompt_tries (Await n) prompt = tt

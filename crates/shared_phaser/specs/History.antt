@@ -1,5 +1,5 @@
 -- Which lists of calls are histories of one phaser.
-use Rattle.std.specs.Prelude.{◌≡◌, ℕ, ℤ, pos, ◌+◌, ◌==◌, Bool, false, if◌then◌else◌, unwrap_or, List, [], ◌∷◌, filter}
+use Rattle.std.specs.Prelude.{◌≡◌, ℕ, ℤ, pos, ◌+◌, ◌==◌, false, if◌then◌else◌, unwrap_or, List, [], ◌∷◌, filter}
 use Rattle.std.proofs.Common.{int_eq}
 use Rattle.packed_phaser.specs.Flat.{Flat, Registration, Joins, JoinsLate, MustWait, Overfull, Arrival, Counts, Turns, ComesLate, IsUnregistered, fresh, view_of, register, arrive, advance, force}
 use Rattle.packed_phaser.specs.Policy.{ends}

@@ -2,7 +2,7 @@
 use Rattle.std.specs.Prelude.{◌≡◌, ◌≢◌, ◌⊎◌, ℕ, ℤ, ◌+◌, ◌<◌, ◌≤◌, false, List, [], ◌∷◌, ◌++◌, All, Any}
 use mathlib.Core.List.{IsPrefix}
 use Rattle.atomic_table.specs.Seated.{TableId}
-use Rattle.packed_phaser.specs.Word.{IsWord, record_of}
+use Rattle.packed_phaser.specs.Word.{record_of}
 use Rattle.shared_phaser.specs.declared.history.Call.{Call}
 use Rattle.shared_phaser.specs.declared.history.Call.TheVariants.{Arrive, Await}
 use Rattle.shared_phaser.specs.declared.history.Reply.TheVariants.{Counted, Dead}

@@ -1,11 +1,11 @@
 -- What the code's own answers mean.
-use Rattle.std.specs.Prelude.{◌≡◌, ℕ, ℤ}
+use Rattle.std.specs.Prelude.{◌≡◌}
 use Rattle.packed_phaser.specs.Word.{record_of}
 use Rattle.shared_phaser.specs.declared.history.Call.{Call}
 use Rattle.shared_phaser.specs.declared.history.Call.TheVariants.{Look, Register, Arrive, Force, Await}
-use Rattle.shared_phaser.specs.declared.history.Reply.TheVariants.{Counted, Dead, TooMany, NotThere}
+use Rattle.shared_phaser.specs.declared.history.Reply.TheVariants.{TooMany}
 use Rattle.shared_phaser.specs.declared.history.Answer.{Answer}
-use Rattle.shared_phaser.specs.declared.history.Answer.TheVariants.{Saw, Replied, Passed}
+use Rattle.shared_phaser.specs.declared.history.Answer.TheVariants.{Replied, Passed}
 use Rattle.shared_phaser.specs.declared.effect.Outcome.{Outcome}
 use Rattle.shared_phaser.specs.declared.effect.Outcome.TheVariants.{Told, Change, Wait}
 use Rattle.shared_phaser.specs.declared.attempt.Attempt.{Attempt}

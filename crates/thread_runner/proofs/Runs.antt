@@ -2,15 +2,9 @@
 use Rattle.std.proofs.Common.{◌≡◌, ◌∙◌, ◌+◌, ◌<◌, ◌≤◌, ℕ, zero, suc, List, [], ◌∷◌, ◌++◌, length, arith, sym, ap, append_assoc}
 use Rattle.std.specs.Prelude.{replicate, slice_index_or, slice_set}
 use Rattle.std.proofs.lemmas.List.{append-nil, replicate-append-replicate}
-use Rattle.std.proofs.lemmas.Grind.{flat_map-append}
 use Rattle.thread_machine.specs.declared.choice.Choice.{Choice}
 use Rattle.schedule_reader.specs.declared.run.Run.{Run}
 use Rattle.schedule_reader.specs.Schedule.{IsRun, choices_of, run_of}
-
--- a run of one choice
-pub one_run : (runs : List Run) (choice : Choice) → choices_of (runs ++ run_of choice 1 ∷ []) ≡ choices_of runs ++ choice ∷ []
-one_run runs choice =
-    flat_map-append (λ (run : Run). replicate run.times run.choice) runs (run_of choice 1 ∷ [])
 
 once_more : (times : ℕ) (choice : Choice) → replicate (times + 1) choice ≡ replicate times choice ++ choice ∷ []
 once_more times choice = sym (replicate-append-replicate times 1 choice)

@@ -1,4 +1,4 @@
-use Rattle.std.proofs.Common.{◌≡◌, ◌+◌, rules, ap, ◌∙◌}
+use Rattle.std.proofs.Common.{◌+◌, rules, ap, ◌∙◌}
 use Rattle.shared_phaser.specs.declared.history.Known.{Known}
 use Rattle.race.proofs.meeting.gather.Goals as goal
 

@@ -1,5 +1,4 @@
-use Rattle.std.proofs.Common.{◌≡◌, rules, ap, ◌∙◌}
-use Rattle.shared_phaser.specs.declared.history.View.{View}
+use Rattle.std.proofs.Common.{rules, ap, ◌∙◌}
 use Rattle.shared_phaser.specs.Known.{Caller}
 use Rattle.shared_phaser.proofs.Parties.{joins}
 use Rattle.shared_phaser.proofs.Plays.{watches}

@@ -1,4 +1,4 @@
-use Rattle.std.proofs.Common.{◌≡◌, ℕ, rules, refl, ap, sym, subst}
+use Rattle.std.proofs.Common.{◌≡◌, ℕ, rules, refl, ap, subst}
 use Rattle.shared_phaser.specs.declared.history.Call.TheVariants.{Look}
 use Rattle.shared_phaser.specs.declared.history.Answer.TheVariants.{Saw}
 use Rattle.shared_phaser.specs.declared.history.Known.{Known}

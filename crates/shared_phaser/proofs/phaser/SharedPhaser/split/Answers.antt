@@ -1,4 +1,4 @@
-use Rattle.std.proofs.Common.{◌≡◌, rules, ap, ◌∙◌}
+use Rattle.std.proofs.Common.{rules, ap, ◌∙◌}
 use Rattle.shared_phaser.specs.Known.{Caller}
 use Rattle.shared_phaser.proofs.Parties.{splits}
 use Rattle.shared_phaser.proofs.phaser.SharedPhaser.split.Goals as goal

@@ -1,4 +1,4 @@
-use Rattle.std.proofs.Common.{◌≡◌, ℕ, rules, refl, sym, ap, ◌∙◌, subst, arith, inl}
+use Rattle.std.proofs.Common.{rules, refl, sym, ap, ◌∙◌, subst, arith, inl}
 use Rattle.packed_phaser.specs.Word.{IsWord, fields_of, record_of}
 use Rattle.shared_phaser.proofs.Tries.{race_more}
 use Rattle.shared_phaser.proofs.phaser.SharedPhaser.within.Goals as goal
