@@ -1,7 +1,6 @@
-use Rattle.std.specs.Prelude.{ℕ, ◌+◌, ℤ, pos, ◌+ℤ◌, ◌-ℤ◌, Bool, true, false, not, int_lt, List, Some, None, if◌then◌else◌}
+use Rattle.std.specs.Prelude.{ℕ, ◌+◌, ℤ, pos, ◌+ℤ◌, ◌-ℤ◌, Bool, true, false, not, int_lt, List, Option, Some, None, if◌then◌else◌}
 use Rattle.std.specs.Int.{int_rem_euclid}
 use Rattle.std.specs.Ordering.{int_eq}
-use Rattle.instruction_table.specs.declared.local_effect.Local.{Local}
 use Rattle.instruction_table.specs.declared.register.Reg.{Reg}
 use Rattle.instruction_table.specs.declared.row.Row.{Row}
 use Rattle.instruction_table.specs.declared.row.Row.TheVariants.{Ldi, Mov, Add, Sub, Jmp, Beq, Bne, Blt}
@@ -23,6 +22,13 @@ is_local_row (Beq _ _ _) = true
 is_local_row (Bne _ _ _) = true
 is_local_row (Blt _ _ _) = true
 is_local_row _ = false
+
+-- what a local row leaves of its thread: the registers, the number of the row that comes next, and what the row put into a
+-- register, where it puts anything
+pub record Local : Type 0 where
+  pub registers : List ℤ
+  pub pc : ℕ
+  pub written : Option ℤ
 
 -- a number was put into a register, and the next row comes
 abbrev pub loads : List ℤ → ℕ → Reg → ℤ → Local

@@ -21,10 +21,8 @@ pub mod table;
 pub mod registers;
 
 // What the rows do that need nothing else.
-pub mod local_effect;
 pub mod local_rows;
 
-pub use local_effect::Local;
 pub use local_rows::{is_local, local};
 pub use register::Reg;
 pub use registers::Regs;

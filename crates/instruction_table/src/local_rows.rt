@@ -1,8 +1,7 @@
-ghost use Rattle.std.specs.Prelude.{◌≡◌, ◌<◌, ◌+ℤ◌, ◌-ℤ◌, IsTrue};
-ghost use Rattle.instruction_table.specs.LocalRows.{branches, goes_to, is_local_row, loads, local_of, wrapped};
+ghost use Rattle.std.specs.Prelude.{◌≡◌, ◌<◌, ◌+◌, ◌+ℤ◌, ◌-ℤ◌, IsTrue, None, if◌then◌else◌};
+ghost use Rattle.instruction_table.specs.LocalRows.{is_local_row, loads, local_of, wrapped};
 ghost use Rattle.instruction_table.specs.Registers.{value_in};
 
-use crate::local_effect::Local;
 use crate::register::Reg;
 use crate::registers::Regs;
 use crate::row::Row;
@@ -39,58 +38,67 @@ fn difference(registers: &Regs, left: Reg, right: Reg) -> i32
     registers.get(left).wrapping_sub(registers.get(right))
 }
 
-fn load(registers: &Regs, pc: u16, into: Reg, value: i32) -> Local
-    requires { pc < 65535 }
-    ensures { result ≡ loads registers.now pc into value }
+/// Puts a number into a register, and the next row comes.
+fn load(registers: &mut Regs, pc: &mut u16, into: Reg, value: i32) -> Option<i32>
+    requires { pc.old < 65535 }
+    ensures { record { registers = registers.new; pc = pc.new; written = result }
+        ≡ loads registers.old pc.old into value }
 {
-    let mut registers = *registers;
     registers.set(into, value);
-    Local {
-        registers,
-        pc: pc + 1,
-        written: Some(value),
-    }
+    *pc += 1;
+    Some(value)
 }
 
-fn go_to(registers: &Regs, place: u16) -> Local
-    ensures { result ≡ goes_to registers.now place }
+/// The row at this place comes.
+fn go_to(pc: &mut u16, place: u16) -> Option<i32>
+    ensures place { pc.new ≡ place }
+    ensures written { result ≡ None }
 {
-    Local {
-        registers: *registers,
-        pc: place,
-        written: None,
-    }
+    *pc = place;
+    None
 }
 
-fn branch(registers: &Regs, pc: u16, taken: bool, target: u16) -> Local
-    requires { pc < 65535 }
-    ensures { result ≡ branches registers.now pc taken target }
+/// A jump that is taken or not.
+fn branch(pc: &mut u16, taken: bool, target: u16) -> Option<i32>
+    requires { pc.old < 65535 }
+    ensures place { pc.new ≡ (if taken then target else pc.old + 1) }
+    ensures written { result ≡ None }
 {
-    go_to(registers, if taken { target } else { pc + 1 })
+    let next = *pc + 1;
+    go_to(pc, if taken { target } else { next })
 }
 
-/// What the row at `pc` leaves of the registers and of `pc`. Sums and differences wrap as Java's
-/// `int` does. The number of a program's row is always below 65535.
-pub fn local(row: Row, registers: &Regs, pc: u16) -> Local
+/// Plays the row at `pc`: it leaves its effect on the registers and on `pc`, and answers what it put into a register, where
+/// it puts anything: its event shows this number. Sums and differences wrap as Java's `int` does. The number of a
+/// program's row is always below 65535.
+pub fn local(row: Row, registers: &mut Regs, pc: &mut u16) -> Option<i32>
     requires local { IsTrue (is_local_row row) }
-    requires place { pc < 65535 }
-    ensures { result ≡ local_of row registers.now pc }
+    requires place { pc.old < 65535 }
+    ensures { record { registers = registers.new; pc = pc.new; written = result }
+        ≡ local_of row registers.old pc.old }
 {
     match row {
         Row::Ldi { into, value } => load(registers, pc, into, value),
-        Row::Mov { into, from } => load(registers, pc, into, registers.get(from)),
-        Row::Add { into, left, right } => load(registers, pc, into, sum(registers, left, right)),
-        Row::Sub { into, left, right } => {
-            load(registers, pc, into, difference(registers, left, right))
+        Row::Mov { into, from } => {
+            let value = registers.get(from);
+            load(registers, pc, into, value)
         }
-        Row::Jmp { target } => go_to(registers, target),
+        Row::Add { into, left, right } => {
+            let value = sum(registers, left, right);
+            load(registers, pc, into, value)
+        }
+        Row::Sub { into, left, right } => {
+            let value = difference(registers, left, right);
+            load(registers, pc, into, value)
+        }
+        Row::Jmp { target } => go_to(pc, target),
         Row::Beq {
             left,
             right,
             target,
         } => {
             let equal = registers.get(left) == registers.get(right);
-            branch(registers, pc, equal, target)
+            branch(pc, equal, target)
         }
         Row::Bne {
             left,
@@ -98,7 +106,7 @@ pub fn local(row: Row, registers: &Regs, pc: u16) -> Local
             target,
         } => {
             let equal = registers.get(left) == registers.get(right);
-            branch(registers, pc, !equal, target)
+            branch(pc, !equal, target)
         }
         Row::Blt {
             left,
@@ -106,7 +114,7 @@ pub fn local(row: Row, registers: &Regs, pc: u16) -> Local
             target,
         } => {
             let less = registers.get(left) < registers.get(right);
-            branch(registers, pc, less, target)
+            branch(pc, less, target)
         }
         _ => unreachable!(),
     }

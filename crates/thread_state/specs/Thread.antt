@@ -4,9 +4,8 @@ use Rattle.std.specs.List.{list_any}
 use Rattle.instruction_table.specs.declared.row.Row.{Row}
 use Rattle.instruction_table.specs.declared.register.Reg.{Reg}
 use Rattle.instruction_table.specs.declared.register.Reg.TheVariants.{R0, R1, R7}
-use Rattle.instruction_table.specs.declared.local_effect.Local.{Local}
 use Rattle.instruction_table.specs.Registers.{all_zero, value_in, with_value}
-use Rattle.instruction_table.specs.LocalRows.{local_of}
+use Rattle.instruction_table.specs.LocalRows.{Local, local_of}
 use Rattle.thread_state.specs.declared.event.What.{What}
 use Rattle.thread_state.specs.declared.event.What.TheVariants as what
 use Rattle.thread_state.specs.declared.frame.Frame.{Frame}

@@ -228,53 +228,13 @@ impl Thread {
         self.entries.iter().any(|frame| frame.is_routine())
     }
 
-    /// Puts a number into a register and goes on: `ldi`.
-    #[inline(always)]
-    fn load(&mut self, into: Reg, value: i32) -> What
-        requires { self.old.pc < 65535 }
-        ensures { record { thread = self.new; what = result } ≡ turn_of_local (Row.Ldi into value) self.old }
-    {
-        self.values.set(into, value);
-        self.place += 1;
-        What::Value(value)
-    }
-
-    /// Goes to a row: `jmp`.
-    #[inline(always)]
-    fn go_to(&mut self, target: u16) -> What
-        ensures { record { thread = self.new; what = result } ≡ turn_of_local (Row.Jmp target) self.old }
-    {
-        self.place = target;
-        What::Done
-    }
-
-    /// A row on registers alone. Those that change one register at most, and read one at most, need no copy of the others.
+    /// A row on registers alone.
     pub fn local_row(&mut self, row: Row) -> What
         requires row { IsTrue (is_local_row row) }
         requires place { self.old.pc < 65535 }
         ensures { record { thread = self.new; what = result } ≡ turn_of_local row self.old }
     {
-        match row {
-            Row::Ldi { into, value } => self.load(into, value),
-            Row::Mov { into, from } => {
-                let value = self.values.get(from);
-                self.load(into, value)
-            }
-            Row::Jmp { target } => self.go_to(target),
-            _ => self.row_by_effect(row),
-        }
-    }
-
-    /// The same of any such row, by what it leaves of a copy of the registers.
-    fn row_by_effect(&mut self, row: Row) -> What
-        requires row { IsTrue (is_local_row row) }
-        requires place { self.old.pc < 65535 }
-        ensures { record { thread = self.new; what = result } ≡ turn_of_local row self.old }
-    {
-        let effect = local(row, &self.values, self.place);
-        self.values = effect.registers;
-        self.place = effect.pc;
-        match effect.written {
+        match local(row, &mut self.values, &mut self.place) {
             Some(value) => What::Value(value),
             None => What::Done,
         }

@@ -80,12 +80,12 @@ fn has_effect(row: Row, r1: i32, r2: i32, written: Option<i32>, pc: u16) -> bool
     if !is_local(row) {
         return false;
     }
-    let after = local(row, &registers, 10);
-    after.pc == pc
-        && after.written == written
-        && after.registers.get(R0) == written.unwrap_or(77)
-        && after.registers.get(R1) == r1
-        && after.registers.get(R2) == r2
+    let mut place = 10;
+    local(row, &mut registers, &mut place) == written
+        && place == pc
+        && registers.get(R0) == written.unwrap_or(77)
+        && registers.get(R1) == r1
+        && registers.get(R2) == r2
 }
 
 #[test]
@@ -104,9 +104,10 @@ fn a_row_may_read_what_it_writes(rt: HostRuntime) {
         left: R1,
         right: R1,
     };
-    let after = local(double, &registers, 65534);
-    assert_eq!(rt; after.registers.get(R1), 42);
-    assert_eq!(rt; after.pc, 65535);
+    let mut place = 65534;
+    assert_eq!(rt; local(double, &mut registers, &mut place), Some(42));
+    assert_eq!(rt; registers.get(R1), 42);
+    assert_eq!(rt; place, 65535);
 }
 
 #[test]
