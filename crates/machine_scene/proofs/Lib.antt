@@ -22,7 +22,7 @@ pub mod UndoneRows
 pub mod Undoing
 pub mod ReadyThreads
 pub mod Standings
-pub mod Awake
+pub mod Asleep
 pub mod ThreadSets
 pub mod LocalTurns
 mod WorkedRows

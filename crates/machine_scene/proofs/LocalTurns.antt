@@ -1,8 +1,7 @@
--- Turns of running threads at rows on registers alone: they wake nobody and put nobody to sleep.
+-- Turns of running threads at rows on registers alone: they wake nobody.
 use Rattle.std.proofs.Common.{inl, inr, ◌≡◌, ◌∙◌, ℕ, ◌<◌, true, false, ap, refl, sym, subst}
 use Rattle.std.specs.Prelude.{length, Some}
 use Rattle.std.proofs.lemmas.Bool.{cases_eq}
-use Rattle.std.proofs.lemmas.List.{get_or-set_same}
 use Rattle.std.proofs.lemmas.Option.{same_Some}
 use Rattle.instruction_table.specs.declared.row.Row.{Row}
 use Rattle.instruction_table.specs.declared.row.Row.TheVariants.{Ldi, Mov, Add, Sub, Jmp, Beq, Bne, Blt}
@@ -12,15 +11,15 @@ use Rattle.loader.specs.Program.{Program, row_at}
 use Rattle.thread_state.specs.declared.event.Event.{Event}
 use Rattle.thread_state.specs.declared.status.Status.{Status}
 use Rattle.thread_state.specs.declared.status.Status.TheVariants as status
-use Rattle.thread_state.specs.Thread.{ThreadState, turn_of_local}
+use Rattle.thread_state.specs.Thread.{turn_of_local}
 use Rattle.machine_scene.specs.declared.group.Group.{Group}
 use Rattle.machine_scene.specs.declared.group.Group.TheVariants.{Own}
-use Rattle.machine_scene.specs.Scene.{Scene, StoredScene, Outcome, scene_of, no_thread, thread_at, outcome_of_turn}
+use Rattle.machine_scene.specs.Scene.{Scene, StoredScene, Outcome, scene_of, thread_at, outcome_of_turn}
 use Rattle.machine_scene.specs.Group.{group_of}
 use Rattle.machine_scene.specs.OwnRows.{outcome_of_own_row}
 use Rattle.machine_scene.specs.Outcomes.{outcome_in_group, outcome_in}
-use Rattle.machine_scene.specs.Awake.{is_awake, is_awake_in, KeepsAwake, interrupts, may_wake, is_local_turn}
-use Rattle.machine_scene.proofs.Awake.{others_awake}
+use Rattle.machine_scene.specs.Asleep.{is_asleep, is_asleep_in, KeepsAsleep, interrupts, may_wake, is_local_turn}
+use Rattle.machine_scene.proofs.Asleep.{others_asleep}
 
 -- what a row on registers alone comes to
 abbrev local_outcome : Row → ℕ → Scene → Outcome
@@ -36,7 +35,7 @@ is_local status.Runs row is = is
 is_local _ row is = absurd (cc is)
 
 -- its outcome
-own_outcome : (row : Row) (t : ℕ) (scene : Scene) → is_local_row row ≡ true → outcome_of_own_row row t scene ≡ Some (local_outcome row t scene)
+pub own_outcome : (row : Row) (t : ℕ) (scene : Scene) → is_local_row row ≡ true → outcome_of_own_row row t scene ≡ Some (local_outcome row t scene)
 own_outcome (Ldi into value) t scene is = refl
 own_outcome (Mov into from) t scene is = refl
 own_outcome (Add into left right) t scene is = refl
@@ -88,17 +87,16 @@ interrupts_nobody u (Bne left right target) is = refl
 interrupts_nobody u (Blt left right target) is = refl
 interrupts_nobody u _ is = absurd (cc is)
 
--- who runs is awake
-awake_running : (t : ℕ) (program : Program) (scene : Scene) → (thread_at scene t).status ≡ status.Runs → is_awake t program scene ≡ true
-awake_running t program scene is =
-    ap (λ (s : Status). is_awake_in s (row_at program.rows (thread_at scene t).pc) t scene) is
+-- who runs isn't asleep
+not_asleep : (t : ℕ) (program : Program) (scene : Scene) → (thread_at scene t).status ≡ status.Runs → is_asleep t program scene ≡ false
+not_asleep t program scene is = ap (λ (s : Status). is_asleep_in s (row_at program.rows (thread_at scene t).pc) t scene) is
 
--- the set of before is that of after
-pub local_awake : (program : Program) (row : Row) (t : ℕ) (old new : StoredScene) (event : Event)
+-- who was asleep is so still
+pub local_asleep : (program : Program) (row : Row) (t : ℕ) (old new : StoredScene) (event : Event)
     → is_local_turn (thread_at (scene_of old) t).status row ≡ true → t < length old.threads → length new.threads ≡ length old.threads
     → outcome_of_own_row row t (scene_of old) ≡ Some (record { scene = scene_of new; event = event })
-    → new.awake ≡ old.awake → KeepsAwake program old → KeepsAwake program new
-local_awake program row t old new event is there many comes set keeps u within =
+    → new.asleep ≡ old.asleep → KeepsAsleep program old → KeepsAsleep program new
+local_asleep program row t old new event is there many comes set keeps u within member =
     let scene = scene_of old in
     let after = scene_of new in
     let of = (thread_at scene t).status in
@@ -108,15 +106,10 @@ local_awake program row t old new event is there many comes set keeps u within =
     let turned : (local_outcome row t scene).scene ≡ after = ap (λ (o : Outcome). o.scene) same in
     let quiet : may_wake row event ≡ false =
     subst (λ (o : Outcome). may_wake row o.event ≡ false) same (is_quiet row t scene local) in
-    let running : (thread_at after t).status ≡ status.Runs =
-    ap (λ (s : Scene). (thread_at s t).status) (sym turned)
-    ∙ ap (λ (thread : ThreadState). thread.status)
-    (get_or-set_same scene.threads t (turn_of_local row (thread_at scene t)).thread no_thread there) ∙ runs of row is in
-    elim (cases_eq u t) as (λ _. has new.awake u ≡ is_awake u program after) [
-      | inl same ↦ ap (λ (set : ℕ). has set u) set ∙ ap (has old.awake) same ∙ keeps t there
-          ∙ awake_running t program scene (runs of row is) ∙ sym (awake_running t program after running)
-          ∙ ap (λ (n : ℕ). is_awake n program after) (sym same)
-      | inr apart ↦ ap (λ (set : ℕ). has set u) set
-          ∙ others_awake program t row old new event keeps many (local_turn of row t program scene is ∙ comes) quiet u within apart
-          (interrupts_nobody u row local)
+    let before : has old.asleep u ≡ true = ap (λ (set : ℕ). has set u) (sym set) ∙ member in
+    elim (cases_eq u t) as (λ _. is_asleep u program after ≡ true) [
+      | inl same ↦ absurd (let asleep = keeps t there (ap (has old.asleep) (sym same) ∙ before) in
+          let runs_on = not_asleep t program scene (runs of row is) in cc (asleep, runs_on))
+      | inr apart ↦ others_asleep program t row old new event keeps many (local_turn of row t program scene is ∙ comes) quiet u within apart
+          (interrupts_nobody u row local) before
     ]

@@ -2,8 +2,9 @@
 use Rattle.std.proofs.Common.{inl, inr, sym, ◌≢◌, ◌≡◌, ◌∙◌, ℕ, ◌-◌, ◌*◌, ◌%◌, ◌^◌, ◌+◌, ◌<◌, ◌==◌, ◌||◌, ◌&&◌, not, Bool, true, false, refl, ap, arith, bit_and, bit_or, if◌then◌else◌}
 use Rattle.cyclic_barrier.specs.ThreadSet.{has}
 use Rattle.std.proofs.lemmas.Bool.{cases_eq}
-use Rattle.machine_scene.specs.Awake.{IsSetAt}
+use Rattle.machine_scene.specs.Asleep.{IsSetAt}
 use Rattle.cyclic_barrier.proofs.ThreadSetLemmas.{has-with, has-without}
+use Rattle.cyclic_barrier.proofs.WaitsLemmas.{has-none}
 use Rattle.tier_tree.proofs.Stands.{same-is, other-is}
 
 with_by : (here was : Bool) → (was || here) ≡ (if here then true else was)
@@ -29,18 +30,22 @@ set_without a k fits within t = has-without a k fits within t ∙ without_by (k 
 pub ruleset set_at = (set_with, set_without)
 
 -- the thread that was looked at, and the others
-here : (t : ℕ) (awake : Bool) (before set : ℕ) → IsSetAt t awake before set → (u : ℕ) → u ≡ t → has set u ≡ awake
-here t awake before set is u same =
-    is u ∙ ap (λ (x : Bool). if x then awake else has before u) (ap (λ (n : ℕ). t == n) same ∙ same-is t)
+here : (t : ℕ) (asleep : Bool) (before set : ℕ) → IsSetAt t asleep before set → (u : ℕ) → u ≡ t → has set u ≡ asleep
+here t asleep before set is u same =
+    is u ∙ ap (λ (x : Bool). if x then asleep else has before u) (ap (λ (n : ℕ). t == n) same ∙ same-is t)
 
-elsewhere : (t : ℕ) (awake : Bool) (before set : ℕ) → IsSetAt t awake before set → (u : ℕ) → u ≢ t → has set u ≡ has before u
-elsewhere t awake before set is u apart =
-    is u ∙ ap (λ (x : Bool). if x then awake else has before u) (other-is t u (λ same. apart (sym same)))
+elsewhere : (t : ℕ) (asleep : Bool) (before set : ℕ) → IsSetAt t asleep before set → (u : ℕ) → u ≢ t → has set u ≡ has before u
+elsewhere t asleep before set is u apart =
+    is u ∙ ap (λ (x : Bool). if x then asleep else has before u) (other-is t u (λ same. apart (sym same)))
 
 -- one thread more was looked at
-pub one_more : (awake : ℕ → Bool) (t before set : ℕ) → ((u : ℕ) → u < t → has before u ≡ awake u) → IsSetAt t (awake t) before set
-    → (u : ℕ) → u < t + 1 → has set u ≡ awake u
-one_more awake t before set known is u within = elim (cases_eq u t) as (λ _. has set u ≡ awake u) [
-  | inl same ↦ here t (awake t) before set is u same ∙ ap awake (sym same)
-  | inr apart ↦ elsewhere t (awake t) before set is u apart ∙ known u (omega (arith, within, apart))
+pub one_more : (asleep : ℕ → Bool) (t before set : ℕ) → ((u : ℕ) → u < t → has before u ≡ asleep u) → IsSetAt t (asleep t) before set
+    → (u : ℕ) → u < t + 1 → has set u ≡ asleep u
+one_more asleep t before set known is u within = elim (cases_eq u t) as (λ _. has set u ≡ asleep u) [
+  | inl same ↦ here t (asleep t) before set is u same ∙ ap asleep (sym same)
+  | inr apart ↦ elsewhere t (asleep t) before set is u apart ∙ known u (omega (arith, within, apart))
 ]
+
+-- nobody is in the empty set
+pub nobody : (u : ℕ) → has 0 u ≡ true → false ≡ true
+nobody u is = sym (has-none u) ∙ is

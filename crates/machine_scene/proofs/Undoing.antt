@@ -33,18 +33,18 @@ pub record IsUndone (note : Note) (old new : StoredScene) : Type 0 where
 
 -- a note of this reach
 abbrev noted : Reach → ℕ → StoredScene → Note
-noted reach t stored = record { thread = t; before = own.note_of (thread_at (scene_of stored) t); touched = touched_by reach stored; awake = stored.awake }
+noted reach t stored = record { thread = t; before = own.note_of (thread_at (scene_of stored) t); touched = touched_by reach stored; asleep = stored.asleep }
 
 made : (old new : StoredScene) → new.cells ≡ old.cells → new.threads ≡ old.threads → new.phasers ≡ old.phasers → new.barriers ≡ old.barriers
-    → record new { awake = old.awake } ≡ old
+    → record new { asleep = old.asleep } ≡ old
 made old new cells threads phasers barriers =
-    let kept : StoredScene = record new { awake = old.awake } in
+    let kept : StoredScene = record new { asleep = old.asleep } in
     ap (λ (xs : List ℤ). record kept { cells = xs }) cells
     ∙ ap (λ (xs : List ThreadState). record kept { cells = old.cells; threads = xs }) threads
     ∙ ap (λ (xs : List Stored). record kept { cells = old.cells; threads = old.threads; phasers = xs }) phasers
     ∙ ap (λ (xs : List BarrierState). record old { barriers = xs }) barriers
 
--- the scene that such a note gives back, but for who was awake
+-- the scene that such a note gives back, but for who was asleep
 abbrev given_back : Reach → ℕ → StoredScene → StoredScene → StoredScene
 given_back reach t old new = with_undone (own.note_of (thread_at (scene_of old) t)) t (with_touched (touched_by reach old) new)
 
@@ -140,25 +140,25 @@ expiry_undone program t old new event sound there stored is within =
     (subst (BackIf reach t scene) is
     (either (BackIf reach t scene) (is_ready t program scene) {a = None} tt (back_timeout thread.status row t scene there))) within
 
--- a note gives back the same, whatever set is kept of the threads that are awake
+-- a note gives back the same, whatever set is kept of the threads that are asleep
 touched_still : (of : Touched) (stored : StoredScene) (set : ℕ)
-    → with_touched of (record stored { awake = set }) ≡ record (with_touched of stored) { awake = set }
+    → with_touched of (record stored { asleep = set }) ≡ record (with_touched of stored) { asleep = set }
 touched_still touched.Nothing stored set = refl
 touched_still (touched.Cell cell number) stored set = refl
 touched_still (touched.Thread other before) stored set = refl
 touched_still (touched.Tree saved) stored set = refl
 touched_still (touched.Barrier b before) stored set = refl
 
-pub undone_still : (note : Note) (stored : StoredScene) (set : ℕ) → undone note (record stored { awake = set }) ≡ undone note stored
+pub undone_still : (note : Note) (stored : StoredScene) (set : ℕ) → undone note (record stored { asleep = set }) ≡ undone note stored
 undone_still note stored set =
-    ap (λ (s : StoredScene). record (with_undone note.before note.thread s) { awake = note.awake }) (touched_still note.touched stored set)
+    ap (λ (s : StoredScene). record (with_undone note.before note.thread s) { asleep = note.asleep }) (touched_still note.touched stored set)
 
-put_back_still : (of : Touched) (stored : StoredScene) (set : ℕ) → CanPutBack of stored → CanPutBack of (record stored { awake = set })
+put_back_still : (of : Touched) (stored : StoredScene) (set : ℕ) → CanPutBack of stored → CanPutBack of (record stored { asleep = set })
 put_back_still touched.Nothing stored set can = tt
 put_back_still (touched.Cell cell number) stored set can = can
 put_back_still (touched.Thread other before) stored set can = can
 put_back_still (touched.Tree saved) stored set can = can
 put_back_still (touched.Barrier b before) stored set can = can
 
-pub can_still : (note : Note) (stored : StoredScene) (set : ℕ) → CanUndo note stored → CanUndo note (record stored { awake = set })
+pub can_still : (note : Note) (stored : StoredScene) (set : ℕ) → CanUndo note stored → CanUndo note (record stored { asleep = set })
 can_still note stored set can = record { there = can.there; touched = put_back_still note.touched stored set can.touched }

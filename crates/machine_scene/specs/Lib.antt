@@ -10,6 +10,6 @@ pub mod Unwinding
 pub mod Waits
 pub mod Outcomes
 pub mod Ready
-pub mod Awake
+pub mod Asleep
 pub mod Sound
 pub mod Undo

@@ -20,13 +20,13 @@ pub record Scene : Type 0 where
   pub barriers : List BarrierState
 
 -- the same with the phasers as they are stored: the word of a child may be that of an earlier phase; and beside them, as a
--- set, the threads that are awake
+-- set, threads that are known to be asleep
 pub record StoredScene : Type 0 where
   pub cells : List ℤ
   pub threads : List ThreadState
   pub phasers : List Stored
   pub barriers : List BarrierState
-  pub awake : ℕ
+  pub asleep : ℕ
 
 -- what it shows at present: all that is said of a row speaks of that alone
 abbrev pub scene_of : StoredScene → Scene

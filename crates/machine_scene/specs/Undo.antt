@@ -88,12 +88,12 @@ touched_by (reach.Thread other) stored = touched.Thread other (own.note_of (thre
 touched_by (reach.Tree p) stored = touched.Tree (saved_of p stored.phasers)
 touched_by (reach.Barrier b) stored = touched.Barrier b (barrier_at (scene_of stored) b)
 
--- what is kept of a scene before a turn; the set of the threads that were awake is kept whole
+-- what is kept of a scene before a turn; the set of the threads that were asleep is kept whole
 pub record Note : Type 0 where
   pub thread : ℕ
   pub before : own.Note
   pub touched : Touched
-  pub awake : ℕ
+  pub asleep : ℕ
 
 -- of this scene, before a turn of thread t or the expiry of its wait
 abbrev pub note_of : ℕ → Program → StoredScene → Note
@@ -101,7 +101,7 @@ note_of t program stored = record {
   thread = t;
   before = own.note_of (thread_at (scene_of stored) t);
   touched = touched_by (reach_of t program (scene_of stored)) stored;
-  awake = stored.awake;
+  asleep = stored.asleep;
 }
 
 -- a thread as it was
@@ -119,7 +119,7 @@ with_touched (touched.Barrier b before) stored = record stored { barriers = slic
 
 -- the scene before the turn
 abbrev pub undone : Note → StoredScene → StoredScene
-undone note stored = record (with_undone note.before note.thread (with_touched note.touched stored)) { awake = note.awake }
+undone note stored = record (with_undone note.before note.thread (with_touched note.touched stored)) { asleep = note.asleep }
 
 -- what was touched can be put back
 abbrev pub CanPutBack : Touched → StoredScene → Type 0

@@ -3,7 +3,7 @@ ghost use Rattle.std.specs.Prelude.{◌≡◌, ◌<◌, length, true, is_some};
 ghost use Rattle.machine_scene.specs.Scene.{scene_of};
 ghost use Rattle.machine_scene.specs.Outcomes.{is_ready, outcome_of_expiry};
 ghost use Rattle.machine_scene.specs.Sound.{IsSound};
-ghost use Rattle.machine_scene.specs.Awake.{KeepsAwake};
+ghost use Rattle.machine_scene.specs.Asleep.{KeepsAsleep};
 
 use crate::note::SceneNote;
 use crate::stage::Stage;
@@ -14,14 +14,15 @@ use thread_state::Event;
 // A turn is played, and taken back.
 pub fn turn_and_back(stage: &mut Stage, program: &Loaded, t: usize) -> Result<Event, AllocError>
     requires sound { IsSound program.now 2147483646 (scene_of stage.old) }
-    requires awake { KeepsAwake program.now stage.old }
+    requires asleep { KeepsAsleep program.now stage.old }
     requires thread { t < length stage.old.threads }
     requires ready { is_ready t program.now (scene_of stage.old) ≡ true }
     ensures { stage.new ≡ stage.old }
 {
     let mut note = SceneNote::new();
     stage.note(program, t, &mut note);
-    match stage.turn(program, t) {
+    let row = stage.row_of(program, t);
+    match stage.turn(program, row, t) {
         Ok(event) => {
             stage.undo(&note);
             Ok(event)
@@ -33,14 +34,15 @@ pub fn turn_and_back(stage: &mut Stage, program: &Loaded, t: usize) -> Result<Ev
 // The time of a wait runs out, and this is taken back.
 pub fn expiry_and_back(stage: &mut Stage, program: &Loaded, t: usize) -> Event
     requires sound { IsSound program.now 2147483646 (scene_of stage.old) }
-    requires awake { KeepsAwake program.now stage.old }
+    requires asleep { KeepsAsleep program.now stage.old }
     requires thread { t < length stage.old.threads }
     requires ready { is_some (outcome_of_expiry t program.now (scene_of stage.old)) ≡ true }
     ensures { stage.new ≡ stage.old }
 {
     let mut note = SceneNote::new();
     stage.note(program, t, &mut note);
-    let event = stage.expire(program, t);
+    let row = stage.row_of(program, t);
+    let event = stage.expire(program, row, t);
     stage.undo(&note);
     event
 }

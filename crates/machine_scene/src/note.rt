@@ -22,7 +22,7 @@ pub struct SceneNote {
     pub(crate) number: u8,
     pub(crate) own: ThreadNote,
     pub(crate) beside: Touched,
-    pub(crate) awake: u64,
+    pub(crate) asleep: u64,
 }
 
 impl Model for SceneNote {
@@ -34,7 +34,7 @@ impl Model for SceneNote {
       thread = note.number;
       before = note.own;
       touched = note.beside;
-      awake = note.awake;
+      asleep = note.asleep;
     } };
 }
 
@@ -48,7 +48,7 @@ impl SceneNote {
             number: 0,
             own: ThreadNote::new(),
             beside: Touched::Nothing,
-            awake: 0,
+            asleep: 0,
         }
     }
 }

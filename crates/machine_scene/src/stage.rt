@@ -1,5 +1,6 @@
-ghost use Rattle.std.specs.Prelude.{◌≡◌, ℕ, ◌+◌, ◌<◌, ◌≤◌, length, replicate, pos, true, false, Some, is_some, IsErr, IfOk, OnErr, OnOk};
+ghost use Rattle.std.specs.Prelude.{◌≡◌, ℕ, ◌+◌, ◌<◌, ◌≤◌, length, replicate, pos, true, false, Some, is_some, IfSome, IsErr, IfOk, OnErr, OnOk};
 ghost use Rattle.std.specs.List.{list_all};
+ghost use Rattle.instruction_table.specs.LocalRows.{is_local_row};
 ghost use Rattle.loader.specs.Program.{row_at};
 ghost use Rattle.thread_state.specs.Thread.{ThreadState, is_finished, top_of};
 ghost use Rattle.machine_scene.specs.Scene.{scene_of, thread_at, barrier_at};
@@ -8,19 +9,20 @@ ghost use Rattle.machine_scene.specs.Group.{group_of};
 ghost use Rattle.machine_scene.specs.Outcomes.{outcome_in, outcome_of, outcome_of_row, outcome_of_expiry, is_ready};
 ghost use Rattle.machine_scene.specs.Outcomes.{timeout_in};
 ghost use Rattle.machine_scene.specs.Sound.{IsSound, StandsAt};
-ghost use Rattle.machine_scene.specs.Awake.{is_awake, KeepsAwake, AreOthersAwake, may_wake, is_local_turn};
+ghost use Rattle.machine_scene.specs.Asleep.{KeepsAsleep, AreOthersAsleep, may_wake, is_local_turn};
 ghost use Rattle.machine_scene.specs.Undo.{PhasersWithin, CanUndo, reach_of_row, reach_in, note_of, undone};
 
 use crate::group::{Group, group_of};
 use cyclic_barrier::Barrier;
 use instruction_table::Row;
 use loader::Loaded;
+use ready::may_be_blocked;
 use std::alloc::{AllocError, Global};
 use std::marker::Model;
 use thread_state::{Event, Mark, Status, Thread, What};
 use tier_tree::Forest;
 
-mod awake;
+mod asleep;
 mod barrier_rows;
 mod call_rows;
 mod data_rows;
@@ -40,7 +42,7 @@ pub struct Stage {
     players: Vec<Thread>,
     forest: Forest,
     gates: Vec<Barrier>,
-    awake: u64,
+    asleep: u64,
 }
 
 impl Model for Stage {
@@ -54,7 +56,7 @@ impl Model for Stage {
       threads = stage.players.items;
       phasers = stage.forest;
       barriers = stage.gates.items;
-      awake = stage.awake;
+      asleep = stage.asleep;
     } };
 
     ghost invariant = { λ stage.
@@ -83,7 +85,7 @@ fn copies(alloc: Global, players: &[Thread]) -> Result<Vec<Thread>, AllocError>
 }
 
 impl Stage {
-    /// These threads, phasers and barriers, and cells of 0. Its threads are yet to be woken.
+    /// These threads, phasers and barriers, and cells of 0.
     pub fn new(players: Vec<Thread>, forest: Forest, gates: Vec<Barrier>) -> Stage
         requires threads { length players.items ≤ 64 }
         requires barriers { length gates.items ≤ 64 }
@@ -92,7 +94,7 @@ impl Stage {
           threads = players.items;
           phasers = forest;
           barriers = gates.items;
-          awake = 0;
+          asleep = 0;
         } }
     {
         Stage {
@@ -100,17 +102,8 @@ impl Stage {
             players,
             forest,
             gates,
-            awake: 0,
+            asleep: 0,
         }
-    }
-
-    /// Finds out which threads are awake.
-    pub fn wake(&mut self, program: &Loaded)
-        requires sound { IsSound program.now 2147483647 (scene_of self.old) }
-        ensures same { self.new ≡ record self.old { awake = (self.new).awake } }
-        ensures awake { KeepsAwake program.now self.new }
-    {
-        self.awake = self.all_awake(program);
     }
 
     /// The same stage, word for word.
@@ -122,7 +115,7 @@ impl Stage {
             players: copies(alloc, self.players.as_slice())?,
             forest: self.forest.copy(alloc)?,
             gates: Vec::from_slice(alloc, self.gates.as_slice())?,
-            awake: self.awake,
+            asleep: self.asleep,
         })
     }
 
@@ -193,54 +186,99 @@ impl Stage {
     }
 
     /// Whether a thread may take a step.
-    #[inline(always)]
-    #[tactic(auto, using(crate::proofs::Awake::asleep))]
+    #[tactic(auto, using(crate::proofs::Asleep::no_turn))]
     pub fn is_ready(&self, program: &Loaded, t: usize) -> bool
         requires sound { IsSound program.now 2147483646 (scene_of self.now) }
-        requires awake { KeepsAwake program.now self.now }
+        requires asleep { KeepsAsleep program.now self.now }
         requires thread { t < length self.now.threads }
         ensures { result ≡ is_ready t program.now (scene_of self.now) }
     {
-        awake::is_in(self.awake, t) && self.goes_on(program, t)
+        !asleep::is_in(self.asleep, t) && self.goes_on(program, t)
     }
 
-    /// Whether a thread that is awake may take a step.
-    #[inline(always)]
+    /// The same, by a look at what the thread does.
+    #[tactic(auto, using(crate::proofs::Readiness::row_is_ready))]
     fn goes_on(&self, program: &Loaded, t: usize) -> bool
         requires sound { IsSound program.now 2147483646 (scene_of self.now) }
-        requires awake { is_awake t program.now (scene_of self.now) ≡ true }
         requires thread { t < length self.now.threads }
         ensures { result ≡ is_ready t program.now (scene_of self.now) }
     {
+        let row = self.row_of(program, t);
+        match self.players[t].status() {
+            Status::Runs => !self.is_blocked(program, row, t),
+            Status::Throws(_) => true,
+            Status::AwaitsPhase(phase) => self.is_phase_wait_over(program, row, phase, t),
+            Status::AwaitsBarrier(index) => self.is_barrier_wait_over(program, row, index, t),
+            Status::Ended | Status::Died(_) => false,
+        }
+    }
+
+    /// The row that a thread stands at, where it may take a step. A step asks this once, and is handed the row.
+    #[inline(always)]
+    #[tactic(auto, using(crate::proofs::Asleep::no_turn, crate::proofs::Readiness::row_is_ready, crate::proofs::Readiness::seldom_blocked))]
+    pub fn ready_row(&self, program: &Loaded, t: usize) -> Option<Row>
+        requires sound { IsSound program.now 2147483646 (scene_of self.now) }
+        requires asleep { KeepsAsleep program.now self.now }
+        requires thread { t < length self.now.threads }
+        ensures ready { is_some result ≡ is_ready t program.now (scene_of self.now) }
+        ensures row { IfSome result (λ row. row ≡ row_at program.now.rows (thread_at (scene_of self.now) t).pc) }
+    {
+        if asleep::is_in(self.asleep, t) {
+            return None;
+        }
+        let row = self.row_of(program, t);
         match self.players[t].status() {
             Status::Runs => {
-                let row = self.row_of(program, t);
-                self.is_row_ready(program, row, t)
+                if may_be_blocked(row) && self.is_blocked(program, row, t) {
+                    return None;
+                }
+                Some(row)
             }
-            Status::Throws(_) | Status::AwaitsPhase(_) | Status::AwaitsBarrier(_) => true,
-            Status::Ended | Status::Died(_) => false,
+            _ => {
+                if !self.goes_on(program, t) {
+                    return None;
+                }
+                Some(row)
+            }
         }
     }
 
     /// Whether the time of a thread's wait may run out now.
     pub fn can_expire(&self, program: &Loaded, t: usize) -> bool
         requires sound { IsSound program.now 2147483646 (scene_of self.now) }
-        requires awake { KeepsAwake program.now self.now }
+        requires asleep { KeepsAsleep program.now self.now }
         requires thread { t < length self.now.threads }
         ensures { result ≡ is_some (outcome_of_expiry t program.now (scene_of self.now)) }
     {
-        if self.is_ready(program, t) {
-            return false;
-        }
-        let row = self.row_of(program, t);
-        self.has_time(program, row, t)
+        self.expiring_row(program, t).is_some()
     }
 
-    /// The turn of a ready thread. `Err` is want of memory for a value put out, and nothing has changed.
-    pub fn turn(&mut self, program: &Loaded, t: usize) -> Result<Event, AllocError>
+    /// The row that a thread stands at, where the time of its wait may run out now.
+    pub fn expiring_row(&self, program: &Loaded, t: usize) -> Option<Row>
+        requires sound { IsSound program.now 2147483646 (scene_of self.now) }
+        requires asleep { KeepsAsleep program.now self.now }
+        requires thread { t < length self.now.threads }
+        ensures ready { is_some result ≡ is_some (outcome_of_expiry t program.now (scene_of self.now)) }
+        ensures row { IfSome result (λ row. row ≡ row_at program.now.rows (thread_at (scene_of self.now) t).pc) }
+    {
+        if self.is_ready(program, t) {
+            return None;
+        }
+        let row = self.row_of(program, t);
+        if self.has_time(program, row, t) {
+            Some(row)
+        } else {
+            None
+        }
+    }
+
+    /// The turn of a ready thread that stands at this row. `Err` is want of memory for a value put out, and nothing has
+    /// changed.
+    pub fn turn(&mut self, program: &Loaded, row: Row, t: usize) -> Result<Event, AllocError>
         requires sound { IsSound program.now 2147483646 (scene_of self.old) }
-        requires awake { KeepsAwake program.now self.old }
+        requires asleep { KeepsAsleep program.now self.old }
         requires thread { t < length self.old.threads }
+        requires row { row ≡ row_at program.now.rows (thread_at (scene_of self.old) t).pc }
         requires ready { is_ready t program.now (scene_of self.old) ≡ true }
         ensures ok { IfOk result (λ event. outcome_of t program.now (scene_of self.old)
             ≡ Some (record { scene = scene_of self.new; event = event })) }
@@ -254,27 +292,27 @@ impl Stage {
         ensures undo { OnOk result (undone (note_of t program.now self.old) self.new ≡ self.old) }
         ensures can { OnOk result (CanUndo (note_of t program.now self.old) self.new) }
         ensures threads { OnOk result (length self.new.threads ≡ length self.old.threads) }
-        ensures awake { OnOk result (KeepsAwake program.now self.new) }
+        ensures asleep { OnOk result (KeepsAsleep program.now self.new) }
     {
-        let row = self.row_of(program, t);
+        self.turn_is_placed(program, row, t);
         if self.is_local_turn(row, t) {
             return Ok(self.local_turn(program, row, t));
         }
-        let before = self.awake;
+        let before = self.asleep;
         match self.turn_of_row(program, row, t) {
             Ok(event) => {
-                self.awake = self.awake_after(program, before, row, event, t);
+                self.asleep = self.asleep_after(program, before, row, event, t);
                 Ok(event)
             }
             Err(refused) => Err(refused),
         }
     }
 
-    /// The same of a running thread that stands at this row on registers alone: those who were awake are so still.
+    /// The same of a running thread that stands at this row on registers alone: who was asleep is so still.
     #[inline(always)]
     fn local_turn(&mut self, program: &Loaded, row: Row, t: usize) -> Event
         requires sound { IsSound program.now 2147483646 (scene_of self.old) }
-        requires awake { KeepsAwake program.now self.old }
+        requires asleep { KeepsAsleep program.now self.old }
         requires thread { t < length self.old.threads }
         requires row { row ≡ row_at program.now.rows (thread_at (scene_of self.old) t).pc }
         requires at { StandsAt program.now row t self.old }
@@ -287,19 +325,21 @@ impl Stage {
         ensures undo { undone (note_of t program.now self.old) self.new ≡ self.old }
         ensures can { CanUndo (note_of t program.now self.old) self.new }
         ensures threads { length self.new.threads ≡ length self.old.threads }
-        ensures awake { KeepsAwake program.now self.new }
+        ensures asleep { KeepsAsleep program.now self.new }
     {
         self.phasers_are_stored();
-        self.own_row(row, t)
+        self.local_row(row, t)
     }
 
-    /// The same of a thread that stands at this row, and which threads are awake is yet to be found out.
+    /// The same of a thread that stands at this row, where it isn't such a turn, and which threads are asleep is yet to be
+    /// found out.
     fn turn_of_row(&mut self, program: &Loaded, row: Row, t: usize) -> Result<Event, AllocError>
         requires sound { IsSound program.now 2147483646 (scene_of self.old) }
         requires thread { t < length self.old.threads }
         requires row { row ≡ row_at program.now.rows (thread_at (scene_of self.old) t).pc }
         requires at { StandsAt program.now row t self.old }
         requires ready { is_ready t program.now (scene_of self.old) ≡ true }
+        requires apart { is_local_turn (thread_at (scene_of self.old) t).status row ≡ false }
         ensures ok { IfOk result (λ event. outcome_of t program.now (scene_of self.old)
             ≡ Some (record { scene = scene_of self.new; event = event })) }
         ensures err { OnErr result (self.new ≡ self.old) }
@@ -310,8 +350,8 @@ impl Stage {
         ensures undo { OnOk result (undone (note_of t program.now self.old) self.new ≡ self.old) }
         ensures can { OnOk result (CanUndo (note_of t program.now self.old) self.new) }
         ensures threads { OnOk result (length self.new.threads ≡ length self.old.threads) }
-        ensures others { IfOk result (λ event. KeepsAwake program.now self.old → may_wake row event ≡ false
-            → AreOthersAwake program.now t row self.old.awake self.new) }
+        ensures others { IfOk result (λ event. KeepsAsleep program.now self.old → may_wake row event ≡ false
+            → AreOthersAsleep program.now t row self.old.asleep self.new) }
     {
         self.phasers_are_stored();
         match self.turn_at(program, row, t) {
@@ -320,7 +360,7 @@ impl Stage {
         }
     }
 
-    /// The same of a thread that stands at this row.
+    /// The same by what the thread is doing.
     #[tactic(auto, using(crate::proofs::Reaches::within_same))]
     fn turn_at(&mut self, program: &Loaded, row: Row, t: usize) -> Result<Event, AllocError>
         requires sound { IsSound program.now 2147483646 (scene_of self.old) }
@@ -328,6 +368,7 @@ impl Stage {
         requires at { StandsAt program.now row t self.old }
         requires ready { is_some (outcome_in (thread_at (scene_of self.old) t).status row t program.now
             (scene_of self.old)) ≡ true }
+        requires apart { is_local_turn (thread_at (scene_of self.old) t).status row ≡ false }
         ensures ok { IfOk result (λ event. outcome_in (thread_at (scene_of self.old) t).status row t
             program.now (scene_of self.old)
             ≡ Some (record { scene = scene_of self.new; event = event })) }
@@ -345,7 +386,7 @@ impl Stage {
         }
     }
 
-    /// The row of a running thread, by its group.
+    /// The row of a running thread, by its group; those on registers alone are played by `local_turn`.
     #[tactic(auto, using(crate::proofs::Reaches::within_same))]
     fn row(&mut self, program: &Loaded, row: Row, t: usize) -> Result<Event, AllocError>
         requires sound { IsSound program.now 2147483646 (scene_of self.old) }
@@ -353,6 +394,7 @@ impl Stage {
         requires at { StandsAt program.now row t self.old }
         requires ready { is_some (outcome_of_row row t program.now (scene_of self.old)) ≡ true }
         requires runs { (thread_at (scene_of self.old) t).status ≡ Status.Runs }
+        requires apart { is_local_row row ≡ false }
         ensures ok { IfOk result (λ event. outcome_of_row row t program.now (scene_of self.old)
             ≡ Some (record { scene = scene_of self.new; event = event })) }
         ensures err { OnErr result (self.new ≡ self.old) }
@@ -361,7 +403,7 @@ impl Stage {
             self.old.phasers self.new.phasers }
     {
         match group_of(row) {
-            Group::Own => Ok(self.own_row(row, t)),
+            Group::Own => Ok(self.halt_row(row, t)),
             Group::Calls => Ok(self.call_row(program, row, t)),
             Group::Data => self.data_row(program, row, t),
             Group::Phasers => Ok(self.phaser_row(program, row, t)),
@@ -370,11 +412,12 @@ impl Stage {
         }
     }
 
-    /// The time of a thread's wait runs out.
-    pub fn expire(&mut self, program: &Loaded, t: usize) -> Event
+    /// The time of the wait of a thread that stands at this row runs out.
+    pub fn expire(&mut self, program: &Loaded, row: Row, t: usize) -> Event
         requires sound { IsSound program.now 2147483646 (scene_of self.old) }
-        requires awake { KeepsAwake program.now self.old }
+        requires asleep { KeepsAsleep program.now self.old }
         requires thread { t < length self.old.threads }
+        requires row { row ≡ row_at program.now.rows (thread_at (scene_of self.old) t).pc }
         requires ready { is_some (outcome_of_expiry t program.now (scene_of self.old)) ≡ true }
         ensures ok { outcome_of_expiry t program.now (scene_of self.old)
             ≡ Some (record { scene = scene_of self.new; event = result }) }
@@ -384,16 +427,16 @@ impl Stage {
         ensures undo { undone (note_of t program.now self.old) self.new ≡ self.old }
         ensures can { CanUndo (note_of t program.now self.old) self.new }
         ensures threads { length self.new.threads ≡ length self.old.threads }
-        ensures awake { KeepsAwake program.now self.new }
+        ensures asleep { KeepsAsleep program.now self.new }
     {
-        let row = self.row_of(program, t);
-        let before = self.awake;
+        self.turn_is_placed(program, row, t);
+        let before = self.asleep;
         let event = self.expiry_of_row(program, row, t);
-        self.awake = self.awake_after(program, before, row, event, t);
+        self.asleep = self.asleep_after(program, before, row, event, t);
         event
     }
 
-    /// The same of a thread that stands at this row, and which threads are awake is yet to be found out.
+    /// The same of a thread that stands at this row, and which threads are asleep is yet to be found out.
     fn expiry_of_row(&mut self, program: &Loaded, row: Row, t: usize) -> Event
         requires sound { IsSound program.now 2147483646 (scene_of self.old) }
         requires thread { t < length self.old.threads }
@@ -408,8 +451,8 @@ impl Stage {
         ensures undo { undone (note_of t program.now self.old) self.new ≡ self.old }
         ensures can { CanUndo (note_of t program.now self.old) self.new }
         ensures threads { length self.new.threads ≡ length self.old.threads }
-        ensures others { KeepsAwake program.now self.old → may_wake row result ≡ false
-            → AreOthersAwake program.now t row self.old.awake self.new }
+        ensures others { KeepsAsleep program.now self.old → may_wake row result ≡ false
+            → AreOthersAsleep program.now t row self.old.asleep self.new }
     {
         self.phasers_are_stored();
         self.expire_at(program, row, t)

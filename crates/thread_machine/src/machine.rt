@@ -1,6 +1,7 @@
-ghost use Rattle.std.specs.Prelude.{◌≡◌, ◌↔◌, ◌+◌, ◌<◌, ◌≤◌, length, map, IfOk, IfErr, OnOk, OnErr, true, false, Some, None, slice_get};
+ghost use Rattle.std.specs.Prelude.{◌≡◌, ◌≢◌, ◌↔◌, ◌+◌, ◌<◌, ◌≤◌, length, map, is_some, IfSome, IfOk, IfErr, OnOk, OnErr, true, false, Some, None, slice_get};
 ghost use Rattle.std.specs.Option.{option_map};
 ghost use Rattle.instruction_table.specs.Registers.{value_in};
+ghost use Rattle.loader.specs.Program.{row_at};
 ghost use Rattle.tier_tree.specs.Origin.{Origin, StandsFor};
 ghost use Rattle.tier_tree.specs.Stored.{phasers_of};
 ghost use Rattle.thread_state.specs.Frame.{entry_of};
@@ -20,7 +21,7 @@ use crate::choice::Choice;
 use crate::fault::StepFault;
 use crate::undo::Undo;
 use cyclic_barrier::Barrier;
-use instruction_table::Reg;
+use instruction_table::{Reg, Row};
 use loader::Loaded;
 use machine_scene::{SceneNote, Stage};
 use row_code::DeclaredThread;
@@ -80,6 +81,7 @@ fn new_threads(alloc: Global, declared: &[DeclaredThread]) -> Result<Vec<Thread>
 fn first_stage(alloc: Global, program: &Loaded) -> Result<Stage, AllocError>
     ensures stored { IfOk result (λ stage. stage.phasers ≡ program.now.phasers) }
     ensures scene { IfOk result (λ stage. scene_of stage ≡ first_scene program.now) }
+    ensures asleep { IfOk result (λ stage. stage.asleep ≡ 0) }
 {
     program.each_program_is_whole();
     let threads = new_threads(alloc, program.threads())?;
@@ -96,9 +98,8 @@ impl Machine {
         ensures { IfOk result (λ machine. world_of machine ≡ first_world program limit) }
     {
         program.each_program_is_whole();
-        let mut stage = first_stage(alloc, &program)?;
+        let stage = first_stage(alloc, &program)?;
         stage.forest().is_forest();
-        stage.wake(&program);
         Ok(Machine {
             program,
             stage,
@@ -150,14 +151,16 @@ impl Machine {
         }
     }
 
-    /// The same, and what undoes it where it is an effective step. All steps are played here, so that a step is one
-    /// function when it runs.
+    /// The same, and what undoes it where it is an effective step, as the count of these tells. All steps are played here,
+    /// so that a step is one function when it runs.
     fn stepped(&mut self, choice: Choice) -> Result<Event, StepFault>
         ensures played { IfOk result (λ event.
             record { world = world_of self.new; event = event } ≡ played (world_of self.old) choice) }
-        ensures undo { OnOk result (is_choice_ready self.old.program choice (scene_of self.old.scene) ≡ true
+        ensures idle { OnOk result (self.new.steps ≡ self.old.steps
+            → self.new ≡ record self.old { choices = self.old.choices + 1 }) }
+        ensures undo { OnOk result (self.new.steps ≢ self.old.steps
             → undone (Some (scene.note_of choice.thread self.old.program self.old.scene)) self.new ≡ self.old) }
-        ensures can { OnOk result (is_choice_ready self.old.program choice (scene_of self.old.scene) ≡ true
+        ensures can { OnOk result (self.new.steps ≢ self.old.steps
             → scene.CanUndo (scene.note_of choice.thread self.old.program self.old.scene) self.new.scene) }
         ensures counted { OnOk result (0 < self.new.choices) }
         ensures no_thread { (result ≡ Err StepFault.NoSuchThread)
@@ -172,8 +175,8 @@ impl Machine {
     {
         self.is_sound();
         match self.accept(choice) {
-            Ok(true) => self.go_on(choice),
-            Ok(false) => Ok(self.stay(choice)),
+            Ok(Some(row)) => self.go_on(choice, row),
+            Ok(None) => Ok(self.stay(choice)),
             Err(fault) => Err(fault),
         }
     }
@@ -196,18 +199,20 @@ impl Machine {
         ensures err { OnErr result (self.new ≡ self.old) }
     {
         self.is_sound();
-        match self.accept(choice) {
-            Ok(true) => {}
-            Ok(false) => return Ok((self.stay(choice), Undo::of_idle())),
-            Err(fault) => return Err(fault),
+        let thread = choice.thread as usize;
+        if thread >= self.stage.thread_count() {
+            return Err(StepFault::NoSuchThread);
         }
+        let before = self.done;
         let mut note = SceneNote::new();
-        self.stage
-            .note(&self.program, choice.thread as usize, &mut note);
+        self.stage.note(&self.program, thread, &mut note);
         let event = match self.stepped(choice) {
             Ok(event) => event,
             Err(fault) => return Err(fault),
         };
+        if self.done == before {
+            return Ok((event, Undo::of_idle()));
+        }
         Ok((event, Undo::of_turn(note)))
     }
 
@@ -223,14 +228,16 @@ impl Machine {
         }
     }
 
-    /// Whether a choice that isn't refused is an effective step.
+    /// The row at which a choice that isn't refused is an effective step, if it is one.
     #[inline(always)]
-    fn accept(&self, choice: Choice) -> Result<bool, StepFault>
-        ensures ready { IfOk result (λ ready.
-            ready ≡ is_choice_ready self.now.program choice (scene_of self.now.scene)) }
+    fn accept(&self, choice: Choice) -> Result<Option<Row>, StepFault>
+        ensures ready { IfOk result (λ row.
+            is_some row ≡ is_choice_ready self.now.program choice (scene_of self.now.scene)) }
+        ensures row { IfOk result (λ row. IfSome row (λ row.
+            row ≡ row_at self.now.program.rows (thread_at (scene_of self.now.scene) choice.thread).pc)) }
         ensures there { OnOk result (choice.thread < length self.now.scene.threads) }
         ensures choices { OnOk result (self.now.choices < 1000000000000) }
-        ensures steps { result ≡ Ok true → self.now.steps < self.now.limit }
+        ensures steps { IfOk result (λ row. is_some row ≡ true → self.now.steps < self.now.limit) }
         ensures accepted { OnOk result (refusal_of (world_of self.now) choice ≡ None) }
         ensures refused { IfErr result (λ fault. refusal_of (world_of self.now) choice ≡ Some fault) }
     {
@@ -240,13 +247,13 @@ impl Machine {
         if self.chosen == MOST_CHOICES {
             return Err(StepFault::StepLimit);
         }
-        if !self.is_choice_ready(choice) {
-            return Ok(false);
-        }
+        let Some(row) = self.chosen_row(choice) else {
+            return Ok(None);
+        };
         if self.done == self.most {
             return Err(StepFault::StepLimit);
         }
-        Ok(true)
+        Ok(Some(row))
     }
 
     /// An idle choice.
@@ -264,8 +271,23 @@ impl Machine {
         }
     }
 
-    /// Whether a choice would not be idle.
+    /// The row at which the chosen thread stands, where the choice would not be idle.
     #[inline(always)]
+    fn chosen_row(&self, choice: Choice) -> Option<Row>
+        requires { choice.thread < length self.now.scene.threads }
+        ensures ready { is_some result ≡ is_choice_ready self.now.program choice (scene_of self.now.scene) }
+        ensures row { IfSome result (λ row.
+            row ≡ row_at self.now.program.rows (thread_at (scene_of self.now.scene) choice.thread).pc) }
+    {
+        let t = choice.thread as usize;
+        if choice.expiry {
+            self.stage.expiring_row(&self.program, t)
+        } else {
+            self.stage.ready_row(&self.program, t)
+        }
+    }
+
+    /// Whether a choice would not be idle.
     fn is_choice_ready(&self, choice: Choice) -> bool
         requires { choice.thread < length self.now.scene.threads }
         ensures { result ≡ is_choice_ready self.now.program choice (scene_of self.now.scene) }
@@ -277,9 +299,10 @@ impl Machine {
         }
     }
 
-    /// An effective step.
-    fn go_on(&mut self, choice: Choice) -> Result<Event, StepFault>
+    /// An effective step of a thread that stands at this row.
+    fn go_on(&mut self, choice: Choice, row: Row) -> Result<Event, StepFault>
         requires there { choice.thread < length self.old.scene.threads }
+        requires row { row ≡ row_at self.old.program.rows (thread_at (scene_of self.old.scene) choice.thread).pc }
         requires ready { is_choice_ready self.old.program choice (scene_of self.old.scene) ≡ true }
         requires steps { self.old.steps < self.old.limit }
         requires choices { self.old.choices < 1000000000000 }
@@ -290,6 +313,7 @@ impl Machine {
         ensures can { OnOk result
             (scene.CanUndo (scene.note_of choice.thread self.old.program self.old.scene) self.new.scene) }
         ensures counted { OnOk result (0 < self.new.choices) }
+        ensures steps { OnOk result (self.new.steps ≡ self.old.steps + 1) }
         ensures memory { IfErr result (λ fault. (fault ≡ StepFault.Memory)
             × (puts_out (world_of self.old) choice ≡ true)) }
         ensures threads { length self.new.scene.threads ≡ length self.old.scene.threads }
@@ -297,12 +321,12 @@ impl Machine {
     {
         let t = choice.thread as usize;
         if choice.expiry {
-            let event = self.stage.expire(&self.program, t);
+            let event = self.stage.expire(&self.program, row, t);
             self.chosen += 1;
             self.done += 1;
             return Ok(event);
         }
-        match self.stage.turn(&self.program, t) {
+        match self.stage.turn(&self.program, row, t) {
             Ok(event) => {
                 self.chosen += 1;
                 self.done += 1;

@@ -1,4 +1,5 @@
-ghost use Rattle.std.specs.Prelude.{◌≡◌, ◌<◌, length, true, Some, is_some};
+ghost use Rattle.std.specs.Prelude.{◌≡◌, ◌<◌, length, true, false, Some, is_some};
+ghost use Rattle.instruction_table.specs.LocalRows.{is_local_row};
 ghost use Rattle.machine_scene.specs.Scene.{scene_of, thread_at};
 ghost use Rattle.machine_scene.specs.OwnRows.{outcome_of_own_row};
 
@@ -7,27 +8,32 @@ use instruction_table::Row;
 use thread_state::Event;
 
 impl Stage {
-    /// `halt`, and the rows on registers alone.
+    /// The rows on registers alone.
     #[inline(always)]
-    pub(super) fn own_row(&mut self, row: Row, t: usize) -> Event
-        requires ready { is_some (outcome_of_own_row row t (scene_of self.old)) ≡ true }
+    #[tactic(auto, using(crate::proofs::LocalTurns::own_outcome))]
+    pub(super) fn local_row(&mut self, row: Row, t: usize) -> Event
+        requires local { is_local_row row ≡ true }
         requires thread { t < length self.old.threads }
         requires place { (thread_at (scene_of self.old) t).pc < 65535 }
         ensures outcome { outcome_of_own_row row t (scene_of self.old)
             ≡ Some (record { scene = scene_of self.new; event = result }) }
         ensures phasers { self.new.phasers ≡ self.old.phasers }
-        ensures awake { (self.new).awake ≡ self.old.awake }
+        ensures asleep { (self.new).asleep ≡ self.old.asleep }
+    {
+        alone(self.players[t].local_row(row))
+    }
+
+    /// `halt`, the one row of their group beside them.
+    pub(super) fn halt_row(&mut self, row: Row, t: usize) -> Event
+        requires ready { is_some (outcome_of_own_row row t (scene_of self.old)) ≡ true }
+        requires apart { is_local_row row ≡ false }
+        requires thread { t < length self.old.threads }
+        ensures outcome { outcome_of_own_row row t (scene_of self.old)
+            ≡ Some (record { scene = scene_of self.new; event = result }) }
+        ensures phasers { self.new.phasers ≡ self.old.phasers }
     {
         match row {
             Row::Halt => alone(self.players[t].halt()),
-            Row::Ldi { .. }
-            | Row::Mov { .. }
-            | Row::Add { .. }
-            | Row::Sub { .. }
-            | Row::Jmp { .. }
-            | Row::Beq { .. }
-            | Row::Bne { .. }
-            | Row::Blt { .. } => alone(self.players[t].local_row(row)),
             _ => unreachable!(),
         }
     }

@@ -5,7 +5,7 @@ ghost use Rattle.loader.specs.Program.{IsNamed};
 ghost use Rattle.machine_scene.specs.Scene.{scene_of, counts_in, thread_at, barrier_at};
 ghost use Rattle.machine_scene.specs.BarrierRows.{is_run_by_another};
 ghost use Rattle.machine_scene.specs.Waits.{outcome_of_phase_wait, outcome_of_release, outcome_of_barrier_wait};
-ghost use Rattle.machine_scene.specs.Outcomes.{outcome_of_row, timeout_in};
+ghost use Rattle.machine_scene.specs.Outcomes.{timeout_in};
 ghost use Rattle.machine_scene.specs.Ready.{registration_is_held, is_blocked, may_be_blocked};
 ghost use Rattle.machine_scene.specs.Sound.{is_wait_row};
 
@@ -18,7 +18,7 @@ use tier_tree::{PhaserId, Registered};
 
 /// Whether there are threads that have to wait before they play the row.
 #[inline(always)]
-fn may_be_blocked(row: Row) -> bool
+pub(super) fn may_be_blocked(row: Row) -> bool
     ensures { result ≡ may_be_blocked row }
 {
     match row {
@@ -35,21 +35,9 @@ fn may_be_blocked(row: Row) -> bool
 
 /// Which rows can be played, and which waits can end.
 impl Stage {
-    /// Whether the row of a running thread can be played.
-    #[inline(always)]
-    #[tactic(auto, using(crate::proofs::Readiness::row_is_ready, crate::proofs::Readiness::seldom_blocked))]
-    pub(super) fn is_row_ready(&self, program: &Loaded, row: Row, t: usize) -> bool
-        requires named { IsNamed (counts_in program.now self.now) row }
-        requires few { length self.now.phasers ≤ 64 }
-        requires thread { t < length self.now.threads }
-        ensures { result ≡ is_some (outcome_of_row row t program.now (scene_of self.now)) }
-    {
-        !(may_be_blocked(row) && self.is_blocked(program, row, t))
-    }
-
-    /// Whether it has to wait. It stands apart, since few rows ask.
+    /// Whether a running thread has to wait before it plays the row.
     #[inline(never)]
-    fn is_blocked(&self, program: &Loaded, row: Row, t: usize) -> bool
+    pub(super) fn is_blocked(&self, program: &Loaded, row: Row, t: usize) -> bool
         requires named { IsNamed (counts_in program.now self.now) row }
         requires few { length self.now.phasers ≤ 64 }
         requires thread { t < length self.now.threads }

@@ -34,7 +34,7 @@ impl Stage {
         if !matches!(reach, Reach::Nothing) {
             self.touched(reach, &mut note.beside);
         }
-        note.awake = self.awake;
+        note.asleep = self.asleep;
     }
 
     /// What is kept of what a turn may change beside its own thread.
@@ -77,7 +77,7 @@ impl Stage {
     {
         self.put_back(&note.beside);
         self.players[note.number as usize].undo(&note.own);
-        self.awake = note.awake;
+        self.asleep = note.asleep;
     }
 
     /// Puts back what the turn changed beside its own thread.

@@ -3,7 +3,7 @@ use Rattle.machine_scene.specs.Scene.{scene_of}
 use Rattle.machine_scene.proofs.Outcomes.{sound_timeout}
 use Rattle.machine_scene.proofs.Readiness.{expired}
 use Rattle.machine_scene.proofs.Reaches.{within_same}
-use Rattle.machine_scene.proofs.Awake.{others_awake_late}
+use Rattle.machine_scene.proofs.Asleep.{others_asleep_late}
 use Rattle.machine_scene.proofs.Undoing.{expiry_undone}
 use Rattle.machine_scene.proofs.stage.Stage.expiry_of_row.Goals as goal
 
@@ -33,5 +33,5 @@ returns-clause-threads c =
 
 pub returns-clause-others : goal.returns-clause-others
 returns-clause-others c = λ keeps quiet.
-    others_awake_late c.args.program.now c.args.t c.args.row c.args.self.now c.expire_at.new.self c.expire_at.result keeps
+    others_asleep_late c.args.program.now c.args.t c.args.row c.args.self.now c.expire_at.new.self c.expire_at.result keeps
     (returns-clause-threads c) c.expire_at.ensures.outcome quiet

@@ -3,7 +3,7 @@ use Rattle.instruction_table.specs.declared.row.Row.{Row}
 use Rattle.machine_scene.specs.Scene.{scene_of, thread_at}
 use Rattle.machine_scene.specs.Outcomes.{outcome_in}
 use Rattle.machine_scene.proofs.Outcomes.{sound_outcome}
-use Rattle.machine_scene.proofs.Awake.{others_awake}
+use Rattle.machine_scene.proofs.Asleep.{others_asleep}
 use Rattle.machine_scene.proofs.Undoing.{turn_undone_at}
 use Rattle.machine_scene.proofs.stage.Stage.turn_of_row.Goals as goal
 
@@ -32,5 +32,5 @@ returns-in-Ok-clause-threads c =
 
 pub returns-in-Ok-clause-others : goal.returns-in-Ok-clause-others
 returns-in-Ok-clause-others c = λ keeps quiet.
-    others_awake c.args.program.now c.args.t c.args.row c.args.self.now c.turn_at.new.self c.in-Ok.event keeps (returns-in-Ok-clause-threads c)
+    others_asleep c.args.program.now c.args.t c.args.row c.args.self.now c.turn_at.new.self c.in-Ok.event keeps (returns-in-Ok-clause-threads c)
     c.in-Ok.ensures.ok quiet

@@ -9,7 +9,7 @@ invariant_of-self c =
     one_step_more inside.program inside.most inside.chosen inside.done inside.stage c.expire-event.new.self c.self.invariant
     (subst (λ (w : StoredWorld). w.steps < w.limit) (sym c.self.view_is) c.requires.steps)
     (subst (λ (w : StoredWorld). w.choices < 1000000000000) (sym c.self.view_is) c.requires.choices)
-    (c.expire-event.ensures.sound inside.done) c.expire-event.ensures.awake
+    (c.expire-event.ensures.sound inside.done) c.expire-event.ensures.asleep
 
 pub invariant_of-self-in-Ok : goal.invariant_of-self-in-Ok
 invariant_of-self-in-Ok c =
@@ -17,4 +17,4 @@ invariant_of-self-in-Ok c =
     one_step_more inside.program inside.most inside.chosen inside.done inside.stage c.turn.new.self c.self.invariant
     (subst (λ (w : StoredWorld). w.steps < w.limit) (sym c.self.view_is) c.requires.steps)
     (subst (λ (w : StoredWorld). w.choices < 1000000000000) (sym c.self.view_is) c.requires.choices)
-    (c.in-Ok.ensures.sound inside.done) c.in-Ok.ensures.awake
+    (c.in-Ok.ensures.sound inside.done) c.in-Ok.ensures.asleep

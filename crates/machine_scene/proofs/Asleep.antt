@@ -1,4 +1,4 @@
--- A step wakes no other thread and puts none to sleep, unless its event shows more than a turn of its own thread, or its row
+-- A step wakes no other thread, unless its event shows more than a turn of its own thread, or its row
 -- interrupts that thread.
 use Rattle.std.proofs.Common.{◌≡◌, ◌≢◌, ◌∙◌, ℕ, ℤ, pos, zero, suc, ◌+◌, ◌<◌, ◌==◌, ◌||◌, ◌&&◌, not, Bool, true, false, List, [], ◌∷◌, ap, refl, sym, subst}
 use Rattle.std.specs.Prelude.{nat_abs, int_lt, is_some, length, Option, Some, None, slice_set, slice_index_or}
@@ -21,6 +21,7 @@ use Rattle.cyclic_barrier.specs.declared.answer.Entered.{Entered}
 use Rattle.cyclic_barrier.specs.declared.answer.Entered.TheVariants as entered
 use Rattle.cyclic_barrier.specs.declared.answer.WaitState.{WaitState}
 use Rattle.cyclic_barrier.specs.declared.answer.WaitState.TheVariants as state
+use Rattle.cyclic_barrier.specs.ThreadSet.{has}
 use Rattle.cyclic_barrier.specs.Waits.{wait_at, is_waiting}
 use Rattle.cyclic_barrier.specs.Barrier.{BarrierState, Entry, fresh, number_waiting, add_wait, arrive_last, break, arrive, enter_beside, enter_timed, leave}
 use Rattle.loader.specs.Program.{Program, row_at}
@@ -43,10 +44,11 @@ use Rattle.machine_scene.specs.PhaserRows.{is_own_tree, is_past, has_routine, an
 use Rattle.machine_scene.specs.BarrierRows.{is_run_by, is_run_by_another, unless_busy, unless_runner, outcome_of_entered, outcome_of_await_at, outcome_of_barrier_row}
 use Rattle.machine_scene.specs.Unwinding.{outcome_of_popped}
 use Rattle.machine_scene.specs.Waits.{outcome_of_awaited, outcome_of_phase_wait, outcome_of_release, outcome_of_barrier_wait, outcome_of_phase_timeout, outcome_of_barrier_timeout}
-use Rattle.machine_scene.specs.Outcomes.{outcome_in_group, outcome_in, timeout_in}
-use Rattle.machine_scene.specs.Awake.{is_awake_in, is_awake, AreOthersAwake, KeepsAwake, interrupts, is_loud_at, may_wake}
+use Rattle.machine_scene.specs.Outcomes.{outcome_in_group, outcome_in, is_ready, timeout_in}
+use Rattle.machine_scene.specs.Asleep.{is_asleep_in, is_asleep, AreOthersAsleep, KeepsAsleep, interrupts, is_loud_at, may_wake}
 use Rattle.machine_scene.proofs.Plain.{either}
 use Rattle.machine_scene.proofs.ReadyThreads.{is_awaited, is_released, is_over_at, is_over, phase_wait_ready, barrier_wait_ready}
+use Rattle.machine_scene.proofs.ThreadSets.{nobody}
 use Rattle.machine_scene.proofs.Standings.{Standing, KeepsStandings, registration-standings, arrival-standings}
 
 -- what the wait of thread u may be over by is the same
@@ -88,21 +90,18 @@ over_same (Cawait into b) u scene after alike = over_same_at b u scene after ali
 over_same (Cawaitt into b time) u scene after alike = over_same_at b u scene after alike
 over_same _ u scene after alike = refl
 
-awake_in_same : (of : Status) (row : Row) (u : ℕ) (scene after : Scene) → Alike u scene after
-    → is_awake_in of row u after ≡ is_awake_in of row u scene
-awake_in_same status.Runs row u scene after alike = refl
-awake_in_same (status.Throws code) row u scene after alike = refl
-awake_in_same (status.AwaitsPhase phase) row u scene after alike =
-    phase_wait_ready row phase u after ∙ awaited_same row phase u scene after alike ∙ sym (phase_wait_ready row phase u scene)
-awake_in_same (status.AwaitsBarrier index) row u scene after alike =
-    barrier_wait_ready row index u after ∙ over_same row u scene after alike ∙ sym (barrier_wait_ready row index u scene)
-awake_in_same status.Ended row u scene after alike = refl
-awake_in_same (status.Died code) row u scene after alike = refl
+asleep_in_same : (of : Status) (row : Row) (u : ℕ) (scene after : Scene) → Alike u scene after
+    → is_asleep_in of row u after ≡ is_asleep_in of row u scene
+asleep_in_same (status.AwaitsPhase phase) row u scene after alike =
+    ap not (phase_wait_ready row phase u after ∙ awaited_same row phase u scene after alike ∙ sym (phase_wait_ready row phase u scene))
+asleep_in_same (status.AwaitsBarrier index) row u scene after alike =
+    ap not (barrier_wait_ready row index u after ∙ over_same row u scene after alike ∙ sym (barrier_wait_ready row index u scene))
+asleep_in_same _ row u scene after alike = refl
 
-awake_same : (u : ℕ) (program : Program) (scene after : Scene) → Alike u scene after → is_awake u program after ≡ is_awake u program scene
-awake_same u program scene after alike =
-    ap (λ (thread : ThreadState). is_awake_in thread.status (row_at program.rows thread.pc) u after) alike.thread
-    ∙ awake_in_same (thread_at scene u).status (row_at program.rows (thread_at scene u).pc) u scene after alike
+asleep_same : (u : ℕ) (program : Program) (scene after : Scene) → Alike u scene after → is_asleep u program after ≡ is_asleep u program scene
+asleep_same u program scene after alike =
+    ap (λ (thread : ThreadState). is_asleep_in thread.status (row_at program.rows thread.pc) u after) alike.thread
+    ∙ asleep_in_same (thread_at scene u).status (row_at program.rows (thread_at scene u).pc) u scene after alike
 
 -- a step of thread t at this row that leaves to all others but those it interrupts what their waits may be over by
 record Leaves (t : ℕ) (row : Row) (scene after : Scene) : Type 0 where
@@ -467,43 +466,54 @@ quiet_timeout (status.AwaitsBarrier index) row t scene = quiet_if t row scene (o
 quiet_timeout status.Ended row t scene = tt
 quiet_timeout (status.Died code) row t scene = tt
 
--- the set of before is that of the others still
+-- who was asleep is so still, but perhaps the thread itself and one that it interrupts
 others_by : (program : Program) (t : ℕ) (row : Row) (old new : StoredScene) → Leaves t row (scene_of old) (scene_of new)
-    → length new.threads ≡ length old.threads → KeepsAwake program old → AreOthersAwake program t row old.awake new
-others_by program t row old new leaves many keeps u there apart free =
+    → length new.threads ≡ length old.threads → KeepsAsleep program old → AreOthersAsleep program t row old.asleep new
+others_by program t row old new leaves many keeps u there apart free is =
     let alike : Alike u (scene_of old) (scene_of new) = record {
       thread = leaves.threads u apart free;
       standings = leaves.standings;
       waits = λ b. leaves.waits b u apart;
       runners = leaves.runners;
     } in
-    keeps u (subst (λ (n : ℕ). u < n) many there) ∙ sym (awake_same u program (scene_of old) (scene_of new) alike)
+    asleep_same u program (scene_of old) (scene_of new) alike ∙ keeps u (subst (λ (n : ℕ). u < n) many there) is
 
 -- after a turn that wakes nobody, of a thread that stands at this row
-pub others_awake : (program : Program) (t : ℕ) (row : Row) (old new : StoredScene) (event : Event) → KeepsAwake program old
+pub others_asleep : (program : Program) (t : ℕ) (row : Row) (old new : StoredScene) (event : Event) → KeepsAsleep program old
     → length new.threads ≡ length old.threads
     → outcome_in (thread_at (scene_of old) t).status row t program (scene_of old) ≡ Some (record { scene = scene_of new; event = event })
-    → may_wake row event ≡ false → AreOthersAwake program t row old.awake new
-others_awake program t row old new event keeps many is quiet =
+    → may_wake row event ≡ false → AreOthersAsleep program t row old.asleep new
+others_asleep program t row old new event keeps many is quiet =
     let scene = scene_of old in
     others_by program t row old new
     (subst (QuietIf t row scene) is (quiet_in (thread_at scene t).status row t program scene) quiet) many keeps
 
 -- after the expiry of a wait that wakes nobody
-pub others_awake_late : (program : Program) (t : ℕ) (row : Row) (old new : StoredScene) (event : Event) → KeepsAwake program old
+pub others_asleep_late : (program : Program) (t : ℕ) (row : Row) (old new : StoredScene) (event : Event) → KeepsAsleep program old
     → length new.threads ≡ length old.threads
     → timeout_in (thread_at (scene_of old) t).status row t (scene_of old) ≡ Some (record { scene = scene_of new; event = event })
-    → may_wake row event ≡ false → AreOthersAwake program t row old.awake new
-others_awake_late program t row old new event keeps many is quiet =
+    → may_wake row event ≡ false → AreOthersAsleep program t row old.asleep new
+others_asleep_late program t row old new event keeps many is quiet =
     let scene = scene_of old in
     others_by program t row old new (subst (QuietIf t row scene) is (quiet_timeout (thread_at scene t).status row t scene) quiet) many keeps
 
--- a thread that isn't awake has no turn; one that is has one, but perhaps where it runs
-pub asleep : (of : Status) (row : Row) (t : ℕ) (program : Program) (scene : Scene) → is_awake_in of row t scene ≡ false
+-- a thread that is asleep has no turn
+none_of : (outcome : Option Outcome) → not (is_some outcome) ≡ true → is_some outcome ≡ false
+none_of None is = refl
+none_of (Some outcome) is = absurd (cc is)
+
+no_turn_in : (of : Status) (row : Row) (t : ℕ) (program : Program) (scene : Scene) → is_asleep_in of row t scene ≡ true
     → is_some (outcome_in of row t program scene) ≡ false
-asleep status.Runs row t program scene is = absurd (cc is)
-asleep (status.Throws code) row t program scene is = absurd (cc is)
-asleep (status.AwaitsPhase phase) row t program scene is = is
-asleep (status.AwaitsBarrier index) row t program scene is = is
-asleep status.Ended row t program scene is = refl
-asleep (status.Died code) row t program scene is = refl
+no_turn_in (status.AwaitsPhase phase) row t program scene is = none_of (outcome_of_phase_wait row phase t scene) is
+no_turn_in (status.AwaitsBarrier index) row t program scene is = none_of (outcome_of_barrier_wait row index t scene) is
+no_turn_in _ row t program scene is = absurd (cc is)
+
+pub no_turn : (program : Program) (stored : StoredScene) (t : ℕ) → KeepsAsleep program stored → t < length stored.threads
+    → has stored.asleep t ≡ true → is_ready t program (scene_of stored) ≡ false
+no_turn program stored t keeps there is =
+    let thread = thread_at (scene_of stored) t in
+    no_turn_in thread.status (row_at program.rows thread.pc) t program (scene_of stored) (keeps t there is)
+
+-- the empty set holds nobody who would have to be asleep
+pub nobody_kept : (program : Program) (stored : StoredScene) → stored.asleep ≡ 0 → KeepsAsleep program stored
+nobody_kept program stored is u within member = absurd (let none = nobody u (ap (λ (set : ℕ). has set u) (sym is) ∙ member) in cc none)

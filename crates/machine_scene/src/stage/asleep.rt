@@ -1,10 +1,10 @@
-ghost use Rattle.std.specs.Prelude.{◌≡◌, ◌≢◌, ℕ, ◌<◌, ◌≤◌, length, false, None};
+ghost use Rattle.std.specs.Prelude.{◌≡◌, ◌≢◌, ℕ, ◌<◌, ◌≤◌, ◌&&◌, not, length, true, false, None};
 ghost use Rattle.cyclic_barrier.specs.ThreadSet.{has};
 ghost use Rattle.cyclic_barrier.specs.Waits.{wait_at};
 ghost use Rattle.loader.specs.Program.{IsNamed, row_at};
 ghost use Rattle.machine_scene.specs.Scene.{scene_of, counts_in, thread_at, barrier_at};
 ghost use Rattle.machine_scene.specs.Sound.{IsSound, HasItsWait};
-ghost use Rattle.machine_scene.specs.Awake.{is_awake, AreAwake, AreOthersAwake, IsSetAt, begins, is_loud_at, may_wake, is_local_turn};
+ghost use Rattle.machine_scene.specs.Asleep.{is_asleep, AreAsleep, AreOthersAsleep, IsSetAt, begins, is_loud_at, may_wake, is_local_turn};
 
 use super::Stage;
 use instruction_table::{Row, is_local};
@@ -23,11 +23,11 @@ pub(super) fn is_in(set: u64, thread: usize) -> bool
 /// The set with this thread, or without it.
 #[inline(always)]
 #[tactic(auto, using(crate::proofs::ThreadSets::set_at))]
-fn set_at(set: u64, thread: usize, awake: bool) -> u64
+fn set_at(set: u64, thread: usize, asleep: bool) -> u64
     requires { thread < 64 }
-    ensures { IsSetAt thread awake set result }
+    ensures { IsSetAt thread asleep set result }
 {
-    if awake {
+    if asleep {
         set | (1 << thread)
     } else {
         set & !(1 << thread)
@@ -45,8 +45,7 @@ fn is_loud(event: Event) -> bool
     }
 }
 
-/// Whether a step at this row, with this event, may have woken other threads or put them to sleep, beside one that it
-/// interrupts.
+/// Whether a step at this row, with this event, may have woken other threads, beside one that it interrupts.
 #[inline(always)]
 fn may_wake(row: Row, event: Event) -> bool
     ensures { result ≡ may_wake row event }
@@ -57,10 +56,9 @@ fn may_wake(row: Row, event: Event) -> bool
     }
 }
 
-/// Which threads are awake.
+/// Which threads are asleep.
 impl Stage {
-    /// Whether the thread runs and its row is one on registers alone. Who is awake before such a turn is so after it, and
-    /// nobody else.
+    /// Whether the thread runs and its row is one on registers alone. Who is asleep before such a turn is so after it.
     #[inline(always)]
     pub(super) fn is_local_turn(&self, row: Row, t: usize) -> bool
         requires { t < length self.now.threads }
@@ -86,52 +84,77 @@ impl Stage {
         row
     }
 
-    /// Whether a thread is awake.
+    /// Whether a thread is asleep: it waits, and its wait can't end yet.
     #[inline(always)]
-    fn is_awake(&self, program: &Loaded, t: usize) -> bool
+    fn is_asleep(&self, program: &Loaded, t: usize) -> bool
         requires sound { IsSound program.now 2147483647 (scene_of self.now) }
         requires thread { t < length self.now.threads }
-        ensures { result ≡ is_awake t program.now (scene_of self.now) }
+        ensures { result ≡ is_asleep t program.now (scene_of self.now) }
     {
         match self.players[t].status() {
-            Status::Runs | Status::Throws(_) => true,
             Status::AwaitsPhase(phase) => {
                 let row = self.waiting_row(program, t);
-                self.is_phase_wait_over(program, row, phase, t)
+                !self.is_phase_wait_over(program, row, phase, t)
             }
             Status::AwaitsBarrier(index) => {
                 let row = self.waiting_row(program, t);
-                self.is_barrier_wait_over(program, row, index, t)
+                !self.is_barrier_wait_over(program, row, index, t)
             }
-            Status::Ended | Status::Died(_) => false,
+            _ => false,
         }
     }
 
-    /// The set, with a look at one thread.
+    /// The set, with this thread where it was in the one of before and is asleep still.
     #[inline(always)]
-    fn looked_at(&self, program: &Loaded, set: u64, t: usize) -> u64
+    fn looked_at(&self, program: &Loaded, before: u64, set: u64, t: usize) -> u64
         requires sound { IsSound program.now 2147483647 (scene_of self.now) }
         requires thread { t < length self.now.threads }
-        ensures { IsSetAt t (is_awake t program.now (scene_of self.now)) set result }
+        ensures { IsSetAt t (has before t && is_asleep t program.now (scene_of self.now)) set result }
     {
-        set_at(set, t, self.is_awake(program, t))
+        let sleeps = is_in(before, t) && self.is_asleep(program, t);
+        set_at(set, t, sleeps)
     }
 
-    /// All threads that are awake, by a look at each of them.
-    pub(super) fn all_awake(&self, program: &Loaded) -> u64
+    /// The threads of the set that are asleep still, by a look at each of them.
+    #[inline(never)]
+    #[tactic(auto, using(crate::proofs::ThreadSets::nobody))]
+    fn still_asleep(&self, program: &Loaded, before: u64) -> u64
         requires sound { IsSound program.now 2147483647 (scene_of self.now) }
-        ensures { AreAwake program.now result self.now }
+        ensures { AreAsleep program.now result self.now }
     {
+        if before == 0 {
+            return 0;
+        }
         let mut set = 0;
         for t in 0..self.players.len() {
-            set = self.looked_at(program, set, t);
+            set = self.looked_at(program, before, set, t);
         }
         set
     }
 
-    /// The threads that are awake after a step of thread t at this row, with this event; these were before it.
+    /// The threads but thread t that are asleep still after a step of it at this row, with this event; these were so before.
     #[inline(always)]
-    pub(super) fn awake_after(
+    fn others_asleep(&self, program: &Loaded, before: u64, row: Row, event: Event, t: usize) -> u64
+        requires sound { IsSound program.now 2147483647 (scene_of self.now) }
+        requires thread { t < length self.now.threads }
+        requires named { IsNamed (counts_in program.now self.now) row }
+        requires others { may_wake row event ≡ false
+            → AreOthersAsleep program.now t row before self.now }
+        ensures { (u : ℕ) → u < length self.now.threads → u ≢ t → has result u ≡ true
+            → is_asleep u program.now (scene_of self.now) ≡ true }
+    {
+        if may_wake(row, event) {
+            return self.still_asleep(program, before);
+        }
+        match row {
+            Row::Intr { thread } => set_at(before, thread as usize, false),
+            _ => before,
+        }
+    }
+
+    /// Threads that are asleep after a step of thread t at this row, with this event; these were so before it.
+    #[inline(always)]
+    pub(super) fn asleep_after(
         &self,
         program: &Loaded,
         before: u64,
@@ -143,16 +166,10 @@ impl Stage {
         requires thread { t < length self.now.threads }
         requires named { IsNamed (counts_in program.now self.now) row }
         requires others { may_wake row event ≡ false
-            → AreOthersAwake program.now t row before self.now }
-        ensures { AreAwake program.now result self.now }
+            → AreOthersAsleep program.now t row before self.now }
+        ensures { AreAsleep program.now result self.now }
     {
-        if may_wake(row, event) {
-            return self.all_awake(program);
-        }
-        let own = self.looked_at(program, before, t);
-        match row {
-            Row::Intr { thread } => self.looked_at(program, own, thread as usize),
-            _ => own,
-        }
+        let others = self.others_asleep(program, before, row, event, t);
+        set_at(others, t, self.is_asleep(program, t))
     }
 }

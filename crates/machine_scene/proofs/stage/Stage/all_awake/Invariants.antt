@@ -1,9 +1,0 @@
-use Rattle.std.proofs.Common.{◌≡◌, ℕ, ◌<◌}
-use Rattle.cyclic_barrier.specs.ThreadSet.{has}
-use Rattle.machine_scene.specs.Scene.{scene_of}
-use Rattle.machine_scene.specs.Awake.{is_awake}
-use Rattle.machine_scene.proofs.stage.Stage.all_awake.Given as goal
-
--- the threads so far were looked at
-abbrev pub invariant-loop-t : goal.invariant-loop-t
-invariant-loop-t l = (u : ℕ) → u < l.t → has l.set u ≡ is_awake u l.program (scene_of l.self)
