@@ -20,9 +20,8 @@ use Rattle.thread_machine.specs.Step.{Played, played, played_by, refusal_of}
 use Rattle.thread_machine.specs.Execution.{Execution, execution, execution_by}
 use Rattle.trace_compare.specs.declared.compare.Verdict.{Verdict}
 use Rattle.trace_compare.specs.declared.compare.Verdict.TheVariants as verdict
-use Rattle.trace_compare.specs.Compare.{HasCompared, choice_in, choice_verdict, is_state_line, is_too_long, lines_verdict, state_verdict, verdict_of}
+use Rattle.trace_compare.specs.Compare.{IsFoundTheSame, choice_in, choice_verdict, is_state_line, is_too_long, lines_verdict, state_verdict, verdict_of}
 use Rattle.trace_compare.specs.Lines.{event_text}
-use Rattle.trace_compare.specs.RunText.{IsTraceOf}
 use Rattle.trace_compare.specs.Start.{Begins}
 use Rattle.trace_compare.specs.State.{state_text}
 use Rattle.trace_compare.specs.Trace.{lines_by, lines_of}
@@ -171,11 +170,11 @@ one-verdict image one other trace (p, (declares, first)) (q, (declares', first')
     ∙ sym (lines-same q.phasers lines true (first_world p 1000000000) 1)
     ∙ ap (λ world. lines_verdict true world 1 lines) (sym (first' ∙ same-world image p q declares declares'))
 
--- a comparison with its program finds a trace the same
-pub found-same : (image : Image) (schedule trace left : List ℕ) (v : Verdict) → IsTraceOf image schedule trace
-    → HasCompared image (Some trace) (Some left) v → v ≡ verdict.Same
-found-same image schedule trace left v (one, (runs, (begins, is, trace_is, same))) (other, (bytes, (begins', consumed, inl (end, found)))) =
+-- a comparison with its program finds a trace the same, if its verdict is that where the program begins
+pub found-same : (image : Image) (one : World) (trace : List ℕ) → Begins image one → verdict_of one trace ≡ verdict.Same
+    → IsFoundTheSame image trace
+found-same image one trace begins same left v (other, (bytes, (begins', consumed, inl (end, found)))) =
     let all : bytes ≡ trace = sym (append-nil bytes) ∙ ap (λ rest. bytes ++ rest) (sym end) ∙ sym consumed in
     sym found ∙ ap (verdict_of other) all ∙ one-verdict image other one trace begins' begins ∙ same
-found-same image schedule trace left v (one, (runs, (begins, is, trace_is, same))) (other, (bytes, (begins', consumed, inr later))) =
+found-same image one trace begins same left v (other, (bytes, (begins', consumed, inr later))) =
     sym (later left) ∙ ap (verdict_of other) (sym consumed) ∙ one-verdict image other one trace begins' begins ∙ same

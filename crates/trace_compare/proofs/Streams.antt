@@ -13,9 +13,10 @@ use Rattle.thread_machine.specs.Execution.{execution}
 use Rattle.trace_compare.specs.declared.compare.Verdict.TheVariants.{Same}
 use Rattle.trace_compare.specs.Compare.{HasNoLongLine, verdict_of}
 use Rattle.trace_compare.proofs.NamedThreads.{named-threads}
+use Rattle.trace_compare.proofs.OneVerdict.{found-same}
 use Rattle.trace_compare.proofs.OwnTrace.{own-trace}
 use Rattle.trace_compare.specs.Playing.{HasPlayed, HasPlayedAll, HasPlayedInPart, HasTraced}
-use Rattle.trace_compare.specs.RunText.{HasRun, HasRunInPart}
+use Rattle.trace_compare.specs.RunText.{HasRun, HasRunInPart, HasWrittenTheSame}
 use Rattle.trace_compare.specs.Start.{Begins}
 use Rattle.row_code.specs.declared.image.Image.{Image}
 use Rattle.trace_compare.specs.State.{state_text}
@@ -71,12 +72,12 @@ traced-all (Ok x) first last schedule_before schedule_after old between new
     (bytes, (runs, (consumed, end, is, lines, traced first last (choices_of runs) text text old between new played refl refl appends)))
 traced-all (Err e) first last schedule_before schedule_after old between new played appends short = appends
 
--- a trace is the same as the run of the program that it is of
-begun-same : (image : Image) (world : World) (bytes : List ℕ) (runs : List Run) → Begins image world
+-- the verdict on a trace, beside the program that it is of
+begun-verdict : (image : Image) (world : World) (bytes : List ℕ) (runs : List Run) → Begins image world
     → finished_schedule bytes ≡ record { runs = runs; fault = None }
     → HasNoLongLine (state_text (execution world (choices_of runs)).world)
     → verdict_of world (trace_of world (choices_of runs)) ≡ Same
-begun-same image world bytes runs (program, (declares, first)) is short =
+begun-verdict image world bytes runs (program, (declares, first)) is short =
     own-trace (choices_of runs) world 1 (omega (arith, ap (λ (w : World). w.choices) first)) (named-threads bytes runs None is) short
 
 -- the same of an image whose program begins in that world
@@ -86,9 +87,19 @@ pub begun : {E : Type 0} (result : Result (Unit {0}) E) (image : Image) (world :
     → OnOk result (HasRun image schedule_before schedule_after old new)
 begun (Ok x) image world schedule_before schedule_after old new begins p =
     let (bytes, (runs, (consumed, end, is, short, appends))) = p in
-    let same = begun-same image world bytes runs begins is short in
-    (bytes, (trace_of world (choices_of runs), (consumed, end, (world, (runs, (begins, is, refl, same))), appends)))
+    (bytes, (trace_of world (choices_of runs), (consumed, end, (world, (runs, (begins, is, refl))), appends)))
 begun (Err e) image world schedule_before schedule_after old new begins p = p
+
+-- and a comparison finds what was written the same
+pub begun-same : {E : Type 0} (result : Result (Unit {0}) E) (image : Image) (world : World)
+    (schedule_before schedule_after old new : Option (List ℕ)) → Begins image world
+    → OnOk result (HasTraced world schedule_before schedule_after old new)
+    → OnOk result (HasWrittenTheSame image old new)
+begun-same (Ok x) image world schedule_before schedule_after old new begins p =
+    let (bytes, (runs, (consumed, end, is, short, appends))) = p in
+    let trace = trace_of world (choices_of runs) in
+    (trace, (appends, found-same image world trace begins (begun-verdict image world bytes runs begins is short)))
+begun-same (Err e) image world schedule_before schedule_after old new begins p = p
 
 pub begun_part : (image : Image) (world : World) (schedule_before schedule_after old new : Option (List ℕ)) → Begins image world
     → (new ≡ old) ⊎ HasPlayedInPart world schedule_before schedule_after old new

@@ -126,3 +126,7 @@ abbrev pub HasCompared : Image → Option (List ℕ) → Option (List ℕ) → V
 HasCompared image before after v =
     (world : World) × ((bytes : List ℕ)
     × (Begins image world × Consumes before after bytes × HasVerdict world bytes after v))
+
+-- whatever a comparison with this program answers on a trace, it is `Same`
+abbrev pub IsFoundTheSame : Image → List ℕ → Type 0
+IsFoundTheSame image trace = (left : List ℕ) (v : Verdict) → HasCompared image (Some trace) (Some left) v → v ≡ verdict.Same

@@ -6,18 +6,16 @@ use Rattle.schedule_reader.specs.declared.fault.ScheduleFault.{ScheduleFault}
 use Rattle.schedule_reader.specs.declared.run.Run.{Run}
 use Rattle.schedule_reader.specs.Schedule.{Schedule, open_schedule, finished_schedule, choices_of}
 use Rattle.thread_machine.specs.World.{World}
-use Rattle.trace_compare.specs.declared.compare.Verdict.TheVariants.{Same}
-use Rattle.trace_compare.specs.Compare.{verdict_of}
+use Rattle.trace_compare.specs.Compare.{IsFoundTheSame}
 use Rattle.trace_compare.specs.Start.{Begins}
 use Rattle.trace_compare.specs.Trace.{AppendsPartOf, lines_of, trace_of}
 
--- the trace of an image's program, played from its beginning under this schedule; compared with that program's run, it is
--- the same
+-- the trace of an image's program, played from its beginning under this schedule
 abbrev pub IsTraceOf : Image → List ℕ → List ℕ → Type 0
 IsTraceOf image schedule trace =
     (world : World) × ((runs : List Run)
     × (Begins image world × (finished_schedule schedule ≡ record { runs = runs; fault = None })
-    × (trace ≡ trace_of world (choices_of runs)) × (verdict_of world trace ≡ Same)))
+    × (trace ≡ trace_of world (choices_of runs))))
 
 -- the schedule was read to its end, and the trace was written
 abbrev pub HasRun : Image → Option (List ℕ) → Option (List ℕ) → Option (List ℕ) → Option (List ℕ) → Type 0
@@ -25,6 +23,11 @@ HasRun image schedule_before schedule_after output_before output_after =
     (schedule : List ℕ) × ((trace : List ℕ)
     × (Consumes schedule_before schedule_after schedule × IsAtEnd schedule_after × IsTraceOf image schedule trace
     × Appends output_before output_after trace))
+
+-- a trace was written, and a comparison with this program finds it the same
+abbrev pub HasWrittenTheSame : Image → Option (List ℕ) → Option (List ℕ) → Type 0
+HasWrittenTheSame image output_before output_after =
+    (trace : List ℕ) × (Appends output_before output_after trace × IsFoundTheSame image trace)
 
 -- runs, and the fault after them
 abbrev pub faulty_after : List Run → ScheduleFault → Schedule

@@ -1,4 +1,4 @@
-ghost use Rattle.std.specs.Prelude.{◌≡◌, ◌↔◌, ◌+◌, ◌<◌, ◌^◌, true};
+ghost use Rattle.std.specs.Prelude.{◌≡◌, ◌+◌, ◌<◌, ◌^◌, true};
 ghost use Rattle.thread_machine.specs.Idle.{idle_event};
 ghost use Rattle.trace_compare.specs.Playing.{text_of};
 

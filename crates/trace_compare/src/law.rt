@@ -1,13 +1,10 @@
-ghost use Rattle.std.specs.Prelude.{◌≡◌, ◌≤◌, All, List, ℕ, Some};
-ghost use Rattle.row_code.specs.declared.image.Image.{Image};
+ghost use Rattle.std.specs.Prelude.{◌≡◌, ◌≤◌, All, List, ℕ};
 ghost use Rattle.thread_machine.specs.declared.choice.Choice.{Choice};
 ghost use Rattle.thread_machine.specs.Execution.{execution};
 ghost use Rattle.thread_machine.specs.World.{World};
-ghost use Rattle.trace_compare.specs.Compare.{HasCompared, HasNoLongLine, choices_of_trace, verdict_of};
-ghost use Rattle.trace_compare.specs.RunText.{IsTraceOf};
+ghost use Rattle.trace_compare.specs.Compare.{HasNoLongLine, choices_of_trace, verdict_of};
 ghost use Rattle.trace_compare.specs.State.{state_text};
 ghost use Rattle.trace_compare.specs.Trace.{trace_of};
-ghost use Rattle.trace_compare.specs.declared.compare.Verdict.{Verdict};
 ghost use Rattle.trace_compare.specs.declared.compare.Verdict.TheVariants.{Same};
 
 /// A trace whose verdict is `Same` is, byte for byte, the trace of the choices that its lines name.
@@ -24,10 +21,4 @@ pub fn the_trace_of_any_choices_is_the_same()
     ensures { (world : World) (choices : List Choice) → world.choices ≤ 1000000000000
         → All (λ choice. choice.thread ≤ 63) choices → HasNoLongLine (state_text (execution world choices).world)
         → verdict_of world (trace_of world choices) ≡ Same }
-{}
-
-/// What `compare` answers on a trace of the image's program, as `run_text` writes it, is `Same`.
-pub fn a_trace_is_found_the_same()
-    ensures { (image : Image) (schedule : List ℕ) (trace : List ℕ) (left : List ℕ) (v : Verdict)
-        → IsTraceOf image schedule trace → HasCompared image (Some trace) (Some left) v → v ≡ Same }
 {}

@@ -22,7 +22,4 @@ pub mod start;
 pub mod state;
 mod trace_line;
 
-pub use law::{
-    a_trace_is_found_the_same, the_trace_of_any_choices_is_the_same,
-    what_is_the_same_is_the_trace_of_its_choices,
-};
+pub use law::{the_trace_of_any_choices_is_the_same, what_is_the_same_is_the_trace_of_its_choices};

@@ -1,15 +1,13 @@
 ghost use Rattle.std.specs.Prelude.{◌≡◌, ◌≢◌, ◌⊎◌, ◌+◌, ◌<◌, ◌++◌, [], List, ℕ, Option, Some, None, Err, IsTrue, IfErr, IfOk, false, OnOk, length};
 ghost use Rattle.std.specs.Io.KnownBytes.{Appends};
-ghost use Rattle.schedule_reader.specs.Places.{HasRead};
-ghost use Rattle.schedule_reader.specs.Reading.{Adds, answer_of};
 ghost use Rattle.schedule_reader.specs.Schedule.{choices_of, finished_schedule, open_schedule};
 ghost use Rattle.thread_machine.specs.World.{World, world_of};
 ghost use Rattle.trace_compare.specs.Compare.{HasNoLongLine};
 ghost use Rattle.trace_compare.specs.Playing.{HasPlayed, HasPlayedAll, HasPlayedInPart, HasPlayedSoFar, HasPlayedToFault, HasTraced, IsUpTo, PlaysOn, WritesOn, WritesPartOn};
-ghost use Rattle.trace_compare.specs.RunText.{GivesOnAndOn, HasRun, HasRunInPart, HasRunSoFar, HasRunToFault, faulty_after};
+ghost use Rattle.trace_compare.specs.RunText.{GivesOnAndOn, HasRun, HasRunInPart, HasRunSoFar, HasRunToFault, HasWrittenTheSame, faulty_after};
 ghost use Rattle.trace_compare.specs.Start.{IsRefused, is_want_of_memory};
 ghost use Rattle.trace_compare.specs.State.{state_text};
-ghost use Rattle.trace_compare.specs.Trace.{AppendsPartOf, Plays, lines_of};
+ghost use Rattle.trace_compare.specs.Trace.{AppendsPartOf, lines_of};
 ghost use Rattle.loader.specs.declared.load_fault.LoadFault.{LoadFault};
 
 use crate::kept_line::KeptLine;
@@ -305,6 +303,7 @@ pub fn run_text<S: Source, W: Sink>(
 ) -> Result<(), RunFault>
     ensures done { OnOk result (HasRun image (S.left schedule.old) (S.left schedule.new)
         (W.written output.old) (W.written output.new)) }
+    ensures same { OnOk result (HasWrittenTheSame image (W.written output.old) (W.written output.new)) }
     ensures load { (fault : LoadFault) → result ≡ Err (RunFault.Load fault) → IsRefused fault image
         × (S.left schedule.new ≡ S.left schedule.old) × (W.written output.new ≡ W.written output.old) }
     ensures refused { (fault : LoadFault) → IsRefused fault image

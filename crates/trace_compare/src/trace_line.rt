@@ -1,8 +1,7 @@
 // What a line of a trace names.
-ghost use Rattle.std.specs.Prelude.{◌≡◌, ◌<◌, ◌≤◌, true, ◌++◌, ◌∷◌, [], List, ℕ, IfOk, IfSome, codes, length};
+ghost use Rattle.std.specs.Prelude.{◌≡◌, ◌<◌, true, []};
 ghost use Rattle.std.specs.Char.{is_ascii_digit};
 ghost use Rattle.std.specs.List.{before_first, after_first, list_all};
-ghost use Rattle.std.specs.Str.{bytes_eq};
 ghost use Rattle.trace_compare.specs.Compare.{choice_by, choice_in, choice_named, choice_of_digits, is_space, is_state_line, is_step};
 
 use line_reader::words::length_before;

@@ -1,5 +1,5 @@
 -- What becomes of a run that was recorded.
-use Rattle.std.proofs.Common.{◌≡◌, ◌∙◌, ◌⊎◌, ◌≤◌, inl, inr, ℕ, List, [], length, Ok, Err, Result, Option, Some, None, ap, sym, refl, subst, length-append, arith}
+use Rattle.std.proofs.Common.{◌≡◌, ◌∙◌, ◌++◌, ◌⊎◌, ◌≤◌, append-nil, inl, inr, ℕ, List, length, Ok, Err, Result, Option, Some, None, ap, sym, refl, subst, length-append, arith}
 use Rattle.std.specs.Prelude.{OnOk, IfErr}
 use Rattle.std.specs.Io.KnownBytes.{Appends}
 use Rattle.row_code.specs.declared.image.Image.{Image}
@@ -11,7 +11,7 @@ use Rattle.assembler.proofs.ReadLines.{one_image}
 use Rattle.schedule_reader.specs.declared.fault.ScheduleFault.{ScheduleFault}
 use Rattle.schedule_reader.specs.declared.fault.ScheduleFault.TheVariants as schedule
 use Rattle.schedule_reader.specs.Schedule.{Schedule, finished_schedule, open_schedule, choices_of}
-use Rattle.trace_compare.specs.RunText.{GivesOnAndOn, HasRunSoFar, HasRunToFault, IsTraceOf}
+use Rattle.trace_compare.specs.RunText.{GivesOnAndOn, HasRun, HasRunSoFar, HasRunToFault, IsTraceOf}
 use Rattle.trace_compare.specs.Trace.{lines_of}
 use Rattle.trace_compare.proofs.Plays.{Part-whole}
 use Rattle.workbench.specs.declared.fault.Fault.{Fault}
@@ -95,6 +95,17 @@ part_of (Err f) image given schedule after output_before output_after A is memor
 pub as_many : (schedule after : List ℕ) → GivesOnAndOn (Some schedule) (Some after) → 1000000000 ≤ length schedule
 as_many schedule after (bytes, (consumed, many)) =
     omega (arith, many, ap length consumed, length-append bytes after)
+
+-- the trace of a known schedule
+pub traced_of : (result : Result (Unit {0}) Fault) (image : Image) (given schedule after : List ℕ)
+    (output_before output_after : Option (List ℕ)) → given ≡ schedule
+    → OnOk result (HasRun image (Some given) (Some after) output_before output_after)
+    → OnOk result ((trace : List ℕ) × (IsTraceOf image schedule trace × Appends output_before output_after trace))
+traced_of (Ok x) image given schedule after output_before output_after is (bytes, (trace, (consumed, end, traced, appended))) =
+    let whole : bytes ≡ schedule =
+    sym (append-nil bytes) ∙ ap (λ rest. bytes ++ rest) (sym end) ∙ sym consumed ∙ is in
+    (trace, (subst (λ s. IsTraceOf image s trace) whole traced, appended))
+traced_of (Err e) image given schedule after output_before output_after is run = run
 
 -- what became of a recorded run whose image was read again
 pub lived : (result : Result (Unit {0}) Fault) (limit : ℕ) (file schedule : List ℕ) (a b : Image)

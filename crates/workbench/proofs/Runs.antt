@@ -1,5 +1,5 @@
 -- What becomes of a program under a schedule that is known as a whole.
-use Rattle.std.proofs.Common.{◌≡◌, ◌≢◌, ◌∙◌, ◌++◌, ◌⊎◌, ℕ, inl, inr, List, [], Ok, Err, Result, Option, Some, ap, sym, refl, subst, append-nil, arith}
+use Rattle.std.proofs.Common.{◌≡◌, ◌≢◌, ◌∙◌, ◌++◌, ◌⊎◌, ℕ, inl, inr, List, Ok, Err, Result, Option, Some, ap, sym, refl, subst, append-nil, arith}
 use Rattle.std.specs.Prelude.{OnOk, IfErr}
 use Rattle.std.specs.Io.KnownBytes.{Appends}
 use Rattle.line_reader.specs.declared.asm_fault.AsmFault.{AsmFault}
@@ -9,7 +9,7 @@ use Rattle.assembler.specs.Meaning.{StandsFor}
 use Rattle.loader.specs.declared.load_fault.LoadFault.{LoadFault}
 use Rattle.schedule_reader.specs.declared.fault.ScheduleFault.{ScheduleFault}
 use Rattle.schedule_reader.specs.declared.run.Run.{Run}
-use Rattle.schedule_reader.specs.Schedule.{Schedule, finished_schedule, choices_of}
+use Rattle.schedule_reader.specs.Schedule.{finished_schedule, choices_of}
 use Rattle.trace_compare.specs.RunText.{HasFault, HasRun, HasRunToFault, faulty_after}
 use Rattle.trace_compare.specs.RunText as run
 use Rattle.trace_compare.specs.Start.{IsRefused}

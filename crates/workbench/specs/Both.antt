@@ -32,6 +32,13 @@ HasTraced input_before input_after output_before output_after =
     × (GivesAll input_before input_after text × IsTraceOf text trace
     × Appends output_before output_after trace))
 
+-- the input was read to its end, and a comparison with its program finds what was written the same
+abbrev pub HasTracedTheSame : Option (List ℕ) → Option (List ℕ) → Option (List ℕ) → Option (List ℕ) → Type 0
+HasTracedTheSame input_before input_after output_before output_after =
+    (text : List ℕ) × ((image : Image)
+    × (GivesAll input_before input_after text × StandsFor (program_part text) image
+    × run.HasWrittenTheSame image output_before output_after))
+
 -- a text that stands for a program that isn't loaded for this reason
 abbrev pub StandsForUnloaded : List ℕ → LoadFault → Type 0
 StandsForUnloaded program f = (image : Image) × (StandsFor program image × IsRefused f image)

@@ -1,10 +1,13 @@
 ghost use Rattle.std.specs.Prelude.{◌≡◌, ◌≢◌, ◌⊎◌, ◌≤◌, length, List, ℕ, IsTrue, OnOk, IfErr};
 ghost use Rattle.std.specs.Io.KnownBytes.{Appends};
 ghost use Rattle.workbench.specs.declared.fault.Fault.{Fault};
-ghost use Rattle.workbench.specs.Both.{AreLinesOf, AreRefusedFor, HasRefused, HasTraced, HasTracedAtMost, IsTraceOf};
+ghost use Rattle.workbench.specs.Both.{AreLinesOf, AreRefusedFor, HasRefused, HasTraced, HasTracedAtMost, HasTracedTheSame, IsTraceOf};
 ghost use Rattle.workbench.specs.Fault.{HasTold, status_of};
 ghost use Rattle.workbench.specs.Input.{GivesTooMuch, most_bytes};
 ghost use Rattle.workbench.specs.RunLine.{program_part, schedule_part};
+ghost use Rattle.assembler.specs.Meaning.{StandsFor};
+ghost use Rattle.row_code.specs.declared.image.Image.{Image};
+ghost use Rattle.trace_compare.specs.RunText.{HasWrittenTheSame};
 ghost use Rattle.trace_compare.specs.Trace.{AppendsPartOf};
 
 use crate::fault::{DONE, Fault};
@@ -29,6 +32,8 @@ pub fn both_cmd<S: Source, K: Sink, E: Sink>(
 ) -> u8
     ensures statuses { (result ≡ 0) ⊎ ((result ≡ 3) ⊎ ((result ≡ 4) ⊎ (result ≡ 5))) }
     ensures done { result ≡ 0 → HasTraced (S.left input.old) (S.left input.new)
+        (K.written output.old) (K.written output.new) }
+    ensures same { result ≡ 0 → HasTracedTheSame (S.left input.old) (S.left input.new)
         (K.written output.old) (K.written output.new) }
     ensures told { ((result ≡ 0) × (E.written errors.new ≡ E.written errors.old))
         ⊎ ((fault : Fault) × ((result ≡ status_of fault)
@@ -55,6 +60,8 @@ pub fn both_cmd<S: Source, K: Sink, E: Sink>(
 fn both<S: Source, K: Sink>(alloc: Global, input: &mut S, output: &mut K) -> Result<(), Fault>
     ensures done { OnOk result (HasTraced (S.left input.old) (S.left input.new)
         (K.written output.old) (K.written output.new)) }
+    ensures same { OnOk result (HasTracedTheSame (S.left input.old) (S.left input.new)
+        (K.written output.old) (K.written output.new)) }
     ensures refused { IfErr result (λ fault. status_of fault ≡ 3
         → HasRefused fault (S.left input.old) (S.left input.new)
         (K.written output.old) (K.written output.new)) }
@@ -75,6 +82,8 @@ fn trace_text<K: Sink>(alloc: Global, text: &[u8], output: &mut K) -> Result<(),
     requires { length text.now ≤ most_bytes }
     ensures done { OnOk result ((trace : List ℕ) × (IsTraceOf text.now trace
         × Appends (K.written output.old) (K.written output.new) trace)) }
+    ensures same { OnOk result ((image : Image) × (StandsFor (program_part text.now) image
+        × HasWrittenTheSame image (K.written output.old) (K.written output.new))) }
     ensures refused { IfErr result (λ fault. status_of fault ≡ 3
         → AreRefusedFor fault (program_part text.now) (schedule_part text.now)
         (K.written output.old) (K.written output.new)) }

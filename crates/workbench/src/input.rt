@@ -1,4 +1,4 @@
-ghost use Rattle.std.specs.Prelude.{◌≡◌, ◌≢◌, ◌⊎◌, ◌≤◌, IsTrue, IfOk, IfErr, length};
+ghost use Rattle.std.specs.Prelude.{◌≡◌, ◌⊎◌, ◌≤◌, ◌<◌, ◌++◌, Err, IsTrue, IfOk, IfErr, OnOk, length};
 ghost use Rattle.std.specs.Io.KnownBytes.{ReadConsumes, Consumes, IsAtEnd};
 ghost use Rattle.workbench.specs.Input.{GivesTooMuch, most_bytes};
 
@@ -24,6 +24,20 @@ pub fn pull<S: Source>(source: &mut S, piece: &mut [u8]) -> Result<usize, Fault>
     }
 }
 
+/// Appends a piece to what was read, `Read` where that is more than 16,777,216 bytes.
+fn append(bytes: &mut Vec<u8>, piece: &[u8]) -> Result<(), Fault>
+    requires { length bytes.old.items ≤ most_bytes }
+    ensures appended { OnOk result (bytes.new.items ≡ bytes.old.items ++ piece.now) }
+    ensures few { OnOk result (length bytes.new.items ≤ most_bytes) }
+    ensures read { result ≡ Err Fault.Read → most_bytes < length (bytes.old.items ++ piece.now) }
+    ensures fault { IfErr result (λ fault. (fault ≡ Fault.Memory) ⊎ (fault ≡ Fault.Read)) }
+{
+    if piece.len() > MOST_BYTES - bytes.len() {
+        return Err(Fault::Read);
+    }
+    bytes.extend_from_slice(piece).map_err(|_| Fault::Memory)
+}
+
 /// All that a source has left, `Read` where it fails or has more than 16,777,216 bytes.
 pub fn read_all<S: Source>(alloc: Global, source: &mut S) -> Result<Vec<u8>, Fault>
     ensures bytes { IfOk result (λ bytes. Consumes (S.left source.old) (S.left source.new) bytes.items) }
@@ -40,12 +54,7 @@ pub fn read_all<S: Source>(alloc: Global, source: &mut S) -> Result<Vec<u8>, Fau
         if count == 0 {
             return Ok(bytes);
         }
-        if count > MOST_BYTES - bytes.len() {
-            return Err(Fault::Read);
-        }
-        bytes
-            .extend_from_slice(&piece[..count])
-            .map_err(|_| Fault::Memory)?;
+        append(&mut bytes, &piece[..count])?;
     }
     unreachable!()
 }

@@ -1,4 +1,4 @@
-ghost use Rattle.std.specs.Prelude.{◌≡◌, ◌≢◌, ◌⊎◌, ◌∷◌, ◌++◌, [], true, false, ℕ, All, List, Some, None, Ok, Err, IsTrue, IfErr};
+ghost use Rattle.std.specs.Prelude.{◌≡◌, ◌⊎◌, ◌∷◌, ◌++◌, [], true, false, ℕ, All, List, Some, None, Ok, Err, IsTrue, IfErr};
 ghost use Rattle.std.specs.Io.KnownBytes.{Consumes, IsAtEnd};
 ghost use Rattle.trace_compare.specs.RunText.{GivesOnAndOn};
 ghost use Rattle.workbench.specs.Debug.{HasNoEnd};

@@ -3,17 +3,19 @@ ghost use Rattle.std.specs.Io.KnownBytes.{Appends};
 ghost use Rattle.std.specs.String.{string_bytes};
 ghost use Rattle.line_reader.specs.declared.asm_fault.AsmFault.{AsmFault};
 ghost use Rattle.row_code.specs.declared.image_fault.ImageFault.{ImageFault};
+ghost use Rattle.row_code.specs.declared.image.Image.{Image};
 ghost use Rattle.loader.specs.declared.load_fault.LoadFault.{LoadFault};
 ghost use Rattle.schedule_reader.specs.declared.fault.ScheduleFault.{ScheduleFault};
 ghost use Rattle.schedule_reader.specs.Schedule.{finished_schedule};
-ghost use Rattle.trace_compare.specs.RunText.{IsTraceOf};
+ghost use Rattle.trace_compare.specs.RunText.{HasWrittenTheSame, IsTraceOf};
 ghost use Rattle.trace_compare.specs.Start.{IsRefused};
 ghost use Rattle.workbench.specs.declared.fault.Fault.{Fault};
 ghost use Rattle.workbench.specs.Fault.{HasTold, status_of};
 ghost use Rattle.workbench.specs.Input.{GivesTooMuch};
 ghost use Rattle.workbench.specs.Live.{HasLived, HasLivedAtMost, HasLivedLong, IsLived, IsLivedAtMost, IsLivedLong, IsRecorded, IsRefusedFor};
 ghost use Rattle.workbench.specs.Play.{HasRunAtMost};
-ghost use Rattle.workbench.specs.Run.{HasNoRun};
+ghost use Rattle.workbench.specs.ProgramFile.{IsProgramFile};
+ghost use Rattle.workbench.specs.Run.{HasNoRun, HasRunTheSame};
 
 use crate::fault::{DONE, Fault};
 use crate::input::read_all;
@@ -44,6 +46,8 @@ pub fn live_cmd<R: Threads + Wait + Sync, F: Source, K: Sink, E: Sink>(
     requires { limit ≤ 1000000000 }
     ensures statuses { (result ≡ 0) ⊎ ((result ≡ 3) ⊎ ((result ≡ 4) ⊎ (result ≡ 5))) }
     ensures done { result ≡ 0 → HasLived limit (F.left file.old) (F.left file.new)
+        (K.written output.old) (K.written output.new) }
+    ensures same { result ≡ 0 → HasRunTheSame (F.left file.old) (F.left file.new)
         (K.written output.old) (K.written output.new) }
     ensures told { ((result ≡ 0) × (E.written errors.new ≡ E.written errors.old))
         ⊎ ((fault : Fault) × ((result ≡ status_of fault)
@@ -79,6 +83,8 @@ fn live<R: Threads + Wait + Sync, F: Source, K: Sink>(
     requires { limit ≤ 1000000000 }
     ensures done { OnOk result (HasLived limit (F.left file.old) (F.left file.new)
         (K.written output.old) (K.written output.new)) }
+    ensures same { OnOk result (HasRunTheSame (F.left file.old) (F.left file.new)
+        (K.written output.old) (K.written output.new)) }
     ensures refused { IfErr result (λ fault. status_of fault ≡ 3
         → HasNoRun fault (F.left file.old) (F.left file.new) (K.written output.old) (K.written output.new)) }
     ensures part { IfErr result (λ fault. (status_of fault ≡ 4) ⊎ (fault ≡ Fault.Read)
@@ -105,6 +111,8 @@ fn play_live<R: Threads + Wait + Sync, K: Sink>(
 ) -> Result<(), Fault>
     requires { limit ≤ 1000000000 }
     ensures done { OnOk result (IsLived limit file.now (K.written output.old) (K.written output.new)) }
+    ensures same { OnOk result ((image : Image) × (IsProgramFile file.now image
+        × HasWrittenTheSame image (K.written output.old) (K.written output.new))) }
     ensures refused { IfErr result (λ fault. status_of fault ≡ 3
         → IsRefusedFor fault file.now × (K.written output.new ≡ K.written output.old)) }
     ensures part { IfErr result (λ fault. (status_of fault ≡ 4) ⊎ (fault ≡ Fault.Read)
@@ -136,6 +144,7 @@ fn push_trace<K: Sink>(
     requires { (finished_schedule schedule.now).fault ≡ None }
     ensures done { OnOk result ((trace : List ℕ) × (IsTraceOf image schedule.now trace
         × Appends (K.written output.old) (K.written output.new) trace)) }
+    ensures same { OnOk result (HasWrittenTheSame image (K.written output.old) (K.written output.new)) }
     ensures load { (fault : LoadFault) → result ≡ Err (Fault.Load fault)
         → IsRefused fault image × (K.written output.new ≡ K.written output.old) }
     ensures part { IfErr result (λ fault. (status_of fault ≡ 4) ⊎ (fault ≡ Fault.Read)

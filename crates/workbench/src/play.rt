@@ -3,7 +3,7 @@ ghost use Rattle.line_reader.specs.declared.asm_fault.AsmFault.{AsmFault};
 ghost use Rattle.row_code.specs.declared.image_fault.ImageFault.{ImageFault};
 ghost use Rattle.schedule_reader.specs.declared.fault.ScheduleFault.{ScheduleFault};
 ghost use Rattle.loader.specs.declared.load_fault.LoadFault.{LoadFault};
-ghost use Rattle.trace_compare.specs.RunText.{GivesOnAndOn, HasRun, HasRunSoFar, HasRunToFault};
+ghost use Rattle.trace_compare.specs.RunText.{GivesOnAndOn, HasRun, HasRunSoFar, HasRunToFault, HasWrittenTheSame};
 ghost use Rattle.trace_compare.specs.Start.{IsRefused};
 ghost use Rattle.workbench.specs.Fault.{status_of};
 ghost use Rattle.workbench.specs.Play.{HasRunAtMost};
@@ -24,6 +24,7 @@ pub fn play<S: Source, K: Sink>(
 ) -> Result<(), Fault>
     ensures done { OnOk result (HasRun image (S.left schedule.old) (S.left schedule.new)
         (K.written output.old) (K.written output.new)) }
+    ensures same { OnOk result (HasWrittenTheSame image (K.written output.old) (K.written output.new)) }
     ensures load { (fault : LoadFault) → result ≡ Err (Fault.Load fault) → IsRefused fault image
         × (S.left schedule.new ≡ S.left schedule.old) × (K.written output.new ≡ K.written output.old) }
     ensures schedule { (fault : ScheduleFault) → result ≡ Err (Fault.Schedule fault)

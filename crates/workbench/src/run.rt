@@ -3,7 +3,7 @@ ghost use Rattle.trace_compare.specs.RunText.{GivesOnAndOn};
 ghost use Rattle.workbench.specs.declared.fault.Fault.{Fault};
 ghost use Rattle.workbench.specs.Fault.{HasTold, status_of};
 ghost use Rattle.workbench.specs.Input.{GivesTooMuch};
-ghost use Rattle.workbench.specs.Run.{HasRunFile, HasRunFileAtMost, HasRunFileSoFar, HasRunRefused};
+ghost use Rattle.workbench.specs.Run.{HasRunFile, HasRunFileAtMost, HasRunFileSoFar, HasRunRefused, HasRunTheSame};
 
 use crate::fault::{DONE, Fault};
 use crate::play::play;
@@ -26,6 +26,8 @@ pub fn run_cmd<F: Source, S: Source, K: Sink, E: Sink>(
     ensures statuses { (result ≡ 0) ⊎ ((result ≡ 3) ⊎ ((result ≡ 4) ⊎ (result ≡ 5))) }
     ensures done { result ≡ 0 → HasRunFile (F.left file.old) (F.left file.new)
         (S.left schedule.old) (S.left schedule.new) (K.written output.old) (K.written output.new) }
+    ensures same { result ≡ 0 → HasRunTheSame (F.left file.old) (F.left file.new)
+        (K.written output.old) (K.written output.new) }
     ensures told { ((result ≡ 0) × (E.written errors.new ≡ E.written errors.old))
         ⊎ ((fault : Fault) × ((result ≡ status_of fault)
         × (HasTold fault (E.has_failed errors.new) (E.written errors.old) (E.written errors.new)
@@ -59,6 +61,8 @@ fn run<F: Source, S: Source, K: Sink>(
 ) -> Result<(), Fault>
     ensures done { OnOk result (HasRunFile (F.left file.old) (F.left file.new)
         (S.left schedule.old) (S.left schedule.new) (K.written output.old) (K.written output.new)) }
+    ensures same { OnOk result (HasRunTheSame (F.left file.old) (F.left file.new)
+        (K.written output.old) (K.written output.new)) }
     ensures refused { IfErr result (λ fault. status_of fault ≡ 3
         → HasRunRefused fault (F.left file.old) (F.left file.new)
         (S.left schedule.old) (S.left schedule.new) (K.written output.old) (K.written output.new)) }
