@@ -1,5 +1,5 @@
 ghost use Rattle.std.specs.Prelude.{◌≡◌, IfOk, IsOkAnd, false};
-ghost use Rattle.clap.specs.Words.{AddsSubcommand, app_of, rule_of};
+ghost use Rattle.clap.specs.Words.{AddsSubcommand, app_of, rule_of, with_subcommand};
 ghost use Rattle.command_line.specs.Commands.{alone, limit_rule, number_rule, place_rule, vuthgal};
 ghost use Rattle.command_line.specs.Commands.{asm_shape, compare_shape, debug_shape, list_shape};
 ghost use Rattle.command_line.specs.Commands.{live_shape, race_shape, run_shape};
@@ -249,6 +249,34 @@ fn with<'a>(
     program.subcommand(command?)
 }
 
+/// The same with the commands that turn a program's text into its image, and back.
+fn with_forms<'a>(alloc: Global, program: Command<'a>) -> Result<Command<'a>, AllocError>
+    ensures { IfOk result (λ grown. app_of grown
+        ≡ with_subcommand (with_subcommand (app_of program.entry) asm_shape) list_shape) }
+{
+    let program = with(program, asm(alloc))?;
+    with(program, list(alloc))
+}
+
+/// The same with the commands that play a program choice by choice.
+fn with_plays<'a>(alloc: Global, program: Command<'a>) -> Result<Command<'a>, AllocError>
+    ensures { IfOk result (λ grown. app_of grown ≡ with_subcommand (with_subcommand
+        (with_subcommand (app_of program.entry) run_shape) compare_shape) debug_shape) }
+{
+    let program = with(program, run(alloc))?;
+    let program = with(program, compare(alloc))?;
+    with(program, debug(alloc))
+}
+
+/// The same with the commands that start threads.
+fn with_threads<'a>(alloc: Global, program: Command<'a>) -> Result<Command<'a>, AllocError>
+    ensures { IfOk result (λ grown. app_of grown
+        ≡ with_subcommand (with_subcommand (app_of program.entry) live_shape) race_shape) }
+{
+    let program = with(program, live(alloc))?;
+    with(program, race(alloc))
+}
+
 /// The program with all its commands.
 pub fn program<'a>(alloc: Global) -> Result<Command<'a>, AllocError>
     ensures { IfOk result (λ program. app_of program ≡ vuthgal) }
@@ -258,11 +286,7 @@ pub fn program<'a>(alloc: Global) -> Result<Command<'a>, AllocError>
         .about("Plays programs of threads that call phasers and barriers")
         .long_about(PROGRAM)
         .after_help(STATUSES);
-    let program = with(program, asm(alloc))?;
-    let program = with(program, list(alloc))?;
-    let program = with(program, run(alloc))?;
-    let program = with(program, compare(alloc))?;
-    let program = with(program, debug(alloc))?;
-    let program = with(program, live(alloc))?;
-    with(program, race(alloc))
+    let program = with_forms(alloc, program)?;
+    let program = with_plays(alloc, program)?;
+    with_threads(alloc, program)
 }

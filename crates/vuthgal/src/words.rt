@@ -1,6 +1,7 @@
 //! The words of the command line.
-ghost use Rattle.std.specs.Prelude.{IfOk};
-ghost use Rattle.command_line.specs.Request.{IsInRange};
+ghost use Rattle.std.specs.Prelude.{IfOk, map};
+ghost use Rattle.std.specs.String.{string_bytes};
+ghost use Rattle.command_line.specs.Request.{Asks, IsInRange};
 
 use crate::ending::told;
 use clap::Error;
@@ -43,7 +44,8 @@ fn printed(rt: &HostRuntime, error: &Error) -> u8 {
 
 /// What the words ask for, else the status.
 pub fn request<'a>(rt: &HostRuntime, words: &'a [String]) -> Result<Request<'a>, u8>
-    ensures { IfOk result (λ request. IsInRange request) }
+    ensures range { IfOk result (λ request. IsInRange request) }
+    ensures asked { IfOk result (Asks (map string_bytes words.entry.now)) }
 {
     match parse(rt.alloc(), words) {
         Ok(request) => Ok(request),
