@@ -1,5 +1,5 @@
 //! The phaser that threads share, and its callers.
-ghost use Rattle.std.specs.Prelude.{◌≡◌, IfOk, IfErr, ◌↔◌};
+ghost use Rattle.std.specs.Prelude.{◌≡◌, IfOk, ◌↔◌};
 ghost use Rattle.packed_phaser.specs.declared.policy.Policy.TheVariants.{Routine};
 ghost use Rattle.shared_phaser.specs.Known.{phaser_of, newcomer, giving, given, JoinsCaller, EndsAs};
 

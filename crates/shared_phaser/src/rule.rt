@@ -69,7 +69,6 @@ impl Split<View> for Halves {
 pub struct Both;
 
 impl Join<View> for Both {
-    ghost use Rattle.std.specs.Prelude.{[], false, None};
     ghost use Rattle.shared_phaser.specs.Rule.{receiving_view, spent_view};
 
     ghost both = { receiving_view };

@@ -1,4 +1,4 @@
-use Rattle.std.proofs.Common.{◌≡◌, ◌≢◌, ℕ, true, false, rules, ap, sym, subst, ◌∙◌, eq-eqb, ne_eqb}
+use Rattle.std.proofs.Common.{◌≡◌, ◌≢◌, ℕ, rules, ap, sym, subst, ◌∙◌, eq-eqb, ne_eqb}
 use Rattle.packed_phaser.specs.Word.{IsWord, record_of}
 use Rattle.packed_phaser.specs.declared.policy.Policy.{Policy}
 use Rattle.shared_phaser.specs.declared.history.Call.{Call}
