@@ -1,6 +1,6 @@
-ghost use Rattle.std.specs.Prelude.{◌≡◌, IfOk, IsOkAnd, false};
-ghost use Rattle.clap.specs.Words.{AddsSubcommand, app_of, rule_of, with_subcommand};
-ghost use Rattle.command_line.specs.Commands.{alone, limit_rule, number_rule, place_rule, vuthgal};
+ghost use Rattle.std.specs.Prelude.{◌≡◌, IfOk, IsOkAnd, false, []};
+ghost use Rattle.clap.specs.Words.{AddsSubcommand, app_of, rule_of, with_rule, with_subcommand};
+ghost use Rattle.command_line.specs.Commands.{alone, command, limit_rule, number_rule, place_rule, vuthgal};
 ghost use Rattle.command_line.specs.Commands.{asm_shape, compare_shape, debug_shape, list_shape};
 ghost use Rattle.command_line.specs.Commands.{live_shape, race_shape, run_shape};
 
@@ -132,65 +132,105 @@ fn place<'a>(alloc: Global, name: &'a str, help: &'a str) -> Arg<'a>
     Arg::new(alloc, name).required(true).help(help)
 }
 
+/// A command with what its help says, without words.
+fn told<'a>(alloc: Global, name: &'a str, about: &'a str, long_about: &'a str) -> Command<'a>
+    ensures { app_of result ≡ alone (command name.entry.now []) }
+{
+    Command::new(alloc, name)
+        .about(about)
+        .long_about(long_about)
+        .after_help(STATUSES)
+}
+
+/// The command with two words more.
+fn with_two<'a>(
+    command: Command<'a>,
+    first: Arg<'a>,
+    second: Arg<'a>,
+) -> Result<Command<'a>, AllocError>
+    requires first { first.global ≡ false }
+    requires second { second.global ≡ false }
+    ensures { IfOk result (λ grown. app_of grown
+        ≡ with_rule (with_rule (app_of command.entry) (rule_of first.entry)) (rule_of second.entry)) }
+{
+    command.arg(first)?.arg(second)
+}
+
 fn asm<'a>(alloc: Global) -> Result<Command<'a>, AllocError>
     ensures { IfOk result (λ command. app_of command ≡ alone asm_shape) }
 {
-    Command::new(alloc, ASM)
-        .about("Assembles a program text into an image")
-        .long_about(ASM_ABOUT)
-        .after_help(STATUSES)
-        .arg(place(alloc, SRC, "The file of the program text"))?
-        .arg(place(alloc, OUT, "The file that the image is written to"))
+    with_two(
+        told(
+            alloc,
+            ASM,
+            "Assembles a program text into an image",
+            ASM_ABOUT,
+        ),
+        place(alloc, SRC, "The file of the program text"),
+        place(alloc, OUT, "The file that the image is written to"),
+    )
 }
 
 fn list<'a>(alloc: Global) -> Result<Command<'a>, AllocError>
     ensures { IfOk result (λ command. app_of command ≡ alone list_shape) }
 {
-    Command::new(alloc, LIST)
-        .about("Writes the canonical text of a program")
-        .long_about(LIST_ABOUT)
-        .after_help(STATUSES)
-        .arg(place(alloc, FILE, "The file of the image or of the program text"))
+    told(
+        alloc,
+        LIST,
+        "Writes the canonical text of a program",
+        LIST_ABOUT,
+    )
+    .arg(place(alloc, FILE, "The file of the image or of the program text"))
 }
 
 fn run<'a>(alloc: Global) -> Result<Command<'a>, AllocError>
     ensures { IfOk result (λ command. app_of command ≡ alone run_shape) }
 {
-    Command::new(alloc, RUN)
-        .about("Plays a program under a schedule and writes the trace")
-        .long_about(RUN_ABOUT)
-        .after_help(STATUSES)
-        .arg(place(alloc, FILE, "The file of the image or of the program text"))?
-        .arg(place(
+    with_two(
+        told(
+            alloc,
+            RUN,
+            "Plays a program under a schedule and writes the trace",
+            RUN_ABOUT,
+        ),
+        place(alloc, FILE, "The file of the image or of the program text"),
+        place(
             alloc,
             SCHEDULE,
             "The file of the schedule, or `-` for standard input",
-        ))
+        ),
+    )
 }
 
 fn compare<'a>(alloc: Global) -> Result<Command<'a>, AllocError>
     ensures { IfOk result (λ command. app_of command ≡ alone compare_shape) }
 {
-    Command::new(alloc, COMPARE)
-        .about("Compares a trace with the run that it names")
-        .long_about(COMPARE_ABOUT)
-        .after_help(STATUSES)
-        .arg(place(alloc, FILE, "The file of the image or of the program text"))?
-        .arg(place(
+    with_two(
+        told(
+            alloc,
+            COMPARE,
+            "Compares a trace with the run that it names",
+            COMPARE_ABOUT,
+        ),
+        place(alloc, FILE, "The file of the image or of the program text"),
+        place(
             alloc,
             TRACE,
             "The file of the trace, or `-` for standard input",
-        ))
+        ),
+    )
 }
 
 fn debug<'a>(alloc: Global) -> Result<Command<'a>, AllocError>
     ensures { IfOk result (λ command. app_of command ≡ alone debug_shape) }
 {
-    Command::new(alloc, DEBUG)
-        .about("Plays a program by commands, forwards and backwards")
-        .long_about(DEBUG_ABOUT)
-        .after_help(STATUSES)
-        .arg(place(alloc, FILE, "The file of the image or of the program text"))
+    told(
+        alloc,
+        DEBUG,
+        "Plays a program by commands, forwards and backwards",
+        DEBUG_ABOUT,
+    )
+    .arg(place(alloc, FILE, "The file of the image or of the program text"))
 }
 
 /// How many steps a live run takes at most.
@@ -208,12 +248,16 @@ fn limit<'a>(alloc: Global) -> Arg<'a>
 fn live<'a>(alloc: Global) -> Result<Command<'a>, AllocError>
     ensures { IfOk result (λ command. app_of command ≡ alone live_shape) }
 {
-    Command::new(alloc, LIVE)
-        .about("Plays a program on real threads and writes the trace")
-        .long_about(LIVE_ABOUT)
-        .after_help(STATUSES)
-        .arg(place(alloc, FILE, "The file of the image or of the program text"))?
-        .arg(limit(alloc))
+    with_two(
+        told(
+            alloc,
+            LIVE,
+            "Plays a program on real threads and writes the trace",
+            LIVE_ABOUT,
+        ),
+        place(alloc, FILE, "The file of the image or of the program text"),
+        limit(alloc),
+    )
 }
 
 /// An option that has to be there, with a number.
@@ -231,12 +275,16 @@ fn number<'a>(alloc: Global, name: &'a str, value: &'a str, help: &'a str) -> Ar
 fn race<'a>(alloc: Global) -> Result<Command<'a>, AllocError>
     ensures { IfOk result (λ command. app_of command ≡ alone race_shape) }
 {
-    Command::new(alloc, RACE)
-        .about("Lets real threads meet at a shared phaser")
-        .long_about(RACE_ABOUT)
-        .after_help(STATUSES)
-        .arg(number(alloc, PARTIES, "N", "How many threads, 1 to 16"))?
-        .arg(number(alloc, ROUNDS, "R", "How many phases, 1 to 1000000"))
+    with_two(
+        told(
+            alloc,
+            RACE,
+            "Lets real threads meet at a shared phaser",
+            RACE_ABOUT,
+        ),
+        number(alloc, PARTIES, "N", "How many threads, 1 to 16"),
+        number(alloc, ROUNDS, "R", "How many phases, 1 to 1000000"),
+    )
 }
 
 /// The program with one command more.
