@@ -34,6 +34,3 @@ pub use read_port::ReadPort;
 pub use sink::Sink;
 pub use source::Source;
 pub use write_port::WritePort;
-
-#[cfg(test)]
-mod callers;

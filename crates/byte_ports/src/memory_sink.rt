@@ -83,6 +83,3 @@ impl Sink for MemorySink {
         Ok(())
     }
 }
-
-#[cfg(test)]
-mod tests;

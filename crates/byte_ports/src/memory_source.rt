@@ -70,6 +70,3 @@ impl<'a> Source for MemorySource<'a> {
         Ok(count)
     }
 }
-
-#[cfg(test)]
-mod tests;

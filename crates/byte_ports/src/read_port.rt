@@ -76,6 +76,3 @@ fn read_through_interruptions<R: Read>(reader: &mut R, buffer: &mut [u8]) -> Res
     }
     Err(Failed)
 }
-
-#[cfg(test)]
-mod tests;

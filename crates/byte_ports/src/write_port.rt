@@ -93,6 +93,3 @@ fn flush_through_interruptions<W: Write>(writer: &mut W) -> Result<(), Failed>
     }
     Err(Failed)
 }
-
-#[cfg(test)]
-mod tests;

@@ -179,6 +179,3 @@ pub fn parse<'a>(alloc: Global, words: &'a [String]) -> Result<Request<'a>, Erro
     let mut program = program(alloc)?;
     told_request(&mut program, words)
 }
-
-#[cfg(test)]
-mod tests;

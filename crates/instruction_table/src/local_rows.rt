@@ -119,6 +119,3 @@ pub fn local(row: Row, registers: &mut Regs, pc: &mut u16) -> Option<i32>
         _ => unreachable!(),
     }
 }
-
-#[cfg(test)]
-mod tests;

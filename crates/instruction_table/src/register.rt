@@ -50,19 +50,3 @@ impl Reg {
         }
     }
 }
-
-#[cfg(test)]
-mod tests {
-    use super::*;
-
-    #[test]
-    fn registers_have_their_numbers(rt: HostRuntime) {
-        assert_eq!(rt; Reg::R0.number(), 0);
-        assert_eq!(rt; Reg::R7.number(), 7);
-        assert_eq!(rt; Reg::numbered(0), Some(Reg::R0));
-        assert_eq!(rt; Reg::numbered(3), Some(Reg::R3));
-        assert_eq!(rt; Reg::numbered(7), Some(Reg::R7));
-        assert_eq!(rt; Reg::numbered(8), None);
-        assert_eq!(rt; Reg::numbered(255), None);
-    }
-}

@@ -45,34 +45,3 @@ impl Regs {
         self.values[place] = value;
     }
 }
-
-#[cfg(test)]
-mod tests {
-    use super::*;
-
-    const ALL: [Reg; 8] = [
-        Reg::R0,
-        Reg::R1,
-        Reg::R2,
-        Reg::R3,
-        Reg::R4,
-        Reg::R5,
-        Reg::R6,
-        Reg::R7,
-    ];
-
-    fn holds_alone(written: Reg, read: Reg) -> bool {
-        let mut registers = Regs::new();
-        registers.set(written, i32::MIN);
-        registers.get(read) == if read == written { i32::MIN } else { 0 }
-    }
-
-    #[test]
-    fn each_register_is_its_own(rt: HostRuntime) {
-        for written in &ALL {
-            for read in &ALL {
-                assert!(rt; holds_alone(*written, *read), "{read:?} after {written:?}");
-            }
-        }
-    }
-}

@@ -152,6 +152,3 @@ pub fn mnemonic(row: Row) -> &'static str
 {
     row_shape(row).word
 }
-
-#[cfg(test)]
-mod tests;

@@ -312,6 +312,3 @@ impl Word {
         })
     }
 }
-
-#[cfg(test)]
-mod tests;

@@ -9,6 +9,3 @@ mod meeting;
 pub use command::race_cmd;
 pub use fault::RaceFault;
 pub use meeting::race;
-
-#[cfg(test)]
-mod tests;

@@ -103,6 +103,3 @@ impl Phasers {
         self.entries
     }
 }
-
-#[cfg(test)]
-mod tests;

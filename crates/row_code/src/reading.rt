@@ -154,6 +154,3 @@ pub fn read_image(alloc: Global, bytes: &[u8]) -> Result<Image, ImageFault>
     let counts = counts_at(bytes)?;
     lists_at(alloc, counts, bytes)
 }
-
-#[cfg(test)]
-mod tests;

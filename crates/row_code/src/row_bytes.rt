@@ -54,6 +54,3 @@ pub fn decode(bytes: [u8; 8]) -> Option<Row>
         None
     }
 }
-
-#[cfg(test)]
-mod tests;

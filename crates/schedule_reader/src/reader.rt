@@ -194,6 +194,3 @@ fn end_token(place: Place, at: u64, runs: &mut Vec<Run>) -> Result<(), ScheduleF
         Err(fault) => Err(fault),
     }
 }
-
-#[cfg(test)]
-mod tests;

@@ -22,6 +22,3 @@ pub use calls::Raced;
 pub use history::{Answer, Call, Entry, Kept, Known, Reply, Setup};
 pub use phaser::{NewFault, Party, SharedPhaser};
 pub use waiting::NotThere;
-
-#[cfg(test)]
-mod tests;

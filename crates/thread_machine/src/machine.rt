@@ -523,6 +523,3 @@ impl Machine {
         self.done
     }
 }
-
-#[cfg(test)]
-mod tests;

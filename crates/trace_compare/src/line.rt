@@ -158,6 +158,3 @@ pub fn refusal_line(
     put_refusal(&mut line, step, choice, pc);
     text.extend_from_slice(line.as_slice())
 }
-
-#[cfg(test)]
-mod tests;

@@ -76,6 +76,3 @@ fn push_image<K: Sink>(image: &Image, output: &mut K) -> Result<(), Fault>
         Err(_) => Err(Fault::Write),
     }
 }
-
-#[cfg(test)]
-mod tests;

@@ -101,6 +101,3 @@ fn trace_text<K: Sink>(alloc: Global, text: &[u8], output: &mut K) -> Result<(),
     };
     play(alloc, image, &mut SliceSource::new(schedule), output)
 }
-
-#[cfg(test)]
-mod tests;

@@ -124,6 +124,3 @@ fn push_verdict<K: Sink>(output: &mut K, verdict: Verdict) -> Result<(), Failed>
         Verdict::NotATrace { line } => push_counted_line(output, b"not a trace ", line),
     }
 }
-
-#[cfg(test)]
-mod tests;

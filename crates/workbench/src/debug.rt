@@ -214,6 +214,3 @@ fn answer<K: Sink>(
         Err(CommandFault::Write) => Err(Fault::Write),
     }
 }
-
-#[cfg(test)]
-mod tests;

@@ -20,7 +20,7 @@ pub mod live;
 mod play;
 mod program_file;
 pub mod run;
-mod run_line;
+pub mod run_line;
 mod slice_source;
 
 pub use program_file::a_file_is_one_program;

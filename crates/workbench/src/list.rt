@@ -79,6 +79,3 @@ fn push_canonical<K: Sink>(alloc: Global, image: &Image, output: &mut K) -> Resu
         Err(_) => Err(Fault::Write),
     }
 }
-
-#[cfg(test)]
-mod tests;

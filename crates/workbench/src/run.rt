@@ -83,6 +83,3 @@ fn run<F: Source, S: Source, K: Sink>(
     };
     play(alloc, image, schedule, output)
 }
-
-#[cfg(test)]
-mod tests;

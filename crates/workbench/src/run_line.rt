@@ -62,6 +62,3 @@ pub fn split_at_run(bytes: &[u8]) -> (&[u8], &[u8])
     }
     (bytes, &[])
 }
-
-#[cfg(test)]
-mod tests;

@@ -99,6 +99,3 @@ pub fn load(alloc: Global, image: Image) -> Result<Loaded, LoadFault>
         actions,
     })
 }
-
-#[cfg(test)]
-mod tests;

@@ -1,0 +1,110 @@
+//! Callers over any port, each with its proof: what a crate above can say of the bytes that it moves
+//! and of the side that failed.
+ghost use Rattle.std.specs.Prelude.{◌≡◌, ℕ, ◌↔◌, ◌++◌, List, length, IsTrue, IsErr, IfOk, OnOk};
+ghost use Rattle.std.specs.Io.KnownBytes.{Appends, Consumes};
+
+use byte_ports::{Failed, MemorySink, MemorySource, ReadPort, Sink, Source, WritePort};
+use std::alloc::{AllocError, Global};
+use std::io;
+use std::test::Fail;
+
+#[derive(Clone, Copy, PartialEq, Eq)]
+enum Fault {
+    Read,
+    Write,
+}
+
+/// Writes one piece and then the other.
+fn write_both<K: Sink>(sink: &mut K, first: &[u8], second: &[u8]) -> Result<(), Failed>
+    ensures bytes { OnOk result
+        (Appends (K.written sink.old) (K.written sink.new) (first.now ++ second.now)) }
+    ensures failed { IsErr result ↔ IsTrue (K.has_failed sink.new) }
+{
+    sink.push(first)?;
+    sink.push(second)
+}
+
+/// Copies one piece of the source, at most as much as the buffer holds, and answers its length.
+fn copy_piece<S: Source, K: Sink>(
+    source: &mut S,
+    sink: &mut K,
+    buffer: &mut [u8],
+) -> Result<usize, Fault>
+    ensures moved { IfOk result (λ n. (bytes : List ℕ) × (length bytes ≡ n)
+        × Consumes (S.left source.old) (S.left source.new) bytes
+        × Appends (K.written sink.old) (K.written sink.new) bytes) }
+    ensures read { result ≡ Err Fault.Read → IsTrue (S.has_failed source.new) }
+    ensures write { result ≡ Err Fault.Write → IsTrue (K.has_failed sink.new) }
+{
+    let Ok(count) = source.pull(buffer) else {
+        return Err(Fault::Read);
+    };
+    match sink.push(&buffer[..count]) {
+        Ok(()) => Ok(count),
+        Err(Failed) => Err(Fault::Write),
+    }
+}
+
+/// Copies two pieces, one after the other.
+fn copy_two_pieces<S: Source, K: Sink>(
+    source: &mut S,
+    sink: &mut K,
+    buffer: &mut [u8],
+) -> Result<(), Fault>
+    ensures moved { OnOk result ((bytes : List ℕ)
+        × Consumes (S.left source.old) (S.left source.new) bytes
+        × Appends (K.written sink.old) (K.written sink.new) bytes) }
+    ensures read { result ≡ Err Fault.Read → IsTrue (S.has_failed source.new) }
+    ensures write { result ≡ Err Fault.Write → IsTrue (K.has_failed sink.new) }
+{
+    copy_piece(source, sink, buffer)?;
+    copy_piece(source, sink, buffer)?;
+    Ok(())
+}
+
+/// The source's call that fails, the sink's, the fault, and the bytes that have moved.
+const COPIES: [(Option<u32>, Option<u32>, Option<Fault>, &[u8]); 5] = [
+    (None, None, None, b"barrie"),
+    (Some(0), None, Some(Fault::Read), b""),
+    (Some(1), None, Some(Fault::Read), b"bar"),
+    (None, Some(0), Some(Fault::Write), b""),
+    (None, Some(1), Some(Fault::Write), b"bar"),
+];
+
+/// Whether two pieces of `barrier` are copied with this fault, if any, and just these bytes.
+fn copies(
+    alloc: Global,
+    read_fails: Option<u32>,
+    write_fails: Option<u32>,
+    fault: Option<Fault>,
+    bytes: &[u8],
+) -> Result<bool, AllocError> {
+    let mut source = MemorySource::new(b"barrier", read_fails);
+    let mut sink = MemorySink::new(alloc, 8, write_fails)?;
+    let mut buffer = [0; 3];
+    let met = copy_two_pieces(&mut source, &mut sink, &mut buffer).err();
+    Ok(met == fault && sink.bytes() == bytes)
+}
+
+#[test]
+fn copies_over_memory(rt: HostRuntime) -> Result<(), Fail> {
+    for (read_fails, write_fails, fault, bytes) in &COPIES {
+        let copies = copies(rt.alloc(), *read_fails, *write_fails, *fault, *bytes)?;
+        assert!(rt; copies, "{read_fails:?}, {write_fails:?}");
+    }
+    Ok(())
+}
+
+fn copies_and_ends<S: Source, K: Sink>(source: &mut S, sink: &mut K) -> bool {
+    let mut buffer = [0; 3];
+    copy_two_pieces(source, sink, &mut buffer).is_ok() && write_both(sink, b"-", b"end").is_ok()
+}
+
+#[test]
+fn copies_over_std(rt: HostRuntime) {
+    let mut kept = Vec::new(rt.alloc());
+    let mut source = ReadPort::new(io::Cursor::new(b"barrier".as_slice()));
+    let mut sink = WritePort::new(&mut kept);
+    assert!(rt; copies_and_ends(&mut source, &mut sink));
+    assert!(rt; kept.as_slice() == b"barrie-end".as_slice());
+}

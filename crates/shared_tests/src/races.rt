@@ -1,0 +1,74 @@
+//! Races of real threads, and what is written of them.
+use byte_ports::MemorySink;
+use race::{RaceFault, race, race_cmd};
+use std::alloc::Global;
+use std::sync::Wait;
+use std::test::Fail;
+use std::thread::Threads;
+
+/// The number of the output's `push` that fails, from 0, and what then comes of a race of so many parties and rounds.
+#[derive(Clone, Copy)]
+struct Row {
+    parties: u16,
+    rounds: u32,
+    fail_at: Option<u32>,
+    status: u8,
+    output: &'static [u8],
+    errors: &'static [u8],
+}
+
+const fn expected(
+    parties: u16,
+    rounds: u32,
+    fail_at: Option<u32>,
+    status: u8,
+    output: &'static [u8],
+    errors: &'static [u8],
+) -> Row {
+    Row {
+        parties,
+        rounds,
+        fail_at,
+        status,
+        output,
+        errors,
+    }
+}
+
+fn holds<R: Threads + Wait + Sync>(rt: &R, alloc: Global, row: &Row) -> Result<bool, Fail> {
+    let mut output = MemorySink::new(alloc, 80, row.fail_at)?;
+    let mut errors = MemorySink::new(alloc, 80, None)?;
+    let status = race_cmd(rt, alloc, row.parties, row.rounds, &mut output, &mut errors);
+    Ok(status == row.status && output.bytes() == row.output && errors.bytes() == row.errors)
+}
+
+#[test]
+fn races(rt: HostRuntime) -> Result<(), Fail> {
+    let table = [
+        expected(2, 1000, None, 0, b"phase 1000 parties 2 unarrived 2\n", b""),
+        expected(1, 3, None, 0, b"phase 3 parties 1 unarrived 1\n", b""),
+        expected(16, 20, None, 0, b"phase 20 parties 16 unarrived 16\n", b""),
+        expected(1, 1, Some(0), 5, b"", b"write\n"),
+        expected(1, 1, Some(3), 5, b"phase 1 parties ", b"write\n"),
+        expected(
+            1,
+            1,
+            Some(6),
+            5,
+            b"phase 1 parties 1 unarrived 1",
+            b"write\n",
+        ),
+    ];
+    for row in &table {
+        assert!(rt; holds(&rt, rt.alloc(), row)?);
+    }
+    Ok(())
+}
+
+#[test]
+fn four_threads_meet_exactly(rt: HostRuntime) -> Result<(), Fail> {
+    let word = race(&rt, rt.alloc(), 4, 10_000).ok();
+    let bits = word.map(|word| word.raw());
+    assert_eq!(rt; bits, Some(0x2710_0004_0004));
+    Ok(())
+}

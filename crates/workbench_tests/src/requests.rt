@@ -1,0 +1,137 @@
+//! What the words of a command line ask for.
+use command_line::request::{Request, parse};
+use std::alloc::Global;
+use std::test::Fail;
+
+/// A command line after the program's name, its words parted by one space, and what it asks for.
+static REQUESTS: [(&str, Request); 12] = [
+    ("", Request::Both),
+    (
+        "asm a.txt b",
+        Request::Asm {
+            source: "a.txt",
+            image: "b",
+        },
+    ),
+    ("list -", Request::List { file: "-" }),
+    ("list -- --help", Request::List { file: "--help" }),
+    (
+        "run a.image -",
+        Request::Run {
+            file: "a.image",
+            schedule: "-",
+        },
+    ),
+    (
+        "compare a.txt b.trace",
+        Request::Compare {
+            file: "a.txt",
+            trace: "b.trace",
+        },
+    ),
+    ("debug a.image", Request::Debug { file: "a.image" }),
+    (
+        "live a.txt",
+        Request::Live {
+            file: "a.txt",
+            limit: 1_000_000,
+        },
+    ),
+    (
+        "live --limit 1 a.txt",
+        Request::Live {
+            file: "a.txt",
+            limit: 1,
+        },
+    ),
+    (
+        "live a.txt --limit=1000000000",
+        Request::Live {
+            file: "a.txt",
+            limit: 1_000_000_000,
+        },
+    ),
+    (
+        "race --parties 16 --rounds 1000000",
+        Request::Race {
+            parties: 16,
+            rounds: 1_000_000,
+        },
+    ),
+    (
+        "race --rounds=0000000001 --parties=1",
+        Request::Race {
+            parties: 1,
+            rounds: 1,
+        },
+    ),
+];
+
+/// Command lines that ask for nothing, and the status of each.
+static REFUSED: [(&str, i32); 28] = [
+    ("asm", 2),
+    ("asm a", 2),
+    ("asm a b c", 2),
+    ("list", 2),
+    ("list a b", 2),
+    ("run a", 2),
+    ("run a b c", 2),
+    ("compare a", 2),
+    ("compare a b c", 2),
+    ("debug", 2),
+    ("debug a b", 2),
+    ("live", 2),
+    ("live a b", 2),
+    ("live a --limit 0", 2),
+    ("live a --limit 1000000001", 2),
+    ("live a --limit 99999999999", 2),
+    ("examples/stuck.txt", 2),
+    ("--nonsense", 2),
+    ("race --parties 2", 2),
+    ("race --parties 0 --rounds 1", 2),
+    ("race --parties 17 --rounds 1", 2),
+    ("race --parties 1 --rounds 0", 2),
+    ("race --parties 1 --rounds 1000001", 2),
+    ("race --parties +1 --rounds 1", 2),
+    ("race --parties 1 --rounds 00000000001", 2),
+    ("race --parties 1x --rounds 1", 2),
+    ("--help", 0),
+    ("--version", 0),
+];
+
+fn words_of(alloc: Global, line: &str) -> Result<Vec<String>, Fail> {
+    let mut words = Vec::new(alloc);
+    words.push(String::from_str(alloc, "vuthgal")?)?;
+    for word in line.split(' ') {
+        if !word.is_empty() {
+            words.push(String::from_str(alloc, word)?)?;
+        }
+    }
+    Ok(words)
+}
+
+#[test]
+fn command_lines_ask_for_commands(rt: HostRuntime) -> Result<(), Fail> {
+    for (line, expected) in &REQUESTS {
+        let words = words_of(rt.alloc(), *line)?;
+        let is_expected = match parse(rt.alloc(), words.as_slice()) {
+            Ok(answer) => answer == *expected,
+            Err(_) => false,
+        };
+        assert!(rt; is_expected, "{line}");
+    }
+    Ok(())
+}
+
+#[test]
+fn command_lines_that_ask_for_nothing(rt: HostRuntime) -> Result<(), Fail> {
+    for (line, status) in &REFUSED {
+        let words = words_of(rt.alloc(), *line)?;
+        let is_expected = match parse(rt.alloc(), words.as_slice()) {
+            Ok(_) => false,
+            Err(error) => error.exit_code() == *status,
+        };
+        assert!(rt; is_expected, "{line}");
+    }
+    Ok(())
+}
