@@ -94,8 +94,8 @@ fn rows_have_their_effect(rt: HostRuntime) {
     }
 }
 
-#[test]
-fn a_row_may_read_what_it_writes(rt: HostRuntime) {
+/// Whether register 1 is 42 behind `add r1 r1 r1`, where it was 21 before, at the last row but one.
+fn doubles_itself() -> bool {
     let mut registers = Regs::new();
     registers.set(R1, 21);
     let double = Row::Add {
@@ -104,9 +104,14 @@ fn a_row_may_read_what_it_writes(rt: HostRuntime) {
         right: R1,
     };
     let mut place = 65534;
-    assert_eq!(rt; local(double, &mut registers, &mut place), Some(42));
-    assert_eq!(rt; registers.get(R1), 42);
-    assert_eq!(rt; place, 65535);
+    local(double, &mut registers, &mut place) == Some(42)
+        && registers.get(R1) == 42
+        && place == 65535
+}
+
+#[test]
+fn a_row_may_read_what_it_writes(rt: HostRuntime) {
+    assert!(rt; doubles_itself());
 }
 
 #[test]

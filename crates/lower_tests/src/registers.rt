@@ -1,15 +1,28 @@
 //! Registers and their numbers.
 use instruction_table::{Reg, Regs};
 
+/// A number, and the register that has it.
+const NUMBERED: [(u8, Option<Reg>); 5] = [
+    (0, Some(Reg::R0)),
+    (3, Some(Reg::R3)),
+    (7, Some(Reg::R7)),
+    (8, None),
+    (255, None),
+];
+
+fn is_numbered(number: u8, register: Option<Reg>) -> bool {
+    let back = match register {
+        Some(register) => register.number() == number,
+        None => true,
+    };
+    back && Reg::numbered(number) == register
+}
+
 #[test]
 fn registers_have_their_numbers(rt: HostRuntime) {
-    assert_eq!(rt; Reg::R0.number(), 0);
-    assert_eq!(rt; Reg::R7.number(), 7);
-    assert_eq!(rt; Reg::numbered(0), Some(Reg::R0));
-    assert_eq!(rt; Reg::numbered(3), Some(Reg::R3));
-    assert_eq!(rt; Reg::numbered(7), Some(Reg::R7));
-    assert_eq!(rt; Reg::numbered(8), None);
-    assert_eq!(rt; Reg::numbered(255), None);
+    for (number, register) in &NUMBERED {
+        assert!(rt; is_numbered(*number, *register), "{number}");
+    }
 }
 
 const ALL: [Reg; 8] = [

@@ -199,36 +199,47 @@ fn a_routine_is_refused(rt: HostRuntime) {
     assert_eq!(rt; fault, Some(NewFault::RoutinePolicy));
 }
 
+/// Whether each call on a phaser that was terminated in phase 0 answers so.
+fn stays_terminated<R: Wait>(rt: &R, phaser: &SharedPhaser, party: &mut Party) -> bool
+    requires { phaser_of party.old ≡ phaser.now }
+{
+    let dead = Ok(Reply::Dead(-2147483648));
+    phaser.force_within(party, 1) == dead
+        && phaser.force_within(party, 1) == dead
+        && phaser.arrive_within(party, false, 1) == dead
+        && phaser.await_advance(rt, party, 0) == -2147483648
+        && phaser.arrive_and_await_advance(rt, party) == Ok(-2147483648)
+}
+
 #[test]
 fn a_terminated_phaser_stays_so(rt: HostRuntime) -> Result<(), Fail> {
     let (phaser, mut party) = made(rt.alloc(), 2, Policy::Default)?;
-    let dead = Ok(Reply::Dead(-2147483648));
-    assert_eq!(rt; phaser.force_within(&mut party, 1), dead);
-    assert_eq!(rt; phaser.force_within(&mut party, 1), dead);
-    assert_eq!(rt; phaser.arrive_within(&mut party, false, 1), dead);
-    assert_eq!(rt; phaser.await_advance(&rt, &mut party, 0), -2147483648);
-    assert_eq!(rt;
-        phaser.arrive_and_await_advance(&rt, &mut party),
-        Ok(-2147483648)
-    );
+    assert!(rt; stays_terminated(&rt, &phaser, &mut party));
     Ok(())
+}
+
+/// Whether the waits of the only party are over at once.
+fn waits_for_nobody<R: Wait>(rt: &R, phaser: &SharedPhaser, party: &mut Party) -> bool
+    requires { phaser_of party.old ≡ phaser.now }
+{
+    phaser.await_advance(rt, party, -5) == -5
+        && phaser.await_advance(rt, party, 3) == 0
+        && phaser.arrive_and_await_advance(rt, party) == Ok(1)
+        && phaser.arrive_and_deregister(rt, party) == Reply::Counted(1)
 }
 
 #[test]
 fn waits_that_are_over(rt: HostRuntime) -> Result<(), Fail> {
     let (phaser, mut party) = made(rt.alloc(), 1, Policy::Default)?;
-    assert_eq!(rt; phaser.await_advance(&rt, &mut party, -5), -5);
-    assert_eq!(rt; phaser.await_advance(&rt, &mut party, 3), 0);
-    assert_eq!(rt; phaser.arrive_and_await_advance(&rt, &mut party), Ok(1));
-    assert_eq!(rt;
-        phaser.arrive_and_deregister(&rt, &mut party),
-        Reply::Counted(1)
-    );
+    assert!(rt; waits_for_nobody(&rt, &phaser, &mut party));
+    Ok(())
+}
+
+#[test]
+fn a_stray_cannot_wait(rt: HostRuntime) -> Result<(), Fail> {
     let (phaser, mut party) = made(rt.alloc(), 0, Policy::Default)?;
-    assert_eq!(rt;
-        phaser.arrive_and_await_advance(&rt, &mut party),
-        Err(NotThere)
-    );
+    let answer = phaser.arrive_and_await_advance(&rt, &mut party);
+    assert!(rt; answer == Err(NotThere));
     Ok(())
 }
 
@@ -242,22 +253,24 @@ fn two_callers_of_one_phaser(rt: HostRuntime) -> Result<(), Fail> {
     Ok(())
 }
 
+/// The word of a phaser of two parties, closed behind one arrival of each of two callers.
+fn word_of_two(alloc: Global) -> Result<Option<u64>, Fail> {
+    let (phaser, mut first) = made(alloc, 2, Policy::Default)?;
+    let mut second = phaser.split(&mut first);
+    let arrived = Ok(Reply::Counted(0));
+    let both = phaser.arrive_within(&mut first, false, 1) == arrived
+        && phaser.arrive_within(&mut second, false, 1) == arrived;
+    phaser.join(&mut first, second);
+    let word = phaser.close(first).raw();
+    Ok(if both { Some(word) } else { None })
+}
+
 #[test]
 fn closed_words(rt: HostRuntime) -> Result<(), Fail> {
-    let (phaser, mut first) = made(rt.alloc(), 2, Policy::Default)?;
-    let mut second = phaser.split(&mut first);
-    assert_eq!(rt;
-        phaser.arrive_within(&mut first, false, 1),
-        Ok(Reply::Counted(0))
-    );
-    assert_eq!(rt;
-        phaser.arrive_within(&mut second, false, 1),
-        Ok(Reply::Counted(0))
-    );
-    phaser.join(&mut first, second);
-    assert_eq!(rt; phaser.close(first).raw(), 0x100020002);
+    assert!(rt; word_of_two(rt.alloc())? == Some(0x100020002));
     let (phaser, first) = made(rt.alloc(), 2, Policy::Default)?;
-    assert_eq!(rt; phaser.close(first).raw(), 0x20002);
+    let word = phaser.close(first).raw();
+    assert!(rt; word == 0x20002);
     Ok(())
 }
 
@@ -279,13 +292,18 @@ fn released<R: Threads + Wait + Sync>(
     ))
 }
 
+/// The call, what it answers, and what the thread that waits is told.
+const RELEASING: [(Call, Reply, i32); 3] = [
+    (Call::Arrive(false), Reply::Counted(0), 1),
+    (Call::Arrive(true), Reply::Counted(0), -2147483647),
+    (Call::Force, Reply::Dead(-2147483648), -2147483648),
+];
+
 #[test]
 fn who_waits_is_released(rt: HostRuntime) -> Result<(), Fail> {
-    let arrival = released(&rt, rt.alloc(), Call::Arrive(false))?;
-    assert_eq!(rt; arrival, (1, Some(Reply::Counted(0))));
-    let departure = released(&rt, rt.alloc(), Call::Arrive(true))?;
-    assert_eq!(rt; departure, (-2147483647, Some(Reply::Counted(0))));
-    let force = released(&rt, rt.alloc(), Call::Force)?;
-    assert_eq!(rt; force, (-2147483648, Some(Reply::Dead(-2147483648))));
+    for (call, reply, told) in &RELEASING {
+        let (waiter, caller) = released(&rt, rt.alloc(), *call)?;
+        assert!(rt; waiter == *told && caller == Some(*reply), "{told}");
+    }
     Ok(())
 }
