@@ -1,7 +1,7 @@
 //! Long walks by chance, on which every step is taken back and taken again.
 use crate::walk::machine_of;
 use std::test::Fail;
-use thread_machine::{Choice, Event, Machine, Mark};
+use thread_machine::{Choice, Machine, Mark};
 
 /// Four threads that go round for ever: at a child and a barrier with an action, at the barrier for a time, at a root
 /// with a routine, and at the root for a time.
@@ -55,9 +55,9 @@ fn chosen(number: u32) -> Choice {
     }
 }
 
-/// Takes a step, takes it back, and takes it again: what it shows, where it shows the same and the counts are as they were
-/// in between.
-fn again(machine: &mut Machine, choice: Choice) -> Option<Event> {
+/// Takes a step, takes it back, and takes it again: its mark, where it shows the same and the counts are as they were in
+/// between.
+fn again(machine: &mut Machine, choice: Choice) -> Option<Mark> {
     let steps = machine.steps();
     let choices = machine.choices();
     let Ok((event, undo)) = machine.step_noting(choice) else {
@@ -68,28 +68,33 @@ fn again(machine: &mut Machine, choice: Choice) -> Option<Event> {
         return None;
     }
     match machine.step(choice) {
-        Ok(other) if other == event => Some(event),
+        Ok(other) if other == event => Some(event.mark),
         _ => None,
     }
 }
 
-#[test]
-fn every_step_goes_back(rt: HostRuntime) -> Result<(), Fail> {
-    let mut machine = machine_of(rt.alloc(), PROGRAM, 1000000000)?;
+/// Whether each of 10,000 choices is the same again, and some of them end phases, trip the barrier and break it.
+fn walks(machine: &mut Machine) -> bool {
     let mut number = 1;
     let mut phases = false;
     let mut trips = false;
     let mut breaks = false;
     for _ in 0..10_000 {
         number = after(number);
-        let event = again(&mut machine, chosen(number)).ok_or("a step that isn't the same again")?;
-        match event.mark {
-            Mark::Phase { .. } => phases = true,
-            Mark::Tripped(_) => trips = true,
-            Mark::Broke(_) => breaks = true,
-            Mark::Nothing => {}
+        match again(machine, chosen(number)) {
+            Some(Mark::Phase { .. }) => phases = true,
+            Some(Mark::Tripped(_)) => trips = true,
+            Some(Mark::Broke(_)) => breaks = true,
+            Some(Mark::Nothing) => {}
+            None => return false,
         }
     }
-    assert!(rt; phases && trips && breaks);
+    phases && trips && breaks
+}
+
+#[test]
+fn every_step_goes_back(rt: HostRuntime) -> Result<(), Fail> {
+    let mut machine = machine_of(rt.alloc(), PROGRAM, 1000000000)?;
+    assert!(rt; walks(&mut machine));
     Ok(())
 }

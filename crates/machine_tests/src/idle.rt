@@ -1,11 +1,9 @@
 //! Idle choices in a row, up to the most choices that a machine takes.
-ghost use Rattle.std.specs.Prelude.{◌<◌, length};
-
 use crate::walk::Step::{Phase, Turn};
-use crate::walk::{Step, first_wrong, machine_of};
+use crate::walk::{Step, goes, machine_of};
 use std::test::Fail;
 use thread_machine::What::{Ends, Idle, Value, Waits};
-use thread_machine::{Choice, StepFault};
+use thread_machine::{Choice, Machine, StepFault};
 
 /// Two parties meet.
 const MEETING: &str = ".phaser p 2\n.thread a m\n.thread b m\nm: paaa r0 p\nhalt\n";
@@ -27,35 +25,48 @@ const EXPIRY_0: Choice = Choice {
     expiry: true,
 };
 
+/// Whether as many idle choices are taken as is said.
+fn idles(machine: &mut Machine, choice: Choice, most: u64, taken: u64) -> bool {
+    machine.thread_count() == 2 && machine.idle(choice, most) == taken
+}
+
+fn has_counts(machine: &Machine, choices: u64, steps: u32) -> bool {
+    machine.choices() == choices && machine.steps() == steps
+}
+
+/// Whether thread 0 is idle only while it waits for another.
+fn is_idle_while_it_waits(machine: &mut Machine) -> bool {
+    idles(machine, TURN_0, 5, 0)
+        && idles(machine, EXPIRY_0, 5, 5)
+        && goes(machine, &[Turn(0, Waits)])
+        && idles(machine, TURN_0, 0, 0)
+        && idles(machine, TURN_0, 7, 7)
+        && has_counts(machine, 13, 1)
+        && goes(machine, &MEET)
+        && has_counts(machine, 17, 4)
+}
+
 #[test]
 fn a_thread_is_idle_until_another_arrives(rt: HostRuntime) -> Result<(), Fail> {
     let mut machine = machine_of(rt.alloc(), MEETING, 9)?;
-    assert!(rt; machine.thread_count() == 2);
-    assert_eq!(rt; machine.idle(TURN_0, 5), 0);
-    assert_eq!(rt; machine.idle(EXPIRY_0, 5), 5);
-    assert_eq!(rt; first_wrong(&mut machine, &[Turn(0, Waits)]), None);
-    assert!(rt; machine.thread_count() == 2);
-    assert_eq!(rt; machine.idle(TURN_0, 0), 0);
-    assert_eq!(rt; machine.idle(TURN_0, 7), 7);
-    assert_eq!(rt; (machine.choices(), machine.steps()), (13, 1));
-    assert_eq!(rt; first_wrong(&mut machine, &MEET), None);
-    assert_eq!(rt; (machine.choices(), machine.steps()), (17, 4));
+    assert!(rt; is_idle_while_it_waits(&mut machine));
     Ok(())
+}
+
+/// Whether a machine takes as many choices as it may, and no more.
+fn ends_at_the_most(machine: &mut Machine) -> bool {
+    goes(machine, &[Turn(0, Waits)])
+        && idles(machine, TURN_0, 999_999_999_998, 999_999_999_998)
+        && idles(machine, TURN_0, u64::MAX, 1)
+        && idles(machine, TURN_0, u64::MAX, 0)
+        && has_counts(machine, 1_000_000_000_000, 1)
+        && machine.step(TURN_0) == Err(StepFault::StepLimit)
+        && machine.step(EXPIRY_0) == Err(StepFault::StepLimit)
 }
 
 #[test]
 fn idle_choices_end_at_the_most(rt: HostRuntime) -> Result<(), Fail> {
     let mut machine = machine_of(rt.alloc(), MEETING, 9)?;
-    assert_eq!(rt; first_wrong(&mut machine, &[Turn(0, Waits)]), None);
-    assert!(rt; machine.thread_count() == 2);
-    assert_eq!(rt; machine.idle(TURN_0, 999_999_999_998), 999_999_999_998);
-    assert_eq!(rt; machine.idle(TURN_0, u64::MAX), 1);
-    assert_eq!(rt; machine.idle(TURN_0, u64::MAX), 0);
-    assert_eq!(rt;
-        (machine.choices(), machine.steps()),
-        (1_000_000_000_000, 1)
-    );
-    assert_eq!(rt; machine.step(TURN_0), Err(StepFault::StepLimit));
-    assert_eq!(rt; machine.step(EXPIRY_0), Err(StepFault::StepLimit));
+    assert!(rt; ends_at_the_most(&mut machine));
     Ok(())
 }

@@ -2,7 +2,7 @@
 ghost use Rattle.std.specs.Prelude.{◌<◌, length};
 
 use crate::walk::Step::{Phase, Turn};
-use crate::walk::{Step, first_wrong, machine_of};
+use crate::walk::{Step, goes, machine_of};
 use instruction_table::Reg::{R0, R7};
 use std::test::Fail;
 use thread_machine::What::{Done, Ends, Value, Waits};
@@ -10,6 +10,8 @@ use thread_machine::{Choice, Machine, Status, StepFault, What};
 
 /// Two threads that go round in circles.
 const ROUND: &str = ".thread a m\n.thread b m\nm: jmp m\n";
+
+const THREE: [Step; 3] = [Turn(0, Done), Turn(1, Done), Turn(0, Done)];
 
 /// A thread, whether its wait expires, and what comes of it once all three steps are used.
 static REFUSED: [(u8, bool, Result<What, StepFault>); 7] = [
@@ -22,32 +24,37 @@ static REFUSED: [(u8, bool, Result<What, StepFault>); 7] = [
     (2, true, Err(StepFault::NoSuchThread)),
 ];
 
-#[test]
-fn refused_choices(rt: HostRuntime) -> Result<(), Fail> {
-    let mut machine = machine_of(rt.alloc(), ROUND, 3)?;
-    assert_eq!(rt;
-        first_wrong(&mut machine, &[Turn(0, Done), Turn(1, Done), Turn(0, Done)]),
-        None
-    );
+/// Whether each choice of the table is answered so.
+fn refuses(machine: &mut Machine) -> bool {
     for (thread, expiry, answer) in &REFUSED {
         let choice = Choice {
             thread: *thread,
             expiry: *expiry,
         };
-        assert_eq!(rt;
-            machine.step(choice).map(|event| event.what),
-            *answer,
-            "{thread}"
-        );
+        if machine.step(choice).map(|event| event.what) != *answer {
+            return false;
+        }
     }
-    assert_eq!(rt; (machine.choices(), machine.steps()), (5, 3));
-    assert!(rt; !machine.stuck() && !machine.ended());
+    true
+}
+
+fn stands(machine: &Machine, choices: u64, steps: u32, ended: bool, stuck: bool) -> bool {
+    machine.choices() == choices
+        && machine.steps() == steps
+        && machine.ended() == ended
+        && machine.stuck() == stuck
+}
+
+#[test]
+fn refused_choices(rt: HostRuntime) -> Result<(), Fail> {
+    let mut machine = machine_of(rt.alloc(), ROUND, 3)?;
+    let right = goes(&mut machine, &THREE) && refuses(&mut machine);
+    assert!(rt; right && stands(&machine, 5, 3, false, false));
     Ok(())
 }
 
 /// Two parties meet and put out what they are told.
-const MEETING: &str =
-    ".phaser p 2\n.thread a m\n.thread b m\nm: paaa r0 p\nout r0\nhalt\n";
+const MEETING: &str = ".phaser p 2\n.thread a m\n.thread b m\nm: paaa r0 p\nout r0\nhalt\n";
 
 const MEET: [Step; 8] = [
     Turn(0, Waits),
@@ -75,46 +82,51 @@ fn has_put_out_1(machine: &Machine, thread: u8) -> bool
         && !machine.can_expire(thread)
 }
 
+fn have_put_out_1(machine: &Machine) -> bool {
+    machine.thread_count() == 2 && has_put_out_1(machine, 0) && has_put_out_1(machine, 1)
+}
+
+/// Whether a machine of the meeting has a limit of 7 and one phaser, no barrier, three rows and cells of 0.
+fn is_the_meeting(machine: &Machine) -> bool {
+    machine.limit() == 7
+        && machine.barrier_count() == 0
+        && machine.forest().len() == 1
+        && machine.loaded().rows().len() == 3
+        && machine.cells().as_slice() == [0; 32].as_slice()
+}
+
 #[test]
 fn a_machine_shows_itself(rt: HostRuntime) -> Result<(), Fail> {
     let mut machine = machine_of(rt.alloc(), MEETING, 7)?;
-    assert_eq!(rt; first_wrong(&mut machine, &MEET), None);
-    assert!(rt; machine.ended() && !machine.stuck());
-    assert_eq!(rt;
-        (machine.choices(), machine.steps(), machine.limit()),
-        (8, 7, 7)
-    );
-    assert_eq!(rt; (machine.thread_count(), machine.barrier_count()), (2, 0));
-    assert_eq!(rt;
-        (machine.forest().len(), machine.loaded().rows().len()),
-        (1, 3)
-    );
-    for thread in 0..2u8 {
-        assert!(rt; (thread as usize) < machine.thread_count());
-        assert!(rt; has_put_out_1(&machine, thread));
-    }
-    assert_eq!(rt; machine.cells().as_slice(), [0; 32].as_slice());
+    let right = goes(&mut machine, &MEET) && stands(&machine, 8, 7, true, false);
+    assert!(rt; right && have_put_out_1(&machine) && is_the_meeting(&machine));
     Ok(())
 }
 
 /// A thread that waits for another party.
 const ALONE: &str = ".phaser p 2 phase 6\n.thread a m\nm: paaa r0 p\nhalt\n";
 
+const WAIT: [Step; 2] = [Turn(0, Waits), Turn(0, What::Idle)];
+
+fn awaits(machine: &Machine, phase: i32) -> bool {
+    machine.thread_count() == 1 && machine.status(0) == Status::AwaitsPhase(phase)
+}
+
 #[test]
 fn a_thread_without_partners_is_stuck(rt: HostRuntime) -> Result<(), Fail> {
     let mut machine = machine_of(rt.alloc(), ALONE, 9)?;
-    assert_eq!(rt; first_wrong(&mut machine, &[Turn(0, Waits), Turn(0, What::Idle)]), None);
-    assert!(rt; machine.stuck() && !machine.ended());
-    assert!(rt; machine.thread_count() == 1);
-    assert_eq!(rt; machine.status(0), Status::AwaitsPhase(6));
+    let right = goes(&mut machine, &WAIT) && stands(&machine, 2, 1, false, true);
+    assert!(rt; right && awaits(&machine, 6));
     Ok(())
 }
 
 /// A thread that puts out 0 again and again.
 const ENDLESS: &str = ".thread a m\nm: out r0\njmp m\n";
 
-/// Whether thread 0 puts out 0. Where there is no memory for it nothing is counted, and the second try succeeds: tests
-/// run with each allocation failing in turn.
+const FULL: [Step; 2] = [Turn(0, What::Throws(8)), Turn(0, What::Dies(8))];
+
+/// Whether thread 0 puts out 0 and goes back. Where there is no memory for it nothing is counted, and the second try
+/// succeeds: tests run with each allocation failing in turn.
 fn puts_out_0(machine: &mut Machine) -> bool {
     let turn = Turn(0, What::Out(0));
     let counts = (machine.choices(), machine.steps());
@@ -125,18 +137,26 @@ fn puts_out_0(machine: &mut Machine) -> bool {
         }
         answer = machine.step(turn.choice());
     }
-    answer == Ok(turn.event())
+    answer == Ok(turn.event()) && goes(machine, &[Turn(0, Done)])
+}
+
+/// Whether thread 0 has put out 4096 numbers and stands at row 0.
+fn is_full(machine: &Machine) -> bool {
+    machine.thread_count() == 1 && machine.output(0).len() == 4096 && machine.pc(0) == 0
+}
+
+fn fills_up(machine: &mut Machine) -> bool {
+    for _ in 0..4096 {
+        if !puts_out_0(machine) {
+            return false;
+        }
+    }
+    goes(machine, &FULL) && is_full(machine)
 }
 
 #[test]
 fn an_output_has_room_for_4096(rt: HostRuntime) -> Result<(), Fail> {
     let mut machine = machine_of(rt.alloc(), ENDLESS, 8194)?;
-    for _ in 0..4096 {
-        assert!(rt; puts_out_0(&mut machine));
-        assert_eq!(rt; first_wrong(&mut machine, &[Turn(0, Done)]), None);
-    }
-    assert_eq!(rt; first_wrong(&mut machine, &[Turn(0, What::Throws(8)), Turn(0, What::Dies(8))]), None);
-    assert!(rt; machine.thread_count() == 1);
-    assert_eq!(rt; (machine.output(0).len(), machine.pc(0)), (4096, 0));
+    assert!(rt; fills_up(&mut machine));
     Ok(())
 }

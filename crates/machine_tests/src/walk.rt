@@ -50,12 +50,12 @@ pub fn machine_of(alloc: Global, text: &str, limit: u32) -> Result<Machine, Fail
     Ok(Machine::new(alloc, program, limit)?)
 }
 
-/// The number of the first turn that doesn't come out as it says.
-pub fn first_wrong(machine: &mut Machine, steps: &[Step]) -> Option<usize> {
-    for (number, step) in steps.iter().enumerate() {
+/// Whether each turn comes out as it says.
+pub fn goes(machine: &mut Machine, steps: &[Step]) -> bool {
+    for step in steps {
         if machine.step(step.choice()) != Ok(step.event()) {
-            return Some(number);
+            return false;
         }
     }
-    None
+    true
 }
