@@ -1,0 +1,49 @@
+package kit.player;
+
+/** What a call came to. */
+record Answer(Kind kind, int number, String words) {
+    enum Kind {
+        /** It returned {@code number}. */
+        VALUE,
+        /** It returned, and has no value. */
+        VOID,
+        /** It threw the exception {@code number} of the table "Exceptions". */
+        THROWN,
+        /** Out of it came the exception {@code number} that its routine or action was told to throw. */
+        THROUGH,
+        /** It threw something else, which {@code words} tell. */
+        FAULT
+    }
+
+    static final int ILLEGAL_STATE = 1;
+    static final int ILLEGAL_ARGUMENT = 2;
+    static final int INTERRUPTED = 3;
+    static final int BROKEN_BARRIER = 4;
+    static final int TIMEOUT = 5;
+
+    static final Answer NOTHING = new Answer(Kind.VOID, 0, "");
+
+    static Answer value(int number) {
+        return new Answer(Kind.VALUE, number, "");
+    }
+
+    static Answer thrown(int number) {
+        return new Answer(Kind.THROWN, number, "");
+    }
+
+    static Answer through(int number) {
+        return new Answer(Kind.THROUGH, number, "");
+    }
+
+    static Answer fault(String words) {
+        return new Answer(Kind.FAULT, 0, words);
+    }
+
+    boolean isValue(int wanted) {
+        return kind == Kind.VALUE && number == wanted;
+    }
+
+    boolean isThrown(int wanted) {
+        return kind == Kind.THROWN && number == wanted;
+    }
+}

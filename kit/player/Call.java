@@ -1,0 +1,54 @@
+package kit.player;
+
+/** A call that a real thread was told to make. The real side writes into it, the player reads. */
+final class Call {
+    final Request request;
+    private volatile Answer answer;
+    private volatile Entered entered;
+    private volatile boolean inside;
+
+    Call(Request request) {
+        this.request = request;
+    }
+
+    boolean done() {
+        return answer != null;
+    }
+
+    /** What it came to; null until it is done. */
+    Answer answer() {
+        return answer;
+    }
+
+    void finish(Answer answer) {
+        this.answer = answer;
+    }
+
+    /** The real thread stands at the beginning of a routine or an action. */
+    void enter(Entered where) {
+        inside = true;
+        entered = where;
+    }
+
+    boolean hasEntered() {
+        return entered != null;
+    }
+
+    /** Where it entered; the player takes this once for each time. */
+    Entered takeEntered() {
+        Entered where = entered;
+        entered = null;
+        return where;
+    }
+
+    /** Whether the real thread stands in a routine or an action of this call, and waits there to be told something. */
+    boolean inside() {
+        return inside;
+    }
+
+    /** The routine or action is told to end. */
+    void leave() {
+        entered = null;
+        inside = false;
+    }
+}

@@ -1,0 +1,271 @@
+package kit.player;
+
+/** What a choice comes to where it makes a call, enters a routine or an action, or ends one. */
+final class Caller {
+    private final Scene scene;
+
+    Caller(Scene scene) {
+        this.scene = scene;
+    }
+
+    /** The thread stands at a row that calls, and is free to. */
+    String call(ProgramThread thread, Row row) {
+        Method method = row.method();
+        Holds.Cause cause = null;
+        boolean cantBegin = false;
+        if (method.ofPhaser()) {
+            cause = Holds.Cause.tree(scene.root(row.object()));
+            cantBegin = method.arrives() && cantEnterRoutine(thread, row);
+        } else if (method.ofBarrier()) {
+            cause = Holds.Cause.action(row.object());
+        }
+        if (isHeld(thread, row, cause)) {
+            return "idle";
+        }
+        if (cantBegin) {
+            return thread.fail(thread.inRoutineOf(scene.root(row.object())) ? Answer.ILLEGAL_STATE : ProgramThread.STACK_FULL);
+        }
+        KnownDifference difference = forbidding(Situation.of(scene, thread, row));
+        if (difference != null) {
+            scene.notes.toldOver(difference, scene.step + 1);
+            return thread.fail(Answer.ILLEGAL_STATE);
+        }
+        if (method.waitsAtBarrier() && thread.stackFull() && scene.program.barriers.get(row.object()).action() >= 0) {
+            return thread.fail(ProgramThread.STACK_FULL);
+        }
+        return make(thread, row);
+    }
+
+    /** Whether the stack is too full for the routine that this arrival might enter. */
+    private boolean cantEnterRoutine(ProgramThread thread, Row row) {
+        Policy policy = scene.program.phasers.get(scene.root(row.object())).policy();
+        return policy.kind() == Policy.Kind.ROUTINE && thread.stackFull();
+    }
+
+    private KnownDifference forbidding(Situation at) {
+        if (!scene.first) {
+            KnownDifference difference = scene.plan.toldOver(scene.step);
+            return difference != null && scene.known.list.contains(difference) ? difference : null;
+        }
+        KnownDifference difference = scene.known.forbidding(at);
+        if (difference != null) {
+            scene.plan.tellOver(scene.step, difference);
+        }
+        return difference;
+    }
+
+    /** Whether the call isn't made now: the first play asks Vuthgal's rules, the second has learned it. */
+    private boolean isHeld(ProgramThread thread, Row row, Holds.Cause cause) {
+        if (!scene.first) {
+            boolean leftOut = scene.plan.leavesOut(scene.step);
+            if (leftOut) {
+                scene.note(Notes.Kind.LEFT_OUT, row.operation().word());
+            }
+            return leftOut;
+        }
+        Method method = row.method();
+        boolean held = method.registers() ? scene.held(thread, row)
+            : method.lockedOutByAction() && scene.lockedOut(thread, row.object());
+        if (held) {
+            scene.holds.held(thread, cause, Situation.of(scene, thread, row).parties(), scene.step);
+            return true;
+        }
+        boolean wasHeld = scene.holds.goesOn(thread, scene.plan);
+        if (!(wasHeld && method.registers())) {     // held registrations may go on one after the other
+            scene.holds.called(scene.step);
+        }
+        return false;
+    }
+
+    private String make(ProgramThread thread, Row row) {
+        Method method = row.method();
+        int object = row.object();
+        int waitingBefore = method == Method.RESET && scene.runner[object] == null
+            ? scene.look(Method.GET_NUMBER_WAITING, object) : 0;
+        if (method == Method.FORCE_TERMINATION && scene.first) {
+            rememberCounts(scene.root(object));
+        }
+        long time = method.timed() ? realTime(thread, row) : 0;
+        Pending pending = new Pending(
+            scene.real(thread).tell(new Request(method, Math.max(object, 0), row.number(thread.registers), time)), row);
+        scene.notes.asked();
+        pending.expires = method.timed() && !scene.first && scene.plan.expiry(thread) != null;
+        pending.time = time;
+        if (method.ofPhaser()) {
+            boolean namesPhase = method.waitsForPhase() && !method.arrives();
+            pending.awaited = namesPhase ? row.number(thread.registers) : scene.view[scene.root(object)];
+        }
+        RealThread.Outcome outcome = scene.real(thread).settle(pending.call, scene.patience);
+        if (outcome == RealThread.Outcome.ENTERED) {
+            return enter(thread, pending);
+        }
+        if (outcome == RealThread.Outcome.BLOCKED) {
+            return blocked(thread, pending);
+        }
+        if (waitingBefore > 0) {
+            scene.broken(object);
+        }
+        return answer(thread, pending, true);
+    }
+
+    private void rememberCounts(int root) {
+        if (scene.view[root] >= 0) {
+            scene.plan.forced(root, scene.unarrived(root));
+        }
+    }
+
+    /**
+     * The time that a timed wait really gets: none where it has none; an hour where the schedule lets it end otherwise; and
+     * where the first play saw it expire, about as long as the choices and the other expiries until then take.
+     */
+    private long realTime(ProgramThread thread, Row row) {
+        thread.timedCalls++;
+        int given = row.time(thread.registers);
+        if (given <= 0) {
+            return given;
+        }
+        Integer until = scene.first ? null : scene.plan.expiry(thread);
+        if (until == null) {
+            return HOUR;
+        }
+        long settle = scene.patience.settle();
+        long expiries = scene.plan.expiriesBetween(scene.step, until);
+        return expiries * (scene.patience.expiry() + 4 * settle) + (until - scene.step) * 2L * settle;
+    }
+
+    private static final long HOUR = 3_600_000_000_000L;
+
+    private String blocked(ProgramThread thread, Pending pending) {
+        Method method = pending.method();
+        thread.pending = pending;
+        if (method.registers() || method.ofBarrier() && scene.lockedOut(thread, pending.object())) {
+            scene.note(Notes.Kind.HELD, pending.row.operation().word());
+            return "idle";
+        }
+        if (!method.waits()) {
+            scene.odd(method.word + " blocks");
+        } else if (method.waitsForPhase() && pending.awaited != scene.view[scene.root(pending.object())]) {
+            scene.odd(method.word + " waits for another phase");
+        }
+        return waits(thread, pending);
+    }
+
+    /** The thread waits from now on, as the trace tells it. */
+    String waits(ProgramThread thread, Pending pending) {
+        if (pending.method().waitsAtBarrier()) {
+            pending.generation = scene.generation[pending.object()];
+        }
+        thread.pending = pending;
+        thread.status = ProgramThread.Status.WAITS;
+        return "wait";
+    }
+
+    /** The real thread stands at the beginning of a routine or an action. */
+    String enter(ProgramThread thread, Pending pending) {
+        Entered where = pending.call.takeEntered();
+        StackEntry.Kind kind = where.ofPhaser() ? StackEntry.Kind.ROUTINE : StackEntry.Kind.ACTION;
+        thread.push(new StackEntry(kind, where.object(), thread.registers.clone(), thread.row, pending));
+        thread.status = ProgramThread.Status.RUNS;
+        thread.pending = null;
+        if (where.ofPhaser()) {
+            thread.registers[0] = where.phase();
+            thread.registers[1] = where.parties();
+            thread.row = scene.program.phasers.get(where.object()).policy().argument();
+            scene.routineBegins(where.object());
+        } else {
+            thread.row = scene.program.barriers.get(where.object()).action();
+            scene.runner[where.object()] = thread;
+        }
+        return "enter";
+    }
+
+    /** The routine or action on top of the stack returns the number, or throws it. */
+    String endRoutine(ProgramThread thread, boolean throwing, int number) {
+        StackEntry entry = thread.pop();
+        boolean action = entry.kind() == StackEntry.Kind.ACTION;
+        Pending pending = entry.pending();
+        RealThread real = scene.real(thread);
+        scene.holds.called(scene.step);
+        if (throwing) {
+            real.fail(number);
+        } else {
+            real.answer(action || number == 0 ? 0 : 1);
+        }
+        RealThread.Outcome outcome = real.settle(pending.call, scene.patience);
+        if (action) {
+            scene.runner[entry.number()] = null;
+            scene.holds.freed(Holds.Cause.action(entry.number()), scene.step);
+        }
+        thread.registers = entry.registers();
+        thread.row = entry.row();
+        if (outcome == RealThread.Outcome.ENTERED) {
+            scene.odd("a call enters twice");
+            return enter(thread, pending);
+        }
+        if (outcome == RealThread.Outcome.BLOCKED) {
+            scene.odd(pending.method().word + " waits behind its routine or action");
+            return waits(thread, pending);
+        }
+        if (throwing && pending.call.answer().equals(Answer.through(number))) {
+            if (action) {
+                scene.broken(entry.number());
+            }
+            return "unwind";
+        }
+        thread.status = ProgramThread.Status.RUNS;
+        return answer(thread, pending, true);
+    }
+
+    /**
+     * The call is done: its answer goes into its register, or its exception is thrown. {@code atOnce} is false where the
+     * thread had to wait, and another choice shows the answer.
+     */
+    String answer(ProgramThread thread, Pending pending, boolean atOnce) {
+        Answer given = scene.known.told(Situation.of(scene, thread, pending.row), pending.call.answer());
+        thread.pending = null;
+        switch (given.kind()) {
+            case VALUE -> {
+                return value(thread, pending, given.number(), atOnce);
+            }
+            case VOID -> {
+                thread.status = ProgramThread.Status.RUNS;
+                return thread.ok();
+            }
+            case FAULT -> {
+                scene.odd(given.words());
+                return thread.fail(-1);
+            }
+            default -> {
+                return thrown(thread, pending, given.number());
+            }
+        }
+    }
+
+    private String thrown(ProgramThread thread, Pending pending, int exception) {
+        if (exception == Answer.INTERRUPTED) {
+            thread.interrupted = false;
+        }
+        boolean breaks = exception == Answer.INTERRUPTED || exception == Answer.TIMEOUT;
+        if (pending.method().waitsAtBarrier() && breaks) {
+            scene.broken(pending.object());
+        }
+        return thread.fail(exception);
+    }
+
+    private String value(ProgramThread thread, Pending pending, int value, boolean atOnce) {
+        Method method = pending.method();
+        thread.status = ProgramThread.Status.RUNS;
+        int told = value;
+        if (method == Method.INTERRUPTED) {
+            thread.interrupted = false;
+        } else if (method.waitsAtBarrier() && atOnce && value == 0) {
+            scene.tripped(pending.object());
+        } else if (method.waitsForPhase() && pending.released && value == pending.viewAtRelease) {
+            told = scene.look(Method.GET_PHASE, scene.root(pending.object()));
+            if (told != value) {
+                scene.note(Notes.Kind.TOLD_AGAIN, method.word + " answered " + value + " when it was released");
+            }
+        }
+        return thread.put(pending.row.operand(0), told);
+    }
+}

@@ -1,0 +1,237 @@
+package kit.player;
+
+import java.io.IOException;
+import java.lang.reflect.Modifier;
+import java.nio.file.Files;
+import java.nio.file.Path;
+import java.util.ArrayList;
+import java.util.HashSet;
+import java.util.List;
+import java.util.Set;
+import java.util.stream.Stream;
+
+/** What {@code kit/run} runs: the cases, the differences, the wrong adapters, a port behind a pipe, and random scenarios. */
+public final class Kit {
+    private static final int SCENARIOS = 300;
+
+    /** A case that the JDK plays as Vuthgal does, with what its first play has taught. */
+    private record Learned(Case each, Plan plan) {
+    }
+
+    private final Path repository;
+    private final Path kit;
+    private final Vuthgal vuthgal;
+    private final List<Learned> learned = new ArrayList<>();
+    private int passed;
+    private int failed;
+
+    private Kit(Path repository, Path program) {
+        this.repository = repository;
+        kit = repository.resolve("kit");
+        vuthgal = new Vuthgal(program);
+    }
+
+    /** The words are the repository's folder, the program to hold all against, and the commands of ports. */
+    public static void main(String[] words) throws IOException {
+        Kit kit = new Kit(Path.of(words[0]), Path.of(words[1]));
+        kit.checkCases();
+        kit.checkDifferences();
+        kit.checkRules();
+        kit.checkWrongAdapters();
+        for (String command : List.of(words).subList(2, words.length)) {
+            kit.checkPort(command);
+        }
+        kit.checkRandom();
+        System.out.println(kit.passed + " passed, " + kit.failed + " failed");
+        System.exit(kit.failed == 0 ? 0 : 1);
+    }
+
+    private void count(String name, boolean passes, String what) {
+        if (passes) {
+            passed++;
+        } else {
+            failed++;
+            System.out.println("FAILED " + name + ": " + what);
+        }
+    }
+
+    private static void tellAgain(String name, Verdict verdict) {
+        if (verdict.isSame() && verdict.tries() > 1) {
+            System.out.println(name + ": the same with more patience, at try " + verdict.tries());
+        }
+    }
+
+    // ---- cases
+
+    private void checkCases() throws IOException {
+        Sums sums = new Sums();
+        Judge judge = new Judge(new JvmStage(new JdkFactory()), vuthgal, KnownDifferences.COUNTS).warm();
+        for (Path file : Player.programsBelow(kit.resolve("cases"))) {
+            String name = kit.relativize(file).toString();
+            Case each = Case.of(vuthgal, name, file);
+            Verdict verdict = judge.judge(each);
+            count(name, verdict.isSame() && isWholeJudged(verdict.notes()) && isTrace(each), whatFails(each, verdict));
+            tellAgain(name, verdict);
+            sums.add(verdict.notes());
+            if (verdict.isSame()) {
+                learned.add(new Learned(each, verdict.plan()));
+            }
+        }
+        System.out.println("cases on the JDK: " + learned.size() + " the same, " + sums.line());
+    }
+
+    /** Whether nothing in it was left out, told again, or unseen. */
+    private static boolean isWholeJudged(Notes notes) {
+        return notes.count(Notes.Kind.LEFT_OUT) + notes.count(Notes.Kind.TOLD_AGAIN) + notes.count(Notes.Kind.UNSEEN) == 0;
+    }
+
+    private static boolean isTrace(Case each) throws IOException {
+        Path trace = Case.beside(each.file(), ".trace");
+        return Files.exists(trace) && Files.readString(trace).equals(each.wanted());
+    }
+
+    private static String whatFails(Case each, Verdict verdict) throws IOException {
+        return (isTrace(each) ? "" : "its .trace isn't Vuthgal's; ") + verdict.words() + "; " + String.join("; ", verdict.notes().lines());
+    }
+
+    // ---- differences
+
+    private void checkDifferences() throws IOException {
+        Judge plain = new Judge(new JvmStage(new JdkFactory()), vuthgal, KnownDifferences.NONE);
+        Judge known = new Judge(new JvmStage(new JdkFactory()), vuthgal, KnownDifferences.ALL);
+        List<Path> files = Player.programsBelow(kit.resolve("differences"));
+        for (Path file : files) {
+            String name = kit.relativize(file).toString();
+            Case ours = Case.of(vuthgal, name, file);
+            count(name, isTrace(ours), "its .trace isn't Vuthgal's");
+            String jdk = Files.readString(Case.beside(file, ".jdk"));
+            Case theirs = new Case(name, file, ours.program(), ours.schedule(), jdk);
+            Verdict verdict = plain.judge(theirs);
+            count(name, verdict.trace().equals(jdk), "the JDK's trace isn't that of its .jdk:\n" + verdict.trace());
+            count(name, !jdk.equals(ours.wanted()), "it shows no difference");
+            Verdict told = known.judge(ours);
+            count(name, told.isSame(), "with --known it is " + told.words() + "; " + String.join("; ", told.notes().lines()));
+        }
+        System.out.println("differences: " + files.size() + " programs");
+    }
+
+    /** Each documented difference that is told over has its row, its program, and a wrong adapter that is nearly it. */
+    private void checkRules() throws IOException {
+        String behaviour = Files.readString(repository.resolve("docs/BEHAVIOUR.md"));
+        String table = behaviour.substring(behaviour.indexOf("## Where the JDK differs"));
+        for (KnownDifference difference : KnownDifferences.ALL.list) {
+            count(difference.row(), table.contains("| " + difference.row() + " |"), "there is no such row in BEHAVIOUR.md");
+            Path program = kit.resolve("differences").resolve(difference.program() + ".asm");
+            count(difference.row(), Files.exists(program), "there is no " + program);
+            Path nearly = kit.resolve("wrong").resolve(difference.nearly() + ".java");
+            count(difference.row(), Files.exists(nearly), "there is no " + nearly);
+        }
+    }
+
+    // ---- wrong adapters
+
+    private void checkWrongAdapters() throws IOException {
+        int found = 0;
+        Set<String> nearly = new HashSet<>();
+        KnownDifferences.ALL.list.forEach(difference -> nearly.add(difference.nearly()));
+        for (String name : wrongAdapters()) {
+            String finder = findByCases(name);
+            if (finder == null && nearly.contains(name)) {
+                finder = findByDifferences(name);
+            }
+            count(name, finder != null, "no case finds it");
+            if (finder != null) {
+                found++;
+                System.out.println("  " + name + " is found first by " + finder);
+            }
+        }
+        System.out.println("wrong adapters: " + found + " found");
+    }
+
+    private List<String> wrongAdapters() throws IOException {
+        try (Stream<Path> files = Files.list(kit.resolve("wrong"))) {
+            return files.map(file -> file.getFileName().toString().replace(".java", "")).filter(Kit::isAdapter).sorted().toList();
+        }
+    }
+
+    private static boolean isAdapter(String name) {
+        Class<?> adapter = classOf(name);
+        return Factory.class.isAssignableFrom(adapter) && !Modifier.isAbstract(adapter.getModifiers());
+    }
+
+    private static Class<?> classOf(String name) {
+        try {
+            return Class.forName("kit.wrong." + name);
+        } catch (ClassNotFoundException none) {
+            throw new IllegalStateException(none);
+        }
+    }
+
+    private Judge judgeOf(String adapter, KnownDifferences known) {
+        try {
+            Stage stage = new JvmStage((Factory) classOf(adapter).getDeclaredConstructor().newInstance());
+            return new Judge(stage, vuthgal, known, Patience.OF_JVM[0].withBound(SECOND / 3), Patience.OF_JVM[1].withBound(SECOND));
+        } catch (ReflectiveOperationException none) {
+            throw new IllegalStateException(none);
+        }
+    }
+
+    private static final long SECOND = 1_000_000_000L;
+
+    /** The first case in which it differs, twice; null where there is none. */
+    private String findByCases(String adapter) {
+        Judge judge = judgeOf(adapter, KnownDifferences.COUNTS);
+        for (Learned at : learned) {
+            Verdict verdict = judge.judge(at.each(), at.plan());
+            if (verdict.kind() == Verdict.Kind.DIFFERS) {
+                return at.each().name() + ", line " + verdict.line();
+            }
+        }
+        return null;
+    }
+
+    /** The same among the programs of the differences, with these told over. */
+    private String findByDifferences(String adapter) throws IOException {
+        Judge judge = judgeOf(adapter, KnownDifferences.ALL);
+        for (Path file : Player.programsBelow(kit.resolve("differences"))) {
+            Verdict verdict = judge.judge(Case.of(vuthgal, kit.relativize(file).toString(), file));
+            if (verdict.kind() == Verdict.Kind.DIFFERS) {
+                return kit.relativize(file) + ", line " + verdict.line();
+            }
+        }
+        return null;
+    }
+
+    // ---- a port behind a pipe, and random scenarios
+
+    private void checkPort(String command) {
+        Stage stage = new PortStage(command);
+        Judge judge = new Judge(stage, vuthgal, KnownDifferences.COUNTS).warm();
+        Sums sums = new Sums();
+        int leftOut = 0;
+        for (Learned at : learned) {
+            Verdict verdict = judge.judge(at.each(), at.plan());
+            boolean none = verdict.kind() == Verdict.Kind.LEFT_OUT;
+            leftOut += none ? 1 : 0;
+            count(at.each().name() + " by " + command, verdict.isSame() || none,
+                verdict.words() + "; " + String.join("; ", verdict.notes().lines()));
+            tellAgain(at.each().name() + " by the port", verdict);
+            sums.add(verdict.notes());
+        }
+        stage.close();
+        System.out.println("cases on the port `" + command + "`: " + sums.line() + "; " + leftOut + " cases that it can't play");
+    }
+
+    private void checkRandom() throws IOException {
+        Path keep = Files.createTempDirectory("vuthgal-different");
+        Judge judge = new Judge(new JvmStage(new JdkFactory()), vuthgal, KnownDifferences.ALL);
+        RandomCases cases = new RandomCases(vuthgal, judge, keep);
+        System.out.println("random scenarios on the JDK, seeds 1 to " + SCENARIOS + ":");
+        cases.play(1, SCENARIOS, System.out);
+        passed += cases.same();
+        failed += cases.different();
+        if (cases.different() == 0) {
+            Files.delete(keep);
+        }
+    }
+}

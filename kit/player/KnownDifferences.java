@@ -1,0 +1,52 @@
+package kit.player;
+
+import java.util.List;
+
+/** The documented differences that a play tells over. */
+final class KnownDifferences {
+    private static final KnownDifference COUNTS_AFTER_FORCE = new CountsAfterForce();
+
+    /** All of them, for random programs. */
+    static final KnownDifferences ALL = new KnownDifferences(List.of(
+        new CallBlockedInRoutine(),
+        new NobodyRegisteredInRoutine(),
+        new NegativePartiesInRoutine(),
+        new OtherPhaseAwaitedInRoutine(),
+        new CallInTerminatedRoutine(),
+        new ArrivalInRoutine(),
+        new RefusedClimb(),
+        new LastArriveAndAwait(),
+        new TooManyOnceTerminated(),
+        COUNTS_AFTER_FORCE,
+        new OwnAwaitInAction(),
+        new OwnResetInAction(),
+        new OwnNumberWaitingInAction()));
+
+    /** For the cases of the set, which may end on a phaser that was forced. */
+    static final KnownDifferences COUNTS = new KnownDifferences(List.of(COUNTS_AFTER_FORCE));
+
+    static final KnownDifferences NONE = new KnownDifferences(List.of());
+
+    final List<KnownDifference> list;
+
+    private KnownDifferences(List<KnownDifference> list) {
+        this.list = list;
+    }
+
+    /** The one for which the call isn't made, or null. */
+    KnownDifference forbidding(Situation at) {
+        return list.stream().filter(difference -> difference.forbids(at)).findFirst().orElse(null);
+    }
+
+    /** The answer as it is told: the one that was given, or Vuthgal's. */
+    Answer told(Situation at, Answer given) {
+        for (KnownDifference difference : list) {
+            Answer instead = difference.instead(at, given);
+            if (instead != null) {
+                at.scene().notes.toldOver(difference, at.scene().step + 1);
+                return instead;
+            }
+        }
+        return given;
+    }
+}

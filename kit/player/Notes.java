@@ -1,0 +1,92 @@
+package kit.player;
+
+import java.util.ArrayList;
+import java.util.EnumMap;
+import java.util.List;
+import java.util.Map;
+import java.util.TreeMap;
+
+/** What a play has to tell beside its trace. */
+final class Notes {
+    enum Kind {
+        /** A held call that wasn't made, since the real one would have gone on too early. */
+        LEFT_OUT("left out"),
+        /** An answer that was right when the wait ended, shown as that of the choice. */
+        TOLD_AGAIN("told again"),
+        /** A documented difference, told as Vuthgal has it. */
+        TOLD_OVER("told over"),
+        /** A part of the state text that the objects couldn't be asked for. */
+        UNSEEN("unseen"),
+        /** A call that was held, and was made all the same. */
+        HELD("held"),
+        /** A timed wait of a phaser ran out before its choice. */
+        EARLY("early"),
+        /** Something that never happens where a port is right, or where the machine isn't too slow. */
+        ODD("odd");
+
+        final String words;
+
+        Kind(String words) {
+            this.words = words;
+        }
+    }
+
+    private final Map<Kind, Integer> counts = new EnumMap<>(Kind.class);
+    private final Map<String, Integer> differences = new TreeMap<>();
+    private final List<String> lines = new ArrayList<>();
+    private int asked;
+    private int firstOdd;
+    private String firstOddWords = "";
+
+    void asked() {
+        asked++;
+    }
+
+    /** {@code step} counts from 1; real threads of a port on the JVM may come here too. */
+    synchronized void add(Kind kind, int step, String what) {
+        counts.merge(kind, 1, Integer::sum);
+        lines.add(step + " " + kind.words + ": " + what);
+        if (kind == Kind.ODD && firstOdd == 0) {
+            firstOdd = step;
+            firstOddWords = what;
+        }
+    }
+
+    void toldOver(KnownDifference difference, int step) {
+        differences.merge(difference.program(), 1, Integer::sum);
+        add(Kind.TOLD_OVER, step, difference.row());
+    }
+
+    int count(Kind kind) {
+        return counts.getOrDefault(kind, 0);
+    }
+
+    int askedCalls() {
+        return asked;
+    }
+
+    /** The first choice at which something odd happened, 0 if none. */
+    int firstOdd() {
+        return firstOdd;
+    }
+
+    /** What that was; empty if nothing. */
+    String firstOddWords() {
+        return firstOddWords;
+    }
+
+    List<String> lines() {
+        return lines;
+    }
+
+    /** How often each documented difference was told over, by the name of its program. */
+    Map<String, Integer> differences() {
+        return differences;
+    }
+
+    /** The line below a verdict. */
+    String sums() {
+        return asked + " calls asked, " + count(Kind.LEFT_OUT) + " left out, " + count(Kind.TOLD_AGAIN) + " told again, "
+            + count(Kind.TOLD_OVER) + " told over";
+    }
+}

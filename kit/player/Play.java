@@ -1,0 +1,160 @@
+package kit.player;
+
+import java.util.List;
+
+/** One play of a program under a schedule, choice by choice. */
+final class Play {
+    private static final long LONGEST_CLEARING = 1_000_000_000L;
+    private static final int ROUNDS_BEFORE_INTERRUPTS = 2;
+
+    final Scene scene;
+    private final List<Choice> schedule;
+    private final Caller caller;
+    private final Waiter waiter;
+    private final StringBuilder trace = new StringBuilder();
+    private int effectiveSteps;
+
+    Play(Scene scene, List<Choice> schedule) {
+        this.scene = scene;
+        this.schedule = schedule;
+        caller = new Caller(scene);
+        waiter = new Waiter(scene, caller);
+    }
+
+    /** The trace; where the real side hangs it stops there. */
+    String play() {
+        try {
+            scene.build();
+            for (Choice choice : schedule) {
+                if (choice.thread() >= scene.threads.size()) {
+                    trace.append(head(choice)).append("- none\n");
+                    break;
+                }
+                playChoice(choice);
+            }
+            if (scene.first) {
+                scene.holds.finish(scene.plan);
+            } else {
+                trace.append(new StateText(scene, waiter).write(effectiveSteps));
+            }
+        } catch (Hangs hangs) {
+            scene.odd(hangs.getMessage());
+        }
+        return trace.toString();
+    }
+
+    private String head(Choice choice) {
+        return (scene.step + 1) + (choice.expiry() ? " x" : " t") + choice.thread() + " ";
+    }
+
+    private void playChoice(Choice choice) {
+        ProgramThread thread = scene.threads.get(choice.thread());
+        int row = thread.row;
+        scene.mark = null;
+        String what = choose(thread, choice.expiry());
+        if (!what.equals("idle")) {
+            effectiveSteps++;
+            if (scene.reached) {
+                scene.followViews();
+                waiter.followReleases();
+            }
+        }
+        trace.append(head(choice)).append(row).append(' ').append(what);
+        if (scene.mark != null) {
+            trace.append(' ').append(scene.mark);
+        }
+        trace.append('\n');
+        scene.step++;
+    }
+
+    private String choose(ProgramThread thread, boolean expiry) {
+        scene.reached = true;
+        if (expiry) {
+            return waiter.canExpire(thread) ? waiter.expire(thread) : "idle";
+        }
+        return switch (thread.status) {
+            case ENDED, DIED -> "idle";
+            case THROWS -> popThrowing(thread);
+            case WAITS -> waiter.turn(thread);
+            case RUNS -> thread.pending != null ? waiter.heldTurn(thread) : playRow(thread);
+        };
+    }
+
+    private String playRow(ProgramThread thread) {
+        Row row = scene.program.rows.get(thread.row);
+        String plain = thread.playPlain(row, scene.cells);
+        if (plain != null) {
+            scene.reached = false;
+            return plain;
+        }
+        return switch (row.operation()) {
+            case RET -> caller.endRoutine(thread, false, thread.registers[0]);
+            case INTR -> {
+                waiter.interrupt(scene.threads.get(row.operand(0)));
+                yield thread.ok();
+            }
+            default -> caller.call(thread, row);
+        };
+    }
+
+    private String popThrowing(ProgramThread thread) {
+        String popped = thread.popThrowing();
+        if (popped != null) {
+            scene.reached = false;
+            return popped;
+        }
+        return caller.endRoutine(thread, true, thread.code);
+    }
+
+    /** Lets all real threads out of their calls, and clears their interrupted statuses. */
+    void clear() {
+        long limit = System.nanoTime() + LONGEST_CLEARING;
+        try {
+            for (int round = 0; !allOut(round > ROUNDS_BEFORE_INTERRUPTS); round++) {
+                forceAll();
+                if (System.nanoTime() > limit) {
+                    scene.stage.abandon();
+                    return;
+                }
+                Thread.yield();
+            }
+            clearStatuses();
+        } catch (Hangs hangs) {
+            scene.stage.abandon();
+        }
+    }
+
+    private boolean allOut(boolean interrupting) {
+        boolean all = true;
+        for (ProgramThread thread : scene.threads) {
+            RealThread real = scene.real(thread);
+            if (!real.isOut()) {
+                all = false;
+                if (interrupting) {
+                    real.interrupt();
+                }
+            }
+        }
+        return all;
+    }
+
+    private void forceAll() {
+        for (int phaser = 0; phaser < scene.view.length; phaser++) {
+            if (scene.root(phaser) == phaser) {
+                await(scene.stage.thread(Stage.LOOKER).tell(Request.of(Method.FORCE_TERMINATION, phaser)));
+            }
+        }
+    }
+
+    private void clearStatuses() {
+        for (ProgramThread thread : scene.threads) {
+            await(scene.real(thread).tell(Request.of(Method.INTERRUPTED, 0)));
+        }
+    }
+
+    private static void await(Call call) {
+        if (!RealThread.done(call, LONGEST_CLEARING)) {
+            throw new Hangs(call.request.words());
+        }
+    }
+}

@@ -1,0 +1,58 @@
+package kit.player;
+
+/** Calls made by the process of a port in any language. A process that hangs is killed, and started again. */
+final class PortStage implements Stage {
+    private final String command;
+    private PortProcess process;
+
+    PortStage(String command) {
+        this.command = command;
+    }
+
+    @Override
+    public void begin() {
+        if (process == null) {
+            process = new PortProcess(command);
+        }
+        process.begin();
+    }
+
+    @Override
+    public void phaser(int number, int parent, int parties, int firstPhase, Advance advance) {
+        if (advance != null) {
+            process.overrides(number, advance);
+        }
+        process.order("phaser " + number + " " + parent + " " + parties + " " + firstPhase + (advance == null ? " own" : " asked"));
+    }
+
+    @Override
+    public void barrier(int number, int parties, boolean withAction) {
+        process.order("barrier " + number + " " + parties + (withAction ? " asked" : " none"));
+    }
+
+    @Override
+    public RealThread thread(int number) {
+        if (process == null) {
+            throw new Hangs("there is no port");
+        }
+        return process.thread(number);
+    }
+
+    @Override
+    public void abandon() {
+        close();
+        process = null;
+    }
+
+    @Override
+    public Patience[] patience() {
+        return Patience.OF_PORT;
+    }
+
+    @Override
+    public void close() {
+        if (process != null) {
+            process.kill();
+        }
+    }
+}

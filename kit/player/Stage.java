@@ -1,0 +1,34 @@
+package kit.player;
+
+/** Where the real calls are made: in this JVM, or by a port's process. Only the player's own thread calls it. */
+interface Stage {
+    /** The number of the player's own thread, which makes the looks at the objects; those of a program are below it. */
+    int LOOKER = 64;
+
+    /** What the {@code onAdvance} of a phaser does when it is asked. */
+    interface Advance {
+        /** The answer that is known at once, or null where the thread enters a routine. */
+        Boolean decide(int phase, int parties);
+    }
+
+    /** A new case begins: all objects are forgotten. */
+    void begin();
+
+    /** Makes the next phaser. {@code parent} is -1 for a root; {@code advance} is null where the class's own is kept. */
+    void phaser(int number, int parent, int parties, int firstPhase, Advance advance);
+
+    /** Makes the next barrier. */
+    void barrier(int number, int parties, boolean withAction);
+
+    /** The thread of this number, up to {@code LOOKER}. */
+    RealThread thread(int number);
+
+    /** Some thread didn't come out of its call: whatever is needed so that the next case meets fresh threads. */
+    void abandon();
+
+    /** How long to wait, first and then at each further try. */
+    Patience[] patience();
+
+    /** All is over. */
+    void close();
+}
