@@ -1,0 +1,23 @@
+package kit.wrong;
+
+import java.util.concurrent.BrokenBarrierException;
+import java.util.concurrent.TimeoutException;
+import kit.player.BarrierUnderTest;
+
+/** An interrupt lets the others go, and leaves the barrier whole. */
+public final class InterruptMends extends WrongFactory {
+    @Override
+    BarrierUnderTest wrong(BarrierUnderTest right) {
+        return new BarrierWrapper(right) {
+            @Override
+            int await(boolean timed, long nanoseconds) throws InterruptedException, BrokenBarrierException, TimeoutException {
+                try {
+                    return super.await(timed, nanoseconds);
+                } catch (InterruptedException interrupted) {
+                    super.reset();
+                    throw interrupted;
+                }
+            }
+        };
+    }
+}
