@@ -27,7 +27,7 @@ const EXPIRY_0: Choice = Choice {
 
 /// Whether as many idle choices are taken as is said.
 fn idles(machine: &mut Machine, choice: Choice, most: u64, taken: u64) -> bool {
-    machine.thread_count() == 2 && machine.idle(choice, most) == taken
+    machine.thread_count() == 2 && choice.thread < 2 && machine.idle(choice, most) == taken
 }
 
 fn has_counts(machine: &Machine, choices: u64, steps: u32) -> bool {
