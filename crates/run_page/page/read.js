@@ -1,0 +1,232 @@
+// Draws the text of this page. Nothing here plays a program: each picture is read off the states that the text holds.
+
+// ---- the three texts
+const id = name => document.getElementById(name);
+
+function linesOf(name) {
+  const lines = id(name).textContent.split("\n");
+  need(lines.pop() === "", "the " + name + " doesn't end with a line");
+  return lines;
+}
+function need(is, why) { if (!is) throw new Error(why); }
+const wordsOf = line => line.split(/[ \t\r]+/).filter(word => word);
+
+// The kinds of rows: their operands (r register, n number, L row, P phaser, B barrier, T thread, C cell), and the call of
+// Java that they stand for, where $ is the value of the next register behind the first, and @ a thread's name.
+const KINDS = {
+  halt: [""], ldi: ["rn"], mov: ["rr"], add: ["rrr"], sub: ["rrr"], jmp: ["L"], beq: ["rrL"], bne: ["rrL"], blt: ["rrL"],
+  call: ["L"], ret: [""], try: ["L"], endtry: [""], throw: ["r"], out: ["r"], lds: ["rC"], sts: ["rC"], self: ["r"],
+  intr: ["T", "@.interrupt()"], intrd: ["r", "Thread.interrupted()"], preg: ["rP", "register()"],
+  pbulk: ["rPr", "bulkRegister($)"], parr: ["rP", "arrive()"], pdereg: ["rP", "arriveAndDeregister()"],
+  paaa: ["rP", "arriveAndAwaitAdvance()"], pawait: ["rPr", "awaitAdvance($)"],
+  pawaiti: ["rPr", "awaitAdvanceInterruptibly($)"], pforce: ["P", "forceTermination()"], pphase: ["rP", "getPhase()"],
+  pparties: ["rP", "getRegisteredParties()"], parrived: ["rP", "getArrivedParties()"],
+  punarr: ["rP", "getUnarrivedParties()"], pterm: ["rP", "isTerminated()"], pparent: ["rP", "getParent()"],
+  proot: ["rP", "getRoot()"], cawait: ["rB", "await()"], creset: ["B", "reset()"], cbroken: ["rB", "isBroken()"],
+  cwaiting: ["rB", "getNumberWaiting()"], cparties: ["rB", "getParties()"],
+  pawaitt: ["rPrr", "awaitAdvanceInterruptibly($, $, unit)"], cawaitt: ["rBr", "await($, unit)"]
+};
+const OPERAND = { r: /^r[0-7]$/, n: /^-?\d+$/, L: /^#\d+$/, P: /^#\d+$/, B: /^#\d+$/, T: /^#\d+$/, C: /^#\d+$/ };
+
+// ---- the canonical listing
+const phasers = [], barriers = [], threads = [], rows = [];
+
+function rowOf(words, text) {
+  const kind = KINDS.hasOwnProperty(words[0]) ? KINDS[words[0]][0] : null, operands = words.slice(1);
+  need(kind !== null && kind.length === operands.length, "no row: " + text);
+  need(operands.every((operand, k) => OPERAND[kind[k]].test(operand)), "no row: " + text);
+  return { word: words[0], kinds: kind, operands: operands, text: text };
+}
+function readListing() {
+  for (const line of linesOf("listing")) {
+    const w = wordsOf(line), after = word => w.includes(word) ? +w[w.indexOf(word) + 1].slice(1) : -1;
+    if (w[0] === ".phaser") phasers.push({ parent: after("parent"), routine: after("onadvance") });
+    else if (w[0] === ".barrier") barriers.push({ parties: +w[2], action: after("action") });
+    else if (w[0] === ".thread") threads.push({ row: +w[2].slice(1) });
+    else rows.push(rowOf(w, line));
+  }
+  need(threads.length > 0, "the listing has no thread");
+}
+// the number that a row's operand of this kind names, -1 where it has none
+function operandOf(row, kind) {
+  const at = row.kinds.indexOf(kind);
+  return at < 0 ? -1 : +row.operands[at].slice(1);
+}
+function rootOf(p) {
+  while (phasers[p].parent >= 0) p = phasers[p].parent;
+  return p;
+}
+
+// ---- the text as it was written: names and comments. What doesn't agree with the listing is left aside.
+let names = { P: [], B: [], T: [], C: [], L: {} }, written = null, about = "";
+
+function readSource() {
+  const found = { P: [], B: [], T: [], C: [], L: {} }, out = [], introduction = [];
+  const kinds = { ".phaser": "P", ".barrier": "B", ".thread": "T", ".cell": "C" };
+  let count = 0, begun = false;
+  const lines = id("source").textContent.split("\n");
+  for (const line of lines) {
+    const cut = line.indexOf(";"), code = cut < 0 ? line : line.slice(0, cut), talk = cut < 0 ? "" : line.slice(cut);
+    const w = wordsOf(code);
+    let row = -1;
+    if (w.length && /:$/.test(w[0])) (found.L[count] = found.L[count] || []).push(w.shift().slice(0, -1));
+    if (w.length && kinds[w[0]]) found[kinds[w[0]]].push(w[1]);
+    else if (w.length) {
+      if (count >= rows.length || rows[count].word !== w[0]) return;
+      row = count++;
+    }
+    begun = begun || code.trim() !== "";
+    if (begun) out.push({ row: row, code: code.replace(/\r/g, ""), talk: talk.replace(/\r/g, ""), rule: row < 0 && w.length > 0 });
+    else if (talk) introduction.push(talk.slice(1).trim());
+  }
+  const agrees = count === rows.length && found.P.length === phasers.length && found.B.length === barriers.length
+    && found.T.length === threads.length;
+  if (!agrees || !begun) return;
+  while (!out[out.length - 1].code.trim() && !out[out.length - 1].talk) out.pop();
+  names = found;
+  written = out;
+  about = introduction.join(" ").trim();
+}
+const nameOf = (kind, n) => names[kind][n] || { P: "p", B: "b", T: "t", C: "c" }[kind] + n;
+const threadName = t => nameOf("T", t);
+
+// ---- the run: moments, each the choice that led there and where its state stands
+const EVENT = /^(\d+) ([tx])(\d+) (\d+|-) (idle|ok|wait|enter|unwind|end|none|limit|(=|out|throw|catch|die) (-?\d+))(?: ([+-])([pb])(\d+)(?: (-?\d+))?)?$/;
+const STATE = /^state (\d+) (\d+) (all|stuck|live)$/;
+const THREAD = /^t(\d+) (\d+) (runs|waits|ended|throws:-?\d+|died:-?\d+) ([01]) regs((?: -?\d+){8}) stack((?: [CHAX]\d+)*) out((?: -?\d+)*)$/;
+const PHASER = /^p(\d+) (-?\d+) (\d+) (\d+) (\d+)$/;
+const BARRIER = /^b(\d+) (\d+) ([01])$/;
+const CELL = /^c(\d+) (-?\d+)$/;
+const NEXT = /^next((?: [tx]\d+)*)$/;
+
+// what a thread does in a moment: it is over, runs, runs where it can't go on, waits, waits where it can go on, throws
+const OVER = 0, RUNS = 1, HELD = 2, WAITS = 3, FREE = 4, THROWS = 5;
+const moments = [];
+let lines = [], lanes, places;
+
+function eventOf(line) {
+  const m = EVENT.exec(line);
+  need(m, "no line of a choice: " + line);
+  return { step: +m[1], expiry: m[2] === "x", thread: +m[3], row: m[4] === "-" ? -1 : +m[4], what: m[6] || m[5],
+    value: m[7] === undefined ? null : +m[7],
+    mark: m[8] ? { kind: m[8] + m[9], on: +m[10], view: m[11] === undefined ? null : +m[11] } : null };
+}
+const laneOf = (i, t) => lanes[i * threads.length + t];
+const placeOf = (i, t) => places[i * threads.length + t];
+
+// the lines of a moment's state, from this one on; answers the line behind them
+function readMoment(i, at, event, last) {
+  const count = threads.length, take = (form, n) => {
+    const m = form.exec(lines[at] || "");
+    need(m && (n === undefined || +m[1] === n), "no line of a state: " + (lines[at] || "the end"));
+    at++;
+    return m;
+  };
+  const state = take(STATE), begins = at, doing = [];
+  need(+state[1] === (event ? event.step : +state[1]), "the states' numbers don't follow one another: " + state[0]);
+  for (let t = 0; t < count; t++) {
+    const m = take(THREAD, t), was = i ? lines[last + t] : m[0];
+    need(+m[2] < rows.length, "a thread stands at no row: " + m[0]);
+    places[i * count + t] = +m[2];
+    doing.push(m[3][0] === "e" || m[3][0] === "d" ? OVER : m[3][0] === "t" ? THROWS : m[3] === "waits" ? WAITS : RUNS);
+    // a choice changes its own thread, and of others at most the interrupted status
+    if (i && t !== event.thread && m[0] !== was) {
+      need(m[0].replace(/ [01] regs/, "") === was.replace(/ [01] regs/, ""), "a thread changed whose turn it wasn't: " + m[0]);
+    }
+  }
+  phasers.forEach((_, n) => take(PHASER, n));
+  barriers.forEach((_, n) => take(BARRIER, n));
+  while (/^c/.test(lines[at])) take(CELL);
+  const next = {};
+  for (const word of take(NEXT)[1].split(" ")) next[word] = true;
+  doing.forEach((lane, t) => {
+    lanes[i * count + t] = lane === RUNS && !next["t" + t] ? HELD : lane === WAITS && next["t" + t] ? FREE : lane;
+  });
+  return { at: at, threads: begins };
+}
+function readRun() {
+  lines = linesOf("run");
+  const most = lines.reduce((count, line) => count + (/^\d/.test(line) ? 1 : 0), 1), count = threads.length;
+  lanes = new Uint8Array(most * count);
+  places = new Uint16Array(most * count);
+  let at = 0, last = 0;
+  for (let i = 0; i < most; i++) {
+    let event = null;
+    if (i) {
+      event = eventOf(lines[at++]);
+      need(i < 2 || event.step === moments[i - 1].event.step + 1, "the choices' numbers don't follow one another: " + lines[at - 1]);
+      need(event.row === (event.thread < count ? placeOf(i - 1, event.thread) : -1), "no thread stood at this row: " + lines[at - 1]);
+    }
+    moments.push({ event: event, from: at, refused: i === most - 1 && i > 0 && at === lines.length });
+    if (moments[i].refused) {
+      lanes.copyWithin(i * count, (i - 1) * count, i * count);
+      places.copyWithin(i * count, (i - 1) * count, i * count);
+    } else {
+      const read = readMoment(i, at, event, last);
+      at = read.at;
+      last = read.threads;
+    }
+  }
+  need(at === lines.length, "there are lines behind the run's end: " + lines[at]);
+}
+
+// ---- a moment's state in full; some are kept
+let kept = new Map();
+
+function readState(i) {
+  const s = { threads: [], phasers: [], barriers: [], cells: {}, next: {}, expire: {} };
+  for (let at = moments[i].from; ; at++) {
+    const line = lines[at], m = { s: STATE, t: THREAD, p: PHASER, b: BARRIER, c: CELL, n: NEXT }[line[0]].exec(line);
+    const words = text => text.split(" ").slice(1);
+    if (line[0] === "s") Object.assign(s, { choices: +m[1], word: m[3] });
+    else if (line[0] === "t") {
+      const status = m[3].split(":");
+      s.threads.push({ row: +m[2], status: status[0], code: +status[1], flag: m[4] === "1", regs: words(m[5]).map(Number),
+        stack: words(m[6]), out: words(m[7]) });
+    } else if (line[0] === "p") s.phasers.push({ view: +m[2], parties: +m[3], arrived: +m[4] });
+    else if (line[0] === "b") s.barriers.push({ waiting: +m[2], broken: m[3] === "1" });
+    else if (line[0] === "c") s.cells[+m[1]] = +m[2];
+    else {
+      for (const word of words(m[1])) (word[0] === "t" ? s.next : s.expire)[+word.slice(1)] = true;
+      return s;
+    }
+  }
+}
+function stateAt(i) {
+  if (moments[i].refused) i--;
+  if (!kept.has(i)) {
+    if (kept.size > 64) kept = new Map();
+    kept.set(i, readState(i));
+  }
+  return kept.get(i);
+}
+
+// ---- who took part in what each choice ended: who arrived on that tree since its last end, by the lines up to it, and who
+// waits there
+const ARRIVES = { parr: true, pdereg: true, paaa: true };
+const parts = [];
+
+function readParts() {
+  const arrived = {};
+  for (let i = 1; i < moments.length; i++) {
+    const e = moments[i].event, row = e.row < 0 ? null : rows[e.row], took = new Set();
+    if (row && ARRIVES[row.word] && [RUNS, HELD].includes(laneOf(i - 1, e.thread))
+        && (e.what === "wait" || e.what === "enter" || (e.what === "=" && e.value >= 0))) {
+      const root = rootOf(operandOf(row, "P"));
+      (arrived[root] = arrived[root] || new Set()).add(e.thread);
+    }
+    if (!e.mark) continue;
+    took.add(e.thread);
+    const isPhaser = e.mark.kind[1] === "p", on = e.mark.on;
+    need(isPhaser ? on < phasers.length : on < barriers.length, "no such phaser or barrier: " + lines[moments[i].from - 1]);
+    threads.forEach((_, t) => {
+      const lane = laneOf(i - 1, t), at = rows[placeOf(i - 1, t)], p = operandOf(at, "P");
+      if ((lane === WAITS || lane === FREE) && (isPhaser ? p >= 0 && rootOf(p) === on : operandOf(at, "B") === on)) took.add(t);
+    });
+    if (isPhaser) {
+      for (const t of arrived[on] || []) took.add(t);
+      arrived[on] = new Set();
+    }
+    parts[i] = took;
+  }
+}

@@ -1,0 +1,92 @@
+-- The page that shows a run: four fixed parts, and between them the program, its text, and the run moment by moment.
+use Rattle.std.specs.Prelude.{◌≡◌, ◌≤◌, ℕ, ◌==◌, ◌||◌, not, Bool, if◌then◌else◌, List, [], ◌∷◌, ◌++◌, length, codes, decimal, flat_map, is_none, None}
+use Rattle.listing.specs.Listing.{canonical}
+use Rattle.machine_scene.specs.Outcomes.{is_ready}
+use Rattle.row_code.specs.declared.image.Image.{Image}
+use Rattle.run_page.specs.declared.fixed.TheConstants.{BEFORE_RUN, BEFORE_SOURCE, HEAD, TAIL}
+use Rattle.run_page.specs.declared.frame.Frame.{Frame}
+use Rattle.schedule_reader.specs.declared.run.Run.{Run}
+use Rattle.schedule_reader.specs.Schedule.{choices_of, finished_schedule}
+use Rattle.thread_machine.specs.declared.choice.Choice.{Choice}
+use Rattle.thread_machine.specs.Execution.{execution}
+use Rattle.thread_machine.specs.Ready.{can_expire}
+use Rattle.thread_machine.specs.World.{World}
+use Rattle.thread_state.specs.Thread.{ThreadState}
+use Rattle.trace_compare.specs.Start.{Begins}
+use Rattle.trace_compare.specs.State.{numbered_texts, state_text}
+use Rattle.trace_compare.specs.Trace.{lines_of}
+
+-- a byte as it stands in a page: `&`, `<`, `>` and CR by their names, any other as itself
+abbrev pub escaped_byte : ℕ → List ℕ
+escaped_byte byte =
+    if byte == 38 then codes "&amp;" else (if byte == 60 then codes "&lt;" else (if byte == 62 then codes "&gt;"
+    else (if byte == 13 then codes "&#13;" else byte ∷ [])))
+
+abbrev pub escaped : List ℕ → List ℕ
+escaped text = flat_map escaped_byte text
+
+-- a byte that neither begins nor ends a tag
+abbrev pub is_in_no_tag : ℕ → Bool
+is_in_no_tag byte = not ((byte == 60) || (byte == 62))
+
+-- which choices of a thread may take a step: its turn as `t`, the expiry of its wait as `x`
+abbrev pub ready_text : World → ℕ → ThreadState → List ℕ
+ready_text world t thread =
+    (if is_ready t world.program world.scene then codes " t" ++ decimal t else [])
+    ++ (if can_expire t world.program world.scene then codes " x" ++ decimal t else [])
+
+-- what is shown of a world: its state, and who may go next
+abbrev pub moment : World → List ℕ
+moment world = state_text world ++ (codes "next" ++ (numbered_texts (ready_text world) 0 world.scene.threads ++ codes "\n"))
+
+-- of each choice its line, and the moment after it; a choice that is refused is the last, and has its line alone
+abbrev pub moments : World → List Choice → List ℕ
+moments world [] = []
+moments world (choice ∷ choices) =
+    lines_of world (choice ∷ []) ++ (if is_none (execution world (choice ∷ [])).refusal
+    then moment (execution world (choice ∷ [])).world ++ moments (execution world (choice ∷ [])).world choices else [])
+
+-- the run from this world on
+abbrev pub run_shown : World → List Choice → List ℕ
+run_shown world choices = moment world ++ moments world choices
+
+-- the parts of a page that are the same of every run, as `bin/page` makes them of the sources in `page/`
+pub record Parts : Type 0 where
+  pub head : List ℕ
+  pub before_source : List ℕ
+  pub before_run : List ℕ
+  pub tail : List ℕ
+
+abbrev pub parts_of : Frame → Parts
+parts_of frame = record {
+  head = frame.head.now;
+  before_source = frame.before_source.now;
+  before_run = frame.before_run.now;
+  tail = frame.tail.now;
+}
+
+abbrev pub fixed_parts : Parts
+fixed_parts = record { head = HEAD.now; before_source = BEFORE_SOURCE.now; before_run = BEFORE_RUN.now; tail = TAIL.now }
+
+-- these parts, and between them the listing of a program, its text and a run
+abbrev pub page_text : Parts → List ℕ → List ℕ → List ℕ → List ℕ
+page_text parts listing source run =
+    parts.head ++ (escaped listing ++ (parts.before_source ++ (escaped source ++ (parts.before_run ++ (escaped run ++ parts.tail)))))
+
+-- the choices of a faultless schedule
+abbrev pub AreChoicesOf : List ℕ → List Choice → Type 0
+AreChoicesOf schedule choices =
+    (runs : List Run) × ((finished_schedule schedule ≡ record { runs = runs; fault = None }) × (choices ≡ choices_of runs))
+
+-- how many choices a page shows at most
+abbrev pub most_choices : ℕ
+most_choices = 2000
+
+-- the page of an image's program, its text, and its run from the beginning under this schedule
+abbrev pub IsPageIn : Parts → Image → List ℕ → List ℕ → List ℕ → Type 0
+IsPageIn parts image source schedule page =
+    (world : World) × ((choices : List Choice) × (Begins image world × AreChoicesOf schedule choices
+    × (length choices ≤ most_choices) × (page ≡ page_text parts (canonical image) source (run_shown world choices))))
+
+abbrev pub IsPageOf : Image → List ℕ → List ℕ → List ℕ → Type 0
+IsPageOf image source schedule page = IsPageIn fixed_parts image source schedule page

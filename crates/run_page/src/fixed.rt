@@ -1,0 +1,1259 @@
+// The parts of a page that are the same of every run, made by bin/page of the sources in page/.
+
+/// What a page begins with, up to the listing.
+#[rattlefmt::skip]
+pub const HEAD: &[u8] = br###"<!doctype html>
+<html lang="en">
+<head>
+<meta charset="utf-8">
+<meta name="viewport" content="width=device-width, initial-scale=1">
+<meta http-equiv="Content-Security-Policy" content="default-src 'none'; style-src 'sha256-HPGfmfbcxcPvuOsCatWnDk7P2bliRl2KAVUPZcs9gHI='; script-src 'sha256-umXg200CuLDX/ZiL8Qc/HF3wNyTzKVL2eusrA4BPaCg='">
+<meta name="generator" content="vuthgal show">
+<title>A run, step by step</title>
+<style>
+:root { --ink: #111; --soft: #505050; --rule: #bbb; --now: #fff3b8; --edge: #111; --paper: #fff; --lane: .75rem; --column: 6rem }
+* { box-sizing: border-box }
+html { font-size: clamp(14px, .5vw + 8.6px, 26px) }
+body { margin: 0; padding: .6rem 1rem .8rem; color: var(--ink); background: var(--paper); font-family: system-ui, "Segoe UI", "DejaVu Sans", Arial, sans-serif; line-height: 1.35 }
+h1 { font-size: 1.45rem; line-height: 1.2; margin: 0 }
+h2 { font-size: 1rem; margin: 0 0 .35rem }
+h3 { font-size: .9rem; margin: .8rem 0 .25rem }
+.block:first-child h3 { margin-top: 0 }
+p { margin: .2rem 0 }
+code, pre { font-family: ui-monospace, "DejaVu Sans Mono", Consolas, "Liberation Mono", monospace; font-size: .92em }
+/* a long text isn't laid out where it isn't in view */
+pre { white-space: pre-wrap; overflow-wrap: anywhere; content-visibility: auto; contain-intrinsic-size: auto 20rem }
+#about { color: var(--soft); font-size: .92rem }
+.unseen { position: absolute; width: 1px; height: 1px; overflow: hidden; clip-path: inset(50%); white-space: nowrap }
+[hidden] { display: none !important }
+.alarm { border: 3px solid #111; padding: .4rem .7rem; font-weight: 700 }
+
+/* the steps */
+#bar { display: flex; flex-wrap: wrap; gap: .35rem .55rem; align-items: center; margin: .45rem 0 .3rem }
+button { font: inherit; font-weight: 600; color: var(--ink); background: #f2f2f2; border: 2px solid var(--edge); border-radius: .35rem; padding: .15rem .65rem; cursor: pointer }
+button:hover { background: #ddd }
+button:disabled { opacity: .4; cursor: default }
+:focus-visible { outline: 3px solid #0b57d0; outline-offset: 2px }
+#slider { flex: 1 1 10rem; min-width: 8rem; accent-color: #111; height: 1.6rem }
+#where { font-weight: 600; white-space: nowrap }
+#said { border: 2px solid var(--edge); border-left-width: .6rem; border-radius: .3rem; background: var(--now); padding: .3rem .7rem; font-size: 1.18rem; min-height: 3.9rem; margin: 0 0 .55rem }
+#next { display: block; font-size: .95rem; color: #333 }
+#next.halt { font-weight: 700; color: #111 }
+
+/* the panes: beside one another where there is room; with many threads the timeline has the left side to itself */
+#panes { display: grid; gap: .6rem; grid-template-columns: minmax(0, 1fr) }
+#panes > section { border: 1px solid var(--rule); border-radius: .3rem; padding: .4rem .55rem; min-width: 0; display: flex; flex-direction: column }
+.inner { display: flex; min-height: 0; min-width: 0; gap: .4rem }
+.inner .scroll { flex: 1 1 0; min-width: 0 }
+.scroll { overflow: auto; position: relative }
+@media screen {
+  #time .scroll { max-height: 70vh }
+  #map { height: 70vh }
+}
+@media screen and (min-width: 60rem) {
+  .wide { display: flex; flex-direction: column; height: 100vh; overflow: hidden }
+  .wide #tool { display: flex; flex-direction: column; flex: 1 1 0; min-height: 16rem }
+  .wide #panes { flex: 1 1 0; min-height: 0; grid-template-columns: minmax(0, 1.75fr) minmax(0, 1fr) minmax(0, 1.15fr); grid-template-rows: minmax(0, 1fr) }
+  .wide #panes.crowd { grid-template-columns: minmax(0, 2fr) minmax(0, 1fr); grid-template-rows: minmax(0, 2fr) minmax(0, 3fr) }
+  .wide #panes.crowd #time { grid-row: 1 / 3 }
+  .wide #panes > section { min-height: 0 }
+  .wide .scroll { flex: 1 1 0; min-height: 0; max-height: none }
+  .wide .inner { flex: 1 1 0 }
+  .wide #map { height: auto }
+  .wide #text[open] { overflow: auto; max-height: 45vh }
+}
+
+table { border-collapse: collapse }
+th { text-align: left; font-weight: 600 }
+.num { text-align: right; font-variant-numeric: tabular-nums }
+
+/* the timeline */
+#lanes { --pitch: 2.05rem; width: 100%; border-collapse: separate; border-spacing: 0 }
+#lanes.narrow { --pitch: 1.8rem }
+#lanes th, #lanes td { padding: 0 .35rem; height: var(--pitch); vertical-align: middle; white-space: nowrap }
+#lanes .crowd { padding: 0 }
+#lanes .crowd canvas { display: block }
+#lanes .gap td { padding: 0; height: auto }
+#lanes thead th { position: sticky; top: 0; z-index: 4; background: var(--paper); border-bottom: 2px solid var(--edge); vertical-align: bottom; padding-bottom: .15rem }
+#lanes tbody tr[data-i] { cursor: pointer }
+#lanes .n { text-align: right; color: var(--soft); font-variant-numeric: tabular-nums; width: 2.4rem; min-width: 2.4rem; font-weight: 400; position: sticky; left: 0; z-index: 5; background: var(--paper) }
+#lanes thead .n { z-index: 6 }
+#lanes .t { position: relative; padding-left: 1.6rem; padding-right: .2rem; min-width: var(--column) }
+#lanes thead .t { padding-left: .1rem; position: sticky }
+#lanes .m { font-size: .92rem; font-weight: 600; width: 30% }
+#lanes tbody .m { position: relative }
+#lanes tbody .w { position: relative }
+.narrow { --lane: calc(var(--column) / 2) }
+#lanes.narrow { width: auto }
+#lanes.narrow .t { padding: 0; width: var(--column); min-width: var(--column); max-width: var(--column) }
+#lanes.narrow .m { width: 100% }
+#lanes.narrow thead .t { vertical-align: bottom; overflow: visible }
+#lanes.narrow thead .who { writing-mode: vertical-rl; padding: .25rem 0; border-width: 2px; border-left-width: 4px; font-size: .85rem; max-height: 7rem; overflow: hidden; margin-left: calc(var(--lane) - .7rem) }
+#lanes.brief thead .who { writing-mode: horizontal-tb; padding: 0 .2rem; margin-left: 0; border-width: 2px; border-bottom-width: 4px }
+#lanes.brief thead .t { text-align: center }
+/* a thread's line: the upper half of a cell by the state before the choice, the lower half by the state after it */
+.t::before, .t::after { content: ""; position: absolute; left: var(--lane); height: 50%; z-index: 1; print-color-adjust: exact; -webkit-print-color-adjust: exact }
+.t::before { top: 0 }
+.t::after { bottom: 0 }
+.u-run::before, .l-run::after { border-left: 3px solid var(--hue); margin-left: -1.5px }
+.u-held::before, .l-held::after { border-left: 3px dashed var(--hue); margin-left: -1.5px }
+.u-throw::before, .l-throw::after { border-left: 5px double #111; margin-left: -2.5px }
+.u-wait::before, .l-wait::after, .u-free::before, .l-free::after { width: .9rem; margin-left: -.45rem; border: solid #111; border-width: 0 2px }
+.u-wait::before, .l-wait::after { background: repeating-linear-gradient(135deg, #111 0 2px, #fff 2px 6px) }
+.u-free::before, .l-free::after { background: #fff }
+.l-wait.starts::after { border-top-width: 2px; border-radius: .45rem .45rem 0 0 }
+.u-wait.stops::before, .u-free.stops::before { border-bottom-width: 2px; border-radius: 0 0 .45rem .45rem }
+.u-off::before, .l-off::after { display: none }
+/* a choice, on its thread's line */
+.dot { position: absolute; left: var(--lane); top: 50%; width: .85rem; height: .85rem; margin: -.425rem 0 0 -.425rem; background: var(--hue); border: 2px solid #111; border-radius: 50%; z-index: 3; print-color-adjust: exact; -webkit-print-color-adjust: exact }
+.dot.idle { background: #fff }
+.dot.end { border-radius: 0; background: #111 }
+.dot.die, .dot.throw { border-radius: 0; background: #fff; transform: rotate(45deg) }
+.dot.die { background: #111 }
+.tag { position: relative; z-index: 3; display: inline-block; background: #fff; border: 1px solid #888; border-radius: .25rem; padding: 0 .3rem; line-height: 1.35; font-size: .95rem }
+.tag.wait { border-color: #111; font-style: italic }
+.tag.idle { border-style: dotted; color: #505050 }
+.tag.throw, .tag.die { background: #111; color: #fff; border-color: #111; font-weight: 700; print-color-adjust: exact; -webkit-print-color-adjust: exact }
+.tag.end { font-weight: 700; border-color: #111 }
+.w .who { position: relative; z-index: 3; margin-right: .3rem; font-size: .92rem }
+/* what a choice ended for several threads: a line from the first to the last of them, and a lead to the words */
+.across { position: absolute; top: 50%; left: 0; right: 0; height: 0; border-top: 5px double #111; margin-top: -2.5px; z-index: 2 }
+.across.first { left: var(--lane) }
+.across.final { right: auto; width: var(--lane) }
+.across.lead { border-top: 2px dotted #111; margin-top: -1px }
+.across.lead.begins { left: var(--lane) }
+.m .across.lead.ends { right: auto; width: .5rem }
+.across.broke { border-top-style: dashed; border-top-width: 3px }
+.part { position: absolute; left: var(--lane); top: 50%; width: 1.15rem; height: 1.15rem; margin: -.575rem 0 0 -.575rem; border: 3px solid #111; background: #fff; transform: rotate(45deg); z-index: 2; print-color-adjust: exact; -webkit-print-color-adjust: exact }
+.mark { position: relative; z-index: 3; background: #fff; border: 2px solid #111; border-radius: .25rem; padding: .05rem .35rem; display: inline-block; line-height: 1.2 }
+#lanes tr.now > * { background: var(--now); border-top: 2px solid var(--edge); border-bottom: 2px solid var(--edge); print-color-adjust: exact; -webkit-print-color-adjust: exact }
+#lanes tr.now .n { color: #111; font-weight: 700 }
+#lanes tr.now .n::before { content: "\25B6"; font-size: .7rem; margin-right: .15rem }
+@media screen {
+  tr.later > * { color: #666 }
+  tr.later canvas, tr.later .dot, tr.later .tag, tr.later .mark, tr.later .across, tr.later .part, tr.later .w .who, tr.later .t::before, tr.later .t::after { opacity: .38 }
+  tr.now:not(.final) .t::after { opacity: .38 }
+  .hiding tr.later { visibility: hidden }
+  .hiding tr.now:not(.final) .t::after { visibility: hidden }
+}
+#lanes tr.close > * { border-top: 2px solid var(--edge); font-weight: 600 }
+#lanes:not(.narrow) tr.close td.t { padding-left: .35rem }
+
+/* the overview of a long run */
+#map { position: relative; flex: none; border: 1px solid var(--rule); cursor: pointer; overflow: hidden }
+#map canvas { display: block; image-rendering: pixelated }
+#here { position: absolute; left: 0; right: 0; border: 2px solid #0b57d0; pointer-events: none }
+#unseen { position: absolute; left: 0; right: 0; background: #fff; pointer-events: none }
+
+.who { display: inline-block; border: 2px solid var(--hue, #111); border-bottom-width: 4px; border-radius: .3rem; padding: 0 .35rem; background: #fff; color: #111; font-weight: 700; line-height: 1.3 }
+.who.over { border-style: dotted; color: #505050 }
+.who.wait { font-style: italic }
+.kind { color: var(--soft); font-weight: 400; font-size: .85rem }
+
+/* the program */
+#rows { width: 100% }
+#rows td { vertical-align: top; padding: .08rem .25rem }
+#rows .at { width: 1px; min-width: 2.6rem; max-width: 9rem; text-align: right }
+#rows .at .more { font-size: .84rem; white-space: nowrap; color: var(--soft) }
+#rows .at .who { margin-left: .15rem; font-size: .84rem; line-height: 1.2 }
+#rows .r { width: 1px; text-align: right; color: var(--soft); font-variant-numeric: tabular-nums; font-size: .85rem }
+#rows code { white-space: pre; tab-size: 4; padding-right: .6rem }
+#rows .talk { color: var(--soft); font-size: .86em; font-style: italic }
+#rows tr.now > * { background: var(--now); border-top: 2px solid var(--edge); border-bottom: 2px solid var(--edge); print-color-adjust: exact; -webkit-print-color-adjust: exact }
+#rows tr.now code { font-weight: 700 }
+#rows tr.rule code { color: #333; white-space: pre-wrap }
+
+/* the state */
+#state table { width: 100% }
+#state .grid th, #state .grid td { border-bottom: 1px solid #ddd; padding: .1rem .3rem; vertical-align: baseline }
+#state .grid th, #state .grid .line { white-space: nowrap }
+#state .grid thead th { border-bottom: 2px solid var(--edge); font-size: .85rem }
+#state .grid th.num { text-align: right }
+#state .all { width: 100% }
+.new { background: var(--now); outline: 2px solid #111; outline-offset: -1px; font-weight: 700; print-color-adjust: exact; -webkit-print-color-adjust: exact }
+.party { display: inline-block; width: .85rem; height: .85rem; border: 2px solid #111; border-radius: 50%; margin: 0 .12rem -.1rem 0; background: #fff; print-color-adjust: exact; -webkit-print-color-adjust: exact }
+.party.in { background: #111 }
+.chip { display: inline-block; border: 1px solid #555; border-radius: .25rem; padding: 0 .25rem; margin: 0 .15rem .1rem 0; white-space: nowrap; font-size: .88rem }
+.note { color: var(--soft); font-size: .85rem }
+
+#text { font-size: .88rem; color: #333; margin-top: .4rem }
+#text summary { cursor: pointer; font-weight: 600 }
+#legend { display: flex; flex-wrap: wrap; gap: .1rem .9rem; font-size: .82rem; color: #333; margin: .35rem 0 0; padding: .3rem 0 0; border-top: 1px solid var(--rule); list-style: none }
+#legend li { display: flex; align-items: center; gap: .35rem }
+#legend i { display: inline-block; flex: none; border: solid #111; border-width: 0 2px; width: .8rem; height: 1rem; print-color-adjust: exact; -webkit-print-color-adjust: exact }
+#legend .wait { background: repeating-linear-gradient(135deg, #111 0 2px, #fff 2px 6px) }
+#legend .took { border-width: 3px; width: .75rem; height: .75rem; transform: rotate(45deg) }
+#legend .ends { background: #111; width: .75rem; height: .75rem }
+#legend .hits { border-width: 2px; width: .7rem; height: .7rem; transform: rotate(45deg) }
+#keys { color: #444; font-size: .85rem; margin: .35rem 0 0 }
+kbd { border: 1px solid #777; border-bottom-width: 2px; border-radius: .2rem; padding: 0 .25rem; font: inherit; font-size: .85em }
+@media screen and (max-width: 40rem) {
+  body { padding: .5rem .5rem .8rem }
+  button { padding: .2rem .5rem }
+  #keys { display: none }
+}
+@media print {
+  @page { margin: 12mm }
+  html { font-size: 9.5pt }
+  body { padding: 0 }
+  #bar, #keys, #map { display: none }
+  #panes, .inner { display: block }
+  #panes > section { display: block; border: 0; padding: 0; margin-top: 5mm }
+  .scroll { overflow: visible !important }
+  #lanes thead th { position: static }
+  #lanes .n { position: static }
+  #lanes .gap { display: none }
+  #lanes tr, #rows tr, #state .block { break-inside: avoid }
+  h2, h3 { break-after: avoid }
+  #text:not([open]) { display: none }
+}
+</style>
+</head>
+<body>
+<header>
+<h1 id="title">A run, step by step</h1>
+<p id="about" hidden></p>
+</header>
+<noscript><p class="alarm">The picture of this run needs this page's script. Without it, the run stands below as text.</p></noscript>
+<p id="broken" class="alarm" hidden>This page's text can't be read as a run, so nothing is drawn from it: <span id="why"></span>.</p>
+<main id="tool" hidden>
+<div id="bar" role="group" aria-label="Steps">
+<button type="button" id="first" title="To the start (Home)" aria-label="To the start">|&lt;</button>
+<button type="button" id="back" title="One choice back (left arrow)">&lt; Back</button>
+<button type="button" id="forth" title="One choice forward (right arrow)">Forward &gt;</button>
+<button type="button" id="last" title="To the end (End)" aria-label="To the end">&gt;|</button>
+<button type="button" id="play" title="A choice every two seconds (space)" aria-pressed="false">Play</button>
+<input type="range" id="slider" min="0" value="0" step="1" aria-label="Choice">
+<output id="where" for="slider"></output>
+<label><input type="checkbox" id="hide"> hide what comes later</label>
+</div>
+<p id="said" role="status" aria-live="polite"><span id="what"></span> <span id="next"></span></p>
+<div id="panes">
+<section id="time" aria-label="Timeline">
+<h2>Timeline</h2>
+<div class="inner">
+<div id="map" aria-hidden="true" hidden><canvas></canvas><div id="unseen"></div><div id="here"></div></div>
+<div class="scroll" tabindex="0" role="region" aria-label="Timeline: a column for each thread, a line for each choice"><table id="lanes"></table></div>
+</div>
+<ul id="legend">
+<li><i class="wait"></i> waits</li>
+<li><i></i> may go on</li>
+<li><i class="took"></i> took part</li>
+<li><i class="hits"></i> throws</li>
+<li><i class="ends"></i> ends</li>
+</ul>
+</section>
+<section id="code" aria-label="Program"><h2>Program</h2><div class="scroll" tabindex="0" role="region" aria-label="Program, with the row of each thread"><table id="rows"></table></div></section>
+<section id="state" aria-label="State"><h2 id="after">State</h2><div class="scroll" tabindex="0" role="region" aria-label="State after this choice" id="things"></div></section>
+</div>
+<p id="keys">Keys: <kbd>&#8594;</kbd> or <kbd>Page Down</kbd> forward, <kbd>&#8592;</kbd> or <kbd>Page Up</kbd> back, <kbd>Home</kbd>, <kbd>End</kbd>, <kbd>space</kbd> plays. A click on a line of the timeline goes there; the page's address names the choice.</p>
+</main>
+<details id="text" open>
+<summary>The text that this page draws</summary>
+<p>Written by <code>vuthgal show</code>: the program, then the state at the start, and then of each choice its line, the state after it, and who may go next. That text is the run's, word for word; the picture above is drawn from it by this page's script, which plays nothing.</p>
+<h3>Program, in canonical form</h3>
+<pre id="listing">
+"###;
+
+/// What stands between the listing and the program's text.
+#[rattlefmt::skip]
+pub const BEFORE_SOURCE: &[u8] = br###"</pre>
+<h3>Program, as it was written</h3>
+<pre id="source">
+"###;
+
+/// What stands between the program's text and the run.
+#[rattlefmt::skip]
+pub const BEFORE_RUN: &[u8] = br###"</pre>
+<h3>Run</h3>
+<pre id="run">
+"###;
+
+/// What a page ends with: its script.
+#[rattlefmt::skip]
+pub const TAIL: &[u8] = br###"</pre>
+</details>
+<script>
+(function () {
+"use strict";
+// Draws the text of this page. Nothing here plays a program: each picture is read off the states that the text holds.
+
+// ---- the three texts
+const id = name => document.getElementById(name);
+
+function linesOf(name) {
+  const lines = id(name).textContent.split("\n");
+  need(lines.pop() === "", "the " + name + " doesn't end with a line");
+  return lines;
+}
+function need(is, why) { if (!is) throw new Error(why); }
+const wordsOf = line => line.split(/[ \t\r]+/).filter(word => word);
+
+// The kinds of rows: their operands (r register, n number, L row, P phaser, B barrier, T thread, C cell), and the call of
+// Java that they stand for, where $ is the value of the next register behind the first, and @ a thread's name.
+const KINDS = {
+  halt: [""], ldi: ["rn"], mov: ["rr"], add: ["rrr"], sub: ["rrr"], jmp: ["L"], beq: ["rrL"], bne: ["rrL"], blt: ["rrL"],
+  call: ["L"], ret: [""], try: ["L"], endtry: [""], throw: ["r"], out: ["r"], lds: ["rC"], sts: ["rC"], self: ["r"],
+  intr: ["T", "@.interrupt()"], intrd: ["r", "Thread.interrupted()"], preg: ["rP", "register()"],
+  pbulk: ["rPr", "bulkRegister($)"], parr: ["rP", "arrive()"], pdereg: ["rP", "arriveAndDeregister()"],
+  paaa: ["rP", "arriveAndAwaitAdvance()"], pawait: ["rPr", "awaitAdvance($)"],
+  pawaiti: ["rPr", "awaitAdvanceInterruptibly($)"], pforce: ["P", "forceTermination()"], pphase: ["rP", "getPhase()"],
+  pparties: ["rP", "getRegisteredParties()"], parrived: ["rP", "getArrivedParties()"],
+  punarr: ["rP", "getUnarrivedParties()"], pterm: ["rP", "isTerminated()"], pparent: ["rP", "getParent()"],
+  proot: ["rP", "getRoot()"], cawait: ["rB", "await()"], creset: ["B", "reset()"], cbroken: ["rB", "isBroken()"],
+  cwaiting: ["rB", "getNumberWaiting()"], cparties: ["rB", "getParties()"],
+  pawaitt: ["rPrr", "awaitAdvanceInterruptibly($, $, unit)"], cawaitt: ["rBr", "await($, unit)"]
+};
+const OPERAND = { r: /^r[0-7]$/, n: /^-?\d+$/, L: /^#\d+$/, P: /^#\d+$/, B: /^#\d+$/, T: /^#\d+$/, C: /^#\d+$/ };
+
+// ---- the canonical listing
+const phasers = [], barriers = [], threads = [], rows = [];
+
+function rowOf(words, text) {
+  const kind = KINDS.hasOwnProperty(words[0]) ? KINDS[words[0]][0] : null, operands = words.slice(1);
+  need(kind !== null && kind.length === operands.length, "no row: " + text);
+  need(operands.every((operand, k) => OPERAND[kind[k]].test(operand)), "no row: " + text);
+  return { word: words[0], kinds: kind, operands: operands, text: text };
+}
+function readListing() {
+  for (const line of linesOf("listing")) {
+    const w = wordsOf(line), after = word => w.includes(word) ? +w[w.indexOf(word) + 1].slice(1) : -1;
+    if (w[0] === ".phaser") phasers.push({ parent: after("parent"), routine: after("onadvance") });
+    else if (w[0] === ".barrier") barriers.push({ parties: +w[2], action: after("action") });
+    else if (w[0] === ".thread") threads.push({ row: +w[2].slice(1) });
+    else rows.push(rowOf(w, line));
+  }
+  need(threads.length > 0, "the listing has no thread");
+}
+// the number that a row's operand of this kind names, -1 where it has none
+function operandOf(row, kind) {
+  const at = row.kinds.indexOf(kind);
+  return at < 0 ? -1 : +row.operands[at].slice(1);
+}
+function rootOf(p) {
+  while (phasers[p].parent >= 0) p = phasers[p].parent;
+  return p;
+}
+
+// ---- the text as it was written: names and comments. What doesn't agree with the listing is left aside.
+let names = { P: [], B: [], T: [], C: [], L: {} }, written = null, about = "";
+
+function readSource() {
+  const found = { P: [], B: [], T: [], C: [], L: {} }, out = [], introduction = [];
+  const kinds = { ".phaser": "P", ".barrier": "B", ".thread": "T", ".cell": "C" };
+  let count = 0, begun = false;
+  const lines = id("source").textContent.split("\n");
+  for (const line of lines) {
+    const cut = line.indexOf(";"), code = cut < 0 ? line : line.slice(0, cut), talk = cut < 0 ? "" : line.slice(cut);
+    const w = wordsOf(code);
+    let row = -1;
+    if (w.length && /:$/.test(w[0])) (found.L[count] = found.L[count] || []).push(w.shift().slice(0, -1));
+    if (w.length && kinds[w[0]]) found[kinds[w[0]]].push(w[1]);
+    else if (w.length) {
+      if (count >= rows.length || rows[count].word !== w[0]) return;
+      row = count++;
+    }
+    begun = begun || code.trim() !== "";
+    if (begun) out.push({ row: row, code: code.replace(/\r/g, ""), talk: talk.replace(/\r/g, ""), rule: row < 0 && w.length > 0 });
+    else if (talk) introduction.push(talk.slice(1).trim());
+  }
+  const agrees = count === rows.length && found.P.length === phasers.length && found.B.length === barriers.length
+    && found.T.length === threads.length;
+  if (!agrees || !begun) return;
+  while (!out[out.length - 1].code.trim() && !out[out.length - 1].talk) out.pop();
+  names = found;
+  written = out;
+  about = introduction.join(" ").trim();
+}
+const nameOf = (kind, n) => names[kind][n] || { P: "p", B: "b", T: "t", C: "c" }[kind] + n;
+const threadName = t => nameOf("T", t);
+
+// ---- the run: moments, each the choice that led there and where its state stands
+const EVENT = /^(\d+) ([tx])(\d+) (\d+|-) (idle|ok|wait|enter|unwind|end|none|limit|(=|out|throw|catch|die) (-?\d+))(?: ([+-])([pb])(\d+)(?: (-?\d+))?)?$/;
+const STATE = /^state (\d+) (\d+) (all|stuck|live)$/;
+const THREAD = /^t(\d+) (\d+) (runs|waits|ended|throws:-?\d+|died:-?\d+) ([01]) regs((?: -?\d+){8}) stack((?: [CHAX]\d+)*) out((?: -?\d+)*)$/;
+const PHASER = /^p(\d+) (-?\d+) (\d+) (\d+) (\d+)$/;
+const BARRIER = /^b(\d+) (\d+) ([01])$/;
+const CELL = /^c(\d+) (-?\d+)$/;
+const NEXT = /^next((?: [tx]\d+)*)$/;
+
+// what a thread does in a moment: it is over, runs, runs where it can't go on, waits, waits where it can go on, throws
+const OVER = 0, RUNS = 1, HELD = 2, WAITS = 3, FREE = 4, THROWS = 5;
+const moments = [];
+let lines = [], lanes, places;
+
+function eventOf(line) {
+  const m = EVENT.exec(line);
+  need(m, "no line of a choice: " + line);
+  return { step: +m[1], expiry: m[2] === "x", thread: +m[3], row: m[4] === "-" ? -1 : +m[4], what: m[6] || m[5],
+    value: m[7] === undefined ? null : +m[7],
+    mark: m[8] ? { kind: m[8] + m[9], on: +m[10], view: m[11] === undefined ? null : +m[11] } : null };
+}
+const laneOf = (i, t) => lanes[i * threads.length + t];
+const placeOf = (i, t) => places[i * threads.length + t];
+
+// the lines of a moment's state, from this one on; answers the line behind them
+function readMoment(i, at, event, last) {
+  const count = threads.length, take = (form, n) => {
+    const m = form.exec(lines[at] || "");
+    need(m && (n === undefined || +m[1] === n), "no line of a state: " + (lines[at] || "the end"));
+    at++;
+    return m;
+  };
+  const state = take(STATE), begins = at, doing = [];
+  need(+state[1] === (event ? event.step : +state[1]), "the states' numbers don't follow one another: " + state[0]);
+  for (let t = 0; t < count; t++) {
+    const m = take(THREAD, t), was = i ? lines[last + t] : m[0];
+    need(+m[2] < rows.length, "a thread stands at no row: " + m[0]);
+    places[i * count + t] = +m[2];
+    doing.push(m[3][0] === "e" || m[3][0] === "d" ? OVER : m[3][0] === "t" ? THROWS : m[3] === "waits" ? WAITS : RUNS);
+    // a choice changes its own thread, and of others at most the interrupted status
+    if (i && t !== event.thread && m[0] !== was) {
+      need(m[0].replace(/ [01] regs/, "") === was.replace(/ [01] regs/, ""), "a thread changed whose turn it wasn't: " + m[0]);
+    }
+  }
+  phasers.forEach((_, n) => take(PHASER, n));
+  barriers.forEach((_, n) => take(BARRIER, n));
+  while (/^c/.test(lines[at])) take(CELL);
+  const next = {};
+  for (const word of take(NEXT)[1].split(" ")) next[word] = true;
+  doing.forEach((lane, t) => {
+    lanes[i * count + t] = lane === RUNS && !next["t" + t] ? HELD : lane === WAITS && next["t" + t] ? FREE : lane;
+  });
+  return { at: at, threads: begins };
+}
+function readRun() {
+  lines = linesOf("run");
+  const most = lines.reduce((count, line) => count + (/^\d/.test(line) ? 1 : 0), 1), count = threads.length;
+  lanes = new Uint8Array(most * count);
+  places = new Uint16Array(most * count);
+  let at = 0, last = 0;
+  for (let i = 0; i < most; i++) {
+    let event = null;
+    if (i) {
+      event = eventOf(lines[at++]);
+      need(i < 2 || event.step === moments[i - 1].event.step + 1, "the choices' numbers don't follow one another: " + lines[at - 1]);
+      need(event.row === (event.thread < count ? placeOf(i - 1, event.thread) : -1), "no thread stood at this row: " + lines[at - 1]);
+    }
+    moments.push({ event: event, from: at, refused: i === most - 1 && i > 0 && at === lines.length });
+    if (moments[i].refused) {
+      lanes.copyWithin(i * count, (i - 1) * count, i * count);
+      places.copyWithin(i * count, (i - 1) * count, i * count);
+    } else {
+      const read = readMoment(i, at, event, last);
+      at = read.at;
+      last = read.threads;
+    }
+  }
+  need(at === lines.length, "there are lines behind the run's end: " + lines[at]);
+}
+
+// ---- a moment's state in full; some are kept
+let kept = new Map();
+
+function readState(i) {
+  const s = { threads: [], phasers: [], barriers: [], cells: {}, next: {}, expire: {} };
+  for (let at = moments[i].from; ; at++) {
+    const line = lines[at], m = { s: STATE, t: THREAD, p: PHASER, b: BARRIER, c: CELL, n: NEXT }[line[0]].exec(line);
+    const words = text => text.split(" ").slice(1);
+    if (line[0] === "s") Object.assign(s, { choices: +m[1], word: m[3] });
+    else if (line[0] === "t") {
+      const status = m[3].split(":");
+      s.threads.push({ row: +m[2], status: status[0], code: +status[1], flag: m[4] === "1", regs: words(m[5]).map(Number),
+        stack: words(m[6]), out: words(m[7]) });
+    } else if (line[0] === "p") s.phasers.push({ view: +m[2], parties: +m[3], arrived: +m[4] });
+    else if (line[0] === "b") s.barriers.push({ waiting: +m[2], broken: m[3] === "1" });
+    else if (line[0] === "c") s.cells[+m[1]] = +m[2];
+    else {
+      for (const word of words(m[1])) (word[0] === "t" ? s.next : s.expire)[+word.slice(1)] = true;
+      return s;
+    }
+  }
+}
+function stateAt(i) {
+  if (moments[i].refused) i--;
+  if (!kept.has(i)) {
+    if (kept.size > 64) kept = new Map();
+    kept.set(i, readState(i));
+  }
+  return kept.get(i);
+}
+
+// ---- who took part in what each choice ended: who arrived on that tree since its last end, by the lines up to it, and who
+// waits there
+const ARRIVES = { parr: true, pdereg: true, paaa: true };
+const parts = [];
+
+function readParts() {
+  const arrived = {};
+  for (let i = 1; i < moments.length; i++) {
+    const e = moments[i].event, row = e.row < 0 ? null : rows[e.row], took = new Set();
+    if (row && ARRIVES[row.word] && [RUNS, HELD].includes(laneOf(i - 1, e.thread))
+        && (e.what === "wait" || e.what === "enter" || (e.what === "=" && e.value >= 0))) {
+      const root = rootOf(operandOf(row, "P"));
+      (arrived[root] = arrived[root] || new Set()).add(e.thread);
+    }
+    if (!e.mark) continue;
+    took.add(e.thread);
+    const isPhaser = e.mark.kind[1] === "p", on = e.mark.on;
+    need(isPhaser ? on < phasers.length : on < barriers.length, "no such phaser or barrier: " + lines[moments[i].from - 1]);
+    threads.forEach((_, t) => {
+      const lane = laneOf(i - 1, t), at = rows[placeOf(i - 1, t)], p = operandOf(at, "P");
+      if ((lane === WAITS || lane === FREE) && (isPhaser ? p >= 0 && rootOf(p) === on : operandOf(at, "B") === on)) took.add(t);
+    });
+    if (isPhaser) {
+      for (const t of arrived[on] || []) took.add(t);
+      arrived[on] = new Set();
+    }
+    parts[i] = took;
+  }
+}
+
+// ---- what a choice did, in words
+const THROWN = { 1: "IllegalStateException", 2: "IllegalArgumentException", 3: "InterruptedException",
+  4: "BrokenBarrierException", 5: "TimeoutException", 6: "the stack is full", 7: "a return to nowhere", 8: "the output is full" };
+const PHASES = 2147483648;
+
+const phaseOf = view => view < 0 ? view + PHASES : view;
+const thrown = code => code + (THROWN[code] ? " (" + THROWN[code] + ")" : "");
+const listed = list => list.length < 2 ? list.join("") : list.slice(0, -1).join(", ") + " and " + list[list.length - 1];
+const labelled = row => "row " + row + (names.L[row] ? " (" + names.L[row][0] + ")" : "");
+
+// an object's name before something, where the program has several
+const only = (name, text) => phasers.length + barriers.length < 2 ? text : name + text;
+
+function objectOf(row) {
+  const p = operandOf(row, "P"), b = operandOf(row, "B");
+  return p >= 0 ? nameOf("P", p) : b >= 0 ? nameOf("B", b) : "";
+}
+// the call of Java that a row stands for, with the values that the thread's registers had
+function callOf(row, thread) {
+  const call = KINDS[row.word][1], object = objectOf(row);
+  let at = row.kinds.indexOf("P") + row.kinds.indexOf("B") + 2;
+  if (!call) return "";
+  const filled = call.replace(/\$/g, () => thread.regs[+row.operands[at++][1]]).replace("@", () => threadName(operandOf(row, "T")));
+  return (object ? object + "." : "") + filled;
+}
+function rowText(row) {
+  const operands = row.operands.map((operand, k) => {
+    const kind = row.kinds[k], n = +operand.slice(1);
+    if (kind === "r" || kind === "n") return operand;
+    return kind === "L" ? (names.L[n] ? names.L[n][0] : "row " + n) : nameOf(kind, n);
+  });
+  return [row.word].concat(operands).join(" ");
+}
+function entryText(entry) {
+  const n = +entry.slice(1), kind = entry[0];
+  return kind === "C" ? "call (back to row " + n + ")" : kind === "H" ? "handler at " + labelled(n)
+    : kind === "A" ? "advance routine of " + nameOf("P", n) : "action of " + nameOf("B", n);
+}
+function countText(row, s) {
+  const p = operandOf(row, "P"), b = operandOf(row, "B");
+  const of = (n, all, one, more) => n + " of " + all + (n === 1 ? one : more);
+  if (b >= 0) return of(s.barriers[b].waiting, barriers[b].parties, " waits at ", " wait at ") + nameOf("B", b) + ".";
+  if (s.phasers[p].view < 0) return "";
+  if (!s.phasers[p].parties) return nameOf("P", p) + " has no parties now.";
+  return of(s.phasers[p].arrived, s.phasers[p].parties, " has arrived at ", " have arrived at ") + nameOf("P", p) + ".";
+}
+function markText(mark, was) {
+  if (mark.kind === "+b") return "Barrier " + nameOf("B", mark.on) + " trips.";
+  if (mark.kind === "-b") return "Barrier " + nameOf("B", mark.on) + " breaks.";
+  const name = nameOf("P", mark.on), old = phaseOf(was.phasers[mark.on].view);
+  if (mark.view < 0) return "Phase " + old + " of " + name + " was its last: it is terminated.";
+  return "Phase " + old + " of " + name + " ends, phase " + mark.view + " begins.";
+}
+function shortMark(mark, was) {
+  const name = nameOf(mark.kind[1] === "p" ? "P" : "B", mark.on);
+  if (mark.kind === "+b") return only(name + " ", "trips");
+  if (mark.kind === "-b") return only(name + " ", "breaks");
+  return only(name + ": ", mark.view < 0 ? "terminated" : "phase " + phaseOf(was.phasers[mark.on].view) + " \u2192 " + mark.view);
+}
+
+// why a choice did nothing
+function idleText(e, row, before, who) {
+  const call = callOf(row, before) || rowText(row);
+  if (e.expiry) return ["The schedule lets a wait of ", who, " time out, but none can: nothing happens."];
+  if (before.status === "waits") return ["It is the turn of ", who, ", which still waits at " + call + ": nothing happens."];
+  if (before.status === "ended" || before.status === "died") return ["It is the turn of ", who, ", which is over: nothing happens."];
+  return ["It is the turn of ", who, ", which can't go on at " + call + " yet: nothing happens."];
+}
+// what a choice that gave a number did
+function valueText(e, row, before, who) {
+  const call = callOf(row, before), into = row.operands[0] || "", top = before.stack[before.stack.length - 1] || "";
+  if (before.status === "waits") return ["The wait of ", who, " at " + call + " is over: it gets ", ["" + e.value], " (in " + into + ")."];
+  if (row.word === "ret") return [who, " ends the " + entryText(top) + " and has its registers back; its call answers ", ["" + e.value], "."];
+  if (call) return [who, " calls " + call + " and gets ", ["" + e.value], " (in " + into + ")."];
+  return [who, ": " + rowText(row) + ", so " + into + " = ", ["" + e.value], "."];
+}
+// what a choice that gave no number did
+function plainText(e, row, before, after, who) {
+  const call = callOf(row, before), goes = after.row === e.row + 1 ? "." : ", and goes on at " + labelled(after.row) + ".";
+  if (row.word === "sts") return [who, " stores ", ["" + before.regs[+row.operands[0][1]]], " in " + nameOf("C", operandOf(row, "C")) + "."];
+  return call ? [who, " calls " + call + "."] : [who, ": " + rowText(row) + goes];
+}
+// what the line of a choice says, as a list of texts; those in a list of their own are set in bold
+function eventText(e, row, before, after, who) {
+  const call = callOf(row, before), waited = before.status === "waits";
+  if (e.what === "idle") return idleText(e, row, before, who);
+  if (e.what === "=") return valueText(e, row, before, who);
+  if (e.what === "ok") return plainText(e, row, before, after, who);
+  if (e.what === "wait") return [who, " calls " + call + " and ", ["waits"], "."];
+  if (e.what === "out") return [who, " puts out ", ["" + e.value], "."];
+  if (e.what === "end") return [who, " ", ["ends"], "."];
+  if (e.what === "die") return ["Nothing catches " + thrown(e.value) + ": ", who, " ", ["is dead"], "."];
+  if (e.what === "catch") return ["A handler of ", who, " ", ["catches " + thrown(e.value)], ": it goes on at " + labelled(after.row) + " with r7 = " + e.value + "."];
+  if (e.what === "unwind") return [who, ", throwing " + thrown(before.code) + ", leaves the " + entryText(before.stack[before.stack.length - 1]) + "."];
+  if (e.what === "enter") return [who, " calls " + call + ", and as the last to arrive it ", ["enters the " + entryText(after.stack[after.stack.length - 1])], " at " + labelled(after.row) + "."];
+  if (e.expiry) return ["The time of ", who, "'s wait at " + call + " is up: it ", ["throws " + thrown(e.value)], "."];
+  if (waited) return ["The wait of ", who, " at " + call + " ends: it ", ["throws " + thrown(e.value)], "."];
+  return [who, call ? " calls " + call + ", which " : " ", ["throws " + thrown(e.value)], "."];
+}
+function sentence(i) {
+  const e = moments[i].event, s = stateAt(i);
+  if (!e) return ["Before choice " + (s.choices + 1) + ": " + (threads.length > 1 ? threads.length + " threads, each" : "one thread,") + " at its first row."];
+  if (e.what === "none") return ["There is no thread " + e.thread + ": choice " + e.step + " is refused, and the run stops here."];
+  if (e.what === "limit") return ["No more choices or steps are allowed: choice " + e.step + " is refused, and the run stops here."];
+  const was = stateAt(i - 1), row = rows[e.row], before = was.threads[e.thread];
+  const out = eventText(e, row, before, s.threads[e.thread], [threadName(e.thread)]);
+  if (e.mark) out.push(" ", [markText(e.mark, was)]);
+  else if (before.status !== "waits" && (e.what === "wait" || (e.what === "=" && e.value >= 0 && ARRIVES[row.word]))) out.push(" " + countText(row, s));
+  return out;
+}
+// the names of some threads; of many, the first few
+function someOf(set) {
+  const all = Object.keys(set).map(t => threadName(+t));
+  return all.length > 12 ? all.slice(0, 8).concat([all.length - 8 + " others"]) : all;
+}
+function nextText(i) {
+  const s = stateAt(i), who = someOf(s.next), late = someOf(s.expire);
+  if (s.word === "all") return "All threads are over.";
+  if (s.word === "stuck") return "Stuck: no thread can ever go on.";
+  return "May go next: " + (who.length ? listed(who) : "nobody") + (late.length ? "; the wait" + (late.length > 1 ? "s" : "") + " of " + listed(late) + " may time out" : "") + ".";
+}
+// what a thread does in a moment
+function doing(s, t) {
+  const thread = s.threads[t], status = thread.status, at = only(" at " + objectOf(rows[thread.row]), "");
+  const more = [];
+  if (status === "runs" && !s.next[t]) more.push("can't go on yet");
+  if (status === "waits" && s.next[t]) more.push("may go on");
+  if (s.expire[t]) more.push("may time out");
+  if (thread.flag) more.push("interrupted");
+  const plain = { throws: "throws " + thread.code, died: "died of " + thread.code, ended: "ended", runs: "runs",
+    waits: "waits" + at + (s.word === "stuck" ? " for ever" : "") }[status];
+  return [plain].concat(more).join(", ");
+}
+// the few words of a choice in the timeline; `brief` leaves out the row
+function tagText(e, brief) {
+  const row = e.row < 0 ? null : rows[e.row], object = row ? only(" " + objectOf(row), "").trimEnd() : "";
+  const head = brief || !row ? "" : row.word + object + " ";
+  const said = { none: "refused", limit: "refused", idle: "can't go", end: "ends", wait: head + "waits", enter: head + "enters",
+    out: "out " + e.value, "=": head + "= " + e.value, die: "dies of " + e.value, catch: "catches " + e.value, unwind: "unwinds",
+    throw: (e.expiry ? "time is up: " : "") + "throws " + e.value, ok: head.trimEnd() || (row ? row.word : "") };
+  return said[e.what];
+}
+
+// ---- the elements of a picture
+const HUES = ["#0072b2", "#d55e00", "#009e73", "#b5588f", "#8a6d00", "#2aa0d8", "#7a5195", "#555555"];
+const LANES = ["off", "run", "held", "wait", "free", "throw"];
+const hueOf = t => HUES[t % HUES.length];
+
+function add(parent, tag, kind, text) {
+  const element = document.createElement(tag);
+  if (kind) element.className = kind;
+  if (text !== undefined) element.textContent = text;
+  parent.appendChild(element);
+  return element;
+}
+function head(parent, scope, kind, text) {
+  const cell = add(parent, "th", kind, text);
+  cell.scope = scope;
+  return cell;
+}
+// a thread's name in a frame of its colour
+function chip(parent, t, s) {
+  const status = s && s.threads[t].status, over = status === "ended" || status === "died";
+  const element = add(parent, "span", "who" + (over ? " over" : status === "waits" ? " wait" : ""), threadName(t));
+  element.style.setProperty("--hue", hueOf(t));
+  return element;
+}
+
+// ---- the timeline: a column for each thread, a line for each choice. Where the columns are wide, a choice's words stand in
+// its thread's column; where they are narrow, in one column behind all. Of a long run only the lines in view are there.
+const WIDE = 6, WHOLE = 3000, MARGIN = 20;
+let isNarrow = false, lineOf = new Map(), drawn = { from: 0, to: 0 };
+
+const isWhole = () => moments.length * threads.length <= WHOLE;
+const timeBox = () => id("time").querySelector(".scroll");
+
+function drawHead(table) {
+  const line = add(add(table, "thead"), "tr");
+  add(head(line, "col", "n"), "span", "unseen", "Choice");
+  if (isCrowd()) {
+    picture(head(line, "col", "crowd"), 14, pen => threads.forEach((_, t) => paintLane(pen, RUNS, t, 0, 14)));
+  } else threads.forEach((_, t) => {
+    const cell = head(line, "col", "t");
+    chip(cell, t);
+    if (names.T[t] && !isNarrow) add(cell, "span", "kind", " t" + t);
+  });
+  if (isNarrow) add(head(line, "col", "w"), "span", "unseen", "What");
+  add(head(line, "col", "m"), "span", "unseen", "Ends for all");
+}
+// the lines of these moments
+function drawLines(from, to) {
+  const table = id("lanes"), body = table.tBodies[0] || add(table, "tbody"), pitch = linePitch();
+  body.textContent = "";
+  lineOf = new Map();
+  drawn = { from: from, to: to };
+  const gap = count => {
+    if (count > 0) add(add(body, "tr", "gap"), "td").style.height = count * pitch + "px";
+  };
+  gap(from);
+  for (let i = from; i < to; i++) drawMoment(body, i);
+  gap(moments.length - to);
+  if (to === moments.length) drawClose(body);
+}
+let pitch = 0;
+function linePitch() {
+  if (!pitch) pitch = parseFloat(getComputedStyle(id("lanes")).getPropertyValue("--pitch")) * parseFloat(getComputedStyle(document.documentElement).fontSize);
+  return pitch;
+}
+// draws the lines in view, where they aren't there
+function drawInView() {
+  if (isWhole()) return;
+  const box = timeBox(), top = box.scrollTop / linePitch(), foot = (box.scrollTop + box.clientHeight) / linePitch(), count = moments.length;
+  if (drawn.to && (top >= drawn.from || !drawn.from) && (foot <= drawn.to || drawn.to === count)) return;
+  drawLines(Math.max(0, Math.floor(top) - MARGIN), Math.min(count, Math.ceil(foot) + MARGIN));
+  markLines();
+}
+function drawColumns() {
+  const table = id("lanes"), room = timeBox().clientWidth, em = parseFloat(getComputedStyle(document.documentElement).fontSize);
+  table.textContent = "";
+  table.className = (isNarrow ? "narrow" : "") + (id("hide").checked ? " hiding" : "");
+  table.style.removeProperty("--column");
+  if (isNarrow) {
+    const lane = Math.max(isCrowd() ? .5 : 1.5, Math.min(2.4, (room / em - 24) / threads.length));
+    table.style.setProperty("--column", lane + "rem");
+    column = Math.floor(lane * em);
+    table.classList.toggle("brief", threads.every((_, t) => threadName(t).length < 3));
+  }
+  pitch = 0;
+  drawHead(table);
+  drawn = { from: 0, to: 0 };
+  drawLines(0, isWhole() ? moments.length : Math.min(moments.length, 2 * MARGIN));
+}
+// with wide columns where they fit, else with narrow ones
+function drawTimeline() {
+  isNarrow = threads.length > WIDE;
+  drawColumns();
+  if (isNarrow || timeBox().scrollWidth <= timeBox().clientWidth) return;
+  isNarrow = true;
+  drawColumns();
+}
+function drawLane(line, i, t, took) {
+  const e = moments[i].event, up = i ? laneOf(i - 1, t) : OVER, low = laneOf(i, t), waits = lane => lane === WAITS || lane === FREE;
+  const cell = add(line, "td", "t u-" + LANES[up] + " l-" + LANES[low]);
+  cell.style.setProperty("--hue", hueOf(t));
+  if (!waits(up) && waits(low)) cell.className += " starts";
+  if (waits(up) && !waits(low)) cell.className += " stops";
+  if (took) drawAcross(cell, e, t, took);
+  if (e && e.thread === t) {
+    add(cell, "span", "dot " + e.what);
+    if (!isNarrow) add(cell, "span", "tag " + e.what, tagText(e, false));
+  } else if (i === moments.length - 1 && waits(low) && !isNarrow && stateAt(i).word === "stuck") add(cell, "span", "tag wait", "stuck");
+  else if (waits(low)) add(cell, "span", "unseen", low === WAITS ? "waits" : "may go on");
+}
+// ---- many threads: the columns of a line are one picture, and its words tell whose turn it was
+const isCrowd = () => threads.length > 2 * WIDE;
+let column = 0, hatch = null;
+
+function picture(cell, height, paint) {
+  const canvas = add(cell, "canvas"), scale = Math.max(1, Math.min(2, devicePixelRatio || 1)), width = column * threads.length;
+  canvas.width = width * scale;
+  canvas.height = height * scale;
+  canvas.style.width = width + "px";
+  canvas.style.height = height + "px";
+  const pen = canvas.getContext("2d");
+  pen.scale(scale, scale);
+  paint(pen);
+}
+function hatched() {
+  if (hatch) return hatch;
+  const tile = document.createElement("canvas"), pen = (tile.width = tile.height = 6, tile.getContext("2d"));
+  pen.fillStyle = "#fff";
+  pen.fillRect(0, 0, 6, 6);
+  pen.lineWidth = 2;
+  for (const x of [-6, 0, 6]) pen.stroke(new Path2D("M" + x + " 6 l6 -6"));
+  return hatch = pen.createPattern(tile, "repeat");
+}
+// half of a thread's line
+function paintLane(pen, lane, t, top, height) {
+  const middle = (t + .5) * column, wide = Math.min(12, column - 2);
+  if (lane === OVER) return;
+  pen.fillStyle = hueOf(t);
+  if (lane === RUNS) pen.fillRect(middle - 1.5, top, 3, height);
+  else if (lane === HELD) for (let y = top; y < top + height; y += 6) pen.fillRect(middle - 1.5, y, 3, 3);
+  else if (lane === THROWS) for (const x of [-2.5, 1.5]) pen.fillRect(middle + x, top, 1, height);
+  else {
+    pen.fillStyle = lane === WAITS ? hatched() : "#fff";
+    pen.fillRect(middle - wide / 2, top, wide, height);
+    pen.fillStyle = "#111";
+    for (const x of [-wide / 2, wide / 2 - 1]) pen.fillRect(middle + x, top, 1, height);
+  }
+}
+function paintDiamond(pen, t, y, size, inside) {
+  const x = (t + .5) * column, path = new Path2D("M" + x + " " + (y - size) + " l" + size + " " + size + " l-" + size + " " + size + " l-" + size + " -" + size + " z");
+  pen.fillStyle = inside;
+  pen.fill(path);
+  pen.lineWidth = 2;
+  pen.stroke(path);
+}
+function paintChoice(pen, e, y) {
+  const size = Math.min(6, column / 2), x = (e.thread + .5) * column;
+  if (e.what === "throw" || e.what === "die") paintDiamond(pen, e.thread, y, size, e.what === "die" ? "#111" : "#fff");
+  else {
+    const path = new Path2D();
+    if (e.what === "end") path.rect(x - size + 1, y - size + 1, 2 * size - 2, 2 * size - 2);
+    else path.arc(x, y, size - 1, 0, 7);
+    pen.fillStyle = e.what === "end" ? "#111" : e.what === "idle" ? "#fff" : hueOf(e.thread);
+    pen.fill(path);
+    pen.lineWidth = 2;
+    pen.stroke(path);
+  }
+}
+function paintTook(pen, e, took, y) {
+  const list = [...took], first = (Math.min(...list) + .5) * column, final = (Math.max(...list) + .5) * column;
+  pen.fillStyle = "#111";
+  for (const x of e.mark.kind === "-b" ? [-1] : [-2.5, 1.5]) pen.fillRect(first, y + x, final - first, e.mark.kind === "-b" ? 2 : 1);
+  for (let x = final; x < column * threads.length; x += 4) pen.fillRect(x, y - 1, 2, 2);
+  for (const t of took) paintDiamond(pen, t, y, Math.min(7, column / 2 + 1), "#fff");
+}
+function drawCrowd(line, i, took) {
+  const e = moments[i].event, height = Math.round(linePitch()), half = height / 2;
+  picture(add(line, "td", "crowd"), height, pen => {
+    threads.forEach((_, t) => {
+      if (i) paintLane(pen, laneOf(i - 1, t), t, 0, half);
+      paintLane(pen, laneOf(i, t), t, half, height - half);
+    });
+    if (took) paintTook(pen, e, took, half);
+    if (e && e.thread < threads.length) paintChoice(pen, e, half);
+  });
+}
+
+// the line across all who took part, and the lead from the last of them to the mark
+function drawAcross(cell, e, t, took) {
+  const list = [...took], first = Math.min(...list), final = Math.max(...list), broke = e.mark.kind === "-b" ? " broke" : "";
+  if (t >= first && t <= final && first !== final) add(cell, "span", "across" + broke + (t === first ? " first" : "") + (t === final ? " final" : ""));
+  if (t === final) add(cell, "span", "across lead begins");
+  if (t > final) add(cell, "span", "across lead");
+  if (took.has(t)) add(cell, "span", "part");
+}
+function drawMoment(body, i) {
+  const line = add(body, "tr"), e = moments[i].event, took = parts[i];
+  lineOf.set(i, line);
+  line.setAttribute("data-i", i);
+  if (i === moments.length - 1) line.className = "final";
+  head(line, "row", "n", e ? "" + e.step : "start");
+  if (isCrowd()) drawCrowd(line, i, took);
+  else threads.forEach((_, t) => drawLane(line, i, t, took));
+  if (isNarrow) {
+    const cell = add(line, "td", "w");
+    if (took) add(cell, "span", "across lead ends");
+    if (e && e.thread < threads.length) {
+      chip(cell, e.thread);
+      add(cell, "span", "tag " + e.what, tagText(e, false));
+    }
+  }
+  const cell = add(line, "td", "m");
+  if (took) {
+    add(cell, "span", "across lead ends");
+    add(cell, "span", "mark", shortMark(e.mark, stateAt(i - 1)));
+  }
+  if (e && e.what === "none") add(cell, "span", "mark", "refused: no thread " + e.thread);
+  if (e && e.what === "limit") add(cell, "span", "mark", "refused: the limit");
+}
+function drawClose(body) {
+  const count = moments.length, line = add(body, "tr", "close"), s = stateAt(count - 1);
+  const said = { all: "all are over", stuck: "stuck", live: "the schedule ends here" }[s.word];
+  lineOf.set(count, line);
+  head(line, "row", "n", "end");
+  if (isCrowd()) add(line, "td", "crowd");
+  else threads.forEach((_, t) => {
+    const thread = s.threads[t], word = { ended: "ended", died: "died of " + thread.code, runs: "not ended", throws: "throws " + thread.code,
+      waits: s.word === "stuck" ? "waits for ever" : "waits" }[thread.status];
+    add(add(line, "td", "t u-off l-off"), "span", isNarrow ? "unseen" : "", word);
+  });
+  if (isNarrow) add(line, "td", "w", "");
+  add(line, "td", "m", moments[count - 1].refused ? "" : said);
+}
+// which lines are later than the one that is shown
+function markLines() {
+  const final = moments.length - 1;
+  for (const [i, line] of lineOf) {
+    line.classList.toggle("later", i > at && !(i > final && at === final));
+    line.classList.toggle("now", i === at);
+    if (i === at) line.setAttribute("aria-current", "step");
+    else line.removeAttribute("aria-current");
+  }
+}
+
+// ---- the overview of a long run: a column for each thread, and all choices from top to foot
+const SHADES = [[255, 255, 255], [201, 215, 230], [226, 226, 226], [34, 34, 34], [138, 138, 138], [176, 0, 0]];
+
+function drawMap() {
+  const map = id("map"), canvas = map.querySelector("canvas"), count = moments.length, all = threads.length;
+  map.hidden = isWhole();
+  if (map.hidden) return;
+  const lane = Math.max(2, Math.min(8, Math.floor(120 / all))), width = lane * all, height = Math.max(1, Math.min(count * 4, map.clientHeight));
+  canvas.width = width;
+  canvas.height = height;
+  const pen = canvas.getContext("2d"), image = pen.createImageData(width, height), bytes = image.data.fill(255);
+  for (let y = 0; y < height; y++) {
+    const i = Math.floor(y * count / height);
+    for (let x = 0; x < width; x++) {
+      if (lane < 4 || x % lane) bytes.set(SHADES[laneOf(i, Math.floor(x / lane))], 4 * (y * width + x));
+    }
+  }
+  pen.putImageData(image, 0, 0);
+  pen.fillStyle = "#d00000";
+  parts.forEach((took, i) => {
+    const list = [...took], first = Math.min(...list);
+    pen.fillRect(first * lane, Math.floor(i * height / count), (Math.max(...list) - first + 1) * lane, 1);
+  });
+}
+function markMap() {
+  const map = id("map"), canvas = map.querySelector("canvas"), tall = canvas.height / moments.length, box = timeBox();
+  if (map.hidden) return;
+  const first = box.scrollTop / linePitch(), seen = box.clientHeight / linePitch();
+  id("here").style.top = Math.max(0, first * tall) + "px";
+  id("here").style.height = Math.max(4, Math.min(seen * tall, canvas.height - first * tall)) + "px";
+  id("unseen").hidden = !id("hide").checked;
+  id("unseen").style.top = (at + 1) * tall + "px";
+  id("unseen").style.height = Math.max(0, canvas.height - (at + 1) * tall) + "px";
+}
+
+// ---- the program
+const placeOfRow = [], lineOfRow = [];
+
+function drawProgram() {
+  const top = add(add(id("rows"), "thead", "unseen"), "tr"), body = add(id("rows"), "tbody");
+  for (const text of ["Threads here", "Row", "Text"]) head(top, "col", "", text);
+  let list = written;
+  if (!list) {
+    const all = linesOf("listing"), first = all.length - rows.length;
+    list = all.map((code, k) => ({ row: k < first ? -1 : k - first, code: code, talk: "", rule: k < first }));
+  }
+  for (const entry of list) {
+    const line = add(body, "tr", entry.rule ? "rule" : ""), place = add(line, "td", "at");
+    add(line, "td", "r", entry.row >= 0 ? "" + entry.row : "");
+    const cell = add(line, "td", "l");
+    if (entry.code.trim()) add(cell, "code", "", entry.code.replace(/\s+$/, ""));
+    if (entry.talk) add(cell, "span", "talk" + (entry.code.trim() ? "" : " alone"), entry.talk);
+    if (entry.row >= 0) {
+      placeOfRow[entry.row] = place;
+      lineOfRow[entry.row] = line;
+    }
+  }
+}
+function markProgram(e, s) {
+  for (const place of placeOfRow) place.textContent = "";
+  lineOfRow.forEach((line, row) => line.classList.toggle("now", !!e && e.row === row));
+  const here = {};
+  s.threads.forEach((thread, t) => (here[thread.row] = here[thread.row] || []).push(t));
+  for (const row of Object.keys(here)) {
+    const list = here[row], place = placeOfRow[row], most = list.length > 6 ? 3 : list.length;
+    for (const t of list.slice(0, most)) chip(place, t, s);
+    if (list.length > most) add(place, "span", "more", " and " + (list.length - most) + " more");
+  }
+}
+
+// ---- the state
+const uses = { registers: [], cells: new Set() };
+
+function findUses() {
+  const words = new Set(rows.map(row => row.word)), registers = new Set();
+  for (const row of rows) {
+    row.kinds.split("").forEach((kind, k) => { if (kind === "r") registers.add(+row.operands[k][1]); });
+    if (row.kinds.includes("C")) uses.cells.add(operandOf(row, "C"));
+  }
+  const routines = phasers.some(p => p.routine >= 0);
+  if (routines) registers.add(0).add(1);
+  if (words.has("try")) registers.add(7);
+  uses.registers = [...registers].sort();
+  names.C.forEach((_, n) => uses.cells.add(n));
+  uses.stack = words.has("call") || words.has("try") || routines || barriers.some(b => b.action >= 0);
+  uses.out = words.has("out");
+}
+const changed = (cell, is) => { if (is) cell.className += " new"; };
+
+function title(text, count) {
+  const block = add(id("things"), "div", "block");
+  add(block, "h3", "", text);
+  return count === undefined ? block : add(add(block, "table", "grid"), "tbody");
+}
+function drawThreads(e, s, was) {
+  const block = title("Threads"), grid = add(block, "table", "grid"), line = add(add(grid, "thead"), "tr");
+  add(head(line, "col", ""), "span", "unseen", "Thread");
+  head(line, "col", "num", "Row");
+  head(line, "col", "", "Doing");
+  for (const k of uses.registers) head(line, "col", "num", "r" + k);
+  const body = add(grid, "tbody");
+  s.threads.forEach((thread, t) => {
+    const old = was.threads[t], row = add(body, "tr", e && e.thread === t ? "its" : "");
+    chip(head(row, "row"), t, s);
+    changed(add(row, "td", "num", "" + thread.row), thread.row !== old.row);
+    changed(add(row, "td", "", doing(s, t)), thread.status !== old.status || thread.flag !== old.flag);
+    for (const k of uses.registers) changed(add(row, "td", "num", "" + thread.regs[k]), thread.regs[k] !== old.regs[k]);
+  });
+}
+// what all threads have of a kind, a line each; those that have nothing are left out
+function drawOf(s, was, text, of, put) {
+  if (!s.threads.some(thread => of(thread).length)) return;
+  const body = title(text, 0);
+  s.threads.forEach((thread, t) => {
+    if (!of(thread).length) return;
+    const row = add(body, "tr");
+    chip(head(row, "row"), t, s);
+    const cell = add(row, "td", "all");
+    changed(cell, of(thread).join(" ") !== of(was.threads[t]).join(" "));
+    put(cell, of(thread));
+  });
+}
+function dots(cell, filled, all) {
+  if (all > 16) return;
+  const box = add(cell, "span", "dots");
+  box.setAttribute("aria-hidden", "true");
+  for (let k = 0; k < all; k++) add(box, "span", k < filled ? "party in" : "party");
+}
+// the phasers, each below its parent
+function phaserOrder(parent, depth) {
+  return phasers.flatMap((p, n) => p.parent === parent ? [{ p: n, depth: depth }].concat(phaserOrder(n, depth + 1)) : []);
+}
+function drawPhasers(s, was) {
+  if (!phasers.length) return;
+  const body = title("Phasers", 0);
+  for (const place of phaserOrder(-1, 0)) {
+    const p = s.phasers[place.p], old = was.phasers[place.p], row = add(body, "tr");
+    head(row, "row", "", (place.depth ? "\u2514 " : "") + nameOf("P", place.p)).style.paddingLeft = .35 + 1.1 * place.depth + "rem";
+    changed(add(row, "td", "line", p.view < 0 ? "terminated in phase " + phaseOf(p.view) : "phase " + p.view), p.view !== old.view);
+    const cell = add(row, "td", "line");
+    changed(cell, p.arrived !== old.arrived || p.parties !== old.parties);
+    dots(cell, p.arrived, p.parties);
+    add(row, "td", "note", p.arrived + " of " + p.parties + " arrived");
+  }
+}
+function drawBarriers(s, was) {
+  if (!barriers.length) return;
+  const body = title("Barriers", 0);
+  s.barriers.forEach((b, n) => {
+    const old = was.barriers[n], row = add(body, "tr");
+    head(row, "row", "", nameOf("B", n));
+    const cell = add(row, "td", "line");
+    changed(cell, b.waiting !== old.waiting);
+    dots(cell, b.waiting, barriers[n].parties);
+    add(row, "td", "note", b.waiting + " of " + barriers[n].parties + " wait");
+    changed(add(row, "td", "", b.broken ? "broken" : ""), b.broken !== old.broken);
+  });
+}
+function drawCells(s, was) {
+  const shown = new Set([...uses.cells, ...Object.keys(s.cells).map(Number)]);
+  if (!shown.size) return;
+  const block = title("Cells");
+  for (const n of [...shown].sort((a, b) => a - b)) {
+    changed(add(block, "span", "chip", nameOf("C", n) + " = " + (s.cells[n] || 0)), (s.cells[n] || 0) !== (was.cells[n] || 0));
+  }
+}
+function drawState(i) {
+  const s = stateAt(i), was = stateAt(Math.max(0, i - 1)), number = s.choices;
+  id("after").textContent = moments[i].event ? "After choice " + number : "At the start";
+  id("things").textContent = "";
+  drawThreads(moments[i].event, s, was);
+  drawPhasers(s, was);
+  drawBarriers(s, was);
+  drawCells(s, was);
+  if (uses.stack) drawOf(s, was, "Stacks, the top last", thread => thread.stack, (cell, list) => list.forEach(entry => add(cell, "span", "chip", entryText(entry))));
+  if (uses.out) drawOf(s, was, "Output", thread => thread.out, (cell, list) => cell.appendChild(document.createTextNode(list.join(" "))));
+}
+
+// ---- steps
+let at = -1, timer = null;
+
+function fill(box, texts) {
+  box.textContent = "";
+  for (const text of texts) {
+    if (typeof text === "string") box.appendChild(document.createTextNode(text));
+    else add(box, "b", "", text[0]);
+  }
+}
+// a text in which what stands between backquotes is code
+function fillTalk(box, text) {
+  box.textContent = "";
+  text.split("`").forEach((part, k) => { if (part) add(box, k % 2 ? "code" : "span", "", part); });
+}
+// scrolls a box so that what stands from `top` to `foot` is in view, below its head
+function scrollTo(box, top, foot, cover) {
+  if (top - cover < box.scrollTop) box.scrollTop = Math.max(0, top - cover - 4);
+  else if (foot > box.scrollTop + box.clientHeight) box.scrollTop = foot - box.clientHeight + 4;
+}
+function bringTimeline(i) {
+  const box = timeBox(), cover = id("lanes").tHead.offsetHeight;
+  if (isWhole()) {
+    const line = lineOf.get(i), more = i === moments.length - 1 ? 2 : 1;
+    scrollTo(box, line.offsetTop, line.offsetTop + (more + .5) * line.offsetHeight, cover);
+  } else {
+    scrollTo(box, cover + i * linePitch(), cover + (i + 3) * linePitch(), cover);
+    drawInView();
+  }
+  if (isCrowd()) return;
+  const line = lineOf.get(i), dot = line && line.querySelector(".dot"), cell = dot && dot.parentNode, side = line ? line.cells[0].offsetWidth : 0;
+  if (!cell) return;
+  if (cell.offsetLeft - side < box.scrollLeft) box.scrollLeft = cell.offsetLeft - side;
+  else if (cell.offsetLeft + cell.offsetWidth > box.scrollLeft + box.clientWidth) box.scrollLeft = cell.offsetLeft + cell.offsetWidth - box.clientWidth;
+}
+function bringRow(row) {
+  const box = id("code").querySelector(".scroll"), line = lineOfRow[row];
+  scrollTo(box, line.offsetTop, line.offsetTop + line.offsetHeight, 0);
+}
+function bringThread() {
+  const line = id("things").querySelector(".its");
+  if (line) scrollTo(id("things"), line.offsetTop, line.offsetTop + line.offsetHeight, line.offsetHeight);
+  else id("things").scrollTop = 0;
+}
+function show(i) {
+  i = Math.max(0, Math.min(moments.length - 1, i));
+  if (i === at) return;
+  const s = stateAt(i), e = moments[i].event, final = moments.length - 1;
+  at = i;
+  id("slider").value = i;
+  id("slider").setAttribute("aria-valuetext", e ? "choice " + e.step : "start");
+  id("where").textContent = e ? "choice " + e.step + " of " + moments[final].event.step : "start";
+  id("back").disabled = id("first").disabled = i === 0;
+  id("forth").disabled = id("last").disabled = i === final;
+  fill(id("what"), sentence(i));
+  id("next").textContent = moments[i].refused ? "" : nextText(i);
+  id("next").className = s.word === "stuck" ? "halt" : "";
+  markProgram(e, s);
+  drawState(i);
+  bringTimeline(i);
+  markLines();
+  markMap();
+  bringThread();
+  if (e && e.row >= 0) bringRow(e.row);
+  try { history.replaceState(null, "", "#" + (e ? e.step : 0)); } catch (error) { /* a page in a frame may not */ }
+}
+function stop() {
+  clearInterval(timer);
+  timer = null;
+  id("play").textContent = "Play";
+  id("play").setAttribute("aria-pressed", "false");
+}
+function play() {
+  if (timer !== null) {
+    stop();
+    return;
+  }
+  if (at === moments.length - 1) show(0);
+  timer = setInterval(() => { if (at >= moments.length - 1) stop(); else show(at + 1); }, 2000);
+  id("play").textContent = "Pause";
+  id("play").setAttribute("aria-pressed", "true");
+}
+function go(i) {
+  stop();
+  show(i);
+}
+// the moment that the page's address names, the start where it names none
+function fromAddress() {
+  const wanted = +location.hash.slice(1), first = moments.length > 1 ? moments[1].event.step : 1;
+  return /^#\d+$/.test(location.hash) && wanted >= first ? wanted - first + 1 : 0;
+}
+// the columns fit the room anew
+function arrange() {
+  const now = at;
+  drawTimeline();
+  drawMap();
+  at = -1;
+  show(now < 0 ? fromAddress() : now);
+}
+function pressed(event) {
+  if (event.altKey || event.ctrlKey || event.metaKey) return;
+  const on = event.target, key = event.key, plain = !/^(INPUT|BUTTON|SUMMARY)$/.test(on.tagName);
+  const scrolls = on.classList && on.classList.contains("scroll");
+  if (on === id("slider") && key !== " ") return;
+  if (key === "ArrowRight" || key === "PageDown" || (key === "ArrowDown" && !scrolls)) go(at + 1);
+  else if (key === "ArrowLeft" || key === "PageUp" || (key === "ArrowUp" && !scrolls)) go(at - 1);
+  else if (key === "Home") go(0);
+  else if (key === "End") go(moments.length - 1);
+  else if (key === " " && (plain || on === id("slider"))) play();
+  else return;
+  event.preventDefault();
+}
+function listen() {
+  id("first").onclick = () => go(0);
+  id("back").onclick = () => go(at - 1);
+  id("forth").onclick = () => go(at + 1);
+  id("last").onclick = () => go(moments.length - 1);
+  id("play").onclick = play;
+  id("slider").oninput = () => go(+id("slider").value);
+  id("hide").onchange = () => {
+    id("lanes").classList.toggle("hiding", id("hide").checked);
+    markMap();
+  };
+  id("lanes").onclick = event => {
+    const line = event.target.closest("tr[data-i]");
+    if (line) go(+line.getAttribute("data-i"));
+  };
+  id("map").onclick = event => {
+    const canvas = id("map").querySelector("canvas"), box = canvas.getBoundingClientRect();
+    go(Math.floor((event.clientY - box.top) / box.height * moments.length));
+  };
+  timeBox().onscroll = () => {
+    drawInView();
+    markMap();
+  };
+  let width = innerWidth;
+  window.onresize = () => {
+    if (innerWidth === width) return;
+    width = innerWidth;
+    arrange();
+  };
+  window.onhashchange = () => go(fromAddress());
+  window.onbeforeprint = () => { if (!isWhole()) { drawLines(Math.max(0, at - 200), Math.min(moments.length, at + 200)); markLines(); } };
+  document.addEventListener("keydown", pressed);
+}
+function nameThePage() {
+  const name = about ? about.split(/[.:]( |$)/)[0] : "A run of " + listed(threads.slice(0, 8).map((_, t) => threadName(t)).concat(threads.length > 8 ? ["others"] : []));
+  const more = about.slice(name.length + 1).trim();
+  document.title = name.replace(/`/g, "");
+  fillTalk(id("title"), name);
+  fillTalk(id("about"), more.charAt(0).toUpperCase() + more.slice(1));
+  id("about").hidden = !more;
+}
+function begin() {
+  readListing();
+  readSource();
+  readRun();
+  readParts();
+  nameThePage();
+  findUses();
+  id("slider").max = moments.length - 1;
+  id("panes").className = isCrowd() ? "crowd" : "";
+  id("tool").hidden = false;
+  id("text").open = false;
+  document.body.className = "wide";
+  drawProgram();
+  listen();
+  arrange();
+}
+
+try {
+  begin();
+} catch (error) {
+  id("why").textContent = error.message;
+  id("broken").hidden = false;
+  id("tool").hidden = true;
+  id("text").open = true;
+}
+})();
+</script>
+</body>
+</html>
+"###;

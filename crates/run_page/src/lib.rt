@@ -1,0 +1,20 @@
+//! A page that shows a run: one HTML file that any browser opens, with no network.
+//!
+//! Between four fixed parts stand three texts: the program's canonical listing, the program as it was written, and the run,
+//! which is the state at the start, and then of each choice its line, the state after it, and who may go next. The page's
+//! script draws what stands there; it plays nothing. `page` promises that these are the texts of just this program under just
+//! this schedule, and a law that none of their bytes can end the element that it stands in. What the script draws of them is
+//! tested (`tests/page`).
+//!
+//! Style, script and the rest of the page are sources in `page/`, of which `bin/page` makes the constants of `fixed`.
+#![tactic(auto)]
+
+mod choices;
+mod escape;
+pub mod fixed;
+pub mod frame;
+mod law;
+mod moment;
+pub mod page;
+
+pub use law::an_escaped_text_ends_no_element;
