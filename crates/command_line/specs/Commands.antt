@@ -40,6 +40,9 @@ compare_shape = command (codes "compare") (file_rule ∷ place_rule (codes "TRAC
 abbrev pub debug_shape : Shape
 debug_shape = command (codes "debug") (file_rule ∷ [])
 
+abbrev pub show_shape : Shape
+show_shape = command (codes "show") (file_rule ∷ new_rule (codes "SCHEDULE") ∷ [])
+
 abbrev pub live_shape : Shape
 live_shape = command (codes "live") (file_rule ∷ limit_rule ∷ [])
 
@@ -50,7 +53,7 @@ race_shape = command (codes "race") (number_rule (codes "parties") ∷ number_ru
 abbrev pub vuthgal : App
 vuthgal = record {
   top = record (new_app (codes "vuthgal")).top { has_version = true; is_leaf = false };
-  subs = asm_shape ∷ list_shape ∷ run_shape ∷ compare_shape ∷ debug_shape ∷ live_shape ∷ race_shape ∷ [];
+  subs = asm_shape ∷ list_shape ∷ run_shape ∷ compare_shape ∷ debug_shape ∷ show_shape ∷ live_shape ∷ race_shape ∷ [];
 }
 
 -- a command by itself, with none below it

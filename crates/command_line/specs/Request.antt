@@ -1,6 +1,6 @@
 -- What a command line asks for, by the subcommand that its words name and by that one's matches.
 use Rattle.std.specs.Prelude.{◌≡◌, ◌≢◌, ◌≤◌, ◌⊎◌, ℕ, List, [], ◌∷◌, Option, Some, None, length}
-use Rattle.std.specs.Prelude.{All, codes, true, unwrap_or}
+use Rattle.std.specs.Prelude.{All, codes, option_map, true, unwrap_or}
 use Rattle.std.specs.Str.Parse.{IsNumeral, digits_value}
 use Rattle.clap.specs.Words.{Row, Text, first_of, kind_of, subcommand_of, takes}
 use Rattle.clap.specs.declared.error.Error.{Error}
@@ -19,6 +19,10 @@ IsInRange _ = Unit {0}
 abbrev pub word_at : Text → List Row → Text
 word_at place rows = unwrap_or (first_of place rows) []
 
+-- the word in this place, none where nothing stands there
+abbrev pub word_given : Text → List Row → Option Text
+word_given place rows = first_of place rows
+
 -- one to ten digits, and nothing else, spell this number, which is one of 1 to `most`
 abbrev pub Spells : Text → ℕ → ℕ → Type 0
 Spells text most number = (length text ≤ 10) × IsNumeral 10 text × (digits_value 10 text ≡ number)
@@ -28,7 +32,8 @@ abbrev pub SpellsNone : Text → ℕ → Type 0
 SpellsNone text most = (number : ℕ) → Spells text most number → ⊥
 
 abbrev pub command_names : List Text
-command_names = codes "asm" ∷ codes "list" ∷ codes "run" ∷ codes "compare" ∷ codes "debug" ∷ codes "live" ∷ codes "race" ∷ []
+command_names =
+    codes "asm" ∷ codes "list" ∷ codes "run" ∷ codes "compare" ∷ codes "debug" ∷ codes "show" ∷ codes "live" ∷ codes "race" ∷ []
 
 -- the request is what the subcommand of this name asks for by these matches
 abbrev pub IsAskedBy : Text → List Row → Request → Type 0
@@ -43,6 +48,8 @@ IsAskedBy name rows (request.Compare file trace) = (name ≡ codes "compare")
     × (file.now ≡ word_at (codes "FILE") rows) × (trace.now ≡ word_at (codes "TRACE") rows)
 IsAskedBy name rows (request.Debug file) = (name ≡ codes "debug")
     × (file.now ≡ word_at (codes "FILE") rows)
+IsAskedBy name rows (request.Show file schedule) = (name ≡ codes "show")
+    × (file.now ≡ word_at (codes "FILE") rows) × (option_map (λ s. s.now) schedule ≡ word_given (codes "SCHEDULE") rows)
 IsAskedBy name rows (request.Live file limit) = (name ≡ codes "live")
     × (file.now ≡ word_at (codes "FILE") rows) × Spells (word_at (codes "limit") rows) 1000000000 limit
 IsAskedBy name rows (request.Race parties rounds) = (name ≡ codes "race")

@@ -1,8 +1,8 @@
-ghost use Rattle.std.specs.Prelude.{◌≡◌, IfOk, IsOkAnd, false, []};
-ghost use Rattle.clap.specs.Words.{AddsSubcommand, app_of, rule_of, with_rule, with_subcommand};
+ghost use Rattle.std.specs.Prelude.{◌≡◌, IfOk, IsOkAnd, false, [], codes};
+ghost use Rattle.clap.specs.Words.{AddsSubcommand, app_of, new_rule, rule_of, with_rule, with_subcommand};
 ghost use Rattle.command_line.specs.Commands.{alone, command, limit_rule, number_rule, place_rule, vuthgal};
 ghost use Rattle.command_line.specs.Commands.{asm_shape, compare_shape, debug_shape, list_shape};
-ghost use Rattle.command_line.specs.Commands.{live_shape, race_shape, run_shape};
+ghost use Rattle.command_line.specs.Commands.{live_shape, race_shape, run_shape, show_shape};
 
 use clap::{Arg, Command};
 use std::alloc::{AllocError, Global};
@@ -27,6 +27,8 @@ pub const COMPARE: &str = "compare";
 pub const TRACE: &str = "TRACE";
 
 pub const DEBUG: &str = "debug";
+
+pub const SHOW: &str = "show";
 
 pub const LIVE: &str = "live";
 
@@ -106,6 +108,14 @@ command, and its answer stands on standard output before the next line is read:
 What is none of these is answered with `?`.
 
 Example: vuthgal debug examples/stray-arrival.asm < examples/stray-arrival.commands";
+
+const SHOW_ABOUT: &str = "\
+Writes a page that shows a run: one HTML file that any browser opens, with no network.
+
+FILE is an image where its first four bytes are `PBW1` or `PBW2`, else a program text. SCHEDULE is a file, or `-` for \
+standard input. Without it FILE is a text with its schedule behind a line `.run`. A page shows 2000 choices at most.
+
+Example: vuthgal show examples/two-threads-meet.txt > meeting.html";
 
 const LIVE_ABOUT: &str = "\
 Plays the program in FILE on real threads, one for each of its own, and writes the trace of the run that came about.
@@ -233,6 +243,24 @@ fn debug<'a>(alloc: Global) -> Result<Command<'a>, AllocError>
     .arg(place(alloc, FILE, "The file of the image or of the program text"))
 }
 
+/// A schedule that may be left out.
+fn schedule<'a>(alloc: Global) -> Arg<'a>
+    ensures rule { rule_of result ≡ new_rule (codes "SCHEDULE") }
+    ensures local { result.global ≡ false }
+{
+    Arg::new(alloc, SCHEDULE).help("The file of the schedule, or `-` for standard input")
+}
+
+fn show<'a>(alloc: Global) -> Result<Command<'a>, AllocError>
+    ensures { IfOk result (λ command. app_of command ≡ alone show_shape) }
+{
+    with_two(
+        told(alloc, SHOW, "Writes a page that shows a run", SHOW_ABOUT),
+        place(alloc, FILE, "The file of the image or of the program text"),
+        schedule(alloc),
+    )
+}
+
 /// How many steps a live run takes at most.
 fn limit<'a>(alloc: Global) -> Arg<'a>
     ensures rule { rule_of result ≡ limit_rule }
@@ -316,6 +344,13 @@ fn with_plays<'a>(alloc: Global, program: Command<'a>) -> Result<Command<'a>, Al
     with(program, debug(alloc))
 }
 
+/// The same with the command that makes a picture of a run.
+fn with_pictures<'a>(alloc: Global, program: Command<'a>) -> Result<Command<'a>, AllocError>
+    ensures { IfOk result (λ grown. app_of grown ≡ with_subcommand (app_of program.entry) show_shape) }
+{
+    with(program, show(alloc))
+}
+
 /// The same with the commands that start threads.
 fn with_threads<'a>(alloc: Global, program: Command<'a>) -> Result<Command<'a>, AllocError>
     ensures { IfOk result (λ grown. app_of grown
@@ -336,5 +371,6 @@ pub fn program<'a>(alloc: Global) -> Result<Command<'a>, AllocError>
         .after_help(STATUSES);
     let program = with_forms(alloc, program)?;
     let program = with_plays(alloc, program)?;
+    let program = with_pictures(alloc, program)?;
     with_threads(alloc, program)
 }

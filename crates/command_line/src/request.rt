@@ -1,15 +1,15 @@
-ghost use Rattle.std.specs.Prelude.{◌≡◌, ◌≤◌, IfErr, IfOk, IfSome, MatchOption, codes, map, true};
+ghost use Rattle.std.specs.Prelude.{◌≡◌, ◌≤◌, IfErr, IfOk, IfSome, MatchOption, codes, map, option_map, true};
 ghost use Rattle.clap.specs.Words.{app_of, found_of, kind_of, rows_of, subcommand_rows_of, takes};
 ghost use Rattle.clap.specs.declared.error.kind.ErrorKind.TheVariants.{OutOfMemory};
 ghost use Rattle.std.specs.String.{string_bytes};
 ghost use Rattle.command_line.specs.Commands.{vuthgal};
 ghost use Rattle.command_line.specs.Request.{Asks, Fails, Refuses};
 ghost use Rattle.command_line.specs.Request.{IsAsked, IsAskedBy, IsInRange, IsRefused, IsRefusedBy};
-ghost use Rattle.command_line.specs.Request.{Spells, SpellsNone, word_at};
+ghost use Rattle.command_line.specs.Request.{Spells, SpellsNone, word_at, word_given};
 
 use crate::commands::{
-    ASM, COMPARE, DEBUG, FILE, LIMIT, LIST, LIVE, OUT, PARTIES, RACE, ROUNDS, RUN, SCHEDULE, SRC,
-    TRACE, program,
+    ASM, COMPARE, DEBUG, FILE, LIMIT, LIST, LIVE, OUT, PARTIES, RACE, ROUNDS, RUN, SCHEDULE, SHOW,
+    SRC, TRACE, program,
 };
 use clap::error::ErrorKind;
 use clap::{ArgMatches, Command, Error};
@@ -30,6 +30,11 @@ pub enum Request<'a> {
     Compare { file: &'a str, trace: &'a str },
     /// `debug FILE`.
     Debug { file: &'a str },
+    /// `show FILE [SCHEDULE]`; the schedule `-` is standard input, and without it it stands in FILE.
+    Show {
+        file: &'a str,
+        schedule: Option<&'a str>,
+    },
     /// `live FILE --limit N`: 1 to 1,000,000,000 steps.
     Live { file: &'a str, limit: u32 },
     /// `race --parties N --rounds R`: 1 to 16 threads, 1 to 1,000,000 phases.
@@ -46,6 +51,13 @@ fn word<'a>(matches: &ArgMatches<'a>, place: &str) -> &'a str
     ensures { result.now ≡ word_at place.now (rows_of (found_of matches.now)) }
 {
     matches.get_str(place).unwrap_or("")
+}
+
+/// The word in this place, which may be left out.
+fn given<'a>(matches: &ArgMatches<'a>, place: &str) -> Option<&'a str>
+    ensures { option_map (λ s. s.now) result ≡ word_given place.now (rows_of (found_of matches.now)) }
+{
+    matches.get_str(place)
 }
 
 /// The number that one to ten digits spell, where it is one of 1 to `most`; no sign may stand before them.
@@ -118,6 +130,10 @@ fn request_by<'a>(name: &str, matches: &ArgMatches<'a>) -> Option<Request<'a>>
         }),
         DEBUG => Some(Request::Debug {
             file: word(matches, FILE),
+        }),
+        SHOW => Some(Request::Show {
+            file: word(matches, FILE),
+            schedule: given(matches, SCHEDULE),
         }),
         LIVE => live(matches),
         RACE => race(matches),

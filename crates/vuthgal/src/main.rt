@@ -24,6 +24,7 @@ use workbench::fault::Fault;
 use workbench::list::list_cmd;
 use workbench::live::live_cmd;
 use workbench::run::run_cmd;
+use workbench::show::{show_both_cmd, show_cmd};
 
 /// How many bytes are written at a time.
 const BUFFER: usize = 65_536;
@@ -161,6 +162,50 @@ fn debug(rt: &HostRuntime, file: &str) -> u8 {
     flushed(rt, status, &mut output)
 }
 
+/// Writes the page of the program in a file and a schedule. A page is written at once, so nothing is kept back.
+fn show_under<S: Source>(rt: &HostRuntime, program: File, schedule: &mut S) -> u8 {
+    let mut output = WritePort::new(rt.stdout());
+    let mut errors = WritePort::new(rt.stderr());
+    let status = show_cmd(
+        rt.alloc(),
+        &mut ReadPort::new(program),
+        schedule,
+        &mut output,
+        &mut errors,
+    );
+    flushed(rt, status, &mut output)
+}
+
+/// The same of a file that holds both.
+fn show_both(rt: &HostRuntime, file: File) -> u8 {
+    let mut output = WritePort::new(rt.stdout());
+    let mut errors = WritePort::new(rt.stderr());
+    let status = show_both_cmd(
+        rt.alloc(),
+        &mut ReadPort::new(file),
+        &mut output,
+        &mut errors,
+    );
+    flushed(rt, status, &mut output)
+}
+
+/// The same with the files that one or two words name, the schedule standard input where its word is `-`.
+fn show(rt: &HostRuntime, file: &str, schedule: Option<&str>) -> u8 {
+    let Ok(program) = files::read(rt, file) else {
+        return told(rt, Fault::Read);
+    };
+    let Some(schedule) = schedule else {
+        return show_both(rt, program);
+    };
+    if schedule == "-" {
+        return show_under(rt, program, &mut ReadPort::new(rt.stdin()));
+    }
+    let Ok(schedule) = files::read(rt, schedule) else {
+        return told(rt, Fault::Read);
+    };
+    show_under(rt, program, &mut ReadPort::new(schedule))
+}
+
 /// Plays the program in a file on real threads.
 fn live<R: Threads + Wait + Sync>(threads: &R, rt: &HostRuntime, file: &str, limit: u32) -> u8
     requires { limit ≤ 1000000000 }
@@ -211,6 +256,7 @@ fn main(rt: HostRuntime) -> ExitCode {
         Ok(Request::Run { file, schedule }) => run(&rt, file, schedule),
         Ok(Request::Compare { file, trace }) => compare(&rt, file, trace),
         Ok(Request::Debug { file }) => debug(&rt, file),
+        Ok(Request::Show { file, schedule }) => show(&rt, file, schedule),
         Ok(Request::Live { file, limit }) => live(&rt, &rt, file, limit),
         Ok(Request::Race { parties, rounds }) => meet(&rt, &rt, parties, rounds),
         Err(status) => status,

@@ -4,3 +4,4 @@ pub mod Lines
 pub mod Lives
 pub mod RunLine
 pub mod Runs
+mod Shown

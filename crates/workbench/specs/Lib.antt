@@ -10,3 +10,4 @@ pub mod Play
 pub mod ProgramFile
 pub mod Run
 pub mod RunLine
+pub mod Show

@@ -4,8 +4,9 @@
 //! text. `run_cmd` plays such a program under a schedule and writes the trace; `both_cmd` reads a program text, a line
 //! `.run` and a schedule from one source and does the same. `compare_cmd` compares a trace with the run that it names, and
 //! `debug_cmd` answers lines of commands, one before it reads the next. `live_cmd` plays a program on real threads and writes
-//! the trace of what they did. The contracts say which trace that is, which reply,
-//! when which status comes, and what was written by then.
+//! the trace of what they did. `show_cmd` writes the page that shows a run, and `show_both_cmd` that of a text with its
+//! schedule. The contracts say which trace that is, which reply, which page, when which status comes, and what was written by
+//! then.
 #![tactic(auto)]
 
 pub mod asm;
@@ -21,6 +22,7 @@ mod play;
 mod program_file;
 pub mod run;
 pub mod run_line;
+pub mod show;
 mod slice_source;
 
 pub use program_file::a_file_is_one_program;

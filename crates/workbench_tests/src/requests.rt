@@ -4,7 +4,7 @@ use std::alloc::Global;
 use std::test::Fail;
 
 /// A command line after the program's name, its words parted by one space, and what it asks for.
-static REQUESTS: [(&str, Request); 12] = [
+static REQUESTS: [(&str, Request); 14] = [
     ("", Request::Both),
     (
         "asm a.txt b",
@@ -30,6 +30,20 @@ static REQUESTS: [(&str, Request); 12] = [
         },
     ),
     ("debug a.image", Request::Debug { file: "a.image" }),
+    (
+        "show a.txt",
+        Request::Show {
+            file: "a.txt",
+            schedule: None,
+        },
+    ),
+    (
+        "show a.image -",
+        Request::Show {
+            file: "a.image",
+            schedule: Some("-"),
+        },
+    ),
     (
         "live a.txt",
         Request::Live {
@@ -68,7 +82,7 @@ static REQUESTS: [(&str, Request); 12] = [
 ];
 
 /// Command lines that ask for nothing, and the status of each.
-static REFUSED: [(&str, i32); 28] = [
+static REFUSED: [(&str, i32); 30] = [
     ("asm", 2),
     ("asm a", 2),
     ("asm a b c", 2),
@@ -80,6 +94,8 @@ static REFUSED: [(&str, i32); 28] = [
     ("compare a b c", 2),
     ("debug", 2),
     ("debug a b", 2),
+    ("show", 2),
+    ("show a b c", 2),
     ("live", 2),
     ("live a b", 2),
     ("live a --limit 0", 2),

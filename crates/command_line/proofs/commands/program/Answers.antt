@@ -2,7 +2,7 @@ use Rattle.std.proofs.Common.{rules, ◌≡◌, ◌∙◌, [], ap}
 use Rattle.std.specs.Prelude.{true, codes}
 use Rattle.std.proofs.lemmas.Result.{IfOk-weaker}
 use Rattle.clap.specs.Words.{App, app_of, new_app, with_subcommand}
-use Rattle.command_line.specs.Commands.{asm_shape, compare_shape, debug_shape, list_shape, live_shape, race_shape, run_shape}
+use Rattle.command_line.specs.Commands.{asm_shape, compare_shape, debug_shape, list_shape, live_shape, race_shape, run_shape, show_shape}
 use Rattle.command_line.proofs.commands.program.Goals as goal
 
 abbrev top : App
@@ -14,11 +14,14 @@ forms app = with_subcommand (with_subcommand app asm_shape) list_shape
 abbrev plays : App → App
 plays app = with_subcommand (with_subcommand (with_subcommand app run_shape) compare_shape) debug_shape
 
+abbrev pictures : App → App
+pictures app = with_subcommand app show_shape
+
 abbrev threads : App → App
 threads app = with_subcommand (with_subcommand app live_shape) race_shape
 
 pub returns : goal.returns
 returns c =
     let is_top : app_of c.after_help-program.result ≡ top = search rules in
-    let before = c.in_ok-program-2.ensures ∙ ap plays (c.in_ok-program.ensures ∙ ap forms is_top) in
+    let before = c.in_ok-program-3.ensures ∙ ap pictures (c.in_ok-program-2.ensures ∙ ap plays (c.in_ok-program.ensures ∙ ap forms is_top)) in
     IfOk-weaker c.with_threads.result _ _ (λ program is. is ∙ ap threads before) c.with_threads.ensures
