@@ -1,6 +1,7 @@
 ; A stray arrival. The reader and the writer are the two parties of `done`: the reader waits there until the writer has
-; stored its number. A third thread, which isn't registered, arrives all the same, and the phase ends too early.
-; stray-arrival.commands is a session of the debugger that finds it, and stray-arrival.session what it answers.
+; stored its number. A third thread, which isn't registered, arrives all the same, and the phase ends too early: under
+; stray-arrival.schedule the reader puts out 0. stray-arrival.commands is a session of the debugger that finds out why, and
+; stray-arrival.session what it answers.
 .phaser done 2
 .cell total
 .thread reader read

@@ -1,4 +1,5 @@
-; A thread catches the exception of an arrival where nobody is registered, and reports its code by a call.
+; An exception that is caught: a thread arrives where nobody is registered, catches the IllegalStateException, 1, and
+; reports its code by a call.
 .phaser p 0
 .thread a main
 main:   try caught
@@ -9,5 +10,3 @@ caught: call report    ; r7 holds the code
         halt
 report: out r7
         ret
-.run
-t0*7

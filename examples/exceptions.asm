@@ -16,5 +16,3 @@ caught: out r7         ; 100
         parr r0 p
 again:  out r7         ; 1
         halt
-.run
-t0*15

@@ -20,5 +20,3 @@ waker: intr a
        cbroken r0 gate
        parr r1 p       ; ends the phase
        halt
-.run
-t0 t1 t2 t3 t4*3 t0 t1*2 t2*2 t4 t3*2 t4*2 t0*3

@@ -14,5 +14,3 @@ alone: pparties r1 root ; 2, the two children
        pdereg r3 right  ; its last party, so the child leaves the root
        pparties r4 root
        halt
-.run
-t0 t2*2 t1 t2*5 t0*2 t1

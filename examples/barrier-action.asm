@@ -14,5 +14,3 @@ last: ldi r1 7
 act:  sts r1 message ; the registers are those of the thread that runs it
       ldi r1 0       ; undone at `ret`
       ret
-.run
-t0 t1 t2*2 t0 t2*3 t1*2 t2*2 t0*2

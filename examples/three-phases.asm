@@ -11,7 +11,3 @@ arrives: parr r0 p      ; is the last: the phase ends here
          paaa r1 p
          parr r2 p
          halt
-.run
-t0 t0 t1 t0
-t1 t0*2 t1 t0
-t1*2 t0*2

@@ -14,5 +14,3 @@ late:   out r7
 second: ldi r1 10
         cawaitt r0 gate r1
         halt
-.run
-t0*3 x1 t0 x0 t0*3 t1*2 x1 t0*2 t1

@@ -12,5 +12,3 @@ count: lds r5 ends
        add r5 r5 r6
        sts r5 ends
        ret
-.run
-t0 t1*7 t0*7 t1*2 t0
