@@ -3,10 +3,12 @@ ghost use Rattle.row_code.specs.declared.image.Image.{Image};
 ghost use Rattle.assembler.specs.Answers.{AnswersAt};
 ghost use Rattle.assembler.specs.Meaning.{StandsFor};
 ghost use Rattle.assembler.specs.Passes.{assembled};
+ghost use Rattle.assembler.specs.Symbols.{symbols_in};
 
 use crate::first_pass::lines_read;
 use crate::resolution::image_of;
-use line_reader::asm_fault::AsmFault;
+use crate::symbols::{Symbols, symbols_of};
+use line_reader::asm_fault::{AsmFault, AsmFaultKind};
 use row_code::Image;
 use std::alloc::Global;
 
@@ -34,4 +36,34 @@ pub fn assemble(alloc: Global, text: &[u8]) -> Result<Image, AsmFault>
         Err(fault) => return Err(fault),
     };
     image_of(alloc, &draft, lines.max(1))
+}
+
+/// The same, with the text's names: what they name, and the line of each row.
+#[tactic(auto, unfolding(crate::specs::Passes::assembled, crate::specs::Symbols::symbols_in))]
+pub fn assemble_named(alloc: Global, text: &[u8]) -> Result<(Image, Symbols<'_>), AsmFault>
+    // The image is the one that the text stands for.
+    ensures found { IfOk result (λ both. StandsFor text.now both.0) }
+
+    // The names are those of the text.
+    ensures symbols { IfOk result (λ both. symbols_in text.now ≡ Ok both.1) }
+
+    // Which fault it is, and at which line.
+    ensures exact { AnswersAt (λ both. both.0) result (assembled text.now) }
+{
+    let (draft, lines) = match lines_read(alloc, text) {
+        Ok(read) => read,
+        Err(fault) => return Err(fault),
+    };
+    let last = lines.max(1);
+    let image = match image_of(alloc, &draft, last) {
+        Ok(image) => image,
+        Err(fault) => return Err(fault),
+    };
+    match symbols_of(alloc, &draft, draft.lines()) {
+        Ok(symbols) => Ok((image, symbols)),
+        Err(_) => Err(AsmFault {
+            line: last,
+            kind: AsmFaultKind::Memory,
+        }),
+    }
 }

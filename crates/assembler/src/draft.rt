@@ -64,7 +64,7 @@ pub fn name_in<'a>(statement: &Statement<&'a [u8]>) -> Option<&'a [u8]>
 }
 
 /// What that name names.
-fn kind_named(statement: &Statement<&[u8]>) -> OperandKind
+pub fn kind_named(statement: &Statement<&[u8]>) -> OperandKind
     ensures { result ≡ kind_named (statement_seen statement.now) }
 {
     match statement {

@@ -17,14 +17,16 @@ mod draft;
 pub mod name_hash;
 mod reading;
 
-// From a text to its image.
+// From a text to its image, and to its names.
 pub mod assembling;
 mod first_pass;
 mod resolution;
+pub mod symbols;
 
 // What texts mean, and that what was listed is assembled again.
 pub mod meaning;
 
-pub use assembling::assemble;
+pub use assembling::{assemble, assemble_named};
 pub use line_reader::asm_fault::{AsmFault, AsmFaultKind};
 pub use listing::disassemble;
+pub use symbols::{Symbol, Symbols};
