@@ -1,0 +1,5 @@
+pub mod Sheet
+pub mod Caption
+pub mod Turn
+pub mod Picture
+pub mod Drawing

@@ -1,0 +1,227 @@
+// Who waits at the end, and who died.
+ghost use Rattle.std.specs.Prelude.{◌≡◌, ◌++◌, ◌<◌, length, slice_get, IfOk, OnOk};
+ghost use Rattle.machine_scene.specs.Scene.{scene_of};
+ghost use Rattle.thread_machine.specs.World.{world_of};
+ghost use Rattle.run_drawing.specs.Picture.{arrived_text, awaited_text, barrier_arrived, closing_lines, closing_of, dead_line, hope_text, lines_text, name_room, phaser_arrived, waiting_line};
+ghost use Rattle.run_drawing.specs.Caption.{called};
+ghost use Rattle.run_drawing.specs.Sheet.{shortened};
+ghost use Rattle.tier_tree.specs.Stored.{phasers_of};
+
+use crate::caption::push_called;
+use crate::fitting::{push_count, push_value, shortened};
+use crate::line::{push_line, row_of};
+use crate::sheet::Sheet;
+use assembler::Symbols;
+use instruction_table::{OperandKind, Row};
+use std::alloc::{AllocError, Global};
+use thread_machine::{Machine, Status};
+use tier_tree::{Forest, PhaserId};
+
+/// Adds how many have arrived, of how many.
+fn push_arrived(text: &mut Vec<u8>, arrived: u16, parties: u16) -> Result<(), AllocError>
+    ensures { OnOk result (text.new.items ≡ text.old.items ++ arrived_text arrived parties) }
+{
+    push_count(text, b" (", u64::from(arrived))?;
+    push_count(text, b" of ", u64::from(parties))?;
+    text.extend_from_slice(b" arrived)")
+}
+
+/// The same of a phaser, where it is there.
+fn push_phaser_arrived(text: &mut Vec<u8>, forest: &Forest, number: u16) -> Result<(), AllocError>
+    ensures { OnOk result (text.new.items
+        ≡ text.old.items ++ phaser_arrived (slice_get (phasers_of forest.now) number)) }
+{
+    forest.is_forest();
+    if usize::from(number) >= forest.len() {
+        return Ok(());
+    }
+    let id = PhaserId(number as u8);
+    push_arrived(text, forest.arrived(id), forest.parties(id))
+}
+
+/// The same of a barrier.
+fn push_barrier_arrived(
+    text: &mut Vec<u8>,
+    machine: &Machine,
+    number: u16,
+) -> Result<(), AllocError>
+    ensures { OnOk result (text.new.items
+        ≡ text.old.items ++ barrier_arrived (slice_get (scene_of machine.now.scene).barriers number)) }
+{
+    if usize::from(number) >= machine.barrier_count() {
+        return Ok(());
+    }
+    let barrier = machine.barrier(number as u8);
+    push_arrived(text, barrier.number_waiting(), barrier.parties())
+}
+
+/// Adds what a thing is called, in the room of a name.
+fn push_name(
+    alloc: Global,
+    text: &mut Vec<u8>,
+    sheet: Sheet,
+    symbols: &Symbols,
+    kind: OperandKind,
+    number: u32,
+) -> Result<(), AllocError>
+    ensures { OnOk result (text.new.items
+        ≡ text.old.items ++ shortened (name_room sheet) (called symbols.now kind number)) }
+{
+    let mut name = Vec::new(alloc);
+    push_called(&mut name, symbols, kind, number)?;
+    let name = shortened(alloc, sheet.name_room(), name.as_slice())?;
+    text.extend_from_slice(name.as_slice())
+}
+
+/// Adds what a thread waits at that stands at this row.
+fn push_awaited(
+    alloc: Global,
+    text: &mut Vec<u8>,
+    sheet: Sheet,
+    symbols: &Symbols,
+    machine: &Machine,
+    row: Row,
+) -> Result<(), AllocError>
+    ensures { OnOk result (text.new.items
+        ≡ text.old.items ++ awaited_text sheet symbols.now (scene_of machine.now.scene) row) }
+{
+    match row {
+        Row::Paaa { phaser, .. }
+        | Row::Pawait { phaser, .. }
+        | Row::Pawaiti { phaser, .. }
+        | Row::Pawaitt { phaser, .. } => {
+            push_name(
+                alloc,
+                text,
+                sheet,
+                symbols,
+                OperandKind::Phaser,
+                u32::from(phaser),
+            )?;
+            push_phaser_arrived(text, machine.forest(), phaser)
+        }
+        Row::Cawait { barrier, .. } | Row::Cawaitt { barrier, .. } => {
+            push_name(
+                alloc,
+                text,
+                sheet,
+                symbols,
+                OperandKind::Barrier,
+                u32::from(barrier),
+            )?;
+            push_barrier_arrived(text, machine, barrier)
+        }
+        _ => Ok(()),
+    }
+}
+
+/// Whether a thread's wait can end, or run out, or whether the program is stuck.
+fn hope(machine: &Machine, thread: u8) -> &'static [u8]
+    requires { thread < length machine.now.scene.threads }
+    ensures { result.now ≡ hope_text (world_of machine.now) thread }
+{
+    if machine.is_ready(thread) {
+        b": can go on"
+    } else if machine.can_expire(thread) {
+        b": can expire"
+    } else if machine.stuck() {
+        b": stuck"
+    } else {
+        b""
+    }
+}
+
+/// The line of a thread that waits.
+fn waiting_line(
+    alloc: Global,
+    sheet: Sheet,
+    symbols: &Symbols,
+    machine: &Machine,
+    thread: u8,
+) -> Result<Vec<u8>, AllocError>
+    requires { thread < length machine.now.scene.threads }
+    ensures { IfOk result (λ line. line.items ≡ waiting_line sheet symbols.now (world_of machine.now) thread) }
+{
+    let mut line = Vec::new(alloc);
+    let row = row_of(machine, thread);
+    push_name(
+        alloc,
+        &mut line,
+        sheet,
+        symbols,
+        OperandKind::Thread,
+        u32::from(thread),
+    )?;
+    line.extend_from_slice(b" waits at ")?;
+    push_awaited(alloc, &mut line, sheet, symbols, machine, row)?;
+    line.extend_from_slice(hope(machine, thread))?;
+    Ok(line)
+}
+
+/// The line of a thread that died of an exception.
+fn dead_line(
+    alloc: Global,
+    sheet: Sheet,
+    symbols: &Symbols,
+    thread: u8,
+    code: i32,
+) -> Result<Vec<u8>, AllocError>
+    ensures { IfOk result (λ line. line.items ≡ dead_line sheet symbols.now thread code) }
+{
+    let mut line = Vec::new(alloc);
+    push_name(
+        alloc,
+        &mut line,
+        sheet,
+        symbols,
+        OperandKind::Thread,
+        u32::from(thread),
+    )?;
+    line.extend_from_slice(b" died of exception ")?;
+    push_value(&mut line, b"", code)?;
+    Ok(line)
+}
+
+/// Adds the line of a thread, where it waits or died.
+fn push_closing(
+    alloc: Global,
+    text: &mut Vec<u8>,
+    sheet: Sheet,
+    symbols: &Symbols,
+    machine: &Machine,
+    thread: u8,
+) -> Result<(), AllocError>
+    requires { thread < length machine.now.scene.threads }
+    ensures { OnOk result (text.new.items ≡ text.old.items
+        ++ lines_text sheet.width (closing_of sheet symbols.now (world_of machine.now) thread)) }
+{
+    match machine.status(thread) {
+        Status::AwaitsPhase(_) | Status::AwaitsBarrier(_) => {
+            let line = waiting_line(alloc, sheet, symbols, machine, thread)?;
+            push_line(text, sheet.width, line.as_slice())
+        }
+        Status::Died(code) => {
+            let line = dead_line(alloc, sheet, symbols, thread, code)?;
+            push_line(text, sheet.width, line.as_slice())
+        }
+        _ => Ok(()),
+    }
+}
+
+/// Adds the lines of the threads that wait or died.
+#[tactic(auto, using(crate::proofs::Cells::closing_steps))]
+pub fn push_closings(
+    alloc: Global,
+    text: &mut Vec<u8>,
+    sheet: Sheet,
+    symbols: &Symbols,
+    machine: &Machine,
+) -> Result<(), AllocError>
+    ensures { OnOk result (text.new.items ≡ text.old.items
+        ++ lines_text sheet.width (closing_lines sheet symbols.now (world_of machine.now))) }
+{
+    for thread in 0..machine.thread_count() {
+        push_closing(alloc, text, sheet, symbols, machine, thread as u8)?;
+    }
+    Ok(())
+}
