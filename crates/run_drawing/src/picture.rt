@@ -1,18 +1,14 @@
-ghost use Rattle.std.specs.Prelude.{◌≡◌, ◌++◌, ◌<◌, ◌⊎◌, false, Err, IfOk, OnOk};
-ghost use Rattle.loader.specs.declared.load_fault.LoadFault.{LoadFault};
-ghost use Rattle.run_drawing.specs.Picture.{IsPictureOf, each_from, lines_on, lines_text, other_block, picture};
+ghost use Rattle.std.specs.Prelude.{◌≡◌, ◌++◌, ◌<◌, IfOk, OnOk};
+ghost use Rattle.run_drawing.specs.Picture.{each_from, lines_on, lines_text, other_block, picture};
 ghost use Rattle.thread_machine.specs.World.{world_of};
-ghost use Rattle.trace_compare.specs.Start.{IsRefused, is_want_of_memory};
 
 use crate::block::draw_block;
 use crate::closing::push_closings;
 use crate::line::push_line;
 use crate::sheet::Sheet;
 use assembler::Symbols;
-use row_code::Image;
 use std::alloc::{AllocError, Global};
 use thread_machine::{Choice, Machine};
-use trace_compare::start::{StartFault, first_machine};
 
 /// Draws the block of this number, and an empty line behind it.
 fn draw_other(
@@ -73,8 +69,9 @@ fn draw_all(
     push_closings(alloc, text, sheet, symbols, machine)
 }
 
-/// The picture of a machine's run from here on.
-fn drawn(
+/// The picture of a machine's run under these choices, no wider than this, its things called by these names. It takes time in
+/// proportion to the choices and to the blocks that the threads stand in.
+pub fn picture(
     alloc: Global,
     machine: &mut Machine,
     symbols: &Symbols,
@@ -87,29 +84,4 @@ fn drawn(
     let mut text = Vec::new(alloc);
     draw_all(alloc, &mut text, machine, sheet, symbols, choices)?;
     Ok(text)
-}
-
-/// The picture of an image's program under these choices, at most so wide, its things called by these names. It takes time
-/// in proportion to the choices and to the blocks that the threads stand in.
-pub fn picture(
-    alloc: Global,
-    image: Image,
-    symbols: &Symbols,
-    width: u16,
-    choices: &[Choice],
-) -> Result<Vec<u8>, StartFault>
-    ensures picture { IfOk result (λ text. IsPictureOf image width symbols.now choices.now text.items) }
-    ensures load { (fault : LoadFault) → result ≡ Err (StartFault.Load fault)
-        → IsRefused fault image × (is_want_of_memory fault ≡ false) }
-    ensures refused { (fault : LoadFault) → IsRefused fault image
-        → (result ≡ Err (StartFault.Load fault)) ⊎ (result ≡ Err StartFault.Memory) }
-{
-    let mut machine = match first_machine(alloc, image) {
-        Ok(machine) => machine,
-        Err(fault) => return Err(fault),
-    };
-    match drawn(alloc, &mut machine, symbols, width, choices) {
-        Ok(text) => Ok(text),
-        Err(_) => Err(StartFault::Memory),
-    }
 }

@@ -9,7 +9,7 @@
 //! Style, script and the rest of the page are sources in `page/`, of which `bin/page` makes the constants of `fixed`.
 #![tactic(auto)]
 
-mod choices;
+pub mod choices;
 mod escape;
 pub mod fixed;
 pub mod frame;

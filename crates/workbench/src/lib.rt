@@ -5,14 +5,15 @@
 //! `.run` and a schedule from one source and does the same. `compare_cmd` compares a trace with the run that it names, and
 //! `debug_cmd` answers lines of commands, one before it reads the next. `live_cmd` plays a program on real threads and writes
 //! the trace of what they did. `show_cmd` writes the page that shows a run, and `show_both_cmd` that of a text with its
-//! schedule. The contracts say which trace that is, which reply, which page, when which status comes, and what was written by
-//! then.
+//! schedule; `draw_cmd` and `draw_both_cmd` write a picture of it as text. The contracts say which trace that is, which reply,
+//! which page, which picture, when which status comes, and what was written by then.
 #![tactic(auto)]
 
 pub mod asm;
 pub mod both;
 pub mod compare;
 pub mod debug;
+pub mod draw;
 pub mod fault;
 mod input;
 mod input_line;

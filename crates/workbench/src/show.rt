@@ -166,7 +166,7 @@ fn show_both<F: Source, K: Sink>(
 }
 
 /// The program and the schedule of a file that holds both.
-fn parts_of(file: &[u8]) -> (&[u8], &[u8])
+pub(crate) fn parts_of(file: &[u8]) -> (&[u8], &[u8])
     ensures program { result.0.now ≡ program_of file.now }
     ensures schedule { result.1.now ≡ schedule_behind file.now }
     ensures within { length result.1.now ≤ length file.now }
@@ -182,11 +182,7 @@ fn parts_of(file: &[u8]) -> (&[u8], &[u8])
 fn source_of(program: &[u8]) -> &[u8]
     ensures { result.now ≡ source_of program.now }
 {
-    if is_image_file(program) {
-        &[]
-    } else {
-        program
-    }
+    if is_image_file(program) { &[] } else { program }
 }
 
 /// Writes the page of a program and a schedule, once it is whole.
