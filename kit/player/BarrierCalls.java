@@ -31,7 +31,8 @@ final class BarrierCalls {
                 boolean throwing = chances.of(30);
                 script.row(throwing ? "throw r3" : "ret");
                 maker.inner.add(script);
-                actions.set(number, new ScenarioRoutine(maker.inner.size() - 1, throwing ? ScenarioRoutine.Kind.THROWS : ScenarioRoutine.Kind.RETURNS, 0, looks ? 1 : 0));
+                ScenarioRoutine.Kind kind = throwing ? ScenarioRoutine.Kind.THROWS : ScenarioRoutine.Kind.RETURNS;
+                actions.set(number, new ScenarioRoutine(maker.inner.size() - 1, kind, 0, looks ? 1 : 0));
                 line += " action @" + (maker.inner.size() - 1);
             }
             maker.declarations.add(line);

@@ -91,7 +91,8 @@ public final class Kit {
     }
 
     private static String whatFails(Case each, Verdict verdict) throws IOException {
-        return (isTrace(each) ? "" : "its .trace isn't Vuthgal's; ") + verdict.words() + "; " + String.join("; ", verdict.notes().lines());
+        String trace = isTrace(each) ? "" : "its .trace isn't Vuthgal's; ";
+        return trace + verdict.words() + "; " + String.join("; ", verdict.notes().lines());
     }
 
     // ---- differences
@@ -150,7 +151,8 @@ public final class Kit {
 
     private List<String> wrongAdapters() throws IOException {
         try (Stream<Path> files = Files.list(kit.resolve("wrong"))) {
-            return files.map(file -> file.getFileName().toString().replace(".java", "")).filter(Kit::isAdapter).sorted().toList();
+            return files.map(file -> file.getFileName().toString().replace(".java", ""))
+                .filter(name -> !name.equals("package-info")).filter(Kit::isAdapter).sorted().toList();
         }
     }
 
@@ -170,7 +172,8 @@ public final class Kit {
     private Judge judgeOf(String adapter, KnownDifferences known) {
         try {
             Stage stage = new JvmStage((Factory) classOf(adapter).getDeclaredConstructor().newInstance());
-            return new Judge(stage, vuthgal, known, Patience.OF_JVM[0].withBound(SECOND / 3), Patience.OF_JVM[1].withBound(SECOND));
+            return new Judge(stage, vuthgal, known,
+                Patience.OF_JVM[0].withBound(SECOND / 3), Patience.OF_JVM[1].withBound(SECOND));
         } catch (ReflectiveOperationException none) {
             throw new IllegalStateException(none);
         }
@@ -219,7 +222,8 @@ public final class Kit {
             sums.add(verdict.notes());
         }
         stage.close();
-        System.out.println("cases on the port `" + command + "`: " + sums.line() + "; " + leftOut + " cases that it can't play");
+        System.out.println("cases on the port `" + command + "`: " + sums.line());
+        System.out.println(leftOut + " cases that it can't play");
     }
 
     private void checkRandom() throws IOException {

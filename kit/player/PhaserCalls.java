@@ -8,6 +8,13 @@ final class PhaserCalls {
     private static final int MOST_PARTIES = 65535;
     private static final int LAST_PHASE = Integer.MAX_VALUE;
 
+    private static final List<ScenarioRoutine.Kind> KINDS = List.of(
+        ScenarioRoutine.Kind.DEFAULT,
+        ScenarioRoutine.Kind.UNTIL,
+        ScenarioRoutine.Kind.UNTIL,
+        ScenarioRoutine.Kind.THROWS,
+        ScenarioRoutine.Kind.FORCES);
+
     private final ScenarioMaker maker;
     private final Chances chances;
     /** What ends the phases of each phaser; null for the default. */
@@ -22,12 +29,9 @@ final class PhaserCalls {
         int count = chances.of(12) ? chances.between(5, 8) : chances.between(1, 4);
         boolean chain = count > 4 && chances.of(70);
         for (int number = 0; number < count; number++) {
-            Sketch.Tier parent = number == 0 || !chain && chances.of(35) ? null : chain ? maker.sketch.tiers.get(number - 1) : chances.any(maker.sketch.tiers);
+            Sketch.Tier parent = parent(number, chain);
             int parties = chances.of(35) ? 0 : chances.of(2) ? MOST_PARTIES - chances.between(0, 2) : chances.between(1, 3);
             int first = parent == null && chances.of(12) ? LAST_PHASE - chances.between(0, 2) : 0;
-            if (parent != null && isNearlyFull(parent)) {
-                parent = null;
-            }
             maker.sketch.tiers.add(new Sketch.Tier(number, parent, parties, first));
             StringBuilder line = new StringBuilder(".phaser p" + number + " " + parties);
             if (parent != null) {
@@ -39,6 +43,16 @@ final class PhaserCalls {
             routines.add(null);
             maker.declarations.add(line + policy(number, first));
         }
+    }
+
+    /** The parent of the next phaser; null for a root. */
+    private Sketch.Tier parent(int number, boolean chain) {
+        List<Sketch.Tier> before = maker.sketch.tiers;
+        if (number == 0 || !chain && chances.of(35)) {
+            return null;
+        }
+        Sketch.Tier parent = chain ? before.get(number - 1) : chances.any(before);
+        return isNearlyFull(parent) ? null : parent;
     }
 
     private static boolean isNearlyFull(Sketch.Tier tier) {
@@ -68,14 +82,15 @@ final class PhaserCalls {
     private ScenarioRoutine writeRoutine(int phaser, int from) {
         Script script = new Script();
         int extra = chances.of(40) ? writeExtra(script, phaser) : 0;
-        ScenarioRoutine.Kind kind = List.of(ScenarioRoutine.Kind.DEFAULT, ScenarioRoutine.Kind.UNTIL, ScenarioRoutine.Kind.UNTIL, ScenarioRoutine.Kind.THROWS, ScenarioRoutine.Kind.FORCES)
-            .get(chances.random.nextInt(5));
+        ScenarioRoutine.Kind kind = chances.any(KINDS);
         switch (kind) {
             case DEFAULT -> script.row("ldi r2 0").rowTo("beq r1 r2", 3).row("ldi r0 0").row("ret").row("ldi r0 1").row("ret");
-            case UNTIL -> script.row("ldi r2 " + from).rowTo("blt r0 r2", 3).row("ldi r0 1").row("ret").row("ldi r0 0").row("ret");
-            case THROWS -> script.row("ldi r2 " + from).rowTo("blt r0 r2", 3).row("ldi r3 9").row("throw r3").row("ldi r0 0").row("ret");
-            default -> script.row("ldi r2 " + from).rowTo("blt r0 r2", 4).row("pforce #" + phaser).row("ldi r0 " + chances.between(0, 1))
-                .row("ret").row("ldi r0 0").row("ret");
+            case UNTIL -> script.row("ldi r2 " + from).rowTo("blt r0 r2", 3).row("ldi r0 1").row("ret")
+                .row("ldi r0 0").row("ret");
+            case THROWS -> script.row("ldi r2 " + from).rowTo("blt r0 r2", 3).row("ldi r3 9").row("throw r3")
+                .row("ldi r0 0").row("ret");
+            default -> script.row("ldi r2 " + from).rowTo("blt r0 r2", 4).row("pforce #" + phaser)
+                .row("ldi r0 " + chances.between(0, 1)).row("ret").row("ldi r0 0").row("ret");
         }
         maker.inner.add(script);
         return new ScenarioRoutine(maker.inner.size() - 1, kind, from, extra);
@@ -105,7 +120,8 @@ final class PhaserCalls {
     }
 
     private void arrive(ScenarioThread part) {
-        List<Sketch.Tier> open = maker.sketch.tiers.stream().filter(tier -> maker.strays && chances.of(40) || tier.ownUnarrived() > 0).toList();
+        List<Sketch.Tier> open = maker.sketch.tiers.stream()
+            .filter(tier -> maker.strays && chances.of(40) || tier.ownUnarrived() > 0).toList();
         if (open.isEmpty()) {
             register(part, chances.any(maker.sketch.tiers));
             return;
@@ -188,7 +204,8 @@ final class PhaserCalls {
 
     /** 62 of a hundred await the current phase, the others one before, one behind, or a negative number. */
     private void await(ScenarioThread part, Sketch.Tier tier) {
-        int phase = chances.of(62) ? tier.view() : chances.any(List.of(tier.root().phase - 1, tier.root().phase + 1 & LAST_PHASE, -7, tier.view()));
+        int now = tier.root().phase;
+        int phase = chances.of(62) ? tier.view() : chances.any(List.of(now - 1, now + 1 & LAST_PHASE, -7, tier.view()));
         boolean timed = chances.of(30);
         boolean interruptible = timed || chances.of(45);
         int time = chances.of(80) ? 5 : -chances.between(0, 1);
@@ -215,8 +232,9 @@ final class PhaserCalls {
             maker.perform(part, 0, 0, "preg r0 #" + tier.number, () -> registered(part, tier, 1));
             return;
         }
+        int room = Math.max(MOST_PARTIES - tier.parties(), 0);
         int parties = chances.of(60) ? chances.between(1, 2)
-            : chances.any(List.of(0, 0, -1, Integer.MAX_VALUE, Math.max(MOST_PARTIES - tier.parties(), 0), MOST_PARTIES - tier.parties() + 1));
+            : chances.any(List.of(0, 0, -1, Integer.MAX_VALUE, room, room + 1));
         maker.perform(part, parties, 0, "pbulk r0 #" + tier.number + " r1", () -> registered(part, tier, parties));
     }
 

@@ -92,15 +92,24 @@ final class PortProcess {
     }
 
     private void read() {
-        try (BufferedReader from = new BufferedReader(new InputStreamReader(process.getInputStream(), StandardCharsets.US_ASCII))) {
+        fault = readToTheEnd();
+        replies.add("");        // whoever waits for a reply looks at the fault
+    }
+
+    /** Takes lines as long as they come; answers why no more do. */
+    private String readToTheEnd() {
+        InputStreamReader output = new InputStreamReader(process.getInputStream(), StandardCharsets.US_ASCII);
+        try (BufferedReader from = new BufferedReader(output)) {
             for (String line = from.readLine(); line != null; line = from.readLine()) {
                 take(line);
             }
-            fault = "the port has ended";
+            return "the port has ended";
         } catch (IOException closed) {
-            fault = "the port has ended";
-        } catch (RuntimeException wrong) {
-            fault = wrong instanceof Hangs ? wrong.getMessage() : "the port wrote what isn't in the protocol: " + wrong.getMessage();
+            return "the port has ended";
+        } catch (Hangs hangs) {
+            return hangs.getMessage();
+        } catch (IllegalArgumentException wrong) {
+            return "the port wrote what isn't in the protocol: " + wrong.getMessage();
         }
     }
 

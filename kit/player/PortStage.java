@@ -22,7 +22,8 @@ final class PortStage implements Stage {
         if (advance != null) {
             process.overrides(number, advance);
         }
-        process.order("phaser " + number + " " + parent + " " + parties + " " + firstPhase + (advance == null ? " own" : " asked"));
+        String onAdvance = advance == null ? " own" : " asked";
+        process.order("phaser " + number + " " + parent + " " + parties + " " + firstPhase + onAdvance);
     }
 
     @Override

@@ -75,6 +75,7 @@ final class RandomCases {
     private void tell(PrintStream to) {
         to.println(sums.line());
         differences.forEach((program, count) -> to.println("  " + count + " told over as in differences/" + program));
-        to.println(same + " same, " + different + " different, " + leftOut + " left out; " + again + " played again with more patience");
+        to.println(same + " same, " + different + " different, " + leftOut + " left out; "
+            + again + " played again with more patience");
     }
 }

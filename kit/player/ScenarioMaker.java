@@ -65,7 +65,8 @@ final class ScenarioMaker {
             finishInside(part);
         }
         workers.stream().filter(part -> part.late).forEach(this::goOn);
-        return new Scenario("random-" + seed, new ScenarioText(threadScripts(), inner, declarations).write(), schedule.toString().strip() + "\n");
+        String text = new ScenarioText(threadScripts(), inner, declarations).write();
+        return new Scenario("random-" + seed, text, schedule.toString().strip() + "\n");
     }
 
     private boolean allTerminated() {
@@ -130,7 +131,8 @@ final class ScenarioMaker {
 
     /** All who are released come out, most of them at once; those that were held go on first. */
     void release(Object cause) {
-        List<ScenarioThread> out = new ArrayList<>(parts().stream().filter(part -> part.tree == cause || part.gate == cause).toList());
+        List<ScenarioThread> out = new ArrayList<>(parts());
+        out.removeIf(part -> part.tree != cause && part.gate != cause);
         out.forEach(ScenarioThread::stopWaiting);
         for (ScenarioThread part : parts()) {
             if (part.held != null && part.heldBy == cause) {

@@ -56,7 +56,8 @@ final class Scene {
         for (int phaser = 0; phaser < root.length; phaser++) {
             Program.PhaserDeclaration declared = program.phasers.get(phaser);
             root[phaser] = program.root(phaser);
-            stage.phaser(phaser, declared.parent(), declared.parties(), declared.firstPhase(), advance(phaser, declared.policy()));
+            Stage.Advance advance = advance(phaser, declared.policy());
+            stage.phaser(phaser, declared.parent(), declared.parties(), declared.firstPhase(), advance);
         }
         for (int barrier = 0; barrier < runner.length; barrier++) {
             Program.BarrierDeclaration declared = program.barriers.get(barrier);

@@ -14,10 +14,6 @@ final class Sums {
         toldOver += notes.count(Notes.Kind.TOLD_OVER);
     }
 
-    int asked() {
-        return asked;
-    }
-
     String line() {
         return asked + " calls asked, " + leftOut + " left out, " + toldAgain + " told again, " + toldOver + " told over";
     }

@@ -1,7 +1,5 @@
 package kit.player;
 
-import java.util.List;
-
 /** Loads the classes that a first blocking call loads: that time looks like a wait. */
 final class WarmUp {
     private static final String PROGRAM = """
@@ -28,19 +26,28 @@ final class WarmUp {
     }
 
     static void play(Stage stage) {
-        Program program = new Program(PROGRAM);
-        List<Choice> schedule = Choice.schedule(SCHEDULE);
         Patience[] patience = stage.patience();
-        for (Patience patient : new Patience[] {patience[1], patience[0], patience[0]}) {
-            Plan plan = new Plan();
-            for (boolean first : new boolean[] {true, false}) {
-                Play play = new Play(new Scene(program, stage, plan, patient, KnownDifferences.NONE, first), schedule);
-                try {
-                    play.play();
-                } finally {
-                    play.clear();
-                }
+        boolean works = play(stage, patience[1]);
+        for (int round = 0; works && round < 2; round++) {
+            works = play(stage, patience[0]);
+        }
+    }
+
+    /** Whether nothing odd happened. */
+    private static boolean play(Stage stage, Patience patient) {
+        Plan plan = new Plan();
+        for (boolean first : new boolean[] {true, false}) {
+            Scene scene = new Scene(new Program(PROGRAM), stage, plan, patient, KnownDifferences.NONE, first);
+            Play play = new Play(scene, Choice.schedule(SCHEDULE));
+            try {
+                play.play();
+            } finally {
+                play.clear();
+            }
+            if (scene.notes.firstOdd() != 0) {
+                return false;
             }
         }
+        return true;
     }
 }

@@ -1,0 +1,5 @@
+/**
+ * Wrong adapters: the JDK's classes with one misunderstanding each put before them. {@code kit/run} asks that each be found,
+ * by a case of the set, or, where it is nearly a documented difference, by the program of one.
+ */
+package kit.wrong;
