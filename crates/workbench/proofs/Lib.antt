@@ -5,3 +5,4 @@ pub mod Lives
 pub mod RunLine
 pub mod Runs
 mod Shown
+mod Drawn
