@@ -18,6 +18,14 @@ limit_rule = record (new_rule (codes "limit")) {
   defaults = codes "1000000" ∷ [];
 }
 
+-- the option `--width`, which is 80 where it isn't there
+abbrev pub width_rule : Rule
+width_rule = record (new_rule (codes "width")) {
+  long = Some (codes "width");
+  value_names = 1;
+  defaults = codes "80" ∷ [];
+}
+
 -- a command of this name, with these words and options
 abbrev pub command : Text → List Rule → Shape
 command name rules = record (new_app name).top { rules = rules }
@@ -43,6 +51,9 @@ debug_shape = command (codes "debug") (file_rule ∷ [])
 abbrev pub show_shape : Shape
 show_shape = command (codes "show") (file_rule ∷ new_rule (codes "SCHEDULE") ∷ [])
 
+abbrev pub draw_shape : Shape
+draw_shape = command (codes "draw") (file_rule ∷ new_rule (codes "SCHEDULE") ∷ width_rule ∷ [])
+
 abbrev pub live_shape : Shape
 live_shape = command (codes "live") (file_rule ∷ limit_rule ∷ [])
 
@@ -53,7 +64,7 @@ race_shape = command (codes "race") (number_rule (codes "parties") ∷ number_ru
 abbrev pub vuthgal : App
 vuthgal = record {
   top = record (new_app (codes "vuthgal")).top { has_version = true; is_leaf = false };
-  subs = asm_shape ∷ list_shape ∷ run_shape ∷ compare_shape ∷ debug_shape ∷ show_shape ∷ live_shape ∷ race_shape ∷ [];
+  subs = asm_shape ∷ list_shape ∷ run_shape ∷ compare_shape ∷ debug_shape ∷ show_shape ∷ draw_shape ∷ live_shape ∷ race_shape ∷ [];
 }
 
 -- a command by itself, with none below it

@@ -12,6 +12,7 @@ use Rattle.command_line.specs.declared.request.Request.TheVariants as request
 -- its numbers are in their ranges
 abbrev pub IsInRange : Request → Type 0
 IsInRange (request.Live file limit) = (1 ≤ limit) × (limit ≤ 1000000000)
+IsInRange (request.Draw file schedule width) = (40 ≤ width) × (width ≤ 1000)
 IsInRange (request.Race parties rounds) = ((1 ≤ parties) × (parties ≤ 16)) × ((1 ≤ rounds) × (rounds ≤ 1000000))
 IsInRange _ = Unit {0}
 
@@ -23,17 +24,18 @@ word_at place rows = unwrap_or (first_of place rows) []
 abbrev pub word_given : Text → List Row → Option Text
 word_given place rows = first_of place rows
 
--- one to ten digits, and nothing else, spell this number, which is one of 1 to `most`
-abbrev pub Spells : Text → ℕ → ℕ → Type 0
-Spells text most number = (length text ≤ 10) × IsNumeral 10 text × (digits_value 10 text ≡ number)
-    × (1 ≤ number) × (number ≤ most)
+-- one to ten digits, and nothing else, spell this number, which is one of `least` to `most`
+abbrev pub Spells : Text → ℕ → ℕ → ℕ → Type 0
+Spells text least most number = (length text ≤ 10) × IsNumeral 10 text × (digits_value 10 text ≡ number)
+    × (least ≤ number) × (number ≤ most)
 
-abbrev pub SpellsNone : Text → ℕ → Type 0
-SpellsNone text most = (number : ℕ) → Spells text most number → ⊥
+abbrev pub SpellsNone : Text → ℕ → ℕ → Type 0
+SpellsNone text least most = (number : ℕ) → Spells text least most number → ⊥
 
 abbrev pub command_names : List Text
 command_names =
-    codes "asm" ∷ codes "list" ∷ codes "run" ∷ codes "compare" ∷ codes "debug" ∷ codes "show" ∷ codes "live" ∷ codes "race" ∷ []
+    codes "asm" ∷ codes "list" ∷ codes "run" ∷ codes "compare" ∷ codes "debug" ∷ codes "show" ∷ codes "draw"
+    ∷ codes "live" ∷ codes "race" ∷ []
 
 -- the request is what the subcommand of this name asks for by these matches
 abbrev pub IsAskedBy : Text → List Row → Request → Type 0
@@ -50,17 +52,21 @@ IsAskedBy name rows (request.Debug file) = (name ≡ codes "debug")
     × (file.now ≡ word_at (codes "FILE") rows)
 IsAskedBy name rows (request.Show file schedule) = (name ≡ codes "show")
     × (file.now ≡ word_at (codes "FILE") rows) × (option_map (λ s. s.now) schedule ≡ word_given (codes "SCHEDULE") rows)
+IsAskedBy name rows (request.Draw file schedule width) = (name ≡ codes "draw")
+    × (file.now ≡ word_at (codes "FILE") rows) × (option_map (λ s. s.now) schedule ≡ word_given (codes "SCHEDULE") rows)
+    × Spells (word_at (codes "width") rows) 40 1000 width
 IsAskedBy name rows (request.Live file limit) = (name ≡ codes "live")
-    × (file.now ≡ word_at (codes "FILE") rows) × Spells (word_at (codes "limit") rows) 1000000000 limit
+    × (file.now ≡ word_at (codes "FILE") rows) × Spells (word_at (codes "limit") rows) 1 1000000000 limit
 IsAskedBy name rows (request.Race parties rounds) = (name ≡ codes "race")
-    × Spells (word_at (codes "parties") rows) 16 parties
-    × Spells (word_at (codes "rounds") rows) 1000000 rounds
+    × Spells (word_at (codes "parties") rows) 1 16 parties
+    × Spells (word_at (codes "rounds") rows) 1 1000000 rounds
 
 -- the subcommand of this name has a number in its matches that is none or out of its range
 abbrev pub IsRefusedBy : Text → List Row → Type 0
-IsRefusedBy name rows = ((name ≡ codes "live") × SpellsNone (word_at (codes "limit") rows) 1000000000)
-    ⊎ ((name ≡ codes "race") × (SpellsNone (word_at (codes "parties") rows) 16
-    ⊎ SpellsNone (word_at (codes "rounds") rows) 1000000))
+IsRefusedBy name rows = ((name ≡ codes "draw") × SpellsNone (word_at (codes "width") rows) 40 1000)
+    ⊎ ((name ≡ codes "live") × SpellsNone (word_at (codes "limit") rows) 1 1000000000)
+    ⊎ ((name ≡ codes "race") × (SpellsNone (word_at (codes "parties") rows) 1 16
+    ⊎ SpellsNone (word_at (codes "rounds") rows) 1 1000000))
 
 -- the same of the words as a whole: with no subcommand they ask for `Both`
 abbrev pub IsAsked : Option (Text × List Row) → Request → Type 0

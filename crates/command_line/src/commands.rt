@@ -1,8 +1,8 @@
 ghost use Rattle.std.specs.Prelude.{◌≡◌, IfOk, IsOkAnd, false, [], codes};
 ghost use Rattle.clap.specs.Words.{AddsSubcommand, app_of, new_rule, rule_of, with_rule, with_subcommand};
-ghost use Rattle.command_line.specs.Commands.{alone, command, limit_rule, number_rule, place_rule, vuthgal};
+ghost use Rattle.command_line.specs.Commands.{alone, command, limit_rule, number_rule, place_rule, vuthgal, width_rule};
 ghost use Rattle.command_line.specs.Commands.{asm_shape, compare_shape, debug_shape, list_shape};
-ghost use Rattle.command_line.specs.Commands.{live_shape, race_shape, run_shape, show_shape};
+ghost use Rattle.command_line.specs.Commands.{draw_shape, live_shape, race_shape, run_shape, show_shape};
 
 use clap::{Arg, Command};
 use std::alloc::{AllocError, Global};
@@ -29,6 +29,10 @@ pub const TRACE: &str = "TRACE";
 pub const DEBUG: &str = "debug";
 
 pub const SHOW: &str = "show";
+
+pub const DRAW: &str = "draw";
+
+pub const WIDTH: &str = "width";
 
 pub const LIVE: &str = "live";
 
@@ -116,6 +120,14 @@ FILE is an image where its first four bytes are `PBW1` or `PBW2`, else a program
 standard input. Without it FILE is a text with its schedule behind a line `.run`. A page shows 2000 choices at most.
 
 Example: vuthgal show examples/two-threads-meet.txt > meeting.html";
+
+const DRAW_ABOUT: &str = "\
+Draws a run as text: a column for each thread, a line for each choice.
+
+FILE is an image where its first four bytes are `PBW1` or `PBW2`, else a program text. SCHEDULE is a file, or `-` for \
+standard input. Without it FILE is a text with its schedule behind a line `.run`. No line has more than N bytes.
+
+Example: vuthgal draw examples/two-threads-meet.txt";
 
 const LIVE_ABOUT: &str = "\
 Plays the program in FILE on real threads, one for each of its own, and writes the trace of the run that came about.
@@ -261,6 +273,29 @@ fn show<'a>(alloc: Global) -> Result<Command<'a>, AllocError>
     )
 }
 
+/// How long a drawing's lines are at most.
+fn width<'a>(alloc: Global) -> Arg<'a>
+    ensures rule { rule_of result ≡ width_rule }
+    ensures local { result.global ≡ false }
+{
+    Arg::new(alloc, WIDTH)
+        .long(WIDTH)
+        .value_name("N")
+        .default_value("80")
+        .help("How many bytes a line has at most, 40 to 1000")
+}
+
+fn draw<'a>(alloc: Global) -> Result<Command<'a>, AllocError>
+    ensures { IfOk result (λ command. app_of command ≡ alone draw_shape) }
+{
+    let command = with_two(
+        told(alloc, DRAW, "Draws a run as text", DRAW_ABOUT),
+        place(alloc, FILE, "The file of the image or of the program text"),
+        schedule(alloc),
+    )?;
+    command.arg(width(alloc))
+}
+
 /// How many steps a live run takes at most.
 fn limit<'a>(alloc: Global) -> Arg<'a>
     ensures rule { rule_of result ≡ limit_rule }
@@ -344,11 +379,13 @@ fn with_plays<'a>(alloc: Global, program: Command<'a>) -> Result<Command<'a>, Al
     with(program, debug(alloc))
 }
 
-/// The same with the command that makes a picture of a run.
+/// The same with the commands that make a picture of a run.
 fn with_pictures<'a>(alloc: Global, program: Command<'a>) -> Result<Command<'a>, AllocError>
-    ensures { IfOk result (λ grown. app_of grown ≡ with_subcommand (app_of program.entry) show_shape) }
+    ensures { IfOk result (λ grown. app_of grown
+        ≡ with_subcommand (with_subcommand (app_of program.entry) show_shape) draw_shape) }
 {
-    with(program, show(alloc))
+    let program = with(program, show(alloc))?;
+    with(program, draw(alloc))
 }
 
 /// The same with the commands that start threads.

@@ -8,8 +8,8 @@ ghost use Rattle.command_line.specs.Request.{IsAsked, IsAskedBy, IsInRange, IsRe
 ghost use Rattle.command_line.specs.Request.{Spells, SpellsNone, word_at, word_given};
 
 use crate::commands::{
-    ASM, COMPARE, DEBUG, FILE, LIMIT, LIST, LIVE, OUT, PARTIES, RACE, ROUNDS, RUN, SCHEDULE, SHOW,
-    SRC, TRACE, program,
+    ASM, COMPARE, DEBUG, DRAW, FILE, LIMIT, LIST, LIVE, OUT, PARTIES, RACE, ROUNDS, RUN, SCHEDULE,
+    SHOW, SRC, TRACE, WIDTH, program,
 };
 use clap::error::ErrorKind;
 use clap::{ArgMatches, Command, Error};
@@ -35,6 +35,12 @@ pub enum Request<'a> {
         file: &'a str,
         schedule: Option<&'a str>,
     },
+    /// `draw FILE [SCHEDULE] --width N`, the same; lines of 40 to 1,000 bytes at most.
+    Draw {
+        file: &'a str,
+        schedule: Option<&'a str>,
+        width: u16,
+    },
     /// `live FILE --limit N`: 1 to 1,000,000,000 steps.
     Live { file: &'a str, limit: u32 },
     /// `race --parties N --rounds R`: 1 to 16 threads, 1 to 1,000,000 phases.
@@ -44,7 +50,7 @@ pub enum Request<'a> {
 /// What is told of a number that is none, or out of its range.
 const NUMBERS: &str =
     "a number is written in digits alone: parties from 1 to 16, rounds from 1 to 1000000, limit from 1 to \
-                       1000000000";
+                       1000000000, width from 40 to 1000";
 
 /// The word in this place, which is there where the place has to be filled.
 fn word<'a>(matches: &ArgMatches<'a>, place: &str) -> &'a str
@@ -60,17 +66,33 @@ fn given<'a>(matches: &ArgMatches<'a>, place: &str) -> Option<&'a str>
     matches.get_str(place)
 }
 
-/// The number that one to ten digits spell, where it is one of 1 to `most`; no sign may stand before them.
-fn number(text: &str, most: u32) -> Option<u32>
-    ensures range { IfSome result (λ n. (1 ≤ n) × (n ≤ most)) }
-    ensures spelled { MatchOption result (SpellsNone text.now most) (λ n. Spells text.now most n) }
+/// The number that one to ten digits spell, where it is one of `least` to `most`; no sign may stand before them.
+fn number(text: &str, least: u32, most: u32) -> Option<u32>
+    ensures range { IfSome result (λ n. (least ≤ n) × (n ≤ most)) }
+    ensures spelled { MatchOption result (SpellsNone text.now least most) (λ n. Spells text.now least most n) }
 {
     if text.len() > 10 || text.as_bytes().first() == Some(&b'+') {
         return None;
     }
     match text.parse::<u32>() {
-        Ok(number) if 1 <= number && number <= most => Some(number),
+        Ok(number) if least <= number && number <= most => Some(number),
         _ => None,
+    }
+}
+
+/// The drawing that these matches ask for, where its width is in range.
+fn draw<'a>(matches: &ArgMatches<'a>) -> Option<Request<'a>>
+    ensures range { IfSome result (λ request. IsInRange request) }
+    ensures asked { let rows = rows_of (found_of matches.now) in
+        MatchOption result (IsRefusedBy (codes "draw") rows) (IsAskedBy (codes "draw") rows) }
+{
+    match number(word(matches, WIDTH), 40, 1000) {
+        Some(width) => Some(Request::Draw {
+            file: word(matches, FILE),
+            schedule: given(matches, SCHEDULE),
+            width: width as u16,
+        }),
+        None => None,
     }
 }
 
@@ -80,7 +102,7 @@ fn live<'a>(matches: &ArgMatches<'a>) -> Option<Request<'a>>
     ensures asked { let rows = rows_of (found_of matches.now) in
         MatchOption result (IsRefusedBy (codes "live") rows) (IsAskedBy (codes "live") rows) }
 {
-    match number(word(matches, LIMIT), 1_000_000_000) {
+    match number(word(matches, LIMIT), 1, 1_000_000_000) {
         Some(limit) => Some(Request::Live {
             file: word(matches, FILE),
             limit,
@@ -95,8 +117,8 @@ fn race<'a>(matches: &ArgMatches<'a>) -> Option<Request<'a>>
     ensures asked { let rows = rows_of (found_of matches.now) in
         MatchOption result (IsRefusedBy (codes "race") rows) (IsAskedBy (codes "race") rows) }
 {
-    let parties = number(word(matches, PARTIES), 16);
-    let rounds = number(word(matches, ROUNDS), 1_000_000);
+    let parties = number(word(matches, PARTIES), 1, 16);
+    let rounds = number(word(matches, ROUNDS), 1, 1_000_000);
     match (parties, rounds) {
         (Some(parties), Some(rounds)) => Some(Request::Race {
             parties: parties as u16,
@@ -135,6 +157,7 @@ fn request_by<'a>(name: &str, matches: &ArgMatches<'a>) -> Option<Request<'a>>
             file: word(matches, FILE),
             schedule: given(matches, SCHEDULE),
         }),
+        DRAW => draw(matches),
         LIVE => live(matches),
         RACE => race(matches),
         _ => Some(Request::Both),

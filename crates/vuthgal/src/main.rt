@@ -20,6 +20,7 @@ use workbench::asm::asm_cmd;
 use workbench::both::both_cmd;
 use workbench::compare::compare_cmd;
 use workbench::debug::debug_cmd;
+use workbench::draw::{draw_both_cmd, draw_cmd};
 use workbench::fault::Fault;
 use workbench::list::list_cmd;
 use workbench::live::live_cmd;
@@ -206,6 +207,52 @@ fn show(rt: &HostRuntime, file: &str, schedule: Option<&str>) -> u8 {
     show_under(rt, program, &mut ReadPort::new(schedule))
 }
 
+/// Draws the run of the program in a file under a schedule, in lines of at most so many bytes.
+fn draw_under<S: Source>(rt: &HostRuntime, program: File, schedule: &mut S, width: u16) -> u8 {
+    let mut output = WritePort::new(rt.stdout());
+    let mut errors = WritePort::new(rt.stderr());
+    let status = draw_cmd(
+        rt.alloc(),
+        &mut ReadPort::new(program),
+        schedule,
+        width,
+        &mut output,
+        &mut errors,
+    );
+    flushed(rt, status, &mut output)
+}
+
+/// The same of a file that holds both.
+fn draw_both(rt: &HostRuntime, file: File, width: u16) -> u8 {
+    let mut output = WritePort::new(rt.stdout());
+    let mut errors = WritePort::new(rt.stderr());
+    let status = draw_both_cmd(
+        rt.alloc(),
+        &mut ReadPort::new(file),
+        width,
+        &mut output,
+        &mut errors,
+    );
+    flushed(rt, status, &mut output)
+}
+
+/// The same with the files that one or two words name, the schedule standard input where its word is `-`.
+fn draw(rt: &HostRuntime, file: &str, schedule: Option<&str>, width: u16) -> u8 {
+    let Ok(program) = files::read(rt, file) else {
+        return told(rt, Fault::Read);
+    };
+    let Some(schedule) = schedule else {
+        return draw_both(rt, program, width);
+    };
+    if schedule == "-" {
+        return draw_under(rt, program, &mut ReadPort::new(rt.stdin()), width);
+    }
+    let Ok(schedule) = files::read(rt, schedule) else {
+        return told(rt, Fault::Read);
+    };
+    draw_under(rt, program, &mut ReadPort::new(schedule), width)
+}
+
 /// Plays the program in a file on real threads.
 fn live<R: Threads + Wait + Sync>(threads: &R, rt: &HostRuntime, file: &str, limit: u32) -> u8
     requires { limit ≤ 1000000000 }
@@ -257,6 +304,11 @@ fn main(rt: HostRuntime) -> ExitCode {
         Ok(Request::Compare { file, trace }) => compare(&rt, file, trace),
         Ok(Request::Debug { file }) => debug(&rt, file),
         Ok(Request::Show { file, schedule }) => show(&rt, file, schedule),
+        Ok(Request::Draw {
+            file,
+            schedule,
+            width,
+        }) => draw(&rt, file, schedule, width),
         Ok(Request::Live { file, limit }) => live(&rt, &rt, file, limit),
         Ok(Request::Race { parties, rounds }) => meet(&rt, &rt, parties, rounds),
         Err(status) => status,

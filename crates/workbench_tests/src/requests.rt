@@ -4,7 +4,7 @@ use std::alloc::Global;
 use std::test::Fail;
 
 /// A command line after the program's name, its words parted by one space, and what it asks for.
-static REQUESTS: [(&str, Request); 14] = [
+static REQUESTS: [(&str, Request); 17] = [
     ("", Request::Both),
     (
         "asm a.txt b",
@@ -45,6 +45,30 @@ static REQUESTS: [(&str, Request); 14] = [
         },
     ),
     (
+        "draw a.txt",
+        Request::Draw {
+            file: "a.txt",
+            schedule: None,
+            width: 80,
+        },
+    ),
+    (
+        "draw a.txt - --width 40",
+        Request::Draw {
+            file: "a.txt",
+            schedule: Some("-"),
+            width: 40,
+        },
+    ),
+    (
+        "draw --width=1000 a.image b",
+        Request::Draw {
+            file: "a.image",
+            schedule: Some("b"),
+            width: 1000,
+        },
+    ),
+    (
         "live a.txt",
         Request::Live {
             file: "a.txt",
@@ -82,7 +106,7 @@ static REQUESTS: [(&str, Request); 14] = [
 ];
 
 /// Command lines that ask for nothing, and the status of each.
-static REFUSED: [(&str, i32); 30] = [
+static REFUSED: [(&str, i32); 34] = [
     ("asm", 2),
     ("asm a", 2),
     ("asm a b c", 2),
@@ -96,6 +120,10 @@ static REFUSED: [(&str, i32); 30] = [
     ("debug a b", 2),
     ("show", 2),
     ("show a b c", 2),
+    ("draw", 2),
+    ("draw a b c", 2),
+    ("draw a --width 39", 2),
+    ("draw a --width 1001", 2),
     ("live", 2),
     ("live a b", 2),
     ("live a --limit 0", 2),

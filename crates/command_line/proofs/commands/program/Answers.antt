@@ -2,7 +2,7 @@ use Rattle.std.proofs.Common.{rules, ◌≡◌, ◌∙◌, [], ap}
 use Rattle.std.specs.Prelude.{true, codes}
 use Rattle.std.proofs.lemmas.Result.{IfOk-weaker}
 use Rattle.clap.specs.Words.{App, app_of, new_app, with_subcommand}
-use Rattle.command_line.specs.Commands.{asm_shape, compare_shape, debug_shape, list_shape, live_shape, race_shape, run_shape, show_shape}
+use Rattle.command_line.specs.Commands.{asm_shape, compare_shape, debug_shape, draw_shape, list_shape, live_shape, race_shape, run_shape, show_shape}
 use Rattle.command_line.proofs.commands.program.Goals as goal
 
 abbrev top : App
@@ -15,7 +15,7 @@ abbrev plays : App → App
 plays app = with_subcommand (with_subcommand (with_subcommand app run_shape) compare_shape) debug_shape
 
 abbrev pictures : App → App
-pictures app = with_subcommand app show_shape
+pictures app = with_subcommand (with_subcommand app show_shape) draw_shape
 
 abbrev threads : App → App
 threads app = with_subcommand (with_subcommand app live_shape) race_shape
