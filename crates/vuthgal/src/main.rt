@@ -163,94 +163,66 @@ fn debug(rt: &HostRuntime, file: &str) -> u8 {
     flushed(rt, status, &mut output)
 }
 
-/// Writes the page of the program in a file and a schedule. A page is written at once, so nothing is kept back.
-fn show_under<S: Source>(rt: &HostRuntime, program: File, schedule: &mut S) -> u8 {
+/// A picture of a run: a page, or a drawing of so many columns.
+#[derive(Clone, Copy)]
+enum Picture {
+    Page,
+    Drawing(u16),
+}
+
+/// Writes the picture of the program in a file and a schedule. It is written at once, so nothing is kept back.
+fn picture_under<S: Source>(
+    rt: &HostRuntime,
+    picture: Picture,
+    file: File,
+    schedule: &mut S,
+) -> u8 {
+    let mut program = ReadPort::new(file);
     let mut output = WritePort::new(rt.stdout());
     let mut errors = WritePort::new(rt.stderr());
-    let status = show_cmd(
-        rt.alloc(),
-        &mut ReadPort::new(program),
-        schedule,
-        &mut output,
-        &mut errors,
-    );
+    let alloc = rt.alloc();
+    let status = match picture {
+        Picture::Page => show_cmd(alloc, &mut program, schedule, &mut output, &mut errors),
+        Picture::Drawing(width) => draw_cmd(
+            alloc,
+            &mut program,
+            schedule,
+            width,
+            &mut output,
+            &mut errors,
+        ),
+    };
     flushed(rt, status, &mut output)
 }
 
 /// The same of a file that holds both.
-fn show_both(rt: &HostRuntime, file: File) -> u8 {
+fn picture_of_both(rt: &HostRuntime, picture: Picture, file: File) -> u8 {
+    let mut both = ReadPort::new(file);
     let mut output = WritePort::new(rt.stdout());
     let mut errors = WritePort::new(rt.stderr());
-    let status = show_both_cmd(
-        rt.alloc(),
-        &mut ReadPort::new(file),
-        &mut output,
-        &mut errors,
-    );
+    let alloc = rt.alloc();
+    let status = match picture {
+        Picture::Page => show_both_cmd(alloc, &mut both, &mut output, &mut errors),
+        Picture::Drawing(width) => draw_both_cmd(alloc, &mut both, width, &mut output, &mut errors),
+    };
     flushed(rt, status, &mut output)
 }
 
 /// The same with the files that one or two words name, the schedule standard input where its word is `-`.
-fn show(rt: &HostRuntime, file: &str, schedule: Option<&str>) -> u8 {
+fn picture(rt: &HostRuntime, picture: Picture, file: &str, schedule: Option<&str>) -> u8 {
     let Ok(program) = files::read(rt, file) else {
         return told(rt, Fault::Read);
     };
     let Some(schedule) = schedule else {
-        return show_both(rt, program);
+        return picture_of_both(rt, picture, program);
     };
     if schedule == "-" {
-        return show_under(rt, program, &mut ReadPort::new(rt.stdin()));
+        return picture_under(rt, picture, program, &mut ReadPort::new(rt.stdin()));
     }
     let Ok(schedule) = files::read(rt, schedule) else {
         return told(rt, Fault::Read);
     };
-    show_under(rt, program, &mut ReadPort::new(schedule))
-}
-
-/// Draws the run of the program in a file under a schedule, in lines of at most so many bytes.
-fn draw_under<S: Source>(rt: &HostRuntime, program: File, schedule: &mut S, width: u16) -> u8 {
-    let mut output = WritePort::new(rt.stdout());
-    let mut errors = WritePort::new(rt.stderr());
-    let status = draw_cmd(
-        rt.alloc(),
-        &mut ReadPort::new(program),
-        schedule,
-        width,
-        &mut output,
-        &mut errors,
-    );
-    flushed(rt, status, &mut output)
-}
-
-/// The same of a file that holds both.
-fn draw_both(rt: &HostRuntime, file: File, width: u16) -> u8 {
-    let mut output = WritePort::new(rt.stdout());
-    let mut errors = WritePort::new(rt.stderr());
-    let status = draw_both_cmd(
-        rt.alloc(),
-        &mut ReadPort::new(file),
-        width,
-        &mut output,
-        &mut errors,
-    );
-    flushed(rt, status, &mut output)
-}
-
-/// The same with the files that one or two words name, the schedule standard input where its word is `-`.
-fn draw(rt: &HostRuntime, file: &str, schedule: Option<&str>, width: u16) -> u8 {
-    let Ok(program) = files::read(rt, file) else {
-        return told(rt, Fault::Read);
-    };
-    let Some(schedule) = schedule else {
-        return draw_both(rt, program, width);
-    };
-    if schedule == "-" {
-        return draw_under(rt, program, &mut ReadPort::new(rt.stdin()), width);
-    }
-    let Ok(schedule) = files::read(rt, schedule) else {
-        return told(rt, Fault::Read);
-    };
-    draw_under(rt, program, &mut ReadPort::new(schedule), width)
+    picture_under(rt, picture, program, &mut ReadPort::new(schedule))
 }
 
 /// Plays the program in a file on real threads.
@@ -303,12 +275,14 @@ fn main(rt: HostRuntime) -> ExitCode {
         Ok(Request::Run { file, schedule }) => run(&rt, file, schedule),
         Ok(Request::Compare { file, trace }) => compare(&rt, file, trace),
         Ok(Request::Debug { file }) => debug(&rt, file),
-        Ok(Request::Show { file, schedule }) => show(&rt, file, schedule),
-        Ok(Request::Draw {
-            file,
-            schedule,
-            width,
-        }) => draw(&rt, file, schedule, width),
+        Ok(Request::Show { file, schedule }) => picture(&rt, Picture::Page, file, schedule),
+        Ok(
+            Request::Draw {
+                file,
+                schedule,
+                width,
+            },
+        ) => picture(&rt, Picture::Drawing(width), file, schedule),
         Ok(Request::Live { file, limit }) => live(&rt, &rt, file, limit),
         Ok(Request::Race { parties, rounds }) => meet(&rt, &rt, parties, rounds),
         Err(status) => status,
