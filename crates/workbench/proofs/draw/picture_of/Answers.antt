@@ -15,7 +15,7 @@ returns-in-Ok-picture-clause-picture c =
     let drawn = c.as_slice.result.now in
     let same : drawn ≡ c.in-Ok-choices_in.choices.items = search rules in
     let is : c.in-Ok-picture.text.items
-        ≡ picture c.args.width c.in_ok-image.symbols (world_of c.in-Ok.machine) drawn = search rules in
+    ≡ picture c.args.width c.in_ok-image.symbols (world_of c.in-Ok.machine) drawn = search rules in
     picture_in_file c.args.width c.args.program.now c.args.schedule.now c.in-Ok-picture.text.items c.in_ok-image.image
     c.in_ok-image.symbols (world_of c.in-Ok.machine) c.in-Ok-choices_in.choices.items drawn c.in_ok-image.ensures.program
     c.in-Ok.ensures.machine c.in-Ok-choices_in.ensures.choices same is
