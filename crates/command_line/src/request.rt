@@ -21,15 +21,28 @@ pub enum Request<'a> {
     /// No words: play what standard input holds.
     Both,
     /// `asm SRC OUT`.
-    Asm { source: &'a str, image: &'a str },
+    Asm {
+        source: &'a str,
+        image: &'a str,
+    },
     /// `list FILE`.
-    List { file: &'a str },
+    List {
+        file: &'a str,
+    },
     /// `run FILE SCHEDULE`; the schedule `-` is standard input.
-    Run { file: &'a str, schedule: &'a str },
+    Run {
+        file: &'a str,
+        schedule: &'a str,
+    },
     /// `compare FILE TRACE`; the trace `-` is standard input.
-    Compare { file: &'a str, trace: &'a str },
+    Compare {
+        file: &'a str,
+        trace: &'a str,
+    },
     /// `debug FILE`.
-    Debug { file: &'a str },
+    Debug {
+        file: &'a str,
+    },
     /// `show FILE [SCHEDULE]`; the schedule `-` is standard input, and without it it stands in FILE.
     Show {
         file: &'a str,
@@ -42,9 +55,15 @@ pub enum Request<'a> {
         width: u16,
     },
     /// `live FILE --limit N`: 1 to 1,000,000,000 steps.
-    Live { file: &'a str, limit: u32 },
+    Live {
+        file: &'a str,
+        limit: u32,
+    },
     /// `race --parties N --rounds R`: 1 to 16 threads, 1 to 1,000,000 phases.
-    Race { parties: u16, rounds: u32 },
+    Race {
+        parties: u16,
+        rounds: u32,
+    },
 }
 
 /// What is told of a number that is none, or out of its range.

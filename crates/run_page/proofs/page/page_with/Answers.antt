@@ -10,6 +10,10 @@ returns-clause-page c =
     let listing : c.as_slice.result.now ≡ canonical c.args.image = search rules in
     let choices : c.as_slice-2.result.now ≡ c.in_ok-choices.choices.items = search rules in
     let page = c.in_ok-page.ensures
-    ∙ ap₂ (λ l cs. page_text (parts_of c.args.frame) l c.args.source.now (run_shown world cs)) listing choices in
-    (world, (c.in_ok-choices.choices.items,
-    (c.in-Ok-first_machine.ensures.machine, c.in_ok-choices.ensures.choices, c.in_ok-choices.ensures.few, page)))
+    ∙ ap₂ (λ l cs. page_text (parts_of c.args.frame) l c.args.source.now (run_shown world cs)) listing choices in (
+      world,
+      (
+        c.in_ok-choices.choices.items,
+        (c.in-Ok-first_machine.ensures.machine, c.in_ok-choices.ensures.choices, c.in_ok-choices.ensures.few, page),
+      ),
+    )
