@@ -165,7 +165,7 @@ fn debug(rt: &HostRuntime, file: &str) -> u8 {
 
 /// A picture of a run: a page, or a drawing of so many columns.
 #[derive(Clone, Copy)]
-enum Picture {
+enum PictureKind {
     Page,
     Drawing(u16),
 }
@@ -173,7 +173,7 @@ enum Picture {
 /// Writes the picture of the program in a file and a schedule. It is written at once, so nothing is kept back.
 fn picture_under<S: Source>(
     rt: &HostRuntime,
-    picture: Picture,
+    kind: PictureKind,
     file: File,
     schedule: &mut S,
 ) -> u8 {
@@ -181,9 +181,9 @@ fn picture_under<S: Source>(
     let mut output = WritePort::new(rt.stdout());
     let mut errors = WritePort::new(rt.stderr());
     let alloc = rt.alloc();
-    let status = match picture {
-        Picture::Page => show_cmd(alloc, &mut program, schedule, &mut output, &mut errors),
-        Picture::Drawing(width) => draw_cmd(
+    let status = match kind {
+        PictureKind::Page => show_cmd(alloc, &mut program, schedule, &mut output, &mut errors),
+        PictureKind::Drawing(width) => draw_cmd(
             alloc,
             &mut program,
             schedule,
@@ -196,33 +196,39 @@ fn picture_under<S: Source>(
 }
 
 /// The same of a file that holds both.
-fn picture_of_both(rt: &HostRuntime, picture: Picture, file: File) -> u8 {
+fn picture_of_both(rt: &HostRuntime, kind: PictureKind, file: File) -> u8 {
     let mut both = ReadPort::new(file);
     let mut output = WritePort::new(rt.stdout());
     let mut errors = WritePort::new(rt.stderr());
     let alloc = rt.alloc();
-    let status = match picture {
-        Picture::Page => show_both_cmd(alloc, &mut both, &mut output, &mut errors),
-        Picture::Drawing(width) => draw_both_cmd(alloc, &mut both, width, &mut output, &mut errors),
+    let status = match kind {
+        PictureKind::Page => show_both_cmd(alloc, &mut both, &mut output, &mut errors),
+        PictureKind::Drawing(width) => draw_both_cmd(
+            alloc,
+            &mut both,
+            width,
+            &mut output,
+            &mut errors,
+        ),
     };
     flushed(rt, status, &mut output)
 }
 
 /// The same with the files that one or two words name, the schedule standard input where its word is `-`.
-fn picture(rt: &HostRuntime, picture: Picture, file: &str, schedule: Option<&str>) -> u8 {
+fn picture(rt: &HostRuntime, kind: PictureKind, file: &str, schedule: Option<&str>) -> u8 {
     let Ok(program) = files::read(rt, file) else {
         return told(rt, Fault::Read);
     };
     let Some(schedule) = schedule else {
-        return picture_of_both(rt, picture, program);
+        return picture_of_both(rt, kind, program);
     };
     if schedule == "-" {
-        return picture_under(rt, picture, program, &mut ReadPort::new(rt.stdin()));
+        return picture_under(rt, kind, program, &mut ReadPort::new(rt.stdin()));
     }
     let Ok(schedule) = files::read(rt, schedule) else {
         return told(rt, Fault::Read);
     };
-    picture_under(rt, picture, program, &mut ReadPort::new(schedule))
+    picture_under(rt, kind, program, &mut ReadPort::new(schedule))
 }
 
 /// Plays the program in a file on real threads.
@@ -275,14 +281,14 @@ fn main(rt: HostRuntime) -> ExitCode {
         Ok(Request::Run { file, schedule }) => run(&rt, file, schedule),
         Ok(Request::Compare { file, trace }) => compare(&rt, file, trace),
         Ok(Request::Debug { file }) => debug(&rt, file),
-        Ok(Request::Show { file, schedule }) => picture(&rt, Picture::Page, file, schedule),
+        Ok(Request::Show { file, schedule }) => picture(&rt, PictureKind::Page, file, schedule),
         Ok(
             Request::Draw {
                 file,
                 schedule,
                 width,
             },
-        ) => picture(&rt, Picture::Drawing(width), file, schedule),
+        ) => picture(&rt, PictureKind::Drawing(width), file, schedule),
         Ok(Request::Live { file, limit }) => live(&rt, &rt, file, limit),
         Ok(Request::Race { parties, rounds }) => meet(&rt, &rt, parties, rounds),
         Err(status) => status,
