@@ -12,7 +12,7 @@ use Rattle.command_line.specs.declared.request.Request.TheVariants as request
 -- its numbers are in their ranges
 abbrev pub IsInRange : Request → Type 0
 IsInRange (request.Live file limit) = (1 ≤ limit) × (limit ≤ 1000000000)
-IsInRange (request.Draw file schedule width) = (40 ≤ width) × (width ≤ 1000)
+IsInRange (request.Draw file schedule width) = (60 ≤ width) × (width ≤ 1000)
 IsInRange (request.Race parties rounds) = ((1 ≤ parties) × (parties ≤ 16)) × ((1 ≤ rounds) × (rounds ≤ 1000000))
 IsInRange _ = Unit {0}
 
@@ -54,7 +54,7 @@ IsAskedBy name rows (request.Show file schedule) = (name ≡ codes "show")
     × (file.now ≡ word_at (codes "FILE") rows) × (option_map (λ s. s.now) schedule ≡ word_given (codes "SCHEDULE") rows)
 IsAskedBy name rows (request.Draw file schedule width) = (name ≡ codes "draw")
     × (file.now ≡ word_at (codes "FILE") rows) × (option_map (λ s. s.now) schedule ≡ word_given (codes "SCHEDULE") rows)
-    × Spells (word_at (codes "width") rows) 40 1000 width
+    × Spells (word_at (codes "width") rows) 60 1000 width
 IsAskedBy name rows (request.Live file limit) = (name ≡ codes "live")
     × (file.now ≡ word_at (codes "FILE") rows) × Spells (word_at (codes "limit") rows) 1 1000000000 limit
 IsAskedBy name rows (request.Race parties rounds) = (name ≡ codes "race")
@@ -63,7 +63,7 @@ IsAskedBy name rows (request.Race parties rounds) = (name ≡ codes "race")
 
 -- the subcommand of this name has a number in its matches that is none or out of its range
 abbrev pub IsRefusedBy : Text → List Row → Type 0
-IsRefusedBy name rows = ((name ≡ codes "draw") × SpellsNone (word_at (codes "width") rows) 40 1000)
+IsRefusedBy name rows = ((name ≡ codes "draw") × SpellsNone (word_at (codes "width") rows) 60 1000)
     ⊎ ((name ≡ codes "live") × SpellsNone (word_at (codes "limit") rows) 1 1000000000)
     ⊎ ((name ≡ codes "race") × (SpellsNone (word_at (codes "parties") rows) 1 16
     ⊎ SpellsNone (word_at (codes "rounds") rows) 1 1000000))

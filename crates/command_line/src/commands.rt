@@ -282,7 +282,7 @@ fn width<'a>(alloc: Global) -> Arg<'a>
         .long(WIDTH)
         .value_name("N")
         .default_value("80")
-        .help("How many bytes a line has at most, 40 to 1000")
+        .help("How many bytes a line has at most, 60 to 1000")
 }
 
 fn draw<'a>(alloc: Global) -> Result<Command<'a>, AllocError>

@@ -48,7 +48,7 @@ pub enum Request<'a> {
         file: &'a str,
         schedule: Option<&'a str>,
     },
-    /// `draw FILE [SCHEDULE] --width N`, the same; lines of 40 to 1,000 bytes at most.
+    /// `draw FILE [SCHEDULE] --width N`, the same; lines of 60 to 1,000 bytes at most.
     Draw {
         file: &'a str,
         schedule: Option<&'a str>,
@@ -69,7 +69,7 @@ pub enum Request<'a> {
 /// What is told of a number that is none, or out of its range.
 const NUMBERS: &str =
     "a number is written in digits alone: parties from 1 to 16, rounds from 1 to 1000000, limit from 1 to \
-                       1000000000, width from 40 to 1000";
+                       1000000000, width from 60 to 1000";
 
 /// The word in this place, which is there where the place has to be filled.
 fn word<'a>(matches: &ArgMatches<'a>, place: &str) -> &'a str
@@ -105,7 +105,7 @@ fn draw<'a>(matches: &ArgMatches<'a>) -> Option<Request<'a>>
     ensures asked { let rows = rows_of (found_of matches.now) in
         MatchOption result (IsRefusedBy (codes "draw") rows) (IsAskedBy (codes "draw") rows) }
 {
-    match number(word(matches, WIDTH), 40, 1000) {
+    match number(word(matches, WIDTH), 60, 1000) {
         Some(width) => Some(Request::Draw {
             file: word(matches, FILE),
             schedule: given(matches, SCHEDULE),

@@ -53,11 +53,11 @@ static REQUESTS: [(&str, Request); 17] = [
         },
     ),
     (
-        "draw a.txt - --width 40",
+        "draw a.txt - --width 60",
         Request::Draw {
             file: "a.txt",
             schedule: Some("-"),
-            width: 40,
+            width: 60,
         },
     ),
     (
@@ -122,7 +122,7 @@ static REFUSED: [(&str, i32); 34] = [
     ("show a b c", 2),
     ("draw", 2),
     ("draw a b c", 2),
-    ("draw a --width 39", 2),
+    ("draw a --width 59", 2),
     ("draw a --width 1001", 2),
     ("live", 2),
     ("live a b", 2),
