@@ -157,8 +157,37 @@ fn an_image_has_its_rows(rt: HostRuntime) -> Result<(), Fail> {
     for (row, word) in image.rows.as_slice().iter().zip(["paaa", "out", "halt"]) {
         assert_eq!(rt; mnemonic(*row).as_bytes(), word.as_bytes());
     }
-    let mut full = MemorySink::new(rt.alloc(), 55, None)?;
-    assert!(rt; write_image(&image, &mut full).is_err());
+    Ok(())
+}
+
+/// Whether a sink that has room for so many bytes, or fails at this call, gets a beginning of the image and the writing is told
+/// as failed; or else the whole image.
+fn is_written_in_part(
+    alloc: Global,
+    image: &Image,
+    room: usize,
+    fail_at: Option<u32>,
+) -> Result<bool, Fail> {
+    let mut sink = MemorySink::new(alloc, room, fail_at)?;
+    let is_whole = write_image(image, &mut sink).is_ok();
+    Ok(TWO_THREADS.starts_with(sink.bytes()) && is_whole == (sink.bytes().len() == 56))
+}
+
+#[test]
+fn a_sink_that_fails_gets_a_beginning_of_the_image(rt: HostRuntime) -> Result<(), Fail> {
+    let image = read_image(rt.alloc(), &TWO_THREADS).ok().ok_or("an image")?;
+    for room in 0..=56 {
+        assert!(rt;
+            is_written_in_part(rt.alloc(), &image, room, None)?,
+            "{room}"
+        );
+    }
+    for call in 0..=56 {
+        assert!(rt;
+            is_written_in_part(rt.alloc(), &image, 56, Some(call))?,
+            "{call}"
+        );
+    }
     Ok(())
 }
 

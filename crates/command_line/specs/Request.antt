@@ -1,11 +1,15 @@
 -- What a command line asks for, by the subcommand that its words name and by that one's matches.
-use Rattle.std.specs.Prelude.{◌≡◌, ◌≢◌, ◌≤◌, ◌⊎◌, ℕ, List, [], ◌∷◌, Option, Some, None, length}
+use Rattle.std.specs.Prelude.{◌≡◌, ◌≢◌, ◌≤◌, ◌⊎◌, ℕ, List, [], ◌∷◌, Option, Some, None, length, map}
 use Rattle.std.specs.Prelude.{All, codes, option_map, true, unwrap_or}
 use Rattle.std.specs.Str.Parse.{IsNumeral, digits_value}
-use Rattle.clap.specs.Words.{Row, Text, first_of, kind_of, subcommand_of, takes}
+use Rattle.clap.specs.Words.{Row, Text, all_of, first_of, kind_of, subcommand_of, takes}
 use Rattle.clap.specs.declared.error.Error.{Error}
 use Rattle.clap.specs.declared.error.kind.ErrorKind.TheVariants.{OutOfMemory, ValueValidation}
-use Rattle.command_line.specs.Commands.{vuthgal}
+use Rattle.command_help.specs.Commands.{vuthgal}
+use Rattle.command_line.specs.declared.refusal.Refusal.{Refusal}
+use Rattle.command_line.specs.declared.refusal.Refusal.TheVariants as refusal
+use Rattle.command_line.specs.declared.refusal.WrongOption.{WrongOption}
+use Rattle.command_line.specs.declared.refusal.WrongOption.TheVariants as option
 use Rattle.command_line.specs.declared.request.Request.{Request}
 use Rattle.command_line.specs.declared.request.Request.TheVariants as request
 
@@ -24,6 +28,10 @@ word_at place rows = unwrap_or (first_of place rows) []
 abbrev pub word_given : Text → List Row → Option Text
 word_given place rows = first_of place rows
 
+-- the words in this place, as many as stand there
+abbrev pub words_at : Text → List Row → List Text
+words_at place rows = unwrap_or (all_of place rows) []
+
 -- one to ten digits, and nothing else, spell this number, which is one of `least` to `most`
 abbrev pub Spells : Text → ℕ → ℕ → ℕ → Type 0
 Spells text least most number = (length text ≤ 10) × IsNumeral 10 text × (digits_value 10 text ≡ number)
@@ -35,7 +43,7 @@ SpellsNone text least most = (number : ℕ) → Spells text least most number �
 abbrev pub command_names : List Text
 command_names =
     codes "asm" ∷ codes "list" ∷ codes "run" ∷ codes "compare" ∷ codes "debug" ∷ codes "show" ∷ codes "draw"
-    ∷ codes "live" ∷ codes "race" ∷ []
+    ∷ codes "live" ∷ codes "race" ∷ codes "choices" ∷ codes "explain" ∷ []
 
 -- the request is what the subcommand of this name asks for by these matches
 abbrev pub IsAskedBy : Text → List Row → Request → Type 0
@@ -60,32 +68,42 @@ IsAskedBy name rows (request.Live file limit) = (name ≡ codes "live")
 IsAskedBy name rows (request.Race parties rounds) = (name ≡ codes "race")
     × Spells (word_at (codes "parties") rows) 1 16 parties
     × Spells (word_at (codes "rounds") rows) 1 1000000 rounds
+IsAskedBy name rows (request.Choices trace) = (name ≡ codes "choices")
+    × (trace.now ≡ word_at (codes "TRACE") rows)
+IsAskedBy name rows (request.Explain words) = (name ≡ codes "explain")
+    × (map (λ w. w.now) words.items ≡ words_at (codes "WORD") rows)
 
--- the subcommand of this name has a number in its matches that is none or out of its range
-abbrev pub IsRefusedBy : Text → List Row → Type 0
-IsRefusedBy name rows = ((name ≡ codes "draw") × SpellsNone (word_at (codes "width") rows) 60 1000)
-    ⊎ ((name ≡ codes "live") × SpellsNone (word_at (codes "limit") rows) 1 1000000000)
-    ⊎ ((name ≡ codes "race") × (SpellsNone (word_at (codes "parties") rows) 1 16
-    ⊎ SpellsNone (word_at (codes "rounds") rows) 1 1000000))
+-- the subcommand of this name has this option, with a value that is no number of its range
+abbrev pub IsWrong : WrongOption → Text → List Row → Type 0
+IsWrong option.Width name rows = (name ≡ codes "draw") × SpellsNone (word_at (codes "width") rows) 60 1000
+IsWrong option.Limit name rows = (name ≡ codes "live") × SpellsNone (word_at (codes "limit") rows) 1 1000000000
+IsWrong option.Parties name rows = (name ≡ codes "race") × SpellsNone (word_at (codes "parties") rows) 1 16
+IsWrong option.Rounds name rows = (name ≡ codes "race") × SpellsNone (word_at (codes "rounds") rows) 1 1000000
+
+-- memory may be refused always, else an option is wrong
+abbrev pub IsRefusedBy : Refusal → Text → List Row → Type 0
+IsRefusedBy refusal.Memory name rows = Unit {0}
+IsRefusedBy (refusal.Wrong option) name rows = IsWrong option name rows
 
 -- the same of the words as a whole: with no subcommand they ask for `Both`
 abbrev pub IsAsked : Option (Text × List Row) → Request → Type 0
 IsAsked None asked = asked ≡ request.Both
 IsAsked (Some named) asked = IsAskedBy named.0 named.1 asked
 
-abbrev pub IsRefused : Option (Text × List Row) → Type 0
-IsRefused None = ⊥
-IsRefused (Some named) = IsRefusedBy named.0 named.1
+abbrev pub IsRefused : Option (Text × List Row) → Refusal → Type 0
+IsRefused None refusal.Memory = Unit {0}
+IsRefused None (refusal.Wrong option) = ⊥
+IsRefused (Some named) why = IsRefusedBy why named.0 named.1
 
 -- a command line, whose first word is the program's own name, asks for this
 abbrev pub Asks : List Text → Request → Type 0
 Asks words = IsAsked (subcommand_of vuthgal words)
 
--- it has a number that is none or out of its range
-abbrev pub Refuses : List Text → Type 0
+-- it is refused for this
+abbrev pub Refuses : List Text → Refusal → Type 0
 Refuses words = IsRefused (subcommand_of vuthgal words)
 
--- an error where no memory is left, where `clap` doesn't take the words, or where a number is refused
+-- an error where no memory is left, where `clap` doesn't take the words, or where an option is wrong
 abbrev pub Fails : List Text → Error → Type 0
 Fails words error = takes vuthgal words ≡ true → (kind_of error ≡ OutOfMemory)
-    ⊎ ((kind_of error ≡ ValueValidation) × Refuses words)
+    ⊎ ((kind_of error ≡ ValueValidation) × ((option : WrongOption) × Refuses words (refusal.Wrong option)))

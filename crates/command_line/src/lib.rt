@@ -1,5 +1,5 @@
-//! The command line: what the words after the program's name ask for, and the texts of its help.
+//! The command line: what the words after the program's name ask for.
 #![tactic(auto)]
 
-mod commands;
+mod refusal;
 pub mod request;

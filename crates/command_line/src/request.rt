@@ -1,22 +1,25 @@
+//! What the words of a command line ask for.
 ghost use Rattle.std.specs.Prelude.{◌≡◌, ◌≤◌, IfErr, IfOk, IfSome, MatchOption, codes, map, option_map, true};
 ghost use Rattle.clap.specs.Words.{app_of, found_of, kind_of, rows_of, subcommand_rows_of, takes};
 ghost use Rattle.clap.specs.declared.error.kind.ErrorKind.TheVariants.{OutOfMemory};
 ghost use Rattle.std.specs.String.{string_bytes};
-ghost use Rattle.command_line.specs.Commands.{vuthgal};
+ghost use Rattle.command_help.specs.Commands.{vuthgal};
 ghost use Rattle.command_line.specs.Request.{Asks, Fails, Refuses};
-ghost use Rattle.command_line.specs.Request.{IsAsked, IsAskedBy, IsInRange, IsRefused, IsRefusedBy};
-ghost use Rattle.command_line.specs.Request.{Spells, SpellsNone, word_at, word_given};
+ghost use Rattle.command_line.specs.Request.{IsAsked, IsAskedBy, IsInRange, IsRefused, IsRefusedBy, IsWrong};
+ghost use Rattle.command_line.specs.Request.{Spells, SpellsNone, word_at, word_given, words_at};
 
-use crate::commands::{
-    ASM, COMPARE, DEBUG, DRAW, FILE, LIMIT, LIST, LIVE, OUT, PARTIES, RACE, ROUNDS, RUN, SCHEDULE,
-    SHOW, SRC, TRACE, WIDTH, program,
-};
+use crate::refusal::{Refusal, WrongOption};
 use clap::error::ErrorKind;
 use clap::{ArgMatches, Command, Error};
-use std::alloc::Global;
+use command_help::commands::program;
+use command_help::names::{
+    ASM, CHOICES, COMPARE, DEBUG, DRAW, EXPLAIN, FILE, LIMIT, LIST, LIVE, OUT, PARTIES, RACE,
+    ROUNDS, RUN, SCHEDULE, SHOW, SRC, TRACE, WIDTH, WORD,
+};
+use std::alloc::{AllocError, Global};
 
 /// What a command line asks for. A file is named as it was written.
-#[derive(Clone, Copy, PartialEq, Eq)]
+#[derive(PartialEq, Eq, Drop)]
 pub enum Request<'a> {
     /// No words: play what standard input holds.
     Both,
@@ -64,12 +67,15 @@ pub enum Request<'a> {
         parties: u16,
         rounds: u32,
     },
+    /// `choices TRACE`; the trace `-` is standard input.
+    Choices {
+        trace: &'a str,
+    },
+    /// `explain WORD..`: the words of a line on standard error, none where they are to be listed.
+    Explain {
+        words: Vec<&'a str>,
+    },
 }
-
-/// What is told of a number that is none, or out of its range.
-const NUMBERS: &str =
-    "a number is written in digits alone: parties from 1 to 16, rounds from 1 to 1000000, limit from 1 to \
-                       1000000000, width from 60 to 1000";
 
 /// The word in this place, which is there where the place has to be filled.
 fn word<'a>(matches: &ArgMatches<'a>, place: &str) -> &'a str
@@ -83,6 +89,17 @@ fn given<'a>(matches: &ArgMatches<'a>, place: &str) -> Option<&'a str>
     ensures { option_map (λ s. s.now) result ≡ word_given place.now (rows_of (found_of matches.now)) }
 {
     matches.get_str(place)
+}
+
+/// The words in this place, as many as there are.
+fn several<'a>(
+    alloc: Global,
+    matches: &ArgMatches<'a>,
+    place: &str,
+) -> Result<Vec<&'a str>, AllocError>
+    ensures { IfOk result (λ words. map (λ w. w.now) words.items ≡ words_at place.now (rows_of (found_of matches.now))) }
+{
+    Vec::from_slice(alloc, matches.get_strs(place).unwrap_or(&[]))
 }
 
 /// The number that one to ten digits spell, where it is one of `least` to `most`; no sign may stand before them.
@@ -100,140 +117,161 @@ fn number(text: &str, least: u32, most: u32) -> Option<u32>
 }
 
 /// The drawing that these matches ask for, where its width is in range.
-fn draw<'a>(matches: &ArgMatches<'a>) -> Option<Request<'a>>
-    ensures range { IfSome result (λ request. IsInRange request) }
-    ensures asked { let rows = rows_of (found_of matches.now) in
-        MatchOption result (IsRefusedBy (codes "draw") rows) (IsAskedBy (codes "draw") rows) }
+fn draw<'a>(matches: &ArgMatches<'a>) -> Result<Request<'a>, WrongOption>
+    ensures range { IfOk result (λ request. IsInRange request) }
+    ensures asked { IfOk result (IsAskedBy (codes "draw") (rows_of (found_of matches.now))) }
+    ensures wrong { IfErr result (λ option. IsWrong option (codes "draw") (rows_of (found_of matches.now))) }
 {
     match number(word(matches, WIDTH), 60, 1000) {
-        Some(width) => Some(Request::Draw {
+        Some(width) => Ok(Request::Draw {
             file: word(matches, FILE),
             schedule: given(matches, SCHEDULE),
             width: width as u16,
         }),
-        None => None,
+        None => Err(WrongOption::Width),
     }
 }
 
 /// The live run that these matches ask for, where its limit is in range.
-fn live<'a>(matches: &ArgMatches<'a>) -> Option<Request<'a>>
-    ensures range { IfSome result (λ request. IsInRange request) }
-    ensures asked { let rows = rows_of (found_of matches.now) in
-        MatchOption result (IsRefusedBy (codes "live") rows) (IsAskedBy (codes "live") rows) }
+fn live<'a>(matches: &ArgMatches<'a>) -> Result<Request<'a>, WrongOption>
+    ensures range { IfOk result (λ request. IsInRange request) }
+    ensures asked { IfOk result (IsAskedBy (codes "live") (rows_of (found_of matches.now))) }
+    ensures wrong { IfErr result (λ option. IsWrong option (codes "live") (rows_of (found_of matches.now))) }
 {
     match number(word(matches, LIMIT), 1, 1_000_000_000) {
-        Some(limit) => Some(Request::Live {
+        Some(limit) => Ok(Request::Live {
             file: word(matches, FILE),
             limit,
         }),
-        None => None,
+        None => Err(WrongOption::Limit),
     }
 }
 
 /// The race that these matches ask for, where both numbers are in range.
-fn race<'a>(matches: &ArgMatches<'a>) -> Option<Request<'a>>
-    ensures range { IfSome result (λ request. IsInRange request) }
-    ensures asked { let rows = rows_of (found_of matches.now) in
-        MatchOption result (IsRefusedBy (codes "race") rows) (IsAskedBy (codes "race") rows) }
+fn race<'a>(matches: &ArgMatches<'a>) -> Result<Request<'a>, WrongOption>
+    ensures range { IfOk result (λ request. IsInRange request) }
+    ensures asked { IfOk result (IsAskedBy (codes "race") (rows_of (found_of matches.now))) }
+    ensures wrong { IfErr result (λ option. IsWrong option (codes "race") (rows_of (found_of matches.now))) }
 {
-    let parties = number(word(matches, PARTIES), 1, 16);
-    let rounds = number(word(matches, ROUNDS), 1, 1_000_000);
-    match (parties, rounds) {
-        (Some(parties), Some(rounds)) => Some(Request::Race {
+    let Some(parties) = number(word(matches, PARTIES), 1, 16) else {
+        return Err(WrongOption::Parties);
+    };
+    match number(word(matches, ROUNDS), 1, 1_000_000) {
+        Some(rounds) => Ok(Request::Race {
             parties: parties as u16,
             rounds,
         }),
-        _ => None,
+        None => Err(WrongOption::Rounds),
     }
 }
 
-/// What a subcommand with these matches asks for; `None` where a number is out of range.
-fn request_by<'a>(name: &str, matches: &ArgMatches<'a>) -> Option<Request<'a>>
-    ensures range { IfSome result (λ request. IsInRange request) }
-    ensures asked { let rows = rows_of (found_of matches.now) in
-        MatchOption result (IsRefusedBy name.now rows) (IsAskedBy name.now rows) }
+/// What a subcommand with these matches asks for, if none of its options is wrong.
+fn request_by<'a>(
+    alloc: Global,
+    name: &str,
+    matches: &ArgMatches<'a>,
+) -> Result<Request<'a>, Refusal>
+    ensures range { IfOk result (λ request. IsInRange request) }
+    ensures asked { IfOk result (IsAskedBy name.now (rows_of (found_of matches.now))) }
+    ensures refused { IfErr result (λ why. IsRefusedBy why name.now (rows_of (found_of matches.now))) }
 {
-    match name {
-        ASM => Some(Request::Asm {
+    let request = match name {
+        ASM => Request::Asm {
             source: word(matches, SRC),
             image: word(matches, OUT),
-        }),
-        LIST => Some(Request::List {
+        },
+        LIST => Request::List {
             file: word(matches, FILE),
-        }),
-        RUN => Some(Request::Run {
+        },
+        RUN => Request::Run {
             file: word(matches, FILE),
             schedule: word(matches, SCHEDULE),
-        }),
-        COMPARE => Some(Request::Compare {
+        },
+        COMPARE => Request::Compare {
             file: word(matches, FILE),
             trace: word(matches, TRACE),
-        }),
-        DEBUG => Some(Request::Debug {
+        },
+        DEBUG => Request::Debug {
             file: word(matches, FILE),
-        }),
-        SHOW => Some(Request::Show {
+        },
+        SHOW => Request::Show {
             file: word(matches, FILE),
             schedule: given(matches, SCHEDULE),
-        }),
-        DRAW => draw(matches),
-        LIVE => live(matches),
-        RACE => race(matches),
-        _ => Some(Request::Both),
-    }
+        },
+        DRAW => draw(matches)?,
+        LIVE => live(matches)?,
+        RACE => race(matches)?,
+        CHOICES => Request::Choices {
+            trace: word(matches, TRACE),
+        },
+        EXPLAIN => Request::Explain {
+            words: several(alloc, matches, WORD)?,
+        },
+        _ => Request::Both,
+    };
+    Ok(request)
 }
 
-/// What these matches ask for; `None` where a number is out of range.
-fn request_of<'a>(matches: &ArgMatches<'a>) -> Option<Request<'a>>
-    ensures range { IfSome result (λ request. IsInRange request) }
-    ensures asked { let named = subcommand_rows_of matches.now in
-        MatchOption result (IsRefused named) (IsAsked named) }
+/// What these matches ask for, if no option is wrong.
+fn request_of<'a>(alloc: Global, matches: &ArgMatches<'a>) -> Result<Request<'a>, Refusal>
+    ensures range { IfOk result (λ request. IsInRange request) }
+    ensures asked { IfOk result (IsAsked (subcommand_rows_of matches.now)) }
+    ensures refused { IfErr result (IsRefused (subcommand_rows_of matches.now)) }
 {
     match matches.subcommand() {
-        Some((name, matches)) => request_by(name, matches),
-        None => Some(Request::Both),
+        Some((name, matches)) => request_by(alloc, name, matches),
+        None => Ok(Request::Both),
     }
 }
 
-/// What the words ask for by the program's commands; `Ok(None)` where a number is out of range.
+/// What the words ask for by the program's commands, if they take the words; then if no option is wrong.
 fn request_in<'a>(
+    alloc: Global,
     program: &mut Command<'a>,
     words: &'a [String],
-) -> Result<Option<Request<'a>>, Error>
+) -> Result<Result<Request<'a>, Refusal>, Error>
     requires { app_of program.old ≡ vuthgal }
-    ensures range { IfOk result (λ asked. IfSome asked (λ request. IsInRange request)) }
-    ensures asked { let texts = map string_bytes words.entry.now in
-        IfOk result (λ asked. MatchOption asked (Refuses texts) (Asks texts)) }
+    ensures range { IfOk result (λ asked. IfOk asked (λ request. IsInRange request)) }
+    ensures asked { IfOk result (λ asked. IfOk asked (Asks (map string_bytes words.entry.now))) }
+    ensures refused { IfOk result (λ asked. IfErr asked (Refuses (map string_bytes words.entry.now))) }
     ensures failed { let texts = map string_bytes words.entry.now in
         IfErr result (λ error. takes vuthgal texts ≡ true → kind_of error ≡ OutOfMemory) }
 {
     match program.try_get_matches_from_mut(words) {
-        Ok(matches) => Ok(request_of(&matches)),
+        Ok(matches) => Ok(request_of(alloc, &matches)),
         Err(error) => Err(error),
     }
 }
 
-/// The same, with the error of a number that is out of range.
-fn told_request<'a>(program: &mut Command<'a>, words: &'a [String]) -> Result<Request<'a>, Error>
+/// The same, with the error of an option that is wrong.
+fn told_request<'a>(
+    alloc: Global,
+    program: &mut Command<'a>,
+    words: &'a [String],
+) -> Result<Request<'a>, Error>
     requires { app_of program.old ≡ vuthgal }
     ensures range { IfOk result (λ request. IsInRange request) }
     ensures asked { IfOk result (Asks (map string_bytes words.entry.now)) }
     ensures failed { IfErr result (Fails (map string_bytes words.entry.now)) }
 {
-    match request_in(program, words) {
-        Ok(Some(request)) => Ok(request),
-        Ok(None) => Err(program.error(ErrorKind::ValueValidation, NUMBERS)?),
+    match request_in(alloc, program, words) {
+        Ok(Ok(request)) => Ok(request),
+        Ok(Err(Refusal::Wrong(option))) => Err(program.error(
+            ErrorKind::ValueValidation,
+            option.told(),
+        )?),
+        Ok(Err(Refusal::Memory)) => Err(Error::from(AllocError)),
         Err(error) => Err(error),
     }
 }
 
 /// What the words of a command line ask for, the program's own name the first of them. An error is also what `--help` and
-/// `--version` come to: its `exit_code` is 0 then, and 2 where the words are wrong.
-pub fn parse<'a>(alloc: Global, words: &'a [String]) -> Result<Request<'a>, Error>
+/// `--version` come to, which tells this version: its `exit_code` is 0 then, and 2 where the words are wrong.
+pub fn parse<'a>(alloc: Global, words: &'a [String], version: &'a str) -> Result<Request<'a>, Error>
     ensures range { IfOk result (λ request. IsInRange request) }
     ensures asked { IfOk result (Asks (map string_bytes words.entry.now)) }
     ensures failed { IfErr result (Fails (map string_bytes words.entry.now)) }
 {
-    let mut program = program(alloc)?;
-    told_request(&mut program, words)
+    let mut program = program(alloc, version)?;
+    told_request(alloc, &mut program, words)
 }

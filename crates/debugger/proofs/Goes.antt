@@ -1,6 +1,6 @@
 -- Choices that are played one list after another, up to a break or a refusal.
 use Rattle.std.proofs.Common.{◌≡◌, ◌∙◌, ◌↔◌, ◌+◌, ◌-◌, ◌≤◌, ℕ, Bool, true, false, List, [], ◌∷◌, ◌++◌, Option, Some, None, Result, Err, length, refl, ap, sym, subst, arith, append_assoc, append-nil}
-use Rattle.std.specs.Prelude.{◌&&◌, is_some}
+use Rattle.std.specs.Prelude.{◌&&◌, if◌then◌else◌, is_some, nat_le}
 use Rattle.std.proofs.lemmas.List.{length-append}
 use Rattle.machine_scene.specs.Scene.{Outcome, scene_of, thread_at}
 use Rattle.thread_machine.specs.World.{World, world_of}
@@ -9,7 +9,7 @@ use Rattle.thread_machine.specs.declared.choice.Choice.{Choice}
 use Rattle.thread_machine.specs.declared.fault.StepFault.{StepFault}
 use Rattle.thread_machine.specs.declared.fault.StepFault.TheVariants.{NoSuchThread, StepLimit, Memory}
 use Rattle.thread_machine.specs.Ready.{outcome_of_choice, is_choice_ready}
-use Rattle.thread_machine.specs.Step.{Played, played, played_by, refusal_of, puts_out}
+use Rattle.thread_machine.specs.Step.{Played, played, played_by, is_used_up, refusal_of, puts_out}
 use Rattle.debugger.specs.declared.stop.Stop.TheVariants as stop
 use Rattle.debugger.specs.declared.session.go.Went.{Went}
 use Rattle.debugger.specs.declared.session.go.Went.TheVariants as went
@@ -27,13 +27,30 @@ pub is_step : (before after : Session) (choice : Choice) (event : Event)
 is_step before after choice event both session =
     record { world = ap (λ (play : Played). play.world) both; session = session }
 
+-- there are two reasons for a refusal that isn't want of memory
+refusal_by : (there used_up : Bool)
+    → ((if there then Some NoSuchThread else (if used_up then Some StepLimit else None)) ≡ Some NoSuchThread → ⊥)
+    → ((if there then Some NoSuchThread else (if used_up then Some StepLimit else None)) ≡ Some StepLimit → ⊥)
+    → (if there then Some NoSuchThread else (if used_up then Some StepLimit else None)) ≡ None
+refusal_by true used_up there left = absurd (there refl)
+refusal_by false true there left = absurd (left refl)
+refusal_by false false there left = refl
+
+not_refused : (world : World) (choice : Choice) → (refusal_of world choice ≡ Some NoSuchThread → ⊥)
+    → (refusal_of world choice ≡ Some StepLimit → ⊥) → refusal_of world choice ≡ None
+not_refused world choice there left =
+    refusal_by (nat_le (length world.scene.threads) choice.thread) (is_used_up world choice) there left
+
 refuses : (why : StepFault) (world : World) (choice : Choice) (result : Result Event StepFault) → result ≡ Err why
     → ((result ≡ Err NoSuchThread) ↔ (refusal_of world choice ≡ Some NoSuchThread))
     → ((result ≡ Err StepLimit) ↔ (refusal_of world choice ≡ Some StepLimit))
     → (result ≡ Err Memory → puts_out world choice ≡ true) → Refuses world choice why
 refuses NoSuchThread world choice result is there left memory = there.0 is
 refuses StepLimit world choice result is there left memory = left.0 is
-refuses Memory world choice result is there left memory = memory is
+refuses Memory world choice result is there left memory = (
+  not_refused world choice (λ other. absurd (cc (is, there.1 other))) (λ other. absurd (cc (is, left.1 other))),
+  memory is,
+)
 
 pub pass_fault : (why : StepFault) (session after : Session) (choice : Choice) (result : Result Event StepFault) → result ≡ Err why
     → ((result ≡ Err NoSuchThread) ↔ (refusal_of (world_of session.machine) choice ≡ Some NoSuchThread))

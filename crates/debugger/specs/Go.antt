@@ -29,11 +29,11 @@ is_break breaks world choice =
     is_choice_ready world.program choice world.scene
     && is_at_break breaks (thread_at (played world choice).world.scene choice.thread)
 
--- why a choice is refused, want of memory included
+-- why a choice is refused; want of memory comes only where nothing else is in its way
 abbrev pub Refuses : World → Choice → StepFault → Type 0
 Refuses world choice fault.NoSuchThread = refusal_of world choice ≡ Some fault.NoSuchThread
 Refuses world choice fault.StepLimit = refusal_of world choice ≡ Some fault.StepLimit
-Refuses world choice fault.Memory = puts_out world choice ≡ true
+Refuses world choice fault.Memory = (refusal_of world choice ≡ None) × (puts_out world choice ≡ true)
 
 -- the choices are accepted one after another, and none is a break
 abbrev pub PlaysOn : List Bool → World → List Choice → Type 0

@@ -16,7 +16,7 @@ pub enum Order {
 }
 
 /// The next number of 0 to 15.
-fn pick(seed: &mut u64) -> u8 {
+pub fn pick(seed: &mut u64) -> u8 {
     *seed = seed
         .wrapping_mul(6_364_136_223_846_793_005)
         .wrapping_add(1_442_695_040_888_963_407);

@@ -155,14 +155,14 @@ abbrev KeepsOthers : ℕ → BarrierState → BarrierState → Type 0
 KeepsOthers t before after =
     ((u : ℕ) → u ≢ t → wait_at after.waits u ≡ wait_at before.waits u) × (after.runner ≡ before.runner)
 
-put : (P : BarrierState → BarrierState → Type 0) → ((x : BarrierState) → P x x) → (gates : List BarrierState) (b : ℕ) (new : BarrierState)
-    → P (slice_index_or gates b (fresh 1 false)) new → (c : ℕ)
-    → P (slice_index_or gates c (fresh 1 false)) (slice_index_or (slice_set gates b new) c (fresh 1 false))
+put : (P : BarrierState → BarrierState → Type 0) → ((x : BarrierState) → P x x) → (barriers : List BarrierState) (b : ℕ) (new : BarrierState)
+    → P (slice_index_or barriers b (fresh 1 false)) new → (c : ℕ)
+    → P (slice_index_or barriers c (fresh 1 false)) (slice_index_or (slice_set barriers b new) c (fresh 1 false))
 put P same [] b new is c = same (fresh 1 false)
-put P same (x ∷ gates) zero new is zero = is
-put P same (x ∷ gates) zero new is (suc c) = same (slice_index_or gates c (fresh 1 false))
-put P same (x ∷ gates) (suc b) new is zero = same x
-put P same (x ∷ gates) (suc b) new is (suc c) = put P same gates b new is c
+put P same (x ∷ barriers) zero new is zero = is
+put P same (x ∷ barriers) zero new is (suc c) = same (slice_index_or barriers c (fresh 1 false))
+put P same (x ∷ barriers) (suc b) new is zero = same x
+put P same (x ∷ barriers) (suc b) new is (suc c) = put P same barriers b new is c
 
 at_gate : (b t : ℕ) (row : Row) (scene : Scene) (gate : BarrierState) (after : ThreadState) → KeepsOthers t (barrier_at scene b) gate
     → Leaves t row scene (with_thread after t (with_barrier gate b scene))

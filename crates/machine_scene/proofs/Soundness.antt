@@ -35,29 +35,29 @@ pub record Keeps (program : Program) (most t : ℕ) (thread : ThreadState) (scen
 frame_kept : (program : Program) (scene after : Scene) → length after.phasers ≡ length scene.phasers
     → ((id : ℕ) → root_at after.phasers id ≡ root_at scene.phasers id) → length after.barriers ≡ length scene.barriers
     → (f : Frame) → IsFrame program scene f → IsFrame program after f
-frame_kept program scene after many roots gates (frame.Call row) is = is
-frame_kept program scene after many roots gates (frame.Handler row) is = is
-frame_kept program scene after many roots gates (frame.Advance root registers row) is =
+frame_kept program scene after many roots barriers (frame.Call row) is = is
+frame_kept program scene after many roots barriers (frame.Handler row) is = is
+frame_kept program scene after many roots barriers (frame.Advance root registers row) is =
     let there = is.1.0 in (is.0, (omega (arith, many, there), roots root ∙ is.1.1))
-frame_kept program scene after many roots gates (frame.Action b registers row) is =
-    let there = is.1 in (is.0, omega (arith, gates, there))
+frame_kept program scene after many roots barriers (frame.Action b registers row) is =
+    let there = is.1 in (is.0, omega (arith, barriers, there))
 
 pub sound_by : (program : Program) (steps most t : ℕ) (thread : ThreadState) (scene after : Scene) → IsSound program steps scene
     → t < length scene.threads → Keeps program most t thread scene after → IsSound program most after
 sound_by program steps most t thread scene after sound there keeps =
     let many = keeps.many in
-    let gates = keeps.barriers in
+    let barriers = keeps.barriers in
     let heads : length after.threads ≡ length scene.threads = ap length keeps.threads ∙ length-set scene.threads t thread in
     let few_threads = sound.few_threads in
     let few_barriers = sound.few_barriers in
-    let stays : (f : Frame) → IsFrame program scene f → IsFrame program after f = frame_kept program scene after many keeps.roots gates in
+    let stays : (f : Frame) → IsFrame program scene f → IsFrame program after f = frame_kept program scene after many keeps.roots barriers in
     let moved : (th : ThreadState) → IsPlaced program scene th → IsPlaced program after th =
     λ th placed. record { pc = placed.pc; stack = All-weaker (IsFrame program scene) (IsFrame program after) stays th.stack placed.stack } in
-    let same : counts_of program after ≡ counts_of program scene = cc (many, heads, gates) in
+    let same : counts_of program after ≡ counts_of program scene = cc (many, heads, barriers) in
     record {
       code = subst (IsCode program) (sym same) sound.code;
       few_threads = omega (arith, heads, few_threads);
-      few_barriers = omega (arith, gates, few_barriers);
+      few_barriers = omega (arith, barriers, few_barriers);
       trees = keeps.trees;
       placed = subst (All (IsPlaced program after)) (sym keeps.threads)
           (All-weaker (IsPlaced program scene) (IsPlaced program after) moved (slice_set scene.threads t thread)
@@ -74,7 +74,7 @@ sound_by program steps most t thread scene after sound there keeps =
           let step = keeps.actions b in
           let put = entries-set (is_action b) scene.threads t thread there in
           rw keeps.threads (omega (arith, before, step, put));
-      room = λ b within. keeps.room b ∙ sound.room b (omega (arith, gates, within));
+      room = λ b within. keeps.room b ∙ sound.room b (omega (arith, barriers, within));
       waits = keeps.waits;
     }
 

@@ -57,6 +57,14 @@ awaits b (status.Died code) row = false
 abbrev pub thread_awaits : Program → ℕ → ThreadState → Bool
 thread_awaits program b thread = awaits b thread.status (row_at program.rows thread.pc)
 
+-- how many steps may have been taken before a turn, and so after it: each ends at most one phase, and phase ends are counted
+-- to 2147483647
+abbrev pub most_before : ℕ
+most_before = 2147483646
+
+abbrev pub most_after : ℕ
+most_after = 2147483647
+
 -- the program fits its scene and each thread stands in it; of each root's advance routine there is at most one entry on
 -- all stacks, and none unless the root's phase end is pending or the root is terminated; of each barrier's action there is
 -- at most one, and none unless a thread runs it; and the threads that wait at a barrier are those that have a wait there.
@@ -95,7 +103,7 @@ pub record StandsAt (program : Program) (row : Row) (t : ℕ) (stored : StoredSc
   pub few : length stored.phasers ≤ 64
   pub routines : length program.routines ≡ length stored.phasers
   pub actions : length program.actions ≡ length stored.barriers
-  pub ends : (p : ℕ) → (phaser_at (phasers_of stored.phasers) p).ends < 2147483647
+  pub ends : (p : ℕ) → (phaser_at (phasers_of stored.phasers) p).ends < most_after
   pub place : (thread_at (scene_of stored) t).pc < 65535
   pub waits : HasItsWait (thread_at (scene_of stored) t).status row t (scene_of stored)
 

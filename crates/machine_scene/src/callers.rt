@@ -2,7 +2,7 @@
 ghost use Rattle.std.specs.Prelude.{◌≡◌, ◌<◌, length, true, is_some};
 ghost use Rattle.machine_scene.specs.Scene.{scene_of};
 ghost use Rattle.machine_scene.specs.Outcomes.{is_ready, outcome_of_expiry};
-ghost use Rattle.machine_scene.specs.Sound.{IsSound};
+ghost use Rattle.machine_scene.specs.Sound.{IsSound, most_before};
 ghost use Rattle.machine_scene.specs.Asleep.{KeepsAsleep};
 
 use crate::note::SceneNote;
@@ -13,7 +13,7 @@ use thread_state::Event;
 
 // A turn is played, and taken back.
 pub fn turn_and_back(stage: &mut Stage, program: &Loaded, t: usize) -> Result<Event, AllocError>
-    requires sound { IsSound program.now 2147483646 (scene_of stage.old) }
+    requires sound { IsSound program.now most_before (scene_of stage.old) }
     requires asleep { KeepsAsleep program.now stage.old }
     requires thread { t < length stage.old.threads }
     requires ready { is_ready t program.now (scene_of stage.old) ≡ true }
@@ -33,7 +33,7 @@ pub fn turn_and_back(stage: &mut Stage, program: &Loaded, t: usize) -> Result<Ev
 
 // The time of a wait runs out, and this is taken back.
 pub fn expiry_and_back(stage: &mut Stage, program: &Loaded, t: usize) -> Event
-    requires sound { IsSound program.now 2147483646 (scene_of stage.old) }
+    requires sound { IsSound program.now most_before (scene_of stage.old) }
     requires asleep { KeepsAsleep program.now stage.old }
     requires thread { t < length stage.old.threads }
     requires ready { is_some (outcome_of_expiry t program.now (scene_of stage.old)) ≡ true }

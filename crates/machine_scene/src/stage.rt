@@ -8,7 +8,7 @@ ghost use Rattle.machine_scene.specs.DataRows.{runs, may_grow};
 ghost use Rattle.machine_scene.specs.Group.{group_of};
 ghost use Rattle.machine_scene.specs.Outcomes.{outcome_in, outcome_of, outcome_of_row, outcome_of_expiry, is_ready};
 ghost use Rattle.machine_scene.specs.Outcomes.{timeout_in};
-ghost use Rattle.machine_scene.specs.Sound.{IsSound, StandsAt};
+ghost use Rattle.machine_scene.specs.Sound.{IsSound, StandsAt, most_after, most_before};
 ghost use Rattle.machine_scene.specs.Asleep.{KeepsAsleep, AreOthersAsleep, may_wake, is_local_turn};
 ghost use Rattle.machine_scene.specs.Undo.{PhasersWithin, CanUndo, reach_of_row, reach_in, note_of, undone};
 
@@ -20,17 +20,17 @@ use ready::may_be_blocked;
 use std::alloc::{AllocError, Global};
 use std::marker::Model;
 use thread_state::{Event, Mark, Status, Thread, What};
-use tier_tree::Forest;
+use tier_tree::{Forest, PhaserId};
 
 mod asleep;
 mod barrier_rows;
 mod call_rows;
 mod data_rows;
 mod getter_rows;
-mod law;
 mod own_rows;
 mod phaser_rows;
 mod ready;
+mod standing;
 mod undo;
 mod unwinding;
 mod waits;
@@ -38,10 +38,10 @@ mod waits;
 /// What the rows act on: the shared cells, the threads, the phasers in their trees, and the barriers.
 #[derive(Drop)]
 pub struct Stage {
-    numbers: [i32; 32],
-    players: Vec<Thread>,
-    forest: Forest,
-    gates: Vec<Barrier>,
+    cells: [i32; 32],
+    threads: Vec<Thread>,
+    phasers: Forest,
+    barriers: Vec<Barrier>,
     asleep: u64,
 }
 
@@ -52,15 +52,15 @@ impl Model for Stage {
     ghost Value = { StoredScene };
 
     ghost view = { λ stage. record {
-      cells = stage.numbers;
-      threads = stage.players.items;
-      phasers = stage.forest;
-      barriers = stage.gates.items;
+      cells = stage.cells;
+      threads = stage.threads.items;
+      phasers = stage.phasers;
+      barriers = stage.barriers.items;
       asleep = stage.asleep;
     } };
 
     ghost invariant = { λ stage.
-        (length stage.players.items ≤ 64) × (length stage.gates.items ≤ 64) };
+        (length stage.threads.items ≤ 64) × (length stage.barriers.items ≤ 64) };
 }
 
 /// The event of a turn that is its own thread's alone.
@@ -74,34 +74,34 @@ fn alone(what: What) -> Event
 }
 
 /// The same threads.
-fn copies(alloc: Global, players: &[Thread]) -> Result<Vec<Thread>, AllocError>
-    ensures { IfOk result (λ copies. copies.items ≡ players.now) }
+fn copies(alloc: Global, threads: &[Thread]) -> Result<Vec<Thread>, AllocError>
+    ensures { IfOk result (λ copies. copies.items ≡ threads.now) }
 {
-    let mut copies = Vec::with_capacity(alloc, players.len())?;
-    for player in players {
-        copies.push(player.copy(alloc)?)?;
+    let mut copies = Vec::with_capacity(alloc, threads.len())?;
+    for thread in threads {
+        copies.push(thread.copy(alloc)?)?;
     }
     Ok(copies)
 }
 
 impl Stage {
     /// These threads, phasers and barriers, and cells of 0.
-    pub fn new(players: Vec<Thread>, forest: Forest, gates: Vec<Barrier>) -> Stage
-        requires threads { length players.items ≤ 64 }
-        requires barriers { length gates.items ≤ 64 }
+    pub fn new(threads: Vec<Thread>, phasers: Forest, barriers: Vec<Barrier>) -> Stage
+        requires threads { length threads.items ≤ 64 }
+        requires barriers { length barriers.items ≤ 64 }
         ensures { result ≡ record {
           cells = replicate 32 (pos 0);
-          threads = players.items;
-          phasers = forest;
-          barriers = gates.items;
+          threads = threads.items;
+          phasers = phasers;
+          barriers = barriers.items;
           asleep = 0;
         } }
     {
         Stage {
-            numbers: [0; 32],
-            players,
-            forest,
-            gates,
+            cells: [0; 32],
+            threads,
+            phasers,
+            barriers,
             asleep: 0,
         }
     }
@@ -111,10 +111,10 @@ impl Stage {
         ensures { IfOk result (λ copy. copy ≡ self.now) }
     {
         Ok(Stage {
-            numbers: self.numbers,
-            players: copies(alloc, self.players.as_slice())?,
-            forest: self.forest.copy(alloc)?,
-            gates: Vec::from_slice(alloc, self.gates.as_slice())?,
+            cells: self.cells,
+            threads: copies(alloc, self.threads.as_slice())?,
+            phasers: self.phasers.copy(alloc)?,
+            barriers: Vec::from_slice(alloc, self.barriers.as_slice())?,
             asleep: self.asleep,
         })
     }
@@ -124,7 +124,7 @@ impl Stage {
         ensures count { result ≡ length self.now.threads }
         ensures few { result ≤ 64 }
     {
-        self.players.len()
+        self.threads.len()
     }
 
     /// A thread.
@@ -132,14 +132,23 @@ impl Stage {
         requires { t < length self.now.threads }
         ensures { result.now ≡ thread_at (scene_of self.now) t }
     {
-        &self.players[t]
+        &self.threads[t]
     }
 
     /// The phasers.
     pub fn forest(&self) -> &Forest
         ensures { result.now ≡ self.now.phasers }
     {
-        &self.forest
+        &self.phasers
+    }
+
+    /// The phaser of this number.
+    fn phaser_id(&self, phaser: u16) -> PhaserId
+        requires { phaser < length self.now.phasers }
+        ensures { result.0 ≡ phaser }
+    {
+        self.phasers.is_forest();
+        PhaserId(phaser as u8)
     }
 
     /// How many barriers there are.
@@ -147,7 +156,7 @@ impl Stage {
         ensures count { result ≡ length self.now.barriers }
         ensures few { result ≤ 64 }
     {
-        self.gates.len()
+        self.barriers.len()
     }
 
     /// A barrier.
@@ -155,32 +164,32 @@ impl Stage {
         requires { b < length self.now.barriers }
         ensures { result.now ≡ barrier_at (scene_of self.now) b }
     {
-        &self.gates[b]
+        &self.barriers[b]
     }
 
     /// The numbers in the cells.
     pub fn cells(&self) -> &[i32; 32]
         ensures { result.now ≡ self.now.cells }
     {
-        &self.numbers
+        &self.cells
     }
 
     /// Whether every thread has ended or died.
     pub fn has_ended(&self) -> bool
         ensures { result ≡ list_all (λ (thread : ThreadState). is_finished thread.status) self.now.threads }
     {
-        self.players.iter().all(|thread| thread.is_finished())
+        self.threads.iter().all(|thread| thread.is_finished())
     }
 
     /// The row that a thread stands at.
     #[inline(always)]
     pub fn row_of(&self, program: &Loaded, t: usize) -> Row
-        requires sound { IsSound program.now 2147483646 (scene_of self.now) }
+        requires sound { IsSound program.now most_before (scene_of self.now) }
         requires thread { t < length self.now.threads }
         ensures row { result ≡ row_at program.now.rows (thread_at (scene_of self.now) t).pc }
         ensures at { StandsAt program.now result t self.now }
     {
-        let row = program.rows()[self.players[t].pc() as usize];
+        let row = program.rows()[self.threads[t].pc() as usize];
         self.turn_is_placed(program, row, t);
         row
     }
@@ -188,7 +197,7 @@ impl Stage {
     /// Whether a thread may take a step.
     #[tactic(auto, using(crate::proofs::Asleep::no_turn))]
     pub fn is_ready(&self, program: &Loaded, t: usize) -> bool
-        requires sound { IsSound program.now 2147483646 (scene_of self.now) }
+        requires sound { IsSound program.now most_before (scene_of self.now) }
         requires asleep { KeepsAsleep program.now self.now }
         requires thread { t < length self.now.threads }
         ensures { result ≡ is_ready t program.now (scene_of self.now) }
@@ -199,12 +208,12 @@ impl Stage {
     /// The same, by a look at what the thread does.
     #[tactic(auto, using(crate::proofs::Readiness::row_is_ready))]
     fn goes_on(&self, program: &Loaded, t: usize) -> bool
-        requires sound { IsSound program.now 2147483646 (scene_of self.now) }
+        requires sound { IsSound program.now most_before (scene_of self.now) }
         requires thread { t < length self.now.threads }
         ensures { result ≡ is_ready t program.now (scene_of self.now) }
     {
         let row = self.row_of(program, t);
-        match self.players[t].status() {
+        match self.threads[t].status() {
             Status::Runs => !self.is_blocked(program, row, t),
             Status::Throws(_) => true,
             Status::AwaitsPhase(phase) => self.is_phase_wait_over(program, row, phase, t),
@@ -217,7 +226,7 @@ impl Stage {
     #[inline(always)]
     #[tactic(auto, using(crate::proofs::Asleep::no_turn, crate::proofs::Readiness::row_is_ready, crate::proofs::Readiness::seldom_blocked))]
     pub fn ready_row(&self, program: &Loaded, t: usize) -> Option<Row>
-        requires sound { IsSound program.now 2147483646 (scene_of self.now) }
+        requires sound { IsSound program.now most_before (scene_of self.now) }
         requires asleep { KeepsAsleep program.now self.now }
         requires thread { t < length self.now.threads }
         ensures ready { is_some result ≡ is_ready t program.now (scene_of self.now) }
@@ -227,7 +236,7 @@ impl Stage {
             return None;
         }
         let row = self.row_of(program, t);
-        match self.players[t].status() {
+        match self.threads[t].status() {
             Status::Runs => {
                 if may_be_blocked(row) && self.is_blocked(program, row, t) {
                     return None;
@@ -245,7 +254,7 @@ impl Stage {
 
     /// Whether the time of a thread's wait may run out now.
     pub fn can_expire(&self, program: &Loaded, t: usize) -> bool
-        requires sound { IsSound program.now 2147483646 (scene_of self.now) }
+        requires sound { IsSound program.now most_before (scene_of self.now) }
         requires asleep { KeepsAsleep program.now self.now }
         requires thread { t < length self.now.threads }
         ensures { result ≡ is_some (outcome_of_expiry t program.now (scene_of self.now)) }
@@ -255,7 +264,7 @@ impl Stage {
 
     /// The row that a thread stands at, where the time of its wait may run out now.
     pub fn expiring_row(&self, program: &Loaded, t: usize) -> Option<Row>
-        requires sound { IsSound program.now 2147483646 (scene_of self.now) }
+        requires sound { IsSound program.now most_before (scene_of self.now) }
         requires asleep { KeepsAsleep program.now self.now }
         requires thread { t < length self.now.threads }
         ensures ready { is_some result ≡ is_some (outcome_of_expiry t program.now (scene_of self.now)) }
@@ -275,7 +284,7 @@ impl Stage {
     /// The turn of a ready thread that stands at this row. `Err` is want of memory for a value put out, and nothing has
     /// changed.
     pub fn turn(&mut self, program: &Loaded, row: Row, t: usize) -> Result<Event, AllocError>
-        requires sound { IsSound program.now 2147483646 (scene_of self.old) }
+        requires sound { IsSound program.now most_before (scene_of self.old) }
         requires asleep { KeepsAsleep program.now self.old }
         requires thread { t < length self.old.threads }
         requires row { row ≡ row_at program.now.rows (thread_at (scene_of self.old) t).pc }
@@ -286,7 +295,7 @@ impl Stage {
         ensures memory { IsErr result → may_grow
             (row_at program.now.rows (thread_at (scene_of self.old) t).pc)
             (thread_at (scene_of self.old) t) ≡ true }
-        ensures sound { OnOk result ((steps : ℕ) → steps < 2147483646
+        ensures sound { OnOk result ((steps : ℕ) → steps < most_before
             → IsSound program.now steps (scene_of self.old)
             → IsSound program.now (steps + 1) (scene_of self.new)) }
         ensures undo { OnOk result (undone (note_of t program.now self.old) self.new ≡ self.old) }
@@ -311,7 +320,7 @@ impl Stage {
     /// The same of a running thread that stands at this row on registers alone: who was asleep is so still.
     #[inline(always)]
     fn local_turn(&mut self, program: &Loaded, row: Row, t: usize) -> Event
-        requires sound { IsSound program.now 2147483646 (scene_of self.old) }
+        requires sound { IsSound program.now most_before (scene_of self.old) }
         requires asleep { KeepsAsleep program.now self.old }
         requires thread { t < length self.old.threads }
         requires row { row ≡ row_at program.now.rows (thread_at (scene_of self.old) t).pc }
@@ -319,7 +328,7 @@ impl Stage {
         requires local { is_local_turn (thread_at (scene_of self.old) t).status row ≡ true }
         ensures ok { outcome_of t program.now (scene_of self.old)
             ≡ Some (record { scene = scene_of self.new; event = result }) }
-        ensures sound { (steps : ℕ) → steps < 2147483647
+        ensures sound { (steps : ℕ) → steps < most_after
             → IsSound program.now steps (scene_of self.old)
             → IsSound program.now (steps + 1) (scene_of self.new) }
         ensures undo { undone (note_of t program.now self.old) self.new ≡ self.old }
@@ -334,7 +343,7 @@ impl Stage {
     /// The same of a thread that stands at this row, where it isn't such a turn, and which threads are asleep is yet to be
     /// found out.
     fn turn_of_row(&mut self, program: &Loaded, row: Row, t: usize) -> Result<Event, AllocError>
-        requires sound { IsSound program.now 2147483646 (scene_of self.old) }
+        requires sound { IsSound program.now most_before (scene_of self.old) }
         requires thread { t < length self.old.threads }
         requires row { row ≡ row_at program.now.rows (thread_at (scene_of self.old) t).pc }
         requires at { StandsAt program.now row t self.old }
@@ -344,7 +353,7 @@ impl Stage {
             ≡ Some (record { scene = scene_of self.new; event = event })) }
         ensures err { OnErr result (self.new ≡ self.old) }
         ensures memory { IsErr result → may_grow row (thread_at (scene_of self.old) t) ≡ true }
-        ensures sound { OnOk result ((steps : ℕ) → steps < 2147483647
+        ensures sound { OnOk result ((steps : ℕ) → steps < most_after
             → IsSound program.now steps (scene_of self.old)
             → IsSound program.now (steps + 1) (scene_of self.new)) }
         ensures undo { OnOk result (undone (note_of t program.now self.old) self.new ≡ self.old) }
@@ -363,7 +372,7 @@ impl Stage {
     /// The same by what the thread is doing.
     #[tactic(auto, using(crate::proofs::Reaches::within_same))]
     fn turn_at(&mut self, program: &Loaded, row: Row, t: usize) -> Result<Event, AllocError>
-        requires sound { IsSound program.now 2147483646 (scene_of self.old) }
+        requires sound { IsSound program.now most_before (scene_of self.old) }
         requires thread { t < length self.old.threads }
         requires at { StandsAt program.now row t self.old }
         requires ready { is_some (outcome_in (thread_at (scene_of self.old) t).status row t program.now
@@ -377,7 +386,7 @@ impl Stage {
         ensures phasers { PhasersWithin (reach_in (thread_at (scene_of self.old) t).status row
             (top_of (thread_at (scene_of self.old) t).stack)) self.old.phasers self.new.phasers }
     {
-        match self.players[t].status() {
+        match self.threads[t].status() {
             Status::Runs => self.row(program, row, t),
             Status::Throws(code) => Ok(self.unwind(program, code, t)),
             Status::AwaitsPhase(phase) => Ok(self.finish_phase_wait(program, row, phase, t)),
@@ -389,7 +398,7 @@ impl Stage {
     /// The row of a running thread, by its group; those on registers alone are played by `local_turn`.
     #[tactic(auto, using(crate::proofs::Reaches::within_same))]
     fn row(&mut self, program: &Loaded, row: Row, t: usize) -> Result<Event, AllocError>
-        requires sound { IsSound program.now 2147483646 (scene_of self.old) }
+        requires sound { IsSound program.now most_before (scene_of self.old) }
         requires thread { t < length self.old.threads }
         requires at { StandsAt program.now row t self.old }
         requires ready { is_some (outcome_of_row row t program.now (scene_of self.old)) ≡ true }
@@ -414,14 +423,14 @@ impl Stage {
 
     /// The time of the wait of a thread that stands at this row runs out.
     pub fn expire(&mut self, program: &Loaded, row: Row, t: usize) -> Event
-        requires sound { IsSound program.now 2147483646 (scene_of self.old) }
+        requires sound { IsSound program.now most_before (scene_of self.old) }
         requires asleep { KeepsAsleep program.now self.old }
         requires thread { t < length self.old.threads }
         requires row { row ≡ row_at program.now.rows (thread_at (scene_of self.old) t).pc }
         requires ready { is_some (outcome_of_expiry t program.now (scene_of self.old)) ≡ true }
         ensures ok { outcome_of_expiry t program.now (scene_of self.old)
             ≡ Some (record { scene = scene_of self.new; event = result }) }
-        ensures sound { (steps : ℕ) → steps < 2147483646
+        ensures sound { (steps : ℕ) → steps < most_before
             → IsSound program.now steps (scene_of self.old)
             → IsSound program.now (steps + 1) (scene_of self.new) }
         ensures undo { undone (note_of t program.now self.old) self.new ≡ self.old }
@@ -438,14 +447,14 @@ impl Stage {
 
     /// The same of a thread that stands at this row, and which threads are asleep is yet to be found out.
     fn expiry_of_row(&mut self, program: &Loaded, row: Row, t: usize) -> Event
-        requires sound { IsSound program.now 2147483646 (scene_of self.old) }
+        requires sound { IsSound program.now most_before (scene_of self.old) }
         requires thread { t < length self.old.threads }
         requires row { row ≡ row_at program.now.rows (thread_at (scene_of self.old) t).pc }
         requires at { StandsAt program.now row t self.old }
         requires ready { is_some (outcome_of_expiry t program.now (scene_of self.old)) ≡ true }
         ensures ok { outcome_of_expiry t program.now (scene_of self.old)
             ≡ Some (record { scene = scene_of self.new; event = result }) }
-        ensures sound { (steps : ℕ) → steps < 2147483647
+        ensures sound { (steps : ℕ) → steps < most_after
             → IsSound program.now steps (scene_of self.old)
             → IsSound program.now (steps + 1) (scene_of self.new) }
         ensures undo { undone (note_of t program.now self.old) self.new ≡ self.old }
@@ -470,7 +479,7 @@ impl Stage {
             ≡ Some (record { scene = scene_of self.new; event = result }) }
         ensures phasers { self.new.phasers ≡ self.old.phasers }
     {
-        match self.players[t].status() {
+        match self.threads[t].status() {
             Status::AwaitsPhase(_) => self.expire_phase_wait(row, t),
             Status::AwaitsBarrier(index) => self.expire_barrier_wait(program, row, index, t),
             _ => unreachable!(),

@@ -5,6 +5,8 @@
 #[cfg(test)]
 mod chance;
 #[cfg(test)]
+mod changed_bytes;
+#[cfg(test)]
 mod idle;
 #[cfg(test)]
 mod limits;

@@ -26,7 +26,7 @@ pub fn race_cmd<R: Threads + Wait + Sync, K: Sink, E: Sink>(
     errors: &mut E,
 ) -> u8
     ensures statuses { (result ≡ 0) ⊎ ((result ≡ 4) ⊎ (result ≡ 5)) }
-    ensures done { result ≡ 0 → (word : ℕ) × (IsFinal parties word
+    ensures done { result ≡ 0 → (word : ℕ) × (IsFinal parties rounds word
         × Appends (K.written output.old) (K.written output.new) (line_of (record_of word))) }
     ensures told { ((result ≡ 0) × (E.written errors.new ≡ E.written errors.old))
         ⊎ ((fault : RaceFault) × ((result ≡ status_of fault)

@@ -1,7 +1,9 @@
 //! Threads that meet at one shared phaser.
-ghost use Rattle.std.specs.Prelude.{◌≡◌, ◌≢◌, All, IfOk, IfErr, IfSome, None};
+ghost use Rattle.std.specs.Prelude.{◌≡◌, ◌≢◌, ◌++◌, map, ℕ, All, IfOk, IfErr, IfSome, None};
+ghost use Rattle.std.specs.List.{range_with_len};
+ghost use Rattle.shared_phaser.specs.declared.history.Kept.{Kept};
 ghost use Rattle.shared_phaser.specs.Known.{phaser_of};
-ghost use Rattle.race.specs.Race.{IsFinal};
+ghost use Rattle.race.specs.Race.{AreMeetings, HasMet, IsFinal, IsFresh, number_of};
 
 use crate::fault::RaceFault;
 use packed_phaser::{Policy, Word};
@@ -13,15 +15,18 @@ use std::sync::Wait;
 use std::thread;
 use std::thread::{Promise, PromisedHandle, Threads};
 
-/// A thread's caller comes back, still one of this phaser.
+/// A thread's caller comes back when it has met the others so often.
 #[derive(Drop)]
-pub struct Home(Snapshot<SharedPhaser>);
+pub struct Home {
+    /// The caller as the thread was given it.
+    pub caller: Snapshot<Party>,
+    pub rounds: u32,
+}
 
 impl Promise<Party> for Home {
-    ghost use Rattle.std.specs.Prelude.{◌≡◌};
-    ghost use Rattle.shared_phaser.specs.Known.{phaser_of};
+    ghost use Rattle.race.specs.Race.{HasMet};
 
-    ghost kept_by = { λ home party. phaser_of party ≡ home.0.value };
+    ghost kept_by = { λ home party. HasMet home.caller.value home.rounds party };
 }
 
 /// A thread that runs, and its caller.
@@ -29,8 +34,8 @@ type Running = PromisedHandle<Party, Home>;
 
 /// What one thread does: it arrives and awaits the phase's end, so many times.
 fn work<R: Wait>(rt: &R, phaser: &SharedPhaser, mut party: Party, rounds: u32) -> Party
-    requires { phaser_of party ≡ phaser.now }
-    ensures { phaser_of result ≡ phaser.now }
+    requires { IsFresh phaser.now party }
+    ensures { HasMet party rounds result }
 {
     for _ in 0..rounds {
         let _ = phaser.arrive_and_await_advance(rt, &mut party);
@@ -45,11 +50,14 @@ fn callers(
     first: &mut Party,
     count: u16,
 ) -> Result<Vec<Party>, AllocError>
-    requires first { first.old.known.number ≡ 0 }
-    requires phaser { phaser_of first.old ≡ phaser.now }
-    ensures first { first.new.known.number ≡ 0 }
-    ensures phaser { phaser_of first.new ≡ phaser.now }
-    ensures callers { IfOk result (λ v. All (λ p. phaser_of p ≡ phaser.now) v.items) }
+    requires number { first.old.known.number ≡ 0 }
+    requires splits { first.old.known.splits ≡ 0 }
+    requires first { IsFresh phaser.now first.old }
+    ensures number { first.new.known.number ≡ 0 }
+    ensures splits { IfOk result (λ v. first.new.known.splits ≡ count) }
+    ensures first { IfOk result (λ v. IsFresh phaser.now first.new) }
+    ensures callers { IfOk result (λ v. All (IsFresh phaser.now) v.items) }
+    ensures numbers { IfOk result (λ v. map number_of v.items ≡ range_with_len 1 count) }
 {
     let mut callers = Vec::new(alloc);
     for _ in 0..count {
@@ -70,10 +78,14 @@ fn run<R: Threads + Wait + Sync>(
 ) -> (Party, Vec<Running>, Option<RaceFault>)
     requires first { first.known.number ≡ 0 }
     requires phaser { phaser_of first ≡ phaser.now }
-    requires callers { All (λ p. phaser_of p ≡ phaser.now) callers.items }
+    requires callers { All (IsFresh phaser.now) callers.items }
     ensures first { result.0.known.number ≡ 0 }
     ensures phaser { phaser_of result.0 ≡ phaser.now }
-    ensures running { All (λ h. h.promise.0.value ≡ phaser.now) result.1.items }
+    ensures running { All (λ h. phaser_of h.promise.caller.value ≡ phaser.now) result.1.items }
+    ensures rounds { All (λ h. h.promise.rounds ≡ rounds) result.1.items }
+    ensures numbers { result.2 ≡ None
+        → map (λ h. number_of h.promise.caller.value) result.1.items ≡ map number_of callers.items }
+    ensures kept { result.2 ≡ None → result.0 ≡ first }
     ensures fault { IfSome result.2 (λ fault. fault ≢ RaceFault.Write) }
 {
     thread::scope(
@@ -82,21 +94,28 @@ fn run<R: Threads + Wait + Sync>(
         move |scope| -> (Party, Vec<Running>, Option<RaceFault>)
             requires first { first.known.number ≡ 0 }
             requires phaser { phaser_of first ≡ phaser.now }
-            requires callers { All (λ p. phaser_of p ≡ phaser.now) callers.items }
+            requires callers { All (IsFresh phaser.now) callers.items }
             ensures first { result.0.known.number ≡ 0 }
             ensures phaser { phaser_of result.0 ≡ phaser.entry.now }
-            ensures running { All (λ h. h.promise.0.value ≡ phaser.entry.now) result.1.items }
+            ensures running { All (λ h. phaser_of h.promise.caller.value ≡ phaser.entry.now) result.1.items }
+            ensures rounds { All (λ h. h.promise.rounds ≡ rounds) result.1.items }
+            ensures numbers { result.2 ≡ None
+                → map (λ h. number_of h.promise.caller.value) result.1.items ≡ map number_of callers.items }
+            ensures kept { result.2 ≡ None → result.0 ≡ first }
             ensures fault { IfSome result.2 (λ fault. fault ≢ RaceFault.Write) }
         {
             let mut first = first;
             let mut running = Vec::new(alloc);
             for caller in callers {
-                let home = Home(Snapshot::of(phaser));
+                let home = Home {
+                    caller: Snapshot::of(&caller),
+                    rounds,
+                };
                 let Ok(handle) = scope.spawn_with(
                     home,
                     move || -> Party
-                        requires { phaser_of caller ≡ phaser.now }
-                        ensures { phaser_of result ≡ phaser.entry.now }
+                        requires { IsFresh phaser.now caller }
+                        ensures { HasMet caller rounds result }
                     { work(rt, phaser, caller, rounds) },
                 ) else {
                     phaser.force(rt, &mut first);
@@ -116,9 +135,17 @@ fn run<R: Threads + Wait + Sync>(
 fn gather<R: Threads>(rt: &R, phaser: &SharedPhaser, first: &mut Party, running: Vec<Running>)
     requires first { first.old.known.number ≡ 0 }
     requires phaser { phaser_of first.old ≡ phaser.now }
-    requires running { All (λ h. h.promise.0.value ≡ phaser.now) running.items }
+    requires running { All (λ h. phaser_of h.promise.caller.value ≡ phaser.now) running.items }
     ensures first { first.new.known.number ≡ 0 }
     ensures phaser { phaser_of first.new ≡ phaser.now }
+    ensures splits { first.new.known.splits ≡ first.old.known.splits }
+    ensures calls { first.new.known.calls ≡ first.old.known.calls }
+    ensures numbers { map (λ (k : Kept). k.number) first.new.known.joined
+        ≡ map (λ (k : Kept). k.number) first.old.known.joined
+        ++ map (λ h. number_of h.promise.caller.value) running.items }
+    ensures met { (rounds : ℕ) → All (λ h. h.promise.rounds ≡ rounds) running.items
+        → All (λ (k : Kept). AreMeetings k.number rounds k.calls) first.old.known.joined
+        → All (λ (k : Kept). AreMeetings k.number rounds k.calls) first.new.known.joined }
 {
     for handle in running {
         let party = handle.join(rt);
@@ -126,14 +153,14 @@ fn gather<R: Threads>(rt: &R, phaser: &SharedPhaser, first: &mut Party, running:
     }
 }
 
-/// So many threads meet so often at a phaser of as many parties; its last word.
+/// So many threads meet so often at a phaser of as many parties; its last word, once every caller has come back.
 pub fn race<R: Threads + Wait + Sync>(
     rt: &R,
     alloc: Global,
     parties: u16,
     rounds: u32,
 ) -> Result<Word, RaceFault>
-    ensures word { IfOk result (λ word. IsFinal parties word) }
+    ensures word { IfOk result (λ word. IsFinal parties rounds word) }
     ensures fault { IfErr result (λ fault. fault ≢ RaceFault.Write) }
 {
     let made = SharedPhaser::new(alloc, parties, Policy::Default, Phase::prevailing(0));

@@ -1,4 +1,4 @@
--- What the code's own answers mean.
+-- What the code's own answers mean. Nobody has to believe this: it is what proofs go by between the calls and the history.
 use Rattle.std.specs.Prelude.{◌≡◌}
 use Rattle.packed_phaser.specs.Word.{record_of}
 use Rattle.shared_phaser.specs.declared.history.Call.{Call}

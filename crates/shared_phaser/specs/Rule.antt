@@ -1,4 +1,5 @@
--- The rule that the word and the callers' views keep, and what each step on the word tells.
+-- The rule that the word and the callers' views keep, and what each step on the word tells. Nobody has to believe it: the calls
+-- promise what `Known` and `History` say.
 use Rattle.std.specs.Prelude.{◌≡◌, ℕ, ◌+◌, ◌≤◌, ◌==◌, Bool, true, false, List, [], ◌∷◌, length, All}
 use mathlib.Core.List.{IsPrefix}
 use mathlib.Core.Option.{some}

@@ -1,7 +1,7 @@
 //! Races of real threads, and what is written of them.
 use byte_ports::MemorySink;
 use race::{RaceFault, race, race_cmd};
-use std::alloc::Global;
+use std::alloc::{AllocError, Global};
 use std::sync::Wait;
 use std::test::Fail;
 use std::thread::Threads;
@@ -48,19 +48,43 @@ fn races(rt: HostRuntime) -> Result<(), Fail> {
         expected(2, 1000, None, 0, b"phase 1000 parties 2 unarrived 2\n", b""),
         expected(1, 3, None, 0, b"phase 3 parties 1 unarrived 1\n", b""),
         expected(16, 20, None, 0, b"phase 20 parties 16 unarrived 16\n", b""),
-        expected(1, 1, Some(0), 5, b"", b"write\n"),
-        expected(1, 1, Some(3), 5, b"phase 1 parties ", b"write\n"),
-        expected(
-            1,
-            1,
-            Some(6),
-            5,
-            b"phase 1 parties 1 unarrived 1",
-            b"write\n",
-        ),
     ];
     for row in &table {
         assert!(rt; holds(&rt, rt.alloc(), row)?);
+    }
+    Ok(())
+}
+
+/// The output of one round, by its calls.
+const WRITES: [&str; 7] = ["phase ", "1", " parties ", "1", " unarrived ", "1", "\n"];
+
+/// The first of these, in one.
+fn written(alloc: Global, calls: usize) -> Result<Vec<u8>, AllocError> {
+    let mut text = Vec::new(alloc);
+    let (first, _) = WRITES.split_at(calls.min(WRITES.len()));
+    for word in first {
+        text.extend_from_slice(word.as_bytes())?;
+    }
+    Ok(text)
+}
+
+/// Whether a race whose output fails at this call says so, and what it wrote before stands.
+fn is_cut_at<R: Threads + Wait + Sync>(rt: &R, alloc: Global, call: u8) -> Result<bool, Fail> {
+    let mut output = MemorySink::new(alloc, 80, Some(u32::from(call)))?;
+    let mut errors = MemorySink::new(alloc, 80, None)?;
+    let status = race_cmd(rt, alloc, 1, 1, &mut output, &mut errors);
+    let before = written(alloc, usize::from(call))?;
+    Ok(
+        status == 5
+            && output.bytes() == before.as_slice()
+            && errors.bytes() == b"write\n".as_slice(),
+    )
+}
+
+#[test]
+fn an_output_fails_at_each_call_in_turn(rt: HostRuntime) -> Result<(), Fail> {
+    for call in 0..7 {
+        assert!(rt; is_cut_at(&rt, rt.alloc(), call)?, "{call}");
     }
     Ok(())
 }

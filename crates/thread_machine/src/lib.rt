@@ -17,7 +17,10 @@ mod undo;
 
 pub use choice::Choice;
 pub use fault::StepFault;
-pub use law::{no_phase_ends_early, one_more_choice_extends_the_execution};
+pub use law::{
+    a_higher_limit_changes_nothing_that_was_accepted, no_phase_ends_early,
+    one_more_choice_extends_the_execution,
+};
 pub use machine::Machine;
 pub use thread_state::{Entry, Event, Mark, Status, What};
 pub use undo::Undo;

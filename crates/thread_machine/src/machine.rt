@@ -38,9 +38,9 @@ const MOST_CHOICES: u64 = 1_000_000_000_000;
 pub struct Machine {
     program: Loaded,
     stage: Stage,
-    most: u32,
-    chosen: u64,
-    done: u32,
+    limit: u32,
+    choices: u64,
+    steps: u32,
 }
 
 impl Model for Machine {
@@ -51,18 +51,18 @@ impl Model for Machine {
 
     ghost view = { λ machine. record {
       program = machine.program;
-      limit = machine.most;
+      limit = machine.limit;
       scene = machine.stage;
-      choices = machine.chosen;
-      steps = machine.done;
+      choices = machine.choices;
+      steps = machine.steps;
     } };
 
     ghost invariant = { λ machine. IsMachine (record {
       program = machine.program;
-      limit = machine.most;
+      limit = machine.limit;
       scene = machine.stage;
-      choices = machine.chosen;
-      steps = machine.done;
+      choices = machine.choices;
+      steps = machine.steps;
     }) };
 }
 
@@ -103,9 +103,9 @@ impl Machine {
         Ok(Machine {
             program,
             stage,
-            most: limit,
-            chosen: 0,
-            done: 0,
+            limit,
+            choices: 0,
+            steps: 0,
         })
     }
 
@@ -116,9 +116,9 @@ impl Machine {
         Ok(Machine {
             program: self.program.copy(alloc)?,
             stage: self.stage.copy(alloc)?,
-            most: self.most,
-            chosen: self.chosen,
-            done: self.done,
+            limit: self.limit,
+            choices: self.choices,
+            steps: self.steps,
         })
     }
 
@@ -151,7 +151,7 @@ impl Machine {
         }
     }
 
-    /// The same, and what undoes it where it is an effective step, as the count of these tells. All steps are played here,
+    /// `step`, and what undoes it where it is an effective step, as the count of these tells. All steps are played here,
     /// so that a step is one function when it runs.
     fn stepped(&mut self, choice: Choice) -> Result<Event, StepFault>
         ensures played { IfOk result (λ event.
@@ -181,7 +181,7 @@ impl Machine {
         }
     }
 
-    /// The same, with what `back` needs to undo it.
+    /// `step`, with what `back` needs to undo it.
     #[inline(always)]
     #[tactic(auto, using(crate::proofs::Sound::idle_undone))]
     pub fn step_noting(&mut self, choice: Choice) -> Result<(Event, Undo), StepFault>
@@ -196,6 +196,13 @@ impl Machine {
         ensures accepted { OnOk result (refusal_of (world_of self.old) choice ≡ None) }
         ensures memory { result ≡ Err StepFault.Memory → puts_out (world_of self.old) choice ≡ true }
         ensures threads { length self.new.scene.threads ≡ length self.old.scene.threads }
+        ensures counts { OnOk result ((counts : Origin) → StandsFor (phasers_of self.old.scene.phasers) counts
+            → StandsFor (phasers_of self.new.scene.phasers)
+            (counts_after (world_of self.old) choice (world_of self.new) counts)) }
+        ensures safe { OnOk result ((counts : Origin) → StandsFor (phasers_of self.old.scene.phasers) counts
+            → EndsNoPhaseEarly (world_of self.old) choice (world_of self.new) counts) }
+        ensures numbers { OnOk result (NumbersStay (phasers_of self.old.scene.phasers)
+            (phasers_of self.new.scene.phasers)) }
         ensures err { OnErr result (self.new ≡ self.old) }
     {
         self.is_sound();
@@ -203,14 +210,14 @@ impl Machine {
         if thread >= self.stage.thread_count() {
             return Err(StepFault::NoSuchThread);
         }
-        let before = self.done;
+        let before = self.steps;
         let mut note = SceneNote::new();
         self.stage.note(&self.program, thread, &mut note);
         let event = match self.stepped(choice) {
             Ok(event) => event,
             Err(fault) => return Err(fault),
         };
-        if self.done == before {
+        if self.steps == before {
             return Ok((event, Undo::of_idle()));
         }
         Ok((event, Undo::of_turn(note)))
@@ -221,10 +228,10 @@ impl Machine {
         requires { CanUndo undo self.old }
         ensures { self.new ≡ undone undo self.old }
     {
-        self.chosen -= 1;
+        self.choices -= 1;
         if let Some(note) = undo.turn() {
             self.stage.undo(note);
-            self.done = self.done.saturating_sub(1);
+            self.steps = self.steps.saturating_sub(1);
         }
     }
 
@@ -244,13 +251,13 @@ impl Machine {
         if choice.thread as usize >= self.stage.thread_count() {
             return Err(StepFault::NoSuchThread);
         }
-        if self.chosen == MOST_CHOICES {
+        if self.choices == MOST_CHOICES {
             return Err(StepFault::StepLimit);
         }
         let Some(row) = self.chosen_row(choice) else {
             return Ok(None);
         };
-        if self.done == self.most {
+        if self.steps == self.limit {
             return Err(StepFault::StepLimit);
         }
         Ok(Some(row))
@@ -264,7 +271,7 @@ impl Machine {
         ensures played { record { world = world_of self.new; event = result } ≡ played (world_of self.old) choice }
         ensures stored { self.new ≡ record self.old { choices = self.old.choices + 1 } }
     {
-        self.chosen += 1;
+        self.choices += 1;
         Event {
             what: What::Idle,
             mark: Mark::Nothing,
@@ -322,14 +329,14 @@ impl Machine {
         let t = choice.thread as usize;
         if choice.expiry {
             let event = self.stage.expire(&self.program, row, t);
-            self.chosen += 1;
-            self.done += 1;
+            self.choices += 1;
+            self.steps += 1;
             return Ok(event);
         }
         match self.stage.turn(&self.program, row, t) {
             Ok(event) => {
-                self.chosen += 1;
-                self.done += 1;
+                self.choices += 1;
+                self.steps += 1;
                 Ok(event)
             }
             Err(_) => Err(StepFault::Memory),
@@ -340,7 +347,7 @@ impl Machine {
     fn is_sound(&self)
         ensures { IsMachine self.now }
     {
-        let _ = &self.most;
+        let _ = &self.limit;
     }
 
     /// Whether a thread may take a step, so that its turn wouldn't be idle.
@@ -504,7 +511,7 @@ impl Machine {
     pub fn limit(&self) -> u32
         ensures { result ≡ self.now.limit }
     {
-        self.most
+        self.limit
     }
 
     /// How many choices were played, the idle ones included.
@@ -512,7 +519,7 @@ impl Machine {
         ensures choices { result ≡ self.now.choices }
         ensures within { result ≤ 1000000000000 }
     {
-        self.chosen
+        self.choices
     }
 
     /// How many of them were effective steps.
@@ -520,6 +527,6 @@ impl Machine {
         ensures steps { result ≡ self.now.steps }
         ensures within { result ≤ self.now.limit }
     {
-        self.done
+        self.steps
     }
 }

@@ -20,21 +20,21 @@ impl Undo {
     ghost use Rattle.std.specs.Prelude.{◌≡◌, Some, None};
 
     /// Of an idle choice.
-    pub fn of_idle() -> Undo
+    pub(crate) fn of_idle() -> Undo
         ensures { result ≡ None }
     {
         Undo { turn: None }
     }
 
     /// Of a turn or an expiry, by what was kept before it.
-    pub fn of_turn(note: SceneNote) -> Undo
+    pub(crate) fn of_turn(note: SceneNote) -> Undo
         ensures { result ≡ Some note }
     {
         Undo { turn: Some(note) }
     }
 
     /// What was kept of the scene, `None` for an idle choice.
-    pub fn turn(&self) -> &Option<SceneNote>
+    pub(crate) fn turn(&self) -> &Option<SceneNote>
         ensures { result.now ≡ self.now }
     {
         &self.turn

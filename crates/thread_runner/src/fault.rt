@@ -14,8 +14,10 @@ pub enum TakeFault {
 /// Why a live run was broken off. Every worker that was started has ended.
 #[derive(Drop)]
 pub enum LiveFault {
-    /// Out of memory. What was played until then, if there was memory for the machine.
-    Memory(Option<Journaled>),
+    /// Out of memory, while the run had its machine. What was played until then.
+    Memory(Journaled),
+    /// There was no memory for a machine, so that no thread was started.
+    NoMachine,
     /// A thread could not be started.
     Spawn,
 }

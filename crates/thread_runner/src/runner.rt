@@ -1,7 +1,8 @@
-ghost use Rattle.std.specs.Prelude.{◌≡◌, ◌<◌, ◌≤◌, length, IfOk, Err, Some};
+ghost use Rattle.std.specs.Prelude.{◌≡◌, ◌≢◌, ◌↔◌, ◌<◌, ◌≤◌, length, IfOk, Err, Some};
 ghost use Rattle.std.specs.String.{string_bytes};
 ghost use Rattle.std.specs.Thread.{IsSend, IsSync};
 ghost use Rattle.thread_machine.specs.World.{world_of, first_world};
+ghost use Rattle.thread_runner.specs.declared.live.Break.{Break};
 ghost use Rattle.thread_runner.specs.Recording.{Recording, world_after};
 ghost use Rattle.thread_runner.specs.Replay.{IsReplayOfText};
 ghost use Rattle.thread_runner.specs.Endings.{ending_of};
@@ -110,8 +111,8 @@ fn start<O: Origin + Send + Sync, R: Threads + Wait + Sync, G: Gate + Sync>(
 fn play_on(mut journaled: Journaled) -> Result<(Journaled, Ending), LiveFault>
     ensures first { IfOk result (λ both. both.0.first ≡ journaled.first) }
     ensures ending { IfOk result (λ both. ending_of (world_after both.0) ≡ Some both.1) }
-    ensures memory { (left : Recording) → result ≡ Err (LiveFault.Memory (Some left))
-        → left.first ≡ journaled.first }
+    ensures memory { (left : Recording) → result ≡ Err (LiveFault.Memory left) → left.first ≡ journaled.first }
+    ensures machine { (result ≢ Err LiveFault.NoMachine) × (result ≢ Err LiveFault.Spawn) }
 {
     loop {
         if let Some(ending) = journaled.ending() {
@@ -119,7 +120,7 @@ fn play_on(mut journaled: Journaled) -> Result<(Journaled, Ending), LiveFault>
         }
         journaled.each_record_is_a_replay();
         if journaled.take_next().is_err() {
-            return Err(LiveFault::Memory(Some(journaled)));
+            return Err(LiveFault::Memory(journaled));
         }
     }
 }
@@ -128,11 +129,13 @@ fn play_on(mut journaled: Journaled) -> Result<(Journaled, Ending), LiveFault>
 fn end<O: Origin>(live: Live<O>) -> Result<(Journaled, Ending), LiveFault>
     ensures first { IfOk result (λ both. both.0.first ≡ O.first) }
     ensures ending { IfOk result (λ both. ending_of (world_after both.0) ≡ Some both.1) }
-    ensures memory { (left : Recording) → result ≡ Err (LiveFault.Memory (Some left)) → left.first ≡ O.first }
+    ensures memory { (left : Recording) → result ≡ Err (LiveFault.Memory left) → left.first ≡ O.first }
+    ensures spawn { (result ≡ Err LiveFault.Spawn) ↔ (live.broken ≡ Some Break.Spawn) }
+    ensures machine { result ≢ Err LiveFault.NoMachine }
 {
     match live.broken {
         None => play_on(live.journaled),
-        Some(Break::Memory) => Err(LiveFault::Memory(Some(live.journaled))),
+        Some(Break::Memory) => Err(LiveFault::Memory(live.journaled)),
         Some(Break::Spawn) => Err(LiveFault::Spawn),
     }
 }
@@ -146,7 +149,8 @@ fn run_of<O: Origin + Send + Sync, R: Threads + Wait + Sync, G: Gate + Sync>(
     requires { journaled.first ≡ O.first }
     ensures first { IfOk result (λ both. both.0.first ≡ O.first) }
     ensures ending { IfOk result (λ both. ending_of (world_after both.0) ≡ Some both.1) }
-    ensures memory { (left : Recording) → result ≡ Err (LiveFault.Memory (Some left)) → left.first ≡ O.first }
+    ensures memory { (left : Recording) → result ≡ Err (LiveFault.Memory left) → left.first ≡ O.first }
+    ensures machine { result ≢ Err LiveFault.NoMachine }
 {
     let count = journaled.thread_count() as u8;
     let lock = Mutex::new(Live::<O>::new(journaled));
@@ -160,7 +164,8 @@ fn written(alloc: Global, journaled: Journaled, ending: Ending) -> Result<LiveRu
     requires { ending_of (world_after journaled) ≡ Some ending }
     ensures replay { IfOk result (λ run. IsReplayOfText journaled.first (string_bytes run.schedule) (world_of run.machine)) }
     ensures ending { IfOk result (λ run. ending_of (world_of run.machine) ≡ Some run.ending) }
-    ensures memory { (left : Recording) → result ≡ Err (LiveFault.Memory (Some left)) → left.first ≡ journaled.first }
+    ensures memory { (left : Recording) → result ≡ Err (LiveFault.Memory left) → left.first ≡ journaled.first }
+    ensures machine { (result ≢ Err LiveFault.NoMachine) × (result ≢ Err LiveFault.Spawn) }
 {
     journaled.each_record_is_a_replay();
     match journaled.schedule(alloc) {
@@ -169,12 +174,32 @@ fn written(alloc: Global, journaled: Journaled, ending: Ending) -> Result<LiveRu
             machine: journaled.into_machine(),
             ending,
         }),
-        Err(_) => Err(LiveFault::Memory(Some(journaled))),
+        Err(_) => Err(LiveFault::Memory(journaled)),
+    }
+}
+
+/// The run of a machine that is there. So want of memory leaves a record, from here on.
+fn recorded<R: Threads + Wait + Sync, G: Gate + Sync>(
+    rt: &R,
+    alloc: Global,
+    journaled: Journaled,
+    gate: &G,
+) -> Result<LiveRun, LiveFault>
+    ensures replay { IfOk result (λ run.
+        IsReplayOfText journaled.first (string_bytes run.schedule) (world_of run.machine)) }
+    ensures ending { IfOk result (λ run. ending_of (world_of run.machine) ≡ Some run.ending) }
+    ensures memory { (left : Recording) → result ≡ Err (LiveFault.Memory left) → left.first ≡ journaled.first }
+    ensures machine { result ≢ Err LiveFault.NoMachine }
+{
+    match run_of::<Brand, R, G>(rt, journaled, gate) {
+        Ok((journaled, ending)) => written(alloc, journaled, ending),
+        Err(fault) => Err(fault),
     }
 }
 
 /// Plays a program by a real thread for each of its threads, until the run is over; at most `limit` steps. Each worker
-/// takes its own thread's steps, as it comes to have the lock.
+/// takes its own thread's steps, as it comes to have the lock. Out of memory it answers what was played, or that there was
+/// no machine.
 pub fn run_live<R: Threads + Wait + Sync, G: Gate + Sync>(
     rt: &R,
     alloc: Global,
@@ -186,15 +211,12 @@ pub fn run_live<R: Threads + Wait + Sync, G: Gate + Sync>(
     ensures replay { IfOk result (λ run.
         IsReplayOfText (first_world program limit) (string_bytes run.schedule) (world_of run.machine)) }
     ensures ending { IfOk result (λ run. ending_of (world_of run.machine) ≡ Some run.ending) }
-    ensures memory { (left : Recording) → result ≡ Err (LiveFault.Memory (Some left))
+    ensures memory { (left : Recording) → result ≡ Err (LiveFault.Memory left)
         → left.first ≡ first_world program limit }
 {
     let journaled = match Journaled::new(alloc, program, limit) {
         Ok(journaled) => journaled,
-        Err(_) => return Err(LiveFault::Memory(None)),
+        Err(_) => return Err(LiveFault::NoMachine),
     };
-    match run_of::<Brand, R, G>(rt, journaled, gate) {
-        Ok((journaled, ending)) => written(alloc, journaled, ending),
-        Err(fault) => Err(fault),
-    }
+    recorded(rt, alloc, journaled, gate)
 }

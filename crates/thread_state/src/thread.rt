@@ -28,12 +28,12 @@ const OUTPUT_ROOM: usize = 4096;
 /// One thread of the program.
 #[derive(Drop)]
 pub struct Thread {
-    place: u16,
-    values: Regs,
-    entries: Vec<Frame>,
-    state: Status,
-    was_interrupted: bool,
-    put_out: Vec<i32>,
+    pc: u16,
+    registers: Regs,
+    stack: Vec<Frame>,
+    status: Status,
+    interrupted: bool,
+    output: Vec<i32>,
 }
 
 impl Model for Thread {
@@ -43,16 +43,16 @@ impl Model for Thread {
     ghost Value = { ThreadState };
 
     ghost view = { λ thread. record {
-      pc = thread.place;
-      registers = thread.values;
-      stack = thread.entries.items;
-      status = thread.state;
-      interrupted = thread.was_interrupted;
-      output = thread.put_out.items;
+      pc = thread.pc;
+      registers = thread.registers;
+      stack = thread.stack.items;
+      status = thread.status;
+      interrupted = thread.interrupted;
+      output = thread.output.items;
     } };
 
-    ghost invariant = { λ thread. (vec_len thread.entries ≤ 64)
-        × (64 ≤ vec_capacity thread.entries) × (vec_len thread.put_out ≤ 4096) };
+    ghost invariant = { λ thread. (vec_len thread.stack ≤ 64)
+        × (64 ≤ vec_capacity thread.stack) × (vec_len thread.output ≤ 4096) };
 }
 
 impl Thread {
@@ -61,12 +61,12 @@ impl Thread {
         ensures { IfOk result (λ thread. thread ≡ new_thread first) }
     {
         Ok(Thread {
-            place: first,
-            values: Regs::new(),
-            entries: Vec::with_capacity(alloc, STACK_ROOM)?,
-            state: Status::Runs,
-            was_interrupted: false,
-            put_out: Vec::new(alloc),
+            pc: first,
+            registers: Regs::new(),
+            stack: Vec::with_capacity(alloc, STACK_ROOM)?,
+            status: Status::Runs,
+            interrupted: false,
+            output: Vec::new(alloc),
         })
     }
 
@@ -74,15 +74,15 @@ impl Thread {
     pub fn copy(&self, alloc: Global) -> Result<Thread, AllocError>
         ensures { IfOk result (λ copy. copy ≡ self.now) }
     {
-        let mut entries = Vec::with_capacity(alloc, STACK_ROOM)?;
-        entries.extend_from_slice(self.entries.as_slice())?;
+        let mut stack = Vec::with_capacity(alloc, STACK_ROOM)?;
+        stack.extend_from_slice(self.stack.as_slice())?;
         Ok(Thread {
-            place: self.place,
-            values: self.values,
-            entries,
-            state: self.state,
-            was_interrupted: self.was_interrupted,
-            put_out: Vec::from_slice(alloc, self.put_out.as_slice())?,
+            pc: self.pc,
+            registers: self.registers,
+            stack,
+            status: self.status,
+            interrupted: self.interrupted,
+            output: Vec::from_slice(alloc, self.output.as_slice())?,
         })
     }
 
@@ -90,28 +90,28 @@ impl Thread {
     pub fn pc(&self) -> u16
         ensures { result ≡ self.now.pc }
     {
-        self.place
+        self.pc
     }
 
     /// What it is doing.
     pub fn status(&self) -> Status
         ensures { result ≡ self.now.status }
     {
-        self.state
+        self.status
     }
 
     /// The number in a register.
     pub fn register(&self, reg: Reg) -> i32
         ensures { result ≡ value_in self.now.registers reg }
     {
-        self.values.get(reg)
+        self.registers.get(reg)
     }
 
     /// Whether it was interrupted.
     pub fn interrupted(&self) -> bool
         ensures { result ≡ self.now.interrupted }
     {
-        self.was_interrupted
+        self.interrupted
     }
 
     /// Its stack from the bottom.
@@ -119,28 +119,28 @@ impl Thread {
         ensures stack { result.now ≡ self.now.stack }
         ensures few { length result.now ≤ 64 }
     {
-        self.entries.as_slice()
+        self.stack.as_slice()
     }
 
     /// The top entry of its stack.
     pub fn top(&self) -> Option<Frame>
         ensures { result ≡ top_of self.now.stack }
     {
-        self.entries.last().copied()
+        self.stack.last().copied()
     }
 
     /// Whether its stack has no room for one entry more.
     pub fn is_full(&self) -> bool
         ensures { result ≡ is_full self.now }
     {
-        self.entries.len() == STACK_ROOM
+        self.stack.len() == STACK_ROOM
     }
 
     /// Whether it runs the advance routine of this root, in whatever calls.
     pub fn advances(&self, root: u8) -> bool
         ensures { result ≡ list_any (is_advance root) self.now.stack }
     {
-        self.entries.iter().any(|frame| frame.is_advance(root))
+        self.stack.iter().any(|frame| frame.is_advance(root))
     }
 
     /// What it put out, in order.
@@ -148,21 +148,21 @@ impl Thread {
         ensures values { result.now ≡ self.now.output }
         ensures few { length result.now ≤ 4096 }
     {
-        self.put_out.as_slice()
+        self.output.as_slice()
     }
 
     /// Whether it has ended or died.
     pub fn is_finished(&self) -> bool
         ensures { result ≡ is_finished self.now.status }
     {
-        matches!(self.state, Status::Ended | Status::Died(_))
+        matches!(self.status, Status::Ended | Status::Died(_))
     }
 
     /// Meets an exception at its row.
     pub fn throw(&mut self, code: i32) -> What
         ensures { record { thread = self.new; what = result } ≡ turn_of_throw code self.old }
     {
-        self.state = Status::Throws(code);
+        self.status = Status::Throws(code);
         What::Throws(code)
     }
 
@@ -170,7 +170,7 @@ impl Thread {
     pub fn take_interruption(&mut self) -> What
         ensures { record { thread = self.new; what = result } ≡ turn_of_interruption self.old }
     {
-        self.was_interrupted = false;
+        self.interrupted = false;
         self.throw(3)
     }
 
@@ -179,9 +179,9 @@ impl Thread {
         requires { self.old.pc < 65535 }
         ensures { record { thread = self.new; what = result } ≡ turn_of_answer into value self.old }
     {
-        self.values.set(into, value);
-        self.place += 1;
-        self.state = Status::Runs;
+        self.registers.set(into, value);
+        self.pc += 1;
+        self.status = Status::Runs;
         What::Value(value)
     }
 
@@ -190,7 +190,7 @@ impl Thread {
         requires { self.old.pc < 65535 }
         ensures { record { thread = self.new; what = result } ≡ turn_of_done self.old }
     {
-        self.place += 1;
+        self.pc += 1;
         What::Done
     }
 
@@ -198,7 +198,7 @@ impl Thread {
     pub fn wait(&mut self, phase: i32) -> What
         ensures { record { thread = self.new; what = result } ≡ turn_of_wait phase self.old }
     {
-        self.state = Status::AwaitsPhase(phase);
+        self.status = Status::AwaitsPhase(phase);
         What::Waits
     }
 
@@ -206,7 +206,7 @@ impl Thread {
     pub fn wait_at_barrier(&mut self, index: u16) -> What
         ensures { record { thread = self.new; what = result } ≡ turn_of_barrier_wait index self.old }
     {
-        self.state = Status::AwaitsBarrier(i32::from(index));
+        self.status = Status::AwaitsBarrier(i32::from(index));
         What::Waits
     }
 
@@ -217,7 +217,7 @@ impl Thread {
         if self.is_in_routine() {
             return self.throw(7);
         }
-        self.state = Status::Ended;
+        self.status = Status::Ended;
         What::Ends
     }
 
@@ -225,7 +225,7 @@ impl Thread {
     fn is_in_routine(&self) -> bool
         ensures { result ≡ list_any is_routine self.now.stack }
     {
-        self.entries.iter().any(|frame| frame.is_routine())
+        self.stack.iter().any(|frame| frame.is_routine())
     }
 
     /// A row on registers alone.
@@ -234,7 +234,7 @@ impl Thread {
         requires place { self.old.pc < 65535 }
         ensures { record { thread = self.new; what = result } ≡ turn_of_local row self.old }
     {
-        match local(row, &mut self.values, &mut self.place) {
+        match local(row, &mut self.registers, &mut self.pc) {
             Some(value) => What::Value(value),
             None => What::Done,
         }
@@ -248,12 +248,12 @@ impl Thread {
         ensures err { OnErr result (self.new ≡ self.old) }
         ensures memory { IsErr result → length self.old.output < 4096 }
     {
-        if self.put_out.len() == OUTPUT_ROOM {
+        if self.output.len() == OUTPUT_ROOM {
             return Ok(self.throw(8));
         }
-        let value = self.values.get(from);
-        self.put_out.push(value)?;
-        self.place += 1;
+        let value = self.registers.get(from);
+        self.output.push(value)?;
+        self.pc += 1;
         Ok(What::Out(value))
     }
 
@@ -265,7 +265,7 @@ impl Thread {
         if self.is_full() {
             return self.throw(6);
         }
-        self.enter(Frame::Call(self.place + 1), target)
+        self.enter(Frame::Call(self.pc + 1), target)
     }
 
     /// `try`.
@@ -276,7 +276,7 @@ impl Thread {
         if self.is_full() {
             return self.throw(6);
         }
-        self.enter(Frame::Handler(handler), self.place + 1)
+        self.enter(Frame::Handler(handler), self.pc + 1)
     }
 
     /// Takes one entry more, and stands at this row.
@@ -285,10 +285,10 @@ impl Thread {
         ensures thread { self.new ≡ with_entry entry row self.old }
         ensures what { result ≡ What.Done }
     {
-        if self.entries.push(entry).is_err() {
+        if self.stack.push(entry).is_err() {
             unreachable!()
         }
-        self.place = row;
+        self.pc = row;
         What::Done
     }
 
@@ -298,9 +298,9 @@ impl Thread {
         ensures { record { thread = self.new; what = result }
             ≡ turn_of_endtry (top_of self.old.stack) self.old }
     {
-        match self.entries.last() {
+        match self.stack.last() {
             Some(Frame::Handler(_)) => {
-                let _ = self.entries.pop();
+                let _ = self.stack.pop();
                 self.done()
             }
             _ => self.throw(7),
@@ -311,8 +311,8 @@ impl Thread {
     pub fn return_to(&mut self, row: u16) -> What
         ensures { record { thread = self.new; what = result } ≡ turn_of_return row self.old }
     {
-        let _ = self.entries.pop();
-        self.place = row;
+        let _ = self.stack.pop();
+        self.pc = row;
         What::Done
     }
 
@@ -323,10 +323,10 @@ impl Thread {
         ensures { record { thread = self.new; what = result }
             ≡ turn_of_advance root phase parties first self.old }
     {
-        let entry = Frame::Advance(root, self.values, self.place);
+        let entry = Frame::Advance(root, self.registers, self.pc);
         self.enter(entry, first);
-        self.values.set(Reg::R0, phase);
-        self.values.set(Reg::R1, i32::from(parties));
+        self.registers.set(Reg::R0, phase);
+        self.registers.set(Reg::R1, i32::from(parties));
         What::Enters
     }
 
@@ -335,7 +335,7 @@ impl Thread {
         requires { is_full self.old ≡ false }
         ensures { record { thread = self.new; what = result } ≡ turn_of_action barrier first self.old }
     {
-        let entry = Frame::Action(barrier, self.values, self.place);
+        let entry = Frame::Action(barrier, self.registers, self.pc);
         self.enter(entry, first);
         What::Enters
     }
@@ -344,9 +344,9 @@ impl Thread {
     pub fn leave_routine(&mut self, registers: &Regs, row: u16)
         ensures { self.new ≡ left_routine registers.now row self.old }
     {
-        let _ = self.entries.pop();
-        self.values = *registers;
-        self.place = row;
+        let _ = self.stack.pop();
+        self.registers = *registers;
+        self.pc = row;
     }
 
     /// Is interrupted by a thread: `Thread.interrupt`. No effect once it has ended or died.
@@ -354,7 +354,7 @@ impl Thread {
         ensures { self.new ≡ interrupted self.old }
     {
         if !self.is_finished() {
-            self.was_interrupted = true;
+            self.interrupted = true;
         }
     }
 
@@ -363,8 +363,8 @@ impl Thread {
         requires { self.old.pc < 65535 }
         ensures { record { thread = self.new; what = result } ≡ turn_of_intrd into self.old }
     {
-        let status = i32::from(self.was_interrupted);
-        self.was_interrupted = false;
+        let status = i32::from(self.interrupted);
+        self.interrupted = false;
         self.answer(into, status)
     }
 
@@ -372,17 +372,17 @@ impl Thread {
     pub fn pop(&mut self, code: i32) -> What
         ensures { record { thread = self.new; what = result } ≡ turn_of_pop code self.old }
     {
-        let top = self.entries.pop();
+        let top = self.stack.pop();
         match &top {
             None => {
-                self.state = Status::Died(code);
+                self.status = Status::Died(code);
                 What::Dies(code)
             }
             Some(Frame::Call(_)) => What::Unwinds,
             Some(Frame::Handler(row)) => {
-                self.values.set(Reg::R7, code);
-                self.place = *row;
-                self.state = Status::Runs;
+                self.registers.set(Reg::R7, code);
+                self.pc = *row;
+                self.status = Status::Runs;
                 What::Catches(code)
             }
             Some(Frame::Advance(_, registers, row)) => self.restore(registers, *row),
@@ -395,8 +395,8 @@ impl Thread {
         ensures thread { self.new ≡ record self.old { registers = registers.now; pc = row } }
         ensures what { result ≡ What.Unwinds }
     {
-        self.values = *registers;
-        self.place = row;
+        self.registers = *registers;
+        self.pc = row;
         What::Unwinds
     }
 }

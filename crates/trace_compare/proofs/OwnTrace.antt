@@ -97,7 +97,7 @@ line_by false false world choice few there =
     subst (IsOwnLine choice) (sym (append-nil (event_text (world.choices + 1) choice pc play.event))) own
 
 -- a choice of a thread from 0 to 63 has its own line
-own-line : (world : World) (choice : Choice) → world.choices ≤ 1000000000000 → choice.thread ≤ 63
+pub own-line : (world : World) (choice : Choice) → world.choices ≤ 1000000000000 → choice.thread ≤ 63
     → IsOwnLine choice (lines_of world (choice ∷ []))
 own-line world choice few there =
     line_by (nat_le (length world.scene.threads) choice.thread) (is_used_up world choice) world choice few there
@@ -137,7 +137,7 @@ after_by : (refusal : Option StepFault) (world : World) (choice : Choice)
 after_by (Some fault) world choice none = let no : ⊥ = cc in absurd no
 after_by None world choice none = (refl, refl)
 
-counted : (world : World) (choice : Choice) → world.choices ≤ 1000000000000 → (execution world (choice ∷ [])).refusal ≡ None
+pub counted : (world : World) (choice : Choice) → world.choices ≤ 1000000000000 → (execution world (choice ∷ [])).refusal ≡ None
     → (execution world (choice ∷ [])).world.choices ≤ 1000000000000
 counted world choice few none =
     let played_is = after_by (refusal_of world choice) world choice none in

@@ -20,7 +20,7 @@ mod play;
 pub mod run;
 pub mod start;
 pub mod state;
-mod trace_line;
+pub mod trace_line;
 
 pub use law::{the_trace_of_any_choices_is_the_same, what_is_the_same_is_the_trace_of_its_choices};
 pub use line_end::LineEnd;

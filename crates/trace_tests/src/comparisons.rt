@@ -105,13 +105,3 @@ fn a_line_that_is_too_long(rt: HostRuntime) -> Result<(), Fail> {
     assert!(rt; verdict_on(rt.alloc(), longer.as_slice())? == Ok(NONE_2));
     Ok(())
 }
-
-#[test]
-fn a_trace_that_cannot_be_read(rt: HostRuntime) -> Result<(), Fail> {
-    let image = assemble(rt.alloc(), LONELY.as_bytes())
-        .ok()
-        .ok_or("a fault")?;
-    let mut source = MemorySource::new(b"1 t0 0 wait\n", Some(1));
-    assert!(rt; compare(rt.alloc(), image, &mut source) == Err(CompareFault::Read));
-    Ok(())
-}

@@ -160,54 +160,6 @@ fn faults_of_schedules_are_told_past_a_refused_choice(rt: HostRuntime) -> Result
     Ok(())
 }
 
-/// Three pieces of a schedule, a token of three bytes after another.
-fn long_schedule(alloc: Global) -> Result<Vec<u8>, Fail> {
-    let mut schedule = Vec::new(alloc);
-    for _ in 0..4000 {
-        schedule.extend_from_slice(b"t0 ")?;
-    }
-    Ok(schedule)
-}
-
-#[test]
-fn a_source_that_fails_at_its_third_piece(rt: HostRuntime) -> Result<(), Fail> {
-    let schedule = long_schedule(rt.alloc())?;
-    let mut output = MemorySink::new(rt.alloc(), 100_000, None)?;
-    let mut source = MemorySource::new(schedule.as_slice(), Some(2));
-    let image = image_of(rt.alloc(), ".thread a m\nm: jmp m")?;
-    let result = run_text(rt.alloc(), image, &mut source, &mut output);
-    assert!(rt; result == Err(RunFault::Read));
-    assert!(rt; output.bytes().starts_with(b"1 t0 0 ok\n2 t0 0 ok\n"));
-    assert!(rt; output.bytes().ends_with(b"2729 t0 0 ok\n2730 t0 0 ok\n"));
-    Ok(())
-}
-
-#[test]
-fn a_sink_that_fails_cuts_the_trace_short(rt: HostRuntime) -> Result<(), Fail> {
-    let mut output = MemorySink::new(rt.alloc(), 1000, Some(2))?;
-    let mut source = MemorySource::new(b"t0 t1 t0*3", None);
-    let result = run_text(
-        rt.alloc(),
-        image_of(rt.alloc(), MEETING)?,
-        &mut source,
-        &mut output,
-    );
-    assert!(rt; result == Err(RunFault::Write));
-    assert!(rt; output.bytes() == b"1 t0 0 wait\n2 t1 0 = 1 +p0 1\n".as_slice());
-    Ok(())
-}
-
-#[test]
-fn a_sink_that_fails_among_idle_choices(rt: HostRuntime) -> Result<(), Fail> {
-    let mut output = MemorySink::new(rt.alloc(), 1000, Some(3))?;
-    let mut source = MemorySource::new(b"t0*9", None);
-    let image = image_of(rt.alloc(), LONELY)?;
-    let result = run_text(rt.alloc(), image, &mut source, &mut output);
-    assert!(rt; result == Err(RunFault::Write));
-    assert!(rt; output.bytes() == b"1 t0 0 wait\n2 t0 0 idle\n3 t0 0 idle\n".as_slice());
-    Ok(())
-}
-
 #[test]
 fn an_image_that_is_not_played_leaves_nothing(rt: HostRuntime) -> Result<(), Fail> {
     let mut output = MemorySink::new(rt.alloc(), 1000, None)?;

@@ -1,14 +1,44 @@
 //! The files that the words name.
 
-use std::fs::{self, File};
-use std::io;
+use crate::no_command::NoCommand;
+use std::fs::{self, File, Metadata, OpenOptions};
+use std::os::unix::fs::MetadataExt;
 
 /// A file to read from, from its beginning.
-pub fn read(rt: &HostRuntime, path: &str) -> io::Result<File> {
-    fs::open(rt, path)
+pub fn read<'a>(rt: &HostRuntime, path: &'a str) -> Result<File, NoCommand<'a>> {
+    fs::open(rt, path).map_err(|error| NoCommand::Unread(path, error))
 }
 
-/// A file to write to, made empty, and made if it isn't there.
-pub fn write(rt: &HostRuntime, path: &str) -> io::Result<File> {
-    fs::create(rt, path)
+/// Whether two open files are one, by whatever names, and of the kind that keeps what is written to it.
+fn is_one_file(a: &Metadata, b: &Metadata) -> bool {
+    b.is_file() && a.dev() == b.dev() && a.ino() == b.ino()
+}
+
+/// Makes a file empty, but not where it is the one that is read from.
+fn make_empty<'a>(path: &'a str, file: &File, source: &File) -> Result<(), NoCommand<'a>> {
+    let target = file
+        .metadata()
+        .map_err(|error| NoCommand::Unwritten(path, error))?;
+    let source = source
+        .metadata()
+        .map_err(|error| NoCommand::Unwritten(path, error))?;
+    if is_one_file(&source, &target) {
+        return Err(NoCommand::OneFile(path));
+    }
+    if target.is_file() {
+        file.set_len(0)
+            .map_err(|error| NoCommand::Unwritten(path, error))?;
+    }
+    Ok(())
+}
+
+/// A file to write to, made if it isn't there, and made empty, but not where it is the one that is read from.
+pub fn write<'a>(rt: &HostRuntime, path: &'a str, source: &File) -> Result<File, NoCommand<'a>> {
+    let file = OpenOptions::new()
+        .write(true)
+        .create(true)
+        .open(rt, path)
+        .map_err(|error| NoCommand::Unwritten(path, error))?;
+    make_empty(path, &file, source)?;
+    Ok(file)
 }

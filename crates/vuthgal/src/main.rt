@@ -2,153 +2,171 @@
 #![tactic(auto)]
 
 ghost use Rattle.std.specs.Prelude.{◌≤◌};
+ghost use Rattle.command_line.specs.Request.{IsInRange};
 
 mod ending;
 mod files;
+mod help;
+mod no_command;
+mod origin;
+mod until_failure;
 mod words;
 
 use byte_ports::{ReadPort, Sink, Source, WritePort};
+use choices_command::choices::choices_cmd;
 use command_line::request::Request;
-use ending::{flushed, told};
+use ending::{ended, flushed, held_line};
+use help::{Files, push_refusal};
+use no_command::NoCommand;
+use picture_commands::command::{picture_both_cmd, picture_cmd};
+use picture_commands::drawing::Drawing;
+use picture_commands::page::Page;
+use picture_commands::picture::Picture;
 use race::race_cmd;
+use refusal_words::explain_cmd;
+use refusal_words::told_line::ToldLine;
 use std::fs::File;
 use std::io::{BufWriter, IsTerminal};
 use std::process::ExitCode;
 use std::sync::Wait;
 use std::thread::Threads;
+use until_failure::UntilFailure;
 use workbench::asm::asm_cmd;
 use workbench::both::both_cmd;
 use workbench::compare::compare_cmd;
 use workbench::debug::debug_cmd;
-use workbench::draw::{draw_both_cmd, draw_cmd};
-use workbench::fault::Fault;
+use workbench::fault::DONE;
 use workbench::list::list_cmd;
 use workbench::live::live_cmd;
 use workbench::run::run_cmd;
-use workbench::show::{show_both_cmd, show_cmd};
 
 /// How many bytes are written at a time.
 const BUFFER: usize = 65_536;
 
 /// Plays what standard input holds.
-fn both(rt: &HostRuntime) -> u8 {
-    let mut errors = WritePort::new(rt.stderr());
+fn both<'a, E: Sink>(rt: &HostRuntime, errors: &mut E) -> Result<u8, NoCommand<'a>> {
     if rt.stdin().is_terminal() {
         let _ = errors.push(b"reading a program text from the terminal (--help tells more)\n");
     }
-    let Ok(writer) = BufWriter::with_capacity(rt.alloc(), BUFFER, rt.stdout()) else {
-        return told(rt, Fault::Memory);
+    let Ok(writer) = BufWriter::with_capacity(rt.alloc(), BUFFER, UntilFailure::new(rt.stdout()))
+    else {
+        return Err(NoCommand::Memory);
+    };
+    let Ok(mut line) = held_line(rt) else {
+        return Err(NoCommand::Memory);
     };
     let mut output = WritePort::new(writer);
     let mut input = ReadPort::new(rt.stdin());
-    let status = both_cmd(rt.alloc(), &mut input, &mut output, &mut errors);
-    flushed(rt, status, &mut output)
+    let status = both_cmd(rt.alloc(), &mut input, &mut output, &mut line);
+    Ok(ended(errors, status, &mut output, &line))
 }
 
 /// Writes the image of the text in one file to another.
-fn asm(rt: &HostRuntime, source: &str, image: &str) -> u8 {
-    let Ok(input) = files::read(rt, source) else {
-        return told(rt, Fault::Read);
-    };
-    let Ok(file) = files::write(rt, image) else {
-        return told(rt, Fault::Write);
-    };
-    let Ok(writer) = BufWriter::with_capacity(rt.alloc(), BUFFER, file) else {
-        return told(rt, Fault::Memory);
+fn asm<'a, E: Sink>(
+    rt: &HostRuntime,
+    errors: &mut E,
+    source: &'a str,
+    image: &'a str,
+) -> Result<u8, NoCommand<'a>> {
+    let input = files::read(rt, source)?;
+    let file = files::write(rt, image, &input)?;
+    let Ok(writer) = BufWriter::with_capacity(rt.alloc(), BUFFER, UntilFailure::new(file)) else {
+        return Err(NoCommand::Memory);
     };
     let mut output = WritePort::new(writer);
-    let mut errors = WritePort::new(rt.stderr());
-    let status = asm_cmd(
-        rt.alloc(),
-        &mut ReadPort::new(input),
-        &mut output,
-        &mut errors,
-    );
-    flushed(rt, status, &mut output)
+    let status = asm_cmd(rt.alloc(), &mut ReadPort::new(input), &mut output, errors);
+    Ok(flushed(errors, status, &mut output))
 }
 
 /// Writes the canonical text of the program in a file.
-fn list(rt: &HostRuntime, file: &str) -> u8 {
-    let Ok(input) = files::read(rt, file) else {
-        return told(rt, Fault::Read);
-    };
+fn list<'a, E: Sink>(rt: &HostRuntime, errors: &mut E, file: &'a str) -> Result<u8, NoCommand<'a>> {
+    let input = files::read(rt, file)?;
     let mut output = WritePort::new(rt.stdout());
-    let mut errors = WritePort::new(rt.stderr());
-    let status = list_cmd(
-        rt.alloc(),
-        &mut ReadPort::new(input),
-        &mut output,
-        &mut errors,
-    );
-    flushed(rt, status, &mut output)
+    let status = list_cmd(rt.alloc(), &mut ReadPort::new(input), &mut output, errors);
+    Ok(flushed(errors, status, &mut output))
 }
 
 /// Plays the program in a file under a schedule.
-fn run_under<S: Source>(rt: &HostRuntime, program: File, schedule: &mut S) -> u8 {
-    let Ok(writer) = BufWriter::with_capacity(rt.alloc(), BUFFER, rt.stdout()) else {
-        return told(rt, Fault::Memory);
+fn run_under<'a, S: Source, E: Sink>(
+    rt: &HostRuntime,
+    errors: &mut E,
+    program: File,
+    schedule: &mut S,
+) -> Result<u8, NoCommand<'a>> {
+    let Ok(writer) = BufWriter::with_capacity(rt.alloc(), BUFFER, UntilFailure::new(rt.stdout()))
+    else {
+        return Err(NoCommand::Memory);
+    };
+    let Ok(mut line) = held_line(rt) else {
+        return Err(NoCommand::Memory);
     };
     let mut output = WritePort::new(writer);
-    let mut errors = WritePort::new(rt.stderr());
     let status = run_cmd(
         rt.alloc(),
         &mut ReadPort::new(program),
         schedule,
         &mut output,
-        &mut errors,
+        &mut line,
     );
-    flushed(rt, status, &mut output)
+    Ok(ended(errors, status, &mut output, &line))
 }
 
 /// The same with the files that two words name, the schedule standard input where its word is `-`.
-fn run(rt: &HostRuntime, file: &str, schedule: &str) -> u8 {
-    let Ok(program) = files::read(rt, file) else {
-        return told(rt, Fault::Read);
-    };
+fn run<'a, E: Sink>(
+    rt: &HostRuntime,
+    errors: &mut E,
+    file: &'a str,
+    schedule: &'a str,
+) -> Result<u8, NoCommand<'a>> {
+    let program = files::read(rt, file)?;
     if schedule == "-" {
-        return run_under(rt, program, &mut ReadPort::new(rt.stdin()));
+        return run_under(rt, errors, program, &mut ReadPort::new(rt.stdin()));
     }
-    let Ok(schedule) = files::read(rt, schedule) else {
-        return told(rt, Fault::Read);
-    };
-    run_under(rt, program, &mut ReadPort::new(schedule))
+    let schedule = files::read(rt, schedule)?;
+    run_under(rt, errors, program, &mut ReadPort::new(schedule))
 }
 
 /// Compares a trace with the run of the program in a file.
-fn compare_with<S: Source>(rt: &HostRuntime, program: File, trace: &mut S) -> u8 {
+fn compare_with<'a, S: Source, E: Sink>(
+    rt: &HostRuntime,
+    errors: &mut E,
+    program: File,
+    trace: &mut S,
+) -> Result<u8, NoCommand<'a>> {
     let mut output = WritePort::new(rt.stdout());
-    let mut errors = WritePort::new(rt.stderr());
     let status = compare_cmd(
         rt.alloc(),
         &mut ReadPort::new(program),
         trace,
         &mut output,
-        &mut errors,
+        errors,
     );
-    flushed(rt, status, &mut output)
+    Ok(flushed(errors, status, &mut output))
 }
 
 /// The same with the files that two words name, the trace standard input where its word is `-`.
-fn compare(rt: &HostRuntime, file: &str, trace: &str) -> u8 {
-    let Ok(program) = files::read(rt, file) else {
-        return told(rt, Fault::Read);
-    };
+fn compare<'a, E: Sink>(
+    rt: &HostRuntime,
+    errors: &mut E,
+    file: &'a str,
+    trace: &'a str,
+) -> Result<u8, NoCommand<'a>> {
+    let program = files::read(rt, file)?;
     if trace == "-" {
-        return compare_with(rt, program, &mut ReadPort::new(rt.stdin()));
+        return compare_with(rt, errors, program, &mut ReadPort::new(rt.stdin()));
     }
-    let Ok(trace) = files::read(rt, trace) else {
-        return told(rt, Fault::Read);
-    };
-    compare_with(rt, program, &mut ReadPort::new(trace))
+    let trace = files::read(rt, trace)?;
+    compare_with(rt, errors, program, &mut ReadPort::new(trace))
 }
 
 /// Answers the commands on standard input, which are about the program in a file. Nothing is kept back: standard output is
 /// flushed at each line's end.
-fn debug(rt: &HostRuntime, file: &str) -> u8 {
-    let Ok(program) = files::read(rt, file) else {
-        return told(rt, Fault::Read);
-    };
-    let mut errors = WritePort::new(rt.stderr());
+fn debug<'a, E: Sink>(
+    rt: &HostRuntime,
+    errors: &mut E,
+    file: &'a str,
+) -> Result<u8, NoCommand<'a>> {
+    let program = files::read(rt, file)?;
     if rt.stdin().is_terminal() {
         let _ = errors.push(b"reading commands from the terminal (debug --help lists them)\n");
     }
@@ -158,139 +176,198 @@ fn debug(rt: &HostRuntime, file: &str) -> u8 {
         &mut ReadPort::new(program),
         &mut ReadPort::new(rt.stdin()),
         &mut output,
-        &mut errors,
+        errors,
     );
-    flushed(rt, status, &mut output)
-}
-
-/// A picture of a run: a page, or a drawing of so many columns.
-#[derive(Clone, Copy)]
-enum PictureKind {
-    Page,
-    Drawing(u16),
+    Ok(flushed(errors, status, &mut output))
 }
 
 /// Writes the picture of the program in a file and a schedule. It is written at once, so nothing is kept back.
-fn picture_under<S: Source>(
+fn picture_under<'a, P: Picture, S: Source, E: Sink>(
     rt: &HostRuntime,
-    kind: PictureKind,
+    errors: &mut E,
+    picture: &P,
     file: File,
     schedule: &mut S,
-) -> u8 {
-    let mut program = ReadPort::new(file);
+) -> Result<u8, NoCommand<'a>> {
     let mut output = WritePort::new(rt.stdout());
-    let mut errors = WritePort::new(rt.stderr());
-    let alloc = rt.alloc();
-    let status = match kind {
-        PictureKind::Page => show_cmd(alloc, &mut program, schedule, &mut output, &mut errors),
-        PictureKind::Drawing(width) => draw_cmd(
-            alloc,
-            &mut program,
-            schedule,
-            width,
-            &mut output,
-            &mut errors,
-        ),
-    };
-    flushed(rt, status, &mut output)
+    let status = picture_cmd(
+        rt.alloc(),
+        picture,
+        &mut ReadPort::new(file),
+        schedule,
+        &mut output,
+        errors,
+    );
+    Ok(flushed(errors, status, &mut output))
 }
 
 /// The same of a file that holds both.
-fn picture_of_both(rt: &HostRuntime, kind: PictureKind, file: File) -> u8 {
-    let mut both = ReadPort::new(file);
+fn picture_of_both<'a, P: Picture, E: Sink>(
+    rt: &HostRuntime,
+    errors: &mut E,
+    picture: &P,
+    file: File,
+) -> Result<u8, NoCommand<'a>> {
     let mut output = WritePort::new(rt.stdout());
-    let mut errors = WritePort::new(rt.stderr());
-    let alloc = rt.alloc();
-    let status = match kind {
-        PictureKind::Page => show_both_cmd(alloc, &mut both, &mut output, &mut errors),
-        PictureKind::Drawing(width) => draw_both_cmd(
-            alloc,
-            &mut both,
-            width,
-            &mut output,
-            &mut errors,
-        ),
-    };
-    flushed(rt, status, &mut output)
+    let status = picture_both_cmd(
+        rt.alloc(),
+        picture,
+        &mut ReadPort::new(file),
+        &mut output,
+        errors,
+    );
+    Ok(flushed(errors, status, &mut output))
 }
 
 /// The same with the files that one or two words name, the schedule standard input where its word is `-`.
-fn picture(rt: &HostRuntime, kind: PictureKind, file: &str, schedule: Option<&str>) -> u8 {
-    let Ok(program) = files::read(rt, file) else {
-        return told(rt, Fault::Read);
-    };
+fn picture<'a, P: Picture, E: Sink>(
+    rt: &HostRuntime,
+    errors: &mut E,
+    picture: &P,
+    file: &'a str,
+    schedule: Option<&'a str>,
+) -> Result<u8, NoCommand<'a>> {
+    let program = files::read(rt, file)?;
     let Some(schedule) = schedule else {
-        return picture_of_both(rt, kind, program);
+        return picture_of_both(rt, errors, picture, program);
     };
     if schedule == "-" {
-        return picture_under(rt, kind, program, &mut ReadPort::new(rt.stdin()));
+        return picture_under(rt, errors, picture, program, &mut ReadPort::new(rt.stdin()));
     }
-    let Ok(schedule) = files::read(rt, schedule) else {
-        return told(rt, Fault::Read);
-    };
-    picture_under(rt, kind, program, &mut ReadPort::new(schedule))
+    let schedule = files::read(rt, schedule)?;
+    picture_under(rt, errors, picture, program, &mut ReadPort::new(schedule))
 }
 
 /// Plays the program in a file on real threads.
-fn live<R: Threads + Wait + Sync>(threads: &R, rt: &HostRuntime, file: &str, limit: u32) -> u8
+fn live<'a, R: Threads + Wait + Sync, E: Sink>(
+    threads: &R,
+    rt: &HostRuntime,
+    errors: &mut E,
+    file: &'a str,
+    limit: u32,
+) -> Result<u8, NoCommand<'a>>
     requires { limit ≤ 1000000000 }
 {
-    let Ok(program) = files::read(rt, file) else {
-        return told(rt, Fault::Read);
+    let program = files::read(rt, file)?;
+    let Ok(writer) = BufWriter::with_capacity(rt.alloc(), BUFFER, UntilFailure::new(rt.stdout()))
+    else {
+        return Err(NoCommand::Memory);
     };
-    let Ok(writer) = BufWriter::with_capacity(rt.alloc(), BUFFER, rt.stdout()) else {
-        return told(rt, Fault::Memory);
+    let Ok(mut line) = held_line(rt) else {
+        return Err(NoCommand::Memory);
     };
     let mut output = WritePort::new(writer);
-    let mut errors = WritePort::new(rt.stderr());
     let status = live_cmd(
         threads,
         rt.alloc(),
         limit,
         &mut ReadPort::new(program),
         &mut output,
-        &mut errors,
+        &mut line,
     );
-    flushed(rt, status, &mut output)
+    Ok(ended(errors, status, &mut output, &line))
 }
 
 /// Lets real threads meet at a shared phaser.
-fn meet<R: Threads + Wait + Sync>(threads: &R, rt: &HostRuntime, parties: u16, rounds: u32) -> u8 {
+fn meet<'a, R: Threads + Wait + Sync, E: Sink>(
+    threads: &R,
+    rt: &HostRuntime,
+    errors: &mut E,
+    parties: u16,
+    rounds: u32,
+) -> Result<u8, NoCommand<'a>> {
     let mut output = WritePort::new(rt.stdout());
-    let mut errors = WritePort::new(rt.stderr());
-    let status = race_cmd(
-        threads,
-        rt.alloc(),
-        parties,
-        rounds,
-        &mut output,
-        &mut errors,
-    );
-    flushed(rt, status, &mut output)
+    let status = race_cmd(threads, rt.alloc(), parties, rounds, &mut output, errors);
+    Ok(flushed(errors, status, &mut output))
+}
+
+/// Writes the schedule of a trace.
+fn choices_in<'a, S: Source, E: Sink>(
+    rt: &HostRuntime,
+    errors: &mut E,
+    trace: &mut S,
+) -> Result<u8, NoCommand<'a>> {
+    let mut output = WritePort::new(rt.stdout());
+    let status = choices_cmd(rt.alloc(), trace, &mut output, errors);
+    Ok(flushed(errors, status, &mut output))
+}
+
+/// The same of the file that a word names, standard input where it is `-`.
+fn choices<'a, E: Sink>(
+    rt: &HostRuntime,
+    errors: &mut E,
+    trace: &'a str,
+) -> Result<u8, NoCommand<'a>> {
+    if trace == "-" {
+        return choices_in(rt, errors, &mut ReadPort::new(rt.stdin()));
+    }
+    let trace = files::read(rt, trace)?;
+    choices_in(rt, errors, &mut ReadPort::new(trace))
+}
+
+/// Tells what the words of a line mean.
+fn explain<'a, E: Sink>(
+    rt: &HostRuntime,
+    errors: &mut E,
+    words: &[&'a str],
+) -> Result<u8, NoCommand<'a>> {
+    let mut output = WritePort::new(rt.stdout());
+    let status = explain_cmd(words, &mut output, errors);
+    Ok(flushed(errors, status, &mut output))
+}
+
+/// Does what is asked for.
+fn done<'a, R: Threads + Wait + Sync, E: Sink>(
+    threads: &R,
+    rt: &HostRuntime,
+    errors: &mut E,
+    request: Request<'a>,
+) -> Result<u8, NoCommand<'a>>
+    requires { IsInRange request }
+{
+    match request {
+        Request::Both => both(rt, errors),
+        Request::Asm { source, image } => asm(rt, errors, source, image),
+        Request::List { file } => list(rt, errors, file),
+        Request::Run { file, schedule } => run(rt, errors, file, schedule),
+        Request::Compare { file, trace } => compare(rt, errors, file, trace),
+        Request::Debug { file } => debug(rt, errors, file),
+        Request::Show { file, schedule } => picture(rt, errors, &Page, file, schedule),
+        Request::Draw {
+            file,
+            schedule,
+            width,
+        } => picture(rt, errors, &Drawing { width }, file, schedule),
+        Request::Live { file, limit } => live(threads, rt, errors, file, limit),
+        Request::Race { parties, rounds } => meet(threads, rt, errors, parties, rounds),
+        Request::Choices { trace } => choices(rt, errors, trace),
+        Request::Explain { words } => explain(rt, errors, words.as_slice()),
+    }
+}
+
+/// The status of what the words ask for. What a refusal means follows its line on a terminal.
+fn answer<'a, R: Threads + Wait + Sync>(
+    threads: &R,
+    rt: &HostRuntime,
+    words: &'a [String],
+) -> Result<u8, NoCommand<'a>> {
+    let request = words::request(rt, words)?;
+    let files = Files::of(&request);
+    let mut errors = ToldLine::new(rt.alloc(), WritePort::new(rt.stderr()));
+    let status = done(threads, rt, &mut errors, request)?;
+    if status != DONE {
+        push_refusal(rt, errors.line(), files);
+    }
+    Ok(status)
 }
 
 fn main(rt: HostRuntime) -> ExitCode {
     let words = match words::given(&rt) {
         Ok(words) => words,
-        Err(status) => return ExitCode::from(status),
+        Err(fault) => return ExitCode::from(fault.tell(&rt, &[])),
     };
-    ExitCode::from(match words::request(&rt, words.as_slice()) {
-        Ok(Request::Both) => both(&rt),
-        Ok(Request::Asm { source, image }) => asm(&rt, source, image),
-        Ok(Request::List { file }) => list(&rt, file),
-        Ok(Request::Run { file, schedule }) => run(&rt, file, schedule),
-        Ok(Request::Compare { file, trace }) => compare(&rt, file, trace),
-        Ok(Request::Debug { file }) => debug(&rt, file),
-        Ok(Request::Show { file, schedule }) => picture(&rt, PictureKind::Page, file, schedule),
-        Ok(
-            Request::Draw {
-                file,
-                schedule,
-                width,
-            },
-        ) => picture(&rt, PictureKind::Drawing(width), file, schedule),
-        Ok(Request::Live { file, limit }) => live(&rt, &rt, file, limit),
-        Ok(Request::Race { parties, rounds }) => meet(&rt, &rt, parties, rounds),
-        Err(status) => status,
+    ExitCode::from(match answer(&rt, &rt, words.as_slice()) {
+        Ok(status) => status,
+        Err(fault) => fault.tell(&rt, words.as_slice()),
     })
 }

@@ -6,7 +6,8 @@ use Rattle.std.specs.Io.KnownBytes.{Consumes, IsAtEnd}
 use Rattle.trace_compare.specs.RunText.{GivesOnAndOn}
 use Rattle.debugger.specs.Session.{Session}
 use Rattle.debugger.specs.Command.{goes_on, line_order}
-use Rattle.workbench.specs.Debug.{AreReplies, GivesLines, GoOn, HasAnswered, HasConversed, HasConversedAtMost, HasConversedSoFar, HasNoEnd, HasReadLines, last_line, with_ends}
+use Rattle.workbench.specs.Debug.{AreReplies, GivesFew, GivesLines, GoOn, HasAnswered, HasConversed, HasConversedAtMost, HasConversedSoFar, HasNoEnd, HasReadLines, last_line, most_reads, with_ends}
+use Rattle.workbench.specs.Input.{GivesInEach, IsCounted}
 
 abbrev goes-on : List ℕ → Type 0
 goes-on line = goes_on (line_order line) ≡ true
@@ -16,9 +17,11 @@ with_ends-append [] ys = refl
 with_ends-append (x ∷ xs) ys =
     ap (λ l. x ++ (10 ∷ l)) (with_ends-append xs ys) ∙ sym (append_assoc x (10 ∷ with_ends xs) (with_ends ys))
 
-with_ends-length : (xs : List (List ℕ)) → length xs ≤ length (with_ends xs)
-with_ends-length [] = omega arith
-with_ends-length (x ∷ xs) = omega (arith, with_ends-length xs, length-append x (10 ∷ with_ends xs))
+with_ends-push : (xs : List (List ℕ)) (x : List ℕ) → length (with_ends (xs ++ x ∷ [])) ≡ length (with_ends xs) + (length x + 1)
+with_ends-push xs x =
+    ap (λ (l : List ℕ). length l) (with_ends-append xs (x ∷ []))
+    ∙ length-append (with_ends xs) (with_ends (x ∷ []))
+    ∙ ap (λ n. length (with_ends xs) + n) (length-append x (10 ∷ []))
 
 -- the bytes of lines after lines
 in_a_row : (xs ys : List (List ℕ)) (part : List ℕ) → (with_ends xs ++ []) ++ (with_ends ys ++ part) ≡ with_ends (xs ++ ys) ++ part
@@ -79,18 +82,27 @@ pub record HasGoneOn (before now : Session) (commands_before commands_now output
   pub given : GivesLines commands_before commands_now lines []
   pub answered : HasAnswered before lines now output_before output_now
 
--- a line more, in a turn more
-pub gone_on : (before now after : Session) (a b c x y z : Option (List ℕ)) (line : List ℕ) (n : ℕ) → (on : HasGoneOn before now a b x y)
-    → n ≤ length on.lines → GivesLines b c (line ∷ []) [] → goes_on (line_order line) ≡ true → HasAnswered now (line ∷ []) after y z
-    → (more : HasGoneOn before after a c x z) × (n + 1 ≤ length more.lines)
-gone_on before now after a b c x y z line n on few given goes answered = (
+-- nothing was read yet
+pub not_yet : (session : Session) (a x : Option (List ℕ))
+    → (on : HasGoneOn session session a a x x) × (length (with_ends on.lines) + 1000000000 ≡ most_reads)
+not_yet session a x = (
+  record { lines = []; go_on = All-nil goes-on; given = no_lines a; answered = no_answers x session },
+  omega arith,
+)
+
+-- a line more, in a read for each of its bytes
+pub gone_on : (before now after : Session) (a b c x y z : Option (List ℕ)) (line : List ℕ) (n m : ℕ) → (on : HasGoneOn before now a b x y)
+    → length (with_ends on.lines) + n ≡ most_reads → GivesLines b c (line ∷ []) [] → goes_on (line_order line) ≡ true
+    → HasAnswered now (line ∷ []) after y z → length line + 1 + m ≡ n
+    → (more : HasGoneOn before after a c x z) × (length (with_ends more.lines) + m ≡ most_reads)
+gone_on before now after a b c x y z line n m on counted given goes answered read = (
   record {
     lines = on.lines ++ line ∷ [];
     go_on = All-append goes-on on.lines (line ∷ []) on.go_on (All-cons goes-on line [] goes (All-nil goes-on));
     given = lines_after a b c on.lines (line ∷ []) [] on.given given;
     answered = answered_after x y z before now after on.lines (line ∷ []) on.answered answered;
   },
-  omega (arith, few, length-append on.lines (line ∷ [])),
+  omega (arith, counted, read, with_ends-push on.lines line),
 )
 
 pub stands_so_far : (before now : Session) (a b x y : Option (List ℕ)) → HasGoneOn before now a b x y → HasConversedSoFar before a b x y
@@ -187,23 +199,55 @@ pub read_after : (before now : Session) (a b c x y : Option (List ℕ)) → HasG
 read_after before now a b c x y on (lines, (last, both)) =
     (on.lines ++ lines, (last, (lines_after a b c on.lines lines last on.given both.0, both.1)))
 
-on_and_on_after : (before now : Session) (a b c x y : Option (List ℕ)) → HasGoneOn before now a b x y → GivesOnAndOn b c
-    → GivesOnAndOn a c
-on_and_on_after before now a b c x y on more =
-    let bytes = with_ends on.lines ++ [] in
-    (bytes ++ more.0, (Consumes-trans a b c bytes more.0 on.given.0 more.1.0, omega (arith, more.1.1, length-append bytes more.0)))
+on_and_on_after : (before now : Session) (a b c x y : Option (List ℕ)) (n : ℕ) → (on : HasGoneOn before now a b x y)
+    → length (with_ends on.lines) + n ≡ most_reads → GivesInEach n b c → GivesOnAndOn a c
+on_and_on_after before now a b c x y n on counted more =
+    let bytes = with_ends on.lines ++ [] in (
+      bytes ++ more.0,
+      (
+        Consumes-trans a b c bytes more.0 on.given.0 more.1.0,
+        omega (arith, counted, more.1.1, length-append bytes more.0, length-append (with_ends on.lines) []),
+      ),
+    )
 
-pub failed_after : (before now : Session) (a b c x y : Option (List ℕ)) (F : Type 0) → HasGoneOn before now a b x y → F ⊎ GivesOnAndOn b c
-    → F ⊎ GivesOnAndOn a c
-failed_after before now a b c x y F on (inl failed) = inl failed
-failed_after before now a b c x y F on (inr more) = inr (on_and_on_after before now a b c x y on more)
+pub failed_after : (before now : Session) (a b c x y : Option (List ℕ)) (F : Type 0) (n : ℕ) → (on : HasGoneOn before now a b x y)
+    → length (with_ends on.lines) + n ≡ most_reads → F ⊎ GivesInEach n b c → F ⊎ GivesOnAndOn a c
+failed_after before now a b c x y F n on counted (inl failed) = inl failed
+failed_after before now a b c x y F n on counted (inr more) = inr (on_and_on_after before now a b c x y n on counted more)
 
--- a line for each of so many turns
-pub on_and_on : (before now : Session) (a b x y : Option (List ℕ)) (n : ℕ) → 1000000000 ≤ n → (on : HasGoneOn before now a b x y)
-    → n ≤ length on.lines → GivesOnAndOn a b
-on_and_on before now a b x y n many on few =
+-- a byte for each of the reads
+pub on_and_on : (before now : Session) (a b x y : Option (List ℕ)) (n : ℕ) → n ≤ 0 → (on : HasGoneOn before now a b x y)
+    → length (with_ends on.lines) + n ≡ most_reads → GivesOnAndOn a b
+on_and_on before now a b x y n none on counted =
     let bytes = with_ends on.lines ++ [] in
-    (bytes, (on.given.0, omega (arith, many, few, with_ends-length on.lines, length-append (with_ends on.lines) [])))
+    (bytes, (on.given.0, omega (arith, none, counted, length-append (with_ends on.lines) [])))
+
+-- no more than the reads
+pub few_after : (before now : Session) (a b c x y : Option (List ℕ)) (n m : ℕ) → (on : HasGoneOn before now a b x y)
+    → length (with_ends on.lines) + n ≡ most_reads → IsCounted n m b c → GivesFew a c
+few_after before now a b c x y n m on counted more =
+    let bytes = with_ends on.lines ++ [] in (
+      bytes ++ more.0,
+      (
+        Consumes-trans a b c bytes more.0 on.given.0 more.1.0,
+        omega (arith, counted, more.1.1, length-append bytes more.0, length-append (with_ends on.lines) []),
+      ),
+    )
+
+pub few_so_far : (before now : Session) (a b x y : Option (List ℕ)) (n : ℕ) → (on : HasGoneOn before now a b x y)
+    → length (with_ends on.lines) + n ≡ most_reads → GivesFew a b
+few_so_far before now a b x y n on counted =
+    let bytes = with_ends on.lines ++ [] in
+    (bytes, (on.given.0, omega (arith, counted, length-append (with_ends on.lines) [])))
+
+-- a line that all the reads were used for
+pub each_given : (F : Type 0) (n : ℕ) (a b : Option (List ℕ)) (line : List ℕ) → F ⊎ (n ≤ length line) → Consumes a b line
+    → F ⊎ GivesInEach n a b
+each_given F n a b line (inl failed) given = inl failed
+each_given F n a b line (inr many) given = inr (line, (given, many))
+
+pub none_given : (a b : Option (List ℕ)) → b ≡ a → GivesFew a b
+none_given a b same = ([], (subst (λ c. Consumes a c []) (sym same) (Consumes-nil a), omega arith))
 
 -- one line
 pub line_given : (a b : Option (List ℕ)) (line : List ℕ) → Consumes a b (line ++ 10 ∷ []) → HasNoEnd line → GivesLines a b (line ∷ []) []

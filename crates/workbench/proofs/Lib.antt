@@ -4,5 +4,3 @@ pub mod Lines
 pub mod Lives
 pub mod RunLine
 pub mod Runs
-mod Shown
-mod Drawn

@@ -11,14 +11,13 @@ use Rattle.assembler.proofs.ReadLines.{one_image}
 use Rattle.schedule_reader.specs.declared.fault.ScheduleFault.{ScheduleFault}
 use Rattle.schedule_reader.specs.declared.fault.ScheduleFault.TheVariants as schedule
 use Rattle.schedule_reader.specs.Schedule.{Schedule, finished_schedule, open_schedule, choices_of}
-use Rattle.trace_compare.specs.RunText.{GivesOnAndOn, HasRun, HasRunSoFar, HasRunToFault, IsTraceOf}
+use Rattle.trace_compare.specs.RunText.{GivesOnAndOn, HasRun, HasRunInPart, HasRunSoFar, HasRunToFault, IsTraceOf}
 use Rattle.trace_compare.specs.Trace.{lines_of}
 use Rattle.trace_compare.proofs.Plays.{Part-whole}
 use Rattle.workbench.specs.declared.fault.Fault.{Fault}
 use Rattle.workbench.specs.declared.fault.Fault.TheVariants as fault
 use Rattle.workbench.specs.Fault.{image_status, load_status, number_of, schedule_status, status_of, text_status}
 use Rattle.workbench.specs.Live.{IsLived, IsLivedAtMost, IsLivedLong, IsRecorded}
-use Rattle.workbench.specs.Play.{HasRunAtMost}
 use Rattle.workbench.specs.ProgramFile.{IsProgramFile}
 use Rattle.workbench.proofs.Runs.{whole_fault}
 
@@ -47,17 +46,17 @@ no_fault image f schedule after output_before output_after none
     absurd (cc (none, ap (λ (s : Schedule). s.fault) finished))
 
 -- the lines so far are a part of those of the choices that were read
-pub so_far-at_most : (image : Image) (schedule_before schedule_after output_before output_after : Option (List ℕ))
+pub so_far-in_part : (image : Image) (schedule_before schedule_after output_before output_after : Option (List ℕ))
     → HasRunSoFar image schedule_before schedule_after output_before output_after
-    → HasRunAtMost image schedule_before schedule_after output_before output_after
-so_far-at_most image schedule_before schedule_after output_before output_after
+    → HasRunInPart image schedule_before schedule_after output_before output_after
+so_far-in_part image schedule_before schedule_after output_before output_after
     (world, (bytes, (begins, consumed, appended))) =
     inr (
       world,
       (
         bytes,
         (
-          (open_schedule bytes).runs,
+          open_schedule bytes,
           (
             begins,
             consumed,
@@ -71,22 +70,22 @@ so_far-at_most image schedule_before schedule_after output_before output_after
 -- what was written of it at most, where memory is wanting or it can't be read
 part_by : (f : Fault) (image : Image) (given schedule after : List ℕ) (output_before output_after : Option (List ℕ)) (A : Type 0)
     → given ≡ schedule → (status_of f ≡ 4) ⊎ (f ≡ fault.Read)
-    → (status_of f ≡ 4 → HasRunAtMost image (Some given) (Some after) output_before output_after)
+    → (status_of f ≡ 4 → HasRunInPart image (Some given) (Some after) output_before output_after)
     → (f ≡ fault.Read → A × HasRunSoFar image (Some given) (Some after) output_before output_after)
-    → (rest : Option (List ℕ)) × HasRunAtMost image (Some schedule) rest output_before output_after
+    → (rest : Option (List ℕ)) × HasRunInPart image (Some schedule) rest output_before output_after
 part_by f image given schedule after output_before output_after A is (inl four) memory read =
-    (Some after, subst (λ s. HasRunAtMost image (Some s) (Some after) output_before output_after) is (memory four))
+    (Some after, subst (λ s. HasRunInPart image (Some s) (Some after) output_before output_after) is (memory four))
 part_by f image given schedule after output_before output_after A is (inr unread) memory read =
     let (_, so_far) = read unread in
-    let most = so_far-at_most image (Some given) (Some after) output_before output_after so_far in
-    (Some after, subst (λ s. HasRunAtMost image (Some s) (Some after) output_before output_after) is most)
+    let most = so_far-in_part image (Some given) (Some after) output_before output_after so_far in
+    (Some after, subst (λ s. HasRunInPart image (Some s) (Some after) output_before output_after) is most)
 
 pub part_of : (result : Result (Unit {0}) Fault) (image : Image) (given schedule after : List ℕ)
     (output_before output_after : Option (List ℕ)) (A : Type 0) → given ≡ schedule
-    → IfErr result (λ f. status_of f ≡ 4 → HasRunAtMost image (Some given) (Some after) output_before output_after)
+    → IfErr result (λ f. status_of f ≡ 4 → HasRunInPart image (Some given) (Some after) output_before output_after)
     → (result ≡ Err fault.Read → A × HasRunSoFar image (Some given) (Some after) output_before output_after)
     → IfErr result (λ f. (status_of f ≡ 4) ⊎ (f ≡ fault.Read)
-    → (rest : Option (List ℕ)) × HasRunAtMost image (Some schedule) rest output_before output_after)
+    → (rest : Option (List ℕ)) × HasRunInPart image (Some schedule) rest output_before output_after)
 part_of (Ok x) image given schedule after output_before output_after A is memory read = tt
 part_of (Err f) image given schedule after output_before output_after A is memory read = λ which.
     part_by f image given schedule after output_before output_after A is which memory (λ unread. read (ap Err unread))
@@ -119,7 +118,7 @@ lived (Err e) limit file schedule a b output_before output_after first again rec
 pub lived_in_part : (result : Result (Unit {0}) Fault) (limit : ℕ) (file schedule : List ℕ) (a b : Image)
     (output_before output_after : Option (List ℕ)) → IsProgramFile file a → IsProgramFile file b → IsRecorded a limit schedule
     → IfErr result (λ f. (status_of f ≡ 4) ⊎ (f ≡ fault.Read)
-    → (rest : Option (List ℕ)) × HasRunAtMost b (Some schedule) rest output_before output_after)
+    → (rest : Option (List ℕ)) × HasRunInPart b (Some schedule) rest output_before output_after)
     → IfErr result (λ f. (status_of f ≡ 4) ⊎ (f ≡ fault.Read) → IsLivedAtMost limit file output_before output_after)
 lived_in_part (Ok x) limit file schedule a b output_before output_after first again recorded part = tt
 lived_in_part (Err f) limit file schedule a b output_before output_after first again recorded part = λ which.

@@ -1,5 +1,5 @@
 -- What becomes of a program under a schedule that is known as a whole.
-use Rattle.std.proofs.Common.{◌≡◌, ◌≢◌, ◌∙◌, ◌++◌, ◌⊎◌, ℕ, inl, inr, List, Ok, Err, Result, Option, Some, ap, sym, refl, subst, append-nil, arith}
+use Rattle.std.proofs.Common.{◌≡◌, ◌≢◌, ◌∙◌, ◌++◌, ℕ, inl, inr, List, Ok, Err, Result, Option, Some, ap, sym, refl, subst, append-nil, arith}
 use Rattle.std.specs.Prelude.{OnOk, IfErr}
 use Rattle.std.specs.Io.KnownBytes.{Appends}
 use Rattle.line_reader.specs.declared.asm_fault.AsmFault.{AsmFault}
@@ -13,12 +13,11 @@ use Rattle.schedule_reader.specs.Schedule.{finished_schedule, choices_of}
 use Rattle.trace_compare.specs.RunText.{HasFault, HasRun, HasRunToFault, faulty_after}
 use Rattle.trace_compare.specs.RunText as run
 use Rattle.trace_compare.specs.Start.{IsRefused}
-use Rattle.trace_compare.specs.Trace.{AppendsPartOf, lines_of}
+use Rattle.trace_compare.specs.Trace.{lines_of}
 use Rattle.workbench.specs.declared.fault.Fault.{Fault}
 use Rattle.workbench.specs.declared.fault.Fault.TheVariants as fault
-use Rattle.workbench.specs.Both.{AreLinesOf, AreRefusedFor, IsTraceOf}
+use Rattle.workbench.specs.Both.{AreRefusedFor, IsTraceOf, IsTracedAtMost}
 use Rattle.workbench.specs.Fault.{status_of}
-use Rattle.workbench.specs.Play.{HasRunAtMost}
 use Rattle.workbench.specs.RunLine.{program_part, schedule_part}
 
 -- the fault of a known schedule
@@ -71,24 +70,16 @@ whole-refused (Err fault.Write) image text schedule after output_before output_a
     λ three. absurd (omega (arith, three))
 
 -- what was written at most of a whole text
-at_most : (image : Image) (text schedule after : List ℕ) (output_before output_after : Option (List ℕ))
-    → schedule ≡ schedule_part text → StandsFor (program_part text) image
-    → HasRunAtMost image (Some schedule) (Some after) output_before output_after
-    → (output_after ≡ output_before) ⊎ ((lines : List ℕ)
-    × (AreLinesOf text lines × AppendsPartOf output_before output_after lines))
-at_most image text schedule after output_before output_after is stands (inl same) = inl same
-at_most image text schedule after output_before output_after is stands
-    (inr (world, (bytes, (runs, (begins, consumed, runs_of, part))))) =
-    inr (
-      lines_of world (choices_of runs),
-      ((image, (world, (bytes, (after, (runs, (stands, begins, sym is ∙ consumed, runs_of, refl)))))), part),
-    )
-
 pub whole-at_most : (result : Result (Unit {0}) Fault) (image : Image) (text schedule after : List ℕ)
     (output_before output_after : Option (List ℕ)) → schedule ≡ schedule_part text → StandsFor (program_part text) image
-    → IfErr result (λ f. status_of f ≡ 4 → HasRunAtMost image (Some schedule) (Some after) output_before output_after)
-    → IfErr result (λ f. status_of f ≡ 4 → (output_after ≡ output_before) ⊎ ((lines : List ℕ)
-    × (AreLinesOf text lines × AppendsPartOf output_before output_after lines)))
+    → IfErr result (λ f. status_of f ≡ 4 → run.HasRunInPart image (Some schedule) (Some after) output_before output_after)
+    → IfErr result (λ f. status_of f ≡ 4 → IsTracedAtMost text output_before output_after)
 whole-at_most (Ok x) image text schedule after output_before output_after is stands most = tt
 whole-at_most (Err f) image text schedule after output_before output_after is stands most = λ four.
-    at_most image text schedule after output_before output_after is stands (most four)
+    inr (
+      image,
+      (
+        Some after,
+        (stands, subst (λ s. run.HasRunInPart image (Some s) (Some after) output_before output_after) is (most four)),
+      ),
+    )

@@ -1,5 +1,5 @@
 -- What the program without words does with its input.
-use Rattle.std.specs.Prelude.{◌≡◌, ◌⊎◌, ◌++◌, ℕ, List, Option, Err}
+use Rattle.std.specs.Prelude.{◌≡◌, ◌⊎◌, ℕ, List, Option, Some, Err}
 use Rattle.std.specs.Io.KnownBytes.{Appends}
 use Rattle.row_code.specs.declared.image.Image.{Image}
 use Rattle.loader.specs.declared.load_fault.LoadFault.{LoadFault}
@@ -12,11 +12,10 @@ use Rattle.schedule_reader.specs.Schedule.{finished_schedule, choices_of}
 use Rattle.trace_compare.specs.RunText.{faulty_after}
 use Rattle.trace_compare.specs.RunText as run
 use Rattle.trace_compare.specs.Start.{Begins, IsRefused}
-use Rattle.trace_compare.specs.Trace.{AppendsPartOf, lines_of}
+use Rattle.trace_compare.specs.Trace.{lines_of}
 use Rattle.workbench.specs.declared.fault.Fault.{Fault}
 use Rattle.workbench.specs.declared.fault.Fault.TheVariants as fault
 use Rattle.workbench.specs.Input.{GivesAll}
-use Rattle.workbench.specs.Play.{AreRunsOf}
 use Rattle.workbench.specs.RunLine.{program_part, schedule_part}
 
 -- the trace of the program that stands before a text's line `.run`, played from its beginning under the schedule that
@@ -68,17 +67,16 @@ HasRefused f input_before input_after output_before output_after =
     (text : List ℕ) × (GivesAll input_before input_after text
     × AreRefusedFor f (program_part text) (schedule_part text) output_before output_after)
 
--- the lines of the choices of a schedule's beginning, or of the whole schedule
-abbrev pub AreLinesOf : List ℕ → List ℕ → Type 0
-AreLinesOf text lines =
-    (image : Image) × ((world : World) × ((bytes : List ℕ) × ((rest : List ℕ) × ((runs : List Run)
-    × (StandsFor (program_part text) image × Begins image world × (schedule_part text ≡ bytes ++ rest)
-    × AreRunsOf bytes runs × (lines ≡ lines_of world (choices_of runs)))))))
+-- nothing was written; or a part of the lines of the choices of the schedule in a text
+abbrev pub IsTracedAtMost : List ℕ → (output_before output_after : Option (List ℕ)) → Type 0
+IsTracedAtMost text output_before output_after =
+    (output_after ≡ output_before) ⊎ ((image : Image) × ((rest : Option (List ℕ))
+    × (StandsFor (program_part text) image
+    × run.HasRunInPart image (Some (schedule_part text)) rest output_before output_after)))
 
--- nothing was written; or the input was read to its end, and a part of such lines was written
+-- the same, and where something was written the input was read to its end
 abbrev pub HasTracedAtMost : Option (List ℕ) → Option (List ℕ) → Option (List ℕ) → Option (List ℕ)
     → Type 0
 HasTracedAtMost input_before input_after output_before output_after =
-    (output_after ≡ output_before) ⊎ ((text : List ℕ) × ((lines : List ℕ)
-    × (GivesAll input_before input_after text × AreLinesOf text lines
-    × AppendsPartOf output_before output_after lines)))
+    (output_after ≡ output_before) ⊎ ((text : List ℕ) × (GivesAll input_before input_after text
+    × IsTracedAtMost text output_before output_after))

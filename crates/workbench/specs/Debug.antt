@@ -1,5 +1,5 @@
 -- What `debug` makes of a program's file and of lines of commands.
-use Rattle.std.specs.Prelude.{◌≡◌, ◌≢◌, ◌⊎◌, ℕ, true, false, All, List, [], ◌∷◌, ◌++◌, length, replicate, Option}
+use Rattle.std.specs.Prelude.{◌≡◌, ◌≢◌, ◌≤◌, ◌⊎◌, ℕ, true, false, All, List, [], ◌∷◌, ◌++◌, length, replicate, Option}
 use Rattle.std.specs.Io.KnownBytes.{Appends, Consumes, IsAtEnd}
 use Rattle.row_code.specs.declared.image.Image.{Image}
 use Rattle.thread_machine.specs.World.{StoredWorld, world_of}
@@ -18,6 +18,14 @@ first_session world =
 abbrev pub with_ends : List (List ℕ) → List ℕ
 with_ends [] = []
 with_ends (line ∷ lines) = line ++ (10 ∷ with_ends lines)
+
+-- how often a session's commands are read at most, a byte at a time, over all its lines
+abbrev pub most_reads : ℕ
+most_reads = 1000000000
+
+-- no more bytes were given than there are reads
+abbrev pub GivesFew : Option (List ℕ) → Option (List ℕ) → Type 0
+GivesFew before after = (bytes : List ℕ) × (Consumes before after bytes × (length bytes ≤ most_reads))
 
 abbrev pub HasNoEnd : List ℕ → Type 0
 HasNoEnd line = All (λ byte. byte ≢ 10) line

@@ -1,5 +1,5 @@
 -- How much a source gives.
-use Rattle.std.specs.Prelude.{ℕ, ◌<◌, ◌≤◌, List, length, Option}
+use Rattle.std.specs.Prelude.{ℕ, ◌+◌, ◌<◌, ◌≤◌, List, length, Option}
 use Rattle.std.specs.Io.KnownBytes.{Consumes, IsAtEnd}
 
 -- how many bytes an input may have
@@ -14,3 +14,12 @@ GivesTooMuch before after =
 -- a source gave this text, no longer than an input may be, and has nothing left
 abbrev pub GivesAll : Option (List ℕ) → Option (List ℕ) → List ℕ → Type 0
 GivesAll before after text = Consumes before after text × IsAtEnd after × (length text ≤ most_bytes)
+
+-- a source gave a byte in each of so many reads
+abbrev pub GivesInEach : ℕ → Option (List ℕ) → Option (List ℕ) → Type 0
+GivesInEach reads before after = (bytes : List ℕ) × (Consumes before after bytes × (reads ≤ length bytes))
+
+-- of so many reads so many are left, and in each of the others a source gave a byte at most
+abbrev pub IsCounted : ℕ → ℕ → Option (List ℕ) → Option (List ℕ) → Type 0
+IsCounted reads_before reads_after before after =
+    (bytes : List ℕ) × (Consumes before after bytes × (length bytes + reads_after ≤ reads_before))

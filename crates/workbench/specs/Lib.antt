@@ -2,13 +2,10 @@ pub mod Asm
 pub mod Both
 pub mod Compare
 pub mod Debug
-pub mod Draw
 pub mod Fault
 pub mod Input
 pub mod List
 pub mod Live
-pub mod Play
 pub mod ProgramFile
 pub mod Run
 pub mod RunLine
-pub mod Show

@@ -7,12 +7,11 @@ use Rattle.thread_machine.specs.World.{World, first_world}
 use Rattle.thread_runner.specs.declared.ending.Ending.{Ending}
 use Rattle.thread_runner.specs.Endings.{ending_of}
 use Rattle.thread_runner.specs.Replay.{IsReplayOfText}
-use Rattle.trace_compare.specs.RunText.{IsTraceOf}
+use Rattle.trace_compare.specs.RunText.{HasRunInPart, IsTraceOf}
 use Rattle.trace_compare.specs.Start.{IsRefused}
 use Rattle.workbench.specs.declared.fault.Fault.{Fault}
 use Rattle.workbench.specs.declared.fault.Fault.TheVariants as fault
 use Rattle.workbench.specs.Input.{GivesAll}
-use Rattle.workbench.specs.Play.{HasRunAtMost}
 use Rattle.workbench.specs.ProgramFile.{IsNoProgramFor, IsProgramFile}
 
 -- the schedule is the record of a run of the image's program that came to an end, of at most so many steps: each of its
@@ -36,7 +35,7 @@ IsLivedAtMost limit file output_before output_after =
     (output_after ≡ output_before)
     ⊎ ((image : Image) × ((schedule : List ℕ) × ((rest : Option (List ℕ))
     × (IsProgramFile file image × IsRecorded image limit schedule
-    × HasRunAtMost image (Some schedule) rest output_before output_after))))
+    × HasRunInPart image (Some schedule) rest output_before output_after))))
 
 -- the record of the run was of 1,000,000,000 bytes at least
 abbrev pub IsLivedLong : ℕ → List ℕ → Type 0

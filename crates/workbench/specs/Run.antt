@@ -1,12 +1,11 @@
 -- What `run` makes of a program's file and a schedule.
 use Rattle.std.specs.Prelude.{◌≡◌, ◌⊎◌, ℕ, List, Option}
 use Rattle.row_code.specs.declared.image.Image.{Image}
-use Rattle.trace_compare.specs.RunText.{HasRun, HasRunSoFar, HasRunToFault, HasWrittenTheSame}
+use Rattle.trace_compare.specs.RunText.{HasRun, HasRunInPart, HasRunSoFar, HasRunToFault, HasWrittenTheSame}
 use Rattle.trace_compare.specs.Start.{IsRefused}
 use Rattle.workbench.specs.declared.fault.Fault.{Fault}
 use Rattle.workbench.specs.declared.fault.Fault.TheVariants as fault
 use Rattle.workbench.specs.Input.{GivesAll}
-use Rattle.workbench.specs.Play.{HasRunAtMost}
 use Rattle.workbench.specs.ProgramFile.{IsNoProgramFor, IsProgramFile}
 
 -- the file was read to its end, and its image is this one
@@ -67,7 +66,7 @@ HasRunRefused _ file_before file_after schedule_before schedule_after output_bef
 abbrev pub HasRunFileAtMost : (file_before file_after schedule_before schedule_after output_before output_after : Option (List ℕ)) → Type 0
 HasRunFileAtMost file_before file_after schedule_before schedule_after output_before output_after =
     (output_after ≡ output_before) ⊎ ((image : Image) × (GivesProgram file_before file_after image
-    × HasRunAtMost image schedule_before schedule_after output_before output_after))
+    × HasRunInPart image schedule_before schedule_after output_before output_after))
 
 -- nothing was written; or the file was read to its end, and the lines of the choices that were read were written
 abbrev pub HasRunFileSoFar : (file_before file_after schedule_before schedule_after output_before output_after : Option (List ℕ)) → Type 0

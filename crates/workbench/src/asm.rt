@@ -1,4 +1,4 @@
-ghost use Rattle.std.specs.Prelude.{◌≡◌, ◌⊎◌, IsTrue, IfErr, OnOk};
+ghost use Rattle.std.specs.Prelude.{◌≡◌, ◌≢◌, ◌⊎◌, IsTrue, IfErr, OnOk};
 ghost use Rattle.std.specs.Io.KnownBytes.{Appends};
 ghost use Rattle.row_code.specs.Image.{image_bytes};
 ghost use Rattle.workbench.specs.declared.fault.Fault.{Fault};
@@ -29,7 +29,9 @@ pub fn asm_cmd<S: Source, K: Sink, E: Sink>(
     ensures told { ((result ≡ 0) × (E.written errors.new ≡ E.written errors.old))
         ⊎ ((fault : Fault) × ((result ≡ status_of fault)
         × (HasTold fault (E.has_failed errors.new) (E.written errors.old) (E.written errors.new)
-        × (result ≡ 3 → HasTextFault fault (S.left input.old) (S.left input.new))))) }
+        × (result ≡ 3 → HasTextFault fault (S.left input.old) (S.left input.new))
+        × (fault ≢ Fault.Spawn)
+        × (fault ≡ Fault.Read → K.written output.new ≡ K.written output.old)))) }
     ensures unchanged { (result ≡ 3) ⊎ (result ≡ 4) → K.written output.new ≡ K.written output.old }
     ensures port { result ≡ 5 → IsTrue (S.has_failed input.new)
         ⊎ (GivesTooMuch (S.left input.old) (S.left input.new)
@@ -52,6 +54,7 @@ fn asm<S: Source, K: Sink>(alloc: Global, input: &mut S, output: &mut K) -> Resu
         → HasTextFault fault (S.left input.old) (S.left input.new)) }
     ensures unchanged { IfErr result (λ fault. (fault ≡ Fault.Write)
         ⊎ (K.written output.new ≡ K.written output.old)) }
+    ensures spawn { result ≢ Err Fault.Spawn }
     ensures read { result ≡ Err Fault.Read → IsTrue (S.has_failed input.new)
         ⊎ GivesTooMuch (S.left input.old) (S.left input.new) }
     ensures write { result ≡ Err Fault.Write → IsTrue (K.has_failed output.new) }

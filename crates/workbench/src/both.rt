@@ -1,14 +1,13 @@
 ghost use Rattle.std.specs.Prelude.{◌≡◌, ◌≢◌, ◌⊎◌, ◌≤◌, length, List, ℕ, IsTrue, OnOk, IfErr};
 ghost use Rattle.std.specs.Io.KnownBytes.{Appends};
 ghost use Rattle.workbench.specs.declared.fault.Fault.{Fault};
-ghost use Rattle.workbench.specs.Both.{AreLinesOf, AreRefusedFor, HasRefused, HasTraced, HasTracedAtMost, HasTracedTheSame, IsTraceOf};
+ghost use Rattle.workbench.specs.Both.{AreRefusedFor, HasRefused, HasTraced, HasTracedAtMost, HasTracedTheSame, IsTraceOf, IsTracedAtMost};
 ghost use Rattle.workbench.specs.Fault.{HasTold, status_of};
 ghost use Rattle.workbench.specs.Input.{GivesTooMuch, most_bytes};
 ghost use Rattle.workbench.specs.RunLine.{program_part, schedule_part};
 ghost use Rattle.assembler.specs.Meaning.{StandsFor};
 ghost use Rattle.row_code.specs.declared.image.Image.{Image};
 ghost use Rattle.trace_compare.specs.RunText.{HasWrittenTheSame};
-ghost use Rattle.trace_compare.specs.Trace.{AppendsPartOf};
 
 use crate::fault::{DONE, Fault};
 use crate::input::read_all;
@@ -40,6 +39,7 @@ pub fn both_cmd<S: Source, K: Sink, E: Sink>(
         × (HasTold fault (E.has_failed errors.new) (E.written errors.old) (E.written errors.new)
         × (result ≡ 3 → HasRefused fault (S.left input.old) (S.left input.new)
         (K.written output.old) (K.written output.new))
+        × (fault ≢ Fault.Spawn)
         × (fault ≡ Fault.Read → K.written output.new ≡ K.written output.old)))) }
     ensures memory { result ≡ 4 → HasTracedAtMost (S.left input.old) (S.left input.new)
         (K.written output.old) (K.written output.new) }
@@ -65,6 +65,7 @@ fn both<S: Source, K: Sink>(alloc: Global, input: &mut S, output: &mut K) -> Res
     ensures refused { IfErr result (λ fault. status_of fault ≡ 3
         → HasRefused fault (S.left input.old) (S.left input.new)
         (K.written output.old) (K.written output.new)) }
+    ensures spawn { result ≢ Err Fault.Spawn }
     ensures unread { result ≡ Err Fault.Read → K.written output.new ≡ K.written output.old }
     ensures memory { IfErr result (λ fault. status_of fault ≡ 4
         → HasTracedAtMost (S.left input.old) (S.left input.new)
@@ -88,9 +89,8 @@ fn trace_text<K: Sink>(alloc: Global, text: &[u8], output: &mut K) -> Result<(),
         → AreRefusedFor fault (program_part text.now) (schedule_part text.now)
         (K.written output.old) (K.written output.new)) }
     ensures memory { IfErr result (λ fault. status_of fault ≡ 4
-        → (K.written output.new ≡ K.written output.old) ⊎ ((lines : List ℕ)
-        × (AreLinesOf text.now lines
-        × AppendsPartOf (K.written output.old) (K.written output.new) lines))) }
+        → IsTracedAtMost text.now (K.written output.old) (K.written output.new)) }
+    ensures spawn { result ≢ Err Fault.Spawn }
     ensures read { result ≢ Err Fault.Read }
     ensures write { result ≡ Err Fault.Write → IsTrue (K.has_failed output.new) }
 {

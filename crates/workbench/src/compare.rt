@@ -40,7 +40,9 @@ pub fn compare_cmd<F: Source, S: Source, K: Sink, E: Sink>(
     ensures told { (((result ≡ 0) ⊎ (result ≡ 1)) × (E.written errors.new ≡ E.written errors.old))
         ⊎ ((fault : Fault) × ((result ≡ status_of fault)
         × (HasTold fault (E.has_failed errors.new) (E.written errors.old) (E.written errors.new)
-        × (result ≡ 3 → HasNoRun fault (F.left file.old) (F.left file.new) (S.left trace.old) (S.left trace.new))))) }
+        × (result ≡ 3 → HasNoRun fault (F.left file.old) (F.left file.new) (S.left trace.old) (S.left trace.new))
+        × (fault ≢ Fault.Spawn)
+        × (fault ≡ Fault.Read → K.written output.new ≡ K.written output.old)))) }
     ensures unchanged { (result ≡ 3) ⊎ (result ≡ 4) → K.written output.new ≡ K.written output.old }
     ensures port { result ≡ 5 → (IsTrue (F.has_failed file.new)
         ⊎ GivesTooMuch (F.left file.old) (F.left file.new))
@@ -71,6 +73,7 @@ fn compared<F: Source, S: Source, K: Sink>(
         → HasNoRun fault (F.left file.old) (F.left file.new) (S.left trace.old) (S.left trace.new)) }
     ensures unchanged { IfErr result (λ fault. (fault ≡ Fault.Write)
         ⊎ (K.written output.new ≡ K.written output.old)) }
+    ensures spawn { result ≢ Err Fault.Spawn }
     ensures read { result ≡ Err Fault.Read → (IsTrue (F.has_failed file.new)
         ⊎ GivesTooMuch (F.left file.old) (F.left file.new))
         ⊎ (IsTrue (S.has_failed trace.new)
@@ -102,6 +105,7 @@ fn verdict_on<S: Source>(alloc: Global, image: Image, trace: &mut S) -> Result<V
     ensures other { ((fault : AsmFault) → result ≢ Err (Fault.Asm fault))
         × ((fault : ImageFault) → result ≢ Err (Fault.Image fault))
         × ((fault : ScheduleFault) → result ≢ Err (Fault.Schedule fault))
+        × (result ≢ Err Fault.Spawn)
         × (result ≢ Err Fault.Write) }
 {
     match compare(alloc, image, trace) {

@@ -1,4 +1,4 @@
-ghost use Rattle.std.specs.Prelude.{◌≡◌, ◌≢◌, ◌⊎◌, ◌∷◌, [], true, false, List, ℕ, Ok, Err, IsTrue, IfOk, IfErr, OnOk};
+ghost use Rattle.std.specs.Prelude.{◌≡◌, ◌≢◌, ◌⊎◌, ◌+◌, ◌∷◌, [], true, false, List, ℕ, length, Ok, Err, IsTrue, IfOk, IfErr, OnOk};
 ghost use Rattle.line_reader.specs.declared.asm_fault.AsmFault.{AsmFault};
 ghost use Rattle.row_code.specs.declared.image_fault.ImageFault.{ImageFault};
 ghost use Rattle.loader.specs.declared.load_fault.LoadFault.{LoadFault};
@@ -8,9 +8,9 @@ ghost use Rattle.trace_compare.specs.RunText.{GivesOnAndOn};
 ghost use Rattle.trace_compare.specs.Start.{Begins, IsRefused};
 ghost use Rattle.debugger.specs.Command.{goes_on, line_order};
 ghost use Rattle.workbench.specs.declared.fault.Fault.{Fault};
-ghost use Rattle.workbench.specs.Debug.{GivesLines, HasAnswered, HasConversed, HasConversedAtMost, HasConversedSoFar, HasDebugged, HasDebuggedAtMost, HasDebuggedSoFar, HasReadLines, first_session};
+ghost use Rattle.workbench.specs.Debug.{GivesFew, GivesLines, HasAnswered, HasConversed, HasConversedAtMost, HasConversedSoFar, HasDebugged, HasDebuggedAtMost, HasDebuggedSoFar, HasReadLines, first_session};
 ghost use Rattle.workbench.specs.Fault.{HasTold, status_of};
-ghost use Rattle.workbench.specs.Input.{GivesTooMuch};
+ghost use Rattle.workbench.specs.Input.{GivesInEach, GivesTooMuch, IsCounted};
 ghost use Rattle.workbench.specs.Run.{HasNoRun};
 
 use crate::fault::{DONE, Fault};
@@ -25,8 +25,8 @@ use trace_compare::start::{StartFault, first_machine};
 /// How many choices can be taken back.
 const MOST_KEPT: u16 = 4096;
 
-/// How many lines of commands are read at most.
-const MOST_LINES: u64 = 1_000_000_000;
+/// How often the commands are read at most, a byte at a time, over all lines.
+const MOST_READS: u64 = 1_000_000_000;
 
 /// Debugs the program in `file`, an image or a text: reads a line of `commands`, carries it out, writes its reply to
 /// `output`, and reads on, up to the line `q` or to the end. Answers the exit status, 0 where all went well, also where a
@@ -51,7 +51,9 @@ pub fn debug_cmd<F: Source, S: Source, K: Sink, E: Sink>(
         × (result ≡ 3 → HasNoRun fault (F.left file.old) (F.left file.new) (S.left commands.old) (S.left commands.new))
         × (fault ≡ Fault.Read → HasDebuggedSoFar (F.left file.old) (F.left file.new)
         (S.left commands.old) (S.left commands.new) (K.written output.old) (K.written output.new))
-        × (fault ≡ Fault.Write → HasReadLines (S.left commands.old) (S.left commands.new))))) }
+        × (fault ≡ Fault.Write → HasReadLines (S.left commands.old) (S.left commands.new))
+        × (fault ≢ Fault.Spawn)))) }
+    ensures few { GivesFew (S.left commands.old) (S.left commands.new) }
     ensures unchanged { result ≡ 3 → K.written output.new ≡ K.written output.old }
     ensures memory { result ≡ 4 → HasDebuggedAtMost (F.left file.old) (F.left file.new)
         (S.left commands.old) (S.left commands.new) (K.written output.old) (K.written output.new) }
@@ -93,6 +95,8 @@ fn debug<F: Source, S: Source, K: Sink>(
         ⊎ GivesOnAndOn (S.left commands.old) (S.left commands.new)) }
     ensures write { result ≡ Err Fault.Write → IsTrue (K.has_failed output.new)
         × HasReadLines (S.left commands.old) (S.left commands.new) }
+    ensures spawn { result ≢ Err Fault.Spawn }
+    ensures few { GivesFew (S.left commands.old) (S.left commands.new) }
 {
     let image = match read_program(alloc, file) {
         Ok(image) => image,
@@ -113,7 +117,7 @@ fn first_debugger(alloc: Global, image: Image) -> Result<Debugger, Fault>
     ensures other { ((fault : AsmFault) → result ≢ Err (Fault.Asm fault))
         × ((fault : ImageFault) → result ≢ Err (Fault.Image fault))
         × ((fault : ScheduleFault) → result ≢ Err (Fault.Schedule fault))
-        × (result ≢ Err Fault.Read) × (result ≢ Err Fault.Write) }
+        × (result ≢ Err Fault.Spawn) × (result ≢ Err Fault.Read) × (result ≢ Err Fault.Write) }
 {
     let machine = match first_machine(alloc, image) {
         Ok(machine) => machine,
@@ -144,10 +148,12 @@ fn converse<S: Source, K: Sink>(
     ensures write { result ≡ Err Fault.Write
         → IsTrue (K.has_failed output.new) × HasReadLines (S.left commands.old) (S.left commands.new) }
     ensures fault { IfErr result (λ fault. (fault ≡ Fault.Memory) ⊎ ((fault ≡ Fault.Read) ⊎ (fault ≡ Fault.Write))) }
+    ensures few { GivesFew (S.left commands.old) (S.left commands.new) }
 {
     let mut line = Vec::new(alloc);
-    for _ in 0..MOST_LINES {
-        match take_turn(alloc, debugger, &mut line, commands, output) {
+    let mut reads = MOST_READS;
+    while reads > 0 {
+        match take_turn(alloc, debugger, &mut line, &mut reads, commands, output) {
             Ok(true) => {}
             Ok(false) => return Ok(()),
             Err(fault) => return Err(fault),
@@ -156,31 +162,35 @@ fn converse<S: Source, K: Sink>(
     Err(Fault::Read)
 }
 
-/// Reads a line and answers it; whether the session goes on.
+/// Reads a line and answers it; whether the session goes on. `reads` is how often the commands may still be read.
 fn take_turn<S: Source, K: Sink>(
     alloc: Global,
     debugger: &mut Debugger,
     line: &mut Vec<u8>,
+    reads: &mut u64,
     commands: &mut S,
     output: &mut K,
 ) -> Result<bool, Fault>
     ensures next { result ≡ Ok true → (text : List ℕ)
         × (GivesLines (S.left commands.old) (S.left commands.new) (text ∷ []) []
         × (goes_on (line_order text) ≡ true)
-        × HasAnswered debugger.old (text ∷ []) debugger.new (K.written output.old) (K.written output.new)) }
+        × HasAnswered debugger.old (text ∷ []) debugger.new (K.written output.old) (K.written output.new)
+        × (length text + 1 + reads.new ≡ reads.old)) }
     ensures last { result ≡ Ok false → HasConversed debugger.old
         (S.left commands.old) (S.left commands.new) (K.written output.old) (K.written output.new) }
     ensures memory { result ≡ Err Fault.Memory → HasConversedAtMost debugger.old
         (S.left commands.old) (S.left commands.new) (K.written output.old) (K.written output.new) }
     ensures read { result ≡ Err Fault.Read
-        → (IsTrue (S.has_failed commands.new) ⊎ GivesOnAndOn (S.left commands.old) (S.left commands.new))
+        → (IsTrue (S.has_failed commands.new)
+        ⊎ GivesInEach reads.old (S.left commands.old) (S.left commands.new))
         × HasConversedSoFar debugger.old
         (S.left commands.old) (S.left commands.new) (K.written output.old) (K.written output.new) }
     ensures write { result ≡ Err Fault.Write
         → IsTrue (K.has_failed output.new) × HasReadLines (S.left commands.old) (S.left commands.new) }
     ensures fault { IfErr result (λ fault. (fault ≡ Fault.Memory) ⊎ ((fault ≡ Fault.Read) ⊎ (fault ≡ Fault.Write))) }
+    ensures few { IsCounted reads.old reads.new (S.left commands.old) (S.left commands.new) }
 {
-    let is_ended = match read_line(commands, line) {
+    let is_ended = match read_line(commands, reads, line) {
         Ok(is_ended) => is_ended,
         Err(fault) => return Err(fault),
     };

@@ -1,14 +1,11 @@
-ghost use Rattle.std.specs.Prelude.{◌≡◌, ◌⊎◌, ◌∷◌, ◌++◌, [], true, false, ℕ, All, List, Some, None, Ok, Err, IsTrue, IfErr};
+ghost use Rattle.std.specs.Prelude.{◌≡◌, ◌⊎◌, ◌+◌, ◌≤◌, ◌∷◌, ◌++◌, [], true, false, ℕ, length, All, List, Some, None, Ok, Err, IsTrue, IfErr};
 ghost use Rattle.std.specs.Io.KnownBytes.{Consumes, IsAtEnd};
-ghost use Rattle.trace_compare.specs.RunText.{GivesOnAndOn};
 ghost use Rattle.workbench.specs.Debug.{HasNoEnd};
+ghost use Rattle.workbench.specs.Input.{IsCounted};
 
 use crate::fault::Fault;
 use crate::input::pull;
 use byte_ports::Source;
-
-/// How often a source is read for one line at most.
-const MOST_READS: u64 = 1_000_000_000;
 
 /// The next byte, `None` at the end.
 fn next_byte<S: Source>(source: &mut S) -> Result<Option<u8>, Fault>
@@ -26,22 +23,30 @@ fn next_byte<S: Source>(source: &mut S) -> Result<Option<u8>, Fault>
 }
 
 /// Reads a line in place of what the vector holds: up to its LF, which is left out, or up to the end. Answers whether there
-/// was an LF. No byte behind it is asked for, so a line can be answered before the next one is there.
-pub fn read_line<S: Source>(source: &mut S, line: &mut Vec<u8>) -> Result<bool, Fault>
+/// was an LF. No byte behind it is asked for, so a line can be answered before the next one is there. `reads` is how often
+/// the source may still be read.
+pub fn read_line<S: Source>(
+    source: &mut S,
+    reads: &mut u64,
+    line: &mut Vec<u8>,
+) -> Result<bool, Fault>
     ensures ended { result ≡ Ok true
-        → Consumes (S.left source.old) (S.left source.new) (line.new.items ++ 10 ∷ []) }
+        → Consumes (S.left source.old) (S.left source.new) (line.new.items ++ 10 ∷ [])
+        × (length line.new.items + 1 + reads.new ≡ reads.old) }
     ensures last { result ≡ Ok false
         → Consumes (S.left source.old) (S.left source.new) line.new.items × IsAtEnd (S.left source.new) }
     ensures line { HasNoEnd line.new.items }
     ensures read { result ≡ Err Fault.Read
-        → (IsTrue (S.has_failed source.new) ⊎ GivesOnAndOn (S.left source.old) (S.left source.new))
+        → (IsTrue (S.has_failed source.new) ⊎ (reads.old ≤ length line.new.items))
         × Consumes (S.left source.old) (S.left source.new) line.new.items }
     ensures memory { result ≡ Err Fault.Memory → (part : List ℕ) × (HasNoEnd part
         × Consumes (S.left source.old) (S.left source.new) part) }
     ensures fault { IfErr result (λ fault. (fault ≡ Fault.Memory) ⊎ (fault ≡ Fault.Read)) }
+    ensures few { IsCounted reads.old reads.new (S.left source.old) (S.left source.new) }
 {
     line.clear();
-    for _ in 0..MOST_READS {
+    while *reads > 0 {
+        *reads -= 1;
         match next_byte(source) {
             Ok(None) => return Ok(false),
             Ok(Some(b'\n')) => return Ok(true),

@@ -1,4 +1,4 @@
-ghost use Rattle.std.specs.Prelude.{◌≡◌, ◌⊎◌, Err, IsTrue, IfErr, OnOk};
+ghost use Rattle.std.specs.Prelude.{◌≡◌, ◌≢◌, ◌⊎◌, Err, IsTrue, IfErr, OnOk};
 ghost use Rattle.std.specs.Io.KnownBytes.{Appends};
 ghost use Rattle.listing.specs.Listing.{canonical};
 ghost use Rattle.workbench.specs.declared.fault.Fault.{Fault};
@@ -30,7 +30,9 @@ pub fn list_cmd<S: Source, K: Sink, E: Sink>(
     ensures told { ((result ≡ 0) × (E.written errors.new ≡ E.written errors.old))
         ⊎ ((fault : Fault) × ((result ≡ status_of fault)
         × (HasTold fault (E.has_failed errors.new) (E.written errors.old) (E.written errors.new)
-        × (result ≡ 3 → GivesNoProgram (S.left file.old) (S.left file.new) fault)))) }
+        × (result ≡ 3 → GivesNoProgram (S.left file.old) (S.left file.new) fault)
+        × (fault ≢ Fault.Spawn)
+        × (fault ≡ Fault.Read → K.written output.new ≡ K.written output.old)))) }
     ensures unchanged { (result ≡ 3) ⊎ (result ≡ 4) → K.written output.new ≡ K.written output.old }
     ensures port { result ≡ 5 → IsTrue (S.has_failed file.new)
         ⊎ (GivesTooMuch (S.left file.old) (S.left file.new)
@@ -53,6 +55,7 @@ fn list<S: Source, K: Sink>(alloc: Global, file: &mut S, output: &mut K) -> Resu
         → GivesNoProgram (S.left file.old) (S.left file.new) fault) }
     ensures unchanged { IfErr result (λ fault. (fault ≡ Fault.Write)
         ⊎ (K.written output.new ≡ K.written output.old)) }
+    ensures spawn { result ≢ Err Fault.Spawn }
     ensures read { result ≡ Err Fault.Read → IsTrue (S.has_failed file.new)
         ⊎ GivesTooMuch (S.left file.old) (S.left file.new) }
     ensures write { result ≡ Err Fault.Write → IsTrue (K.has_failed output.new) }

@@ -7,13 +7,12 @@ ghost use Rattle.row_code.specs.declared.image.Image.{Image};
 ghost use Rattle.loader.specs.declared.load_fault.LoadFault.{LoadFault};
 ghost use Rattle.schedule_reader.specs.declared.fault.ScheduleFault.{ScheduleFault};
 ghost use Rattle.schedule_reader.specs.Schedule.{finished_schedule};
-ghost use Rattle.trace_compare.specs.RunText.{HasWrittenTheSame, IsTraceOf};
+ghost use Rattle.trace_compare.specs.RunText.{HasRunInPart, HasWrittenTheSame, IsTraceOf};
 ghost use Rattle.trace_compare.specs.Start.{IsRefused};
 ghost use Rattle.workbench.specs.declared.fault.Fault.{Fault};
 ghost use Rattle.workbench.specs.Fault.{HasTold, status_of};
 ghost use Rattle.workbench.specs.Input.{GivesTooMuch};
 ghost use Rattle.workbench.specs.Live.{HasLived, HasLivedAtMost, HasLivedLong, IsLived, IsLivedAtMost, IsLivedLong, IsRecorded, IsRefusedFor};
-ghost use Rattle.workbench.specs.Play.{HasRunAtMost};
 ghost use Rattle.workbench.specs.ProgramFile.{IsProgramFile};
 ghost use Rattle.workbench.specs.Run.{HasNoRun, HasRunTheSame};
 
@@ -28,7 +27,7 @@ use row_code::Image;
 use std::alloc::Global;
 use std::sync::Wait;
 use std::thread::Threads;
-use thread_runner::{LiveFault, NoGate, run_live};
+use thread_runner::{Gate, LiveFault, NoGate, run_live};
 
 /// Plays the program in `file`, an image or a text, on real threads, one for each of its own, for at most `limit` steps,
 /// and writes the trace of the choices that were recorded to `output`. Answers the exit status, 0 where all went well,
@@ -36,7 +35,7 @@ use thread_runner::{LiveFault, NoGate, run_live};
 /// [PLACE]` or `refused load KIND [PLACE]` (3), `memory` or `spawn` (4), or `read` or `write` (5). What `errors` makes of that
 /// line changes no status. Nothing is written before the run is over.
 pub fn live_cmd<R: Threads + Wait + Sync, F: Source, K: Sink, E: Sink>(
-    rt: &R,
+    threads: &R,
     alloc: Global,
     limit: u32,
     file: &mut F,
@@ -63,7 +62,41 @@ pub fn live_cmd<R: Threads + Wait + Sync, F: Source, K: Sink, E: Sink>(
         ⊎ HasLivedLong limit (F.left file.old) (F.left file.new)))
         ⊎ IsTrue (K.has_failed output.new) }
 {
-    match live(rt, alloc, limit, file, output) {
+    live_through_cmd(threads, alloc, limit, &NoGate, file, output, errors)
+}
+
+/// The same, where each thread passes a gate before each time that it takes the lock. Whom the gate lets go first decides which
+/// run it is, and nothing else.
+pub fn live_through_cmd<R: Threads + Wait + Sync, G: Gate + Sync, F: Source, K: Sink, E: Sink>(
+    threads: &R,
+    alloc: Global,
+    limit: u32,
+    gate: &G,
+    file: &mut F,
+    output: &mut K,
+    errors: &mut E,
+) -> u8
+    requires { limit ≤ 1000000000 }
+    ensures statuses { (result ≡ 0) ⊎ ((result ≡ 3) ⊎ ((result ≡ 4) ⊎ (result ≡ 5))) }
+    ensures done { result ≡ 0 → HasLived limit (F.left file.old) (F.left file.new)
+        (K.written output.old) (K.written output.new) }
+    ensures same { result ≡ 0 → HasRunTheSame (F.left file.old) (F.left file.new)
+        (K.written output.old) (K.written output.new) }
+    ensures told { ((result ≡ 0) × (E.written errors.new ≡ E.written errors.old))
+        ⊎ ((fault : Fault) × ((result ≡ status_of fault)
+        × (HasTold fault (E.has_failed errors.new) (E.written errors.old) (E.written errors.new)
+        × (result ≡ 3 → HasNoRun fault (F.left file.old) (F.left file.new)
+        (K.written output.old) (K.written output.new))
+        × (fault ≡ Fault.Read → HasLivedAtMost limit (F.left file.old) (F.left file.new)
+        (K.written output.old) (K.written output.new))))) }
+    ensures memory { result ≡ 4 → HasLivedAtMost limit (F.left file.old) (F.left file.new)
+        (K.written output.old) (K.written output.new) }
+    ensures port { result ≡ 5 → (IsTrue (F.has_failed file.new)
+        ⊎ (GivesTooMuch (F.left file.old) (F.left file.new)
+        ⊎ HasLivedLong limit (F.left file.old) (F.left file.new)))
+        ⊎ IsTrue (K.has_failed output.new) }
+{
+    match live(threads, alloc, limit, gate, file, output) {
         Ok(()) => DONE,
         Err(fault) => {
             let _ = fault.tell(errors);
@@ -73,10 +106,11 @@ pub fn live_cmd<R: Threads + Wait + Sync, F: Source, K: Sink, E: Sink>(
 }
 
 /// The same with the fault that decides the status. The image is read again from the bytes for the trace.
-fn live<R: Threads + Wait + Sync, F: Source, K: Sink>(
+fn live<R: Threads + Wait + Sync, G: Gate + Sync, F: Source, K: Sink>(
     rt: &R,
     alloc: Global,
     limit: u32,
+    gate: &G,
     file: &mut F,
     output: &mut K,
 ) -> Result<(), Fault>
@@ -98,14 +132,15 @@ fn live<R: Threads + Wait + Sync, F: Source, K: Sink>(
         Ok(bytes) => bytes,
         Err(fault) => return Err(fault),
     };
-    play_live(rt, alloc, limit, bytes.as_slice(), output)
+    play_live(rt, alloc, limit, gate, bytes.as_slice(), output)
 }
 
 /// The same of the bytes of a file.
-fn play_live<R: Threads + Wait + Sync, K: Sink>(
+fn play_live<R: Threads + Wait + Sync, G: Gate + Sync, K: Sink>(
     rt: &R,
     alloc: Global,
     limit: u32,
+    gate: &G,
     file: &[u8],
     output: &mut K,
 ) -> Result<(), Fault>
@@ -124,7 +159,7 @@ fn play_live<R: Threads + Wait + Sync, K: Sink>(
         Ok(image) => image,
         Err(fault) => return Err(fault),
     };
-    let schedule = match recorded(rt, alloc, limit, image) {
+    let schedule = match recorded(rt, alloc, limit, gate, image) {
         Ok(schedule) => schedule,
         Err(fault) => return Err(fault),
     };
@@ -148,7 +183,7 @@ fn push_trace<K: Sink>(
     ensures load { (fault : LoadFault) → result ≡ Err (Fault.Load fault)
         → IsRefused fault image × (K.written output.new ≡ K.written output.old) }
     ensures part { IfErr result (λ fault. (status_of fault ≡ 4) ⊎ (fault ≡ Fault.Read)
-        → (rest : Option (List ℕ)) × HasRunAtMost image (Some schedule.now) rest
+        → (rest : Option (List ℕ)) × HasRunInPart image (Some schedule.now) rest
         (K.written output.old) (K.written output.new)) }
     ensures read { result ≡ Err Fault.Read → 1000000000 ≤ length schedule.now }
     ensures write { result ≡ Err Fault.Write → IsTrue (K.has_failed output.new) }
@@ -160,10 +195,11 @@ fn push_trace<K: Sink>(
 }
 
 /// The schedule that a run of an image's program on real threads met.
-fn recorded<R: Threads + Wait + Sync>(
+fn recorded<R: Threads + Wait + Sync, G: Gate + Sync>(
     rt: &R,
     alloc: Global,
     limit: u32,
+    gate: &G,
     image: Image,
 ) -> Result<String, Fault>
     requires { limit ≤ 1000000000 }
@@ -179,9 +215,9 @@ fn recorded<R: Threads + Wait + Sync>(
         Err(LoadFault::Memory) => return Err(Fault::Memory),
         Err(fault) => return Err(Fault::Load(fault)),
     };
-    match run_live(rt, alloc, program, limit, &NoGate) {
+    match run_live(rt, alloc, program, limit, gate) {
         Ok(run) => Ok(run.schedule),
-        Err(LiveFault::Memory(_)) => Err(Fault::Memory),
+        Err(LiveFault::Memory(_) | LiveFault::NoMachine) => Err(Fault::Memory),
         Err(LiveFault::Spawn) => Err(Fault::Spawn),
     }
 }

@@ -3,10 +3,9 @@ ghost use Rattle.line_reader.specs.declared.asm_fault.AsmFault.{AsmFault};
 ghost use Rattle.row_code.specs.declared.image_fault.ImageFault.{ImageFault};
 ghost use Rattle.schedule_reader.specs.declared.fault.ScheduleFault.{ScheduleFault};
 ghost use Rattle.loader.specs.declared.load_fault.LoadFault.{LoadFault};
-ghost use Rattle.trace_compare.specs.RunText.{GivesOnAndOn, HasRun, HasRunSoFar, HasRunToFault, HasWrittenTheSame};
+ghost use Rattle.trace_compare.specs.RunText.{GivesOnAndOn, HasRun, HasRunInPart, HasRunSoFar, HasRunToFault, HasWrittenTheSame};
 ghost use Rattle.trace_compare.specs.Start.{IsRefused};
 ghost use Rattle.workbench.specs.Fault.{status_of};
-ghost use Rattle.workbench.specs.Play.{HasRunAtMost};
 
 use crate::fault::Fault;
 use byte_ports::{Sink, Source};
@@ -31,13 +30,14 @@ pub fn play<S: Source, K: Sink>(
         → HasRunToFault image fault (S.left schedule.old) (S.left schedule.new)
         (K.written output.old) (K.written output.new) }
     ensures memory { IfErr result (λ fault. status_of fault ≡ 4
-        → HasRunAtMost image (S.left schedule.old) (S.left schedule.new)
+        → HasRunInPart image (S.left schedule.old) (S.left schedule.new)
         (K.written output.old) (K.written output.new)) }
     ensures read { result ≡ Err Fault.Read → (IsTrue (S.has_failed schedule.new)
         ⊎ GivesOnAndOn (S.left schedule.old) (S.left schedule.new))
         × HasRunSoFar image (S.left schedule.old) (S.left schedule.new)
         (K.written output.old) (K.written output.new) }
     ensures write { result ≡ Err Fault.Write → IsTrue (K.has_failed output.new) }
+    ensures spawn { result ≢ Err Fault.Spawn }
     ensures program { ((fault : AsmFault) → result ≢ Err (Fault.Asm fault))
         × ((fault : ImageFault) → result ≢ Err (Fault.Image fault)) }
 {

@@ -16,6 +16,7 @@ use std::alloc::Global;
 pub fn program_in(alloc: Global, file: &[u8]) -> Result<Image, Fault>
     ensures program { IfOk result (λ image. IsProgramFile file.now image) }
     ensures refused { IfErr result (λ fault. status_of fault ≡ 3 → IsNoProgramFor fault file.now) }
+    ensures spawn { result ≢ Err Fault.Spawn }
     ensures read { result ≢ Err Fault.Read }
     ensures write { result ≢ Err Fault.Write }
 {
@@ -39,6 +40,7 @@ pub fn read_program<S: Source>(alloc: Global, file: &mut S) -> Result<Image, Fau
         → GivesNoProgram (S.left file.old) (S.left file.new) fault) }
     ensures read { result ≡ Err Fault.Read → IsTrue (S.has_failed file.new)
         ⊎ GivesTooMuch (S.left file.old) (S.left file.new) }
+    ensures spawn { result ≢ Err Fault.Spawn }
     ensures write { result ≢ Err Fault.Write }
 {
     match read_all(alloc, file) {

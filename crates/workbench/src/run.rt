@@ -1,4 +1,4 @@
-ghost use Rattle.std.specs.Prelude.{◌≡◌, ◌⊎◌, Err, IsTrue, IfErr, OnOk};
+ghost use Rattle.std.specs.Prelude.{◌≡◌, ◌≢◌, ◌⊎◌, Err, IsTrue, IfErr, OnOk};
 ghost use Rattle.trace_compare.specs.RunText.{GivesOnAndOn};
 ghost use Rattle.workbench.specs.declared.fault.Fault.{Fault};
 ghost use Rattle.workbench.specs.Fault.{HasTold, status_of};
@@ -33,6 +33,7 @@ pub fn run_cmd<F: Source, S: Source, K: Sink, E: Sink>(
         × (HasTold fault (E.has_failed errors.new) (E.written errors.old) (E.written errors.new)
         × (result ≡ 3 → HasRunRefused fault (F.left file.old) (F.left file.new)
         (S.left schedule.old) (S.left schedule.new) (K.written output.old) (K.written output.new))
+        × (fault ≢ Fault.Spawn)
         × (fault ≡ Fault.Read → HasRunFileSoFar (F.left file.old) (F.left file.new)
         (S.left schedule.old) (S.left schedule.new) (K.written output.old) (K.written output.new))))) }
     ensures memory { result ≡ 4 → HasRunFileAtMost (F.left file.old) (F.left file.new)
@@ -69,6 +70,7 @@ fn run<F: Source, S: Source, K: Sink>(
     ensures memory { IfErr result (λ fault. status_of fault ≡ 4
         → HasRunFileAtMost (F.left file.old) (F.left file.new)
         (S.left schedule.old) (S.left schedule.new) (K.written output.old) (K.written output.new)) }
+    ensures spawn { result ≢ Err Fault.Spawn }
     ensures unread { result ≡ Err Fault.Read → HasRunFileSoFar (F.left file.old) (F.left file.new)
         (S.left schedule.old) (S.left schedule.new) (K.written output.old) (K.written output.new) }
     ensures read { result ≡ Err Fault.Read → (IsTrue (F.has_failed file.new)

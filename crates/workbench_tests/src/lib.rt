@@ -11,6 +11,8 @@ mod compare;
 #[cfg(test)]
 mod debug;
 #[cfg(test)]
+mod failing_ports;
+#[cfg(test)]
 mod list;
 #[cfg(test)]
 mod requests;

@@ -3,108 +3,6 @@ use command_line::request::{Request, parse};
 use std::alloc::Global;
 use std::test::Fail;
 
-/// A command line after the program's name, its words parted by one space, and what it asks for.
-static REQUESTS: [(&str, Request); 17] = [
-    ("", Request::Both),
-    (
-        "asm a.txt b",
-        Request::Asm {
-            source: "a.txt",
-            image: "b",
-        },
-    ),
-    ("list -", Request::List { file: "-" }),
-    ("list -- --help", Request::List { file: "--help" }),
-    (
-        "run a.image -",
-        Request::Run {
-            file: "a.image",
-            schedule: "-",
-        },
-    ),
-    (
-        "compare a.txt b.trace",
-        Request::Compare {
-            file: "a.txt",
-            trace: "b.trace",
-        },
-    ),
-    ("debug a.image", Request::Debug { file: "a.image" }),
-    (
-        "show a.txt",
-        Request::Show {
-            file: "a.txt",
-            schedule: None,
-        },
-    ),
-    (
-        "show a.image -",
-        Request::Show {
-            file: "a.image",
-            schedule: Some("-"),
-        },
-    ),
-    (
-        "draw a.txt",
-        Request::Draw {
-            file: "a.txt",
-            schedule: None,
-            width: 80,
-        },
-    ),
-    (
-        "draw a.txt - --width 60",
-        Request::Draw {
-            file: "a.txt",
-            schedule: Some("-"),
-            width: 60,
-        },
-    ),
-    (
-        "draw --width=1000 a.image b",
-        Request::Draw {
-            file: "a.image",
-            schedule: Some("b"),
-            width: 1000,
-        },
-    ),
-    (
-        "live a.txt",
-        Request::Live {
-            file: "a.txt",
-            limit: 1_000_000,
-        },
-    ),
-    (
-        "live --limit 1 a.txt",
-        Request::Live {
-            file: "a.txt",
-            limit: 1,
-        },
-    ),
-    (
-        "live a.txt --limit=1000000000",
-        Request::Live {
-            file: "a.txt",
-            limit: 1_000_000_000,
-        },
-    ),
-    (
-        "race --parties 16 --rounds 1000000",
-        Request::Race {
-            parties: 16,
-            rounds: 1_000_000,
-        },
-    ),
-    (
-        "race --rounds=0000000001 --parties=1",
-        Request::Race {
-            parties: 1,
-            rounds: 1,
-        },
-    ),
-];
-
 /// Command lines that ask for nothing, and the status of each.
 static REFUSED: [(&str, i32); 34] = [
     ("asm", 2),
@@ -154,16 +52,168 @@ fn words_of(alloc: Global, line: &str) -> Result<Vec<String>, Fail> {
     Ok(words)
 }
 
+/// Whether a command line, its words behind the program's name parted by one space, asks for this.
+fn asks(alloc: Global, line: &str, wanted: &Request) -> Result<bool, Fail> {
+    let words = words_of(alloc, line)?;
+    Ok(match parse(alloc, words.as_slice(), "1") {
+        Ok(answer) => answer == *wanted,
+        Err(_) => false,
+    })
+}
+
 #[test]
-fn command_lines_ask_for_commands(rt: HostRuntime) -> Result<(), Fail> {
-    for (line, expected) in &REQUESTS {
-        let words = words_of(rt.alloc(), *line)?;
-        let is_expected = match parse(rt.alloc(), words.as_slice()) {
-            Ok(answer) => answer == *expected,
-            Err(_) => false,
-        };
-        assert!(rt; is_expected, "{line}");
-    }
+fn command_lines_ask_for_programs(rt: HostRuntime) -> Result<(), Fail> {
+    let alloc = rt.alloc();
+    assert!(rt; asks(alloc, "", &Request::Both)?);
+    assert!(rt;
+        asks(
+            alloc,
+            "asm a.txt b",
+            &Request::Asm {
+                source: "a.txt",
+                image: "b",
+            }
+        )?
+    );
+    assert!(rt; asks(alloc, "list -", &Request::List { file: "-" })?);
+    assert!(rt; asks(alloc, "list -- --help", &Request::List { file: "--help" })?);
+    assert!(rt;
+        asks(
+            alloc,
+            "run a.image -",
+            &Request::Run {
+                file: "a.image",
+                schedule: "-",
+            }
+        )?
+    );
+    assert!(rt;
+        asks(
+            alloc,
+            "compare a.txt b.trace",
+            &Request::Compare {
+                file: "a.txt",
+                trace: "b.trace",
+            }
+        )?
+    );
+    assert!(rt; asks(alloc, "debug a.image", &Request::Debug { file: "a.image" })?);
+    Ok(())
+}
+
+#[test]
+fn command_lines_ask_for_sessions_and_pictures(rt: HostRuntime) -> Result<(), Fail> {
+    let alloc = rt.alloc();
+    assert!(rt; asks(alloc, "choices -", &Request::Choices { trace: "-" })?);
+    assert!(rt;
+        asks(
+            alloc,
+            "show a.txt",
+            &Request::Show {
+                file: "a.txt",
+                schedule: None,
+            }
+        )?
+    );
+    assert!(rt;
+        asks(
+            alloc,
+            "show a.image -",
+            &Request::Show {
+                file: "a.image",
+                schedule: Some("-"),
+            }
+        )?
+    );
+    assert!(rt;
+        asks(
+            alloc,
+            "draw a.txt",
+            &Request::Draw {
+                file: "a.txt",
+                schedule: None,
+                width: 80,
+            }
+        )?
+    );
+    assert!(rt;
+        asks(
+            alloc,
+            "draw a.txt - --width 60",
+            &Request::Draw {
+                file: "a.txt",
+                schedule: Some("-"),
+                width: 60,
+            }
+        )?
+    );
+    Ok(())
+}
+
+#[test]
+fn command_lines_ask_for_threads(rt: HostRuntime) -> Result<(), Fail> {
+    let alloc = rt.alloc();
+    assert!(rt;
+        asks(
+            alloc,
+            "draw --width=1000 a.image b",
+            &Request::Draw {
+                file: "a.image",
+                schedule: Some("b"),
+                width: 1000,
+            }
+        )?
+    );
+    assert!(rt;
+        asks(
+            alloc,
+            "live a.txt",
+            &Request::Live {
+                file: "a.txt",
+                limit: 1_000_000,
+            }
+        )?
+    );
+    assert!(rt;
+        asks(
+            alloc,
+            "live --limit 1 a.txt",
+            &Request::Live {
+                file: "a.txt",
+                limit: 1,
+            }
+        )?
+    );
+    assert!(rt;
+        asks(
+            alloc,
+            "live a.txt --limit=1000000000",
+            &Request::Live {
+                file: "a.txt",
+                limit: 1_000_000_000,
+            }
+        )?
+    );
+    assert!(rt;
+        asks(
+            alloc,
+            "race --parties 16 --rounds 1000000",
+            &Request::Race {
+                parties: 16,
+                rounds: 1_000_000,
+            }
+        )?
+    );
+    assert!(rt;
+        asks(
+            alloc,
+            "race --rounds=0000000001 --parties=1",
+            &Request::Race {
+                parties: 1,
+                rounds: 1,
+            }
+        )?
+    );
     Ok(())
 }
 
@@ -171,7 +221,7 @@ fn command_lines_ask_for_commands(rt: HostRuntime) -> Result<(), Fail> {
 fn command_lines_that_ask_for_nothing(rt: HostRuntime) -> Result<(), Fail> {
     for (line, status) in &REFUSED {
         let words = words_of(rt.alloc(), *line)?;
-        let is_expected = match parse(rt.alloc(), words.as_slice()) {
+        let is_expected = match parse(rt.alloc(), words.as_slice(), "1") {
             Ok(_) => false,
             Err(error) => error.exit_code() == *status,
         };

@@ -3,7 +3,7 @@ ghost use Rattle.cyclic_barrier.specs.ThreadSet.{has};
 ghost use Rattle.cyclic_barrier.specs.Waits.{wait_at};
 ghost use Rattle.loader.specs.Program.{IsNamed, row_at};
 ghost use Rattle.machine_scene.specs.Scene.{scene_of, counts_in, thread_at, barrier_at};
-ghost use Rattle.machine_scene.specs.Sound.{IsSound, HasItsWait};
+ghost use Rattle.machine_scene.specs.Sound.{IsSound, HasItsWait, most_after};
 ghost use Rattle.machine_scene.specs.Asleep.{is_asleep, AreAsleep, AreOthersAsleep, IsSetAt, begins, is_loud_at, may_wake, is_local_turn};
 
 use super::Stage;
@@ -64,7 +64,7 @@ impl Stage {
         requires { t < length self.now.threads }
         ensures { result ≡ is_local_turn (thread_at (scene_of self.now) t).status row }
     {
-        match self.players[t].status() {
+        match self.threads[t].status() {
             Status::Runs => is_local(row),
             _ => false,
         }
@@ -72,14 +72,14 @@ impl Stage {
 
     /// The row at which a thread waits.
     fn waiting_row(&self, program: &Loaded, t: usize) -> Row
-        requires sound { IsSound program.now 2147483647 (scene_of self.now) }
+        requires sound { IsSound program.now most_after (scene_of self.now) }
         requires thread { t < length self.now.threads }
         ensures row { result ≡ row_at program.now.rows (thread_at (scene_of self.now) t).pc }
         ensures named { IsNamed (counts_in program.now self.now) result }
         ensures few { length self.now.phasers ≤ 64 }
         ensures waits { HasItsWait (thread_at (scene_of self.now) t).status result t (scene_of self.now) }
     {
-        let row = program.rows()[self.players[t].pc() as usize];
+        let row = program.rows()[self.threads[t].pc() as usize];
         self.wait_is_placed(program, row, t);
         row
     }
@@ -87,11 +87,11 @@ impl Stage {
     /// Whether a thread is asleep: it waits, and its wait can't end yet.
     #[inline(always)]
     fn is_asleep(&self, program: &Loaded, t: usize) -> bool
-        requires sound { IsSound program.now 2147483647 (scene_of self.now) }
+        requires sound { IsSound program.now most_after (scene_of self.now) }
         requires thread { t < length self.now.threads }
         ensures { result ≡ is_asleep t program.now (scene_of self.now) }
     {
-        match self.players[t].status() {
+        match self.threads[t].status() {
             Status::AwaitsPhase(phase) => {
                 let row = self.waiting_row(program, t);
                 !self.is_phase_wait_over(program, row, phase, t)
@@ -107,7 +107,7 @@ impl Stage {
     /// The set, with this thread where it was in the one of before and is asleep still.
     #[inline(always)]
     fn looked_at(&self, program: &Loaded, before: u64, set: u64, t: usize) -> u64
-        requires sound { IsSound program.now 2147483647 (scene_of self.now) }
+        requires sound { IsSound program.now most_after (scene_of self.now) }
         requires thread { t < length self.now.threads }
         ensures { IsSetAt t (has before t && is_asleep t program.now (scene_of self.now)) set result }
     {
@@ -119,14 +119,14 @@ impl Stage {
     #[inline(never)]
     #[tactic(auto, using(crate::proofs::ThreadSets::nobody))]
     fn still_asleep(&self, program: &Loaded, before: u64) -> u64
-        requires sound { IsSound program.now 2147483647 (scene_of self.now) }
+        requires sound { IsSound program.now most_after (scene_of self.now) }
         ensures { AreAsleep program.now result self.now }
     {
         if before == 0 {
             return 0;
         }
         let mut set = 0;
-        for t in 0..self.players.len() {
+        for t in 0..self.threads.len() {
             set = self.looked_at(program, before, set, t);
         }
         set
@@ -135,7 +135,7 @@ impl Stage {
     /// The threads but thread t that are asleep still after a step of it at this row, with this event; these were so before.
     #[inline(always)]
     fn others_asleep(&self, program: &Loaded, before: u64, row: Row, event: Event, t: usize) -> u64
-        requires sound { IsSound program.now 2147483647 (scene_of self.now) }
+        requires sound { IsSound program.now most_after (scene_of self.now) }
         requires thread { t < length self.now.threads }
         requires named { IsNamed (counts_in program.now self.now) row }
         requires others { may_wake row event ≡ false
@@ -162,7 +162,7 @@ impl Stage {
         event: Event,
         t: usize,
     ) -> u64
-        requires sound { IsSound program.now 2147483647 (scene_of self.now) }
+        requires sound { IsSound program.now most_after (scene_of self.now) }
         requires thread { t < length self.now.threads }
         requires named { IsNamed (counts_in program.now self.now) row }
         requires others { may_wake row event ≡ false

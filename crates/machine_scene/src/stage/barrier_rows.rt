@@ -34,18 +34,18 @@ impl Stage {
                 barrier,
                 timeout,
             } => {
-                let no_wait = self.players[t].register(timeout) <= 0;
+                let no_wait = self.threads[t].register(timeout) <= 0;
                 self.come(program, no_wait, into, barrier, t)
             }
             Row::Creset { barrier } => self.reset(barrier, t),
             Row::Cbroken { into, barrier } => {
-                let broken = self.gates[barrier as usize].is_broken();
-                alone(self.players[t].answer(into, i32::from(broken)))
+                let broken = self.barriers[barrier as usize].is_broken();
+                alone(self.threads[t].answer(into, i32::from(broken)))
             }
             Row::Cwaiting { into, barrier } => self.number_waiting(into, barrier, t),
             Row::Cparties { into, barrier } => {
-                let parties = self.gates[barrier as usize].parties();
-                alone(self.players[t].answer(into, i32::from(parties)))
+                let parties = self.barriers[barrier as usize].parties();
+                alone(self.threads[t].answer(into, i32::from(parties)))
             }
             _ => unreachable!(),
         }
@@ -56,7 +56,7 @@ impl Stage {
         requires there { barrier < length self.now.barriers }
         ensures { result ≡ is_run_by t (barrier_at (scene_of self.now) barrier).runner }
     {
-        match self.gates[barrier as usize].runner() {
+        match self.barriers[barrier as usize].runner() {
             Some(runner) => runner as usize == t,
             None => false,
         }
@@ -77,10 +77,10 @@ impl Stage {
         ensures phasers { self.new.phasers ≡ self.old.phasers }
     {
         if self.is_runner(barrier, t) {
-            return alone(self.players[t].throw(1));
+            return alone(self.threads[t].throw(1));
         }
-        if self.gates[barrier as usize].has_action() && self.players[t].is_full() {
-            return alone(self.players[t].throw(6));
+        if self.barriers[barrier as usize].has_action() && self.threads[t].is_full() {
+            return alone(self.threads[t].throw(6));
         }
         self.enter(program, no_wait, into, barrier, t)
     }
@@ -99,29 +99,29 @@ impl Stage {
             ≡ Some (record { scene = scene_of self.new; event = result }) }
         ensures phasers { self.new.phasers ≡ self.old.phasers }
     {
-        let interrupted = self.players[t].interrupted();
-        let entered = self.gates[barrier as usize].enter_timed(t as u8, interrupted, no_wait);
+        let interrupted = self.threads[t].interrupted();
+        let entered = self.barriers[barrier as usize].enter_timed(t as u8, interrupted, no_wait);
         let broke = Mark::Broke(barrier as u8);
         match entered {
-            Entered::Wait(index) => alone(self.players[t].wait_at_barrier(index)),
+            Entered::Wait(index) => alone(self.threads[t].wait_at_barrier(index)),
             Entered::Run => {
                 let first = program.actions()[barrier as usize];
-                alone(self.players[t].enter_action(barrier as u8, first))
+                alone(self.threads[t].enter_action(barrier as u8, first))
             }
             Entered::Tripped => Event {
-                what: self.players[t].answer(into, 0),
+                what: self.threads[t].answer(into, 0),
                 mark: Mark::Tripped(barrier as u8),
             },
-            Entered::Broken => alone(self.players[t].throw(4)),
+            Entered::Broken => alone(self.threads[t].throw(4)),
             Entered::Interrupted => Event {
-                what: self.players[t].take_interruption(),
+                what: self.threads[t].take_interruption(),
                 mark: broke,
             },
             Entered::TimedOut => Event {
-                what: self.players[t].throw(5),
+                what: self.threads[t].throw(5),
                 mark: broke,
             },
-            Entered::Own => alone(self.players[t].throw(1)),
+            Entered::Own => alone(self.threads[t].throw(1)),
             Entered::Busy => unreachable!(),
         }
     }
@@ -139,16 +139,16 @@ impl Stage {
         ensures phasers { self.new.phasers ≡ self.old.phasers }
     {
         if self.is_runner(barrier, t) {
-            return alone(self.players[t].throw(1));
+            return alone(self.threads[t].throw(1));
         }
-        let mark = if 0 < self.gates[barrier as usize].number_waiting() {
+        let mark = if 0 < self.barriers[barrier as usize].number_waiting() {
             Mark::Broke(barrier as u8)
         } else {
             Mark::Nothing
         };
-        self.gates[barrier as usize].reset();
+        self.barriers[barrier as usize].reset();
         Event {
-            what: self.players[t].done(),
+            what: self.threads[t].done(),
             mark,
         }
     }
@@ -168,9 +168,9 @@ impl Stage {
         ensures phasers { self.new.phasers ≡ self.old.phasers }
     {
         if self.is_runner(barrier, t) {
-            return alone(self.players[t].throw(1));
+            return alone(self.threads[t].throw(1));
         }
-        let waiting = self.gates[barrier as usize].number_waiting();
-        alone(self.players[t].answer(into, i32::from(waiting)))
+        let waiting = self.barriers[barrier as usize].number_waiting();
+        alone(self.threads[t].answer(into, i32::from(waiting)))
     }
 }

@@ -8,7 +8,7 @@ ghost use Rattle.thread_state.specs.Thread.{top_of};
 ghost use Rattle.machine_scene.specs.Scene.{scene_of, thread_at, barrier_at};
 ghost use Rattle.machine_scene.specs.CallRows.{manner_of, outcome_of_routine_end};
 ghost use Rattle.machine_scene.specs.CallRows.{outcome_of_ret, outcome_of_call_row};
-ghost use Rattle.machine_scene.specs.Sound.{IsSound};
+ghost use Rattle.machine_scene.specs.Sound.{IsSound, most_after, most_before};
 ghost use Rattle.machine_scene.specs.Undo.{PhasersWithin, reach_of_ret, reach_of_row};
 
 use super::{Stage, alone};
@@ -41,7 +41,7 @@ impl Stage {
     /// Calls, handlers, thrown exceptions, and the way back.
     pub(super) fn call_row(&mut self, program: &Loaded, row: Row, t: usize) -> Event
         requires ready { is_some (outcome_of_call_row row t program.now (scene_of self.old)) ≡ true }
-        requires sound { IsSound program.now 2147483646 (scene_of self.old) }
+        requires sound { IsSound program.now most_before (scene_of self.old) }
         requires thread { t < length self.old.threads }
         requires place { (thread_at (scene_of self.old) t).pc < 65535 }
         ensures outcome { outcome_of_call_row row t program.now (scene_of self.old)
@@ -50,13 +50,13 @@ impl Stage {
             self.old.phasers self.new.phasers }
     {
         match row {
-            Row::Call { target } => alone(self.players[t].call(target)),
+            Row::Call { target } => alone(self.threads[t].call(target)),
             Row::Ret => self.ret(program, t),
-            Row::Try { handler } => alone(self.players[t].begin_try(handler)),
-            Row::Endtry => alone(self.players[t].end_try()),
+            Row::Try { handler } => alone(self.threads[t].begin_try(handler)),
+            Row::Endtry => alone(self.threads[t].end_try()),
             Row::Throw { code } => {
-                let code = self.players[t].register(code);
-                alone(self.players[t].throw(code))
+                let code = self.threads[t].register(code);
+                alone(self.threads[t].throw(code))
             }
             _ => unreachable!(),
         }
@@ -64,7 +64,7 @@ impl Stage {
 
     /// `ret`, by the top entry.
     fn ret(&mut self, program: &Loaded, t: usize) -> Event
-        requires sound { IsSound program.now 2147483646 (scene_of self.old) }
+        requires sound { IsSound program.now most_before (scene_of self.old) }
         requires thread { t < length self.old.threads }
         ensures outcome { record { scene = scene_of self.new; event = result }
             ≡ outcome_of_ret (top_of (thread_at (scene_of self.old) t).stack) t program.now
@@ -72,10 +72,10 @@ impl Stage {
         ensures phasers { PhasersWithin (reach_of_ret (top_of (thread_at (scene_of self.old) t).stack))
             self.old.phasers self.new.phasers }
     {
-        let top = self.players[t].top();
+        let top = self.threads[t].top();
         self.top_is_placed(program, &top, t);
         match &top {
-            Some(Frame::Call(row)) => alone(self.players[t].return_to(*row)),
+            Some(Frame::Call(row)) => alone(self.threads[t].return_to(*row)),
             Some(Frame::Advance(root, registers, row)) => self.end_routine(
                 program,
                 PhaserId(*root),
@@ -86,7 +86,7 @@ impl Stage {
             Some(Frame::Action(barrier, registers, row)) => self.end_action(
                 program, *barrier, registers, *row, t,
             ),
-            _ => alone(self.players[t].throw(7)),
+            _ => alone(self.threads[t].throw(7)),
         }
     }
 
@@ -106,16 +106,16 @@ impl Stage {
         requires there { root.0 < length self.old.phasers }
         requires root { root_at (phasers_of self.old.phasers) root.0 ≡ root.0 }
         requires pending { is_pending (flat_at (phasers_of self.old.phasers) root.0) ≡ true }
-        requires ends { (phaser_at (phasers_of self.old.phasers) root.0).ends < 2147483647 }
+        requires ends { (phaser_at (phasers_of self.old.phasers) root.0).ends < most_after }
         requires thread { t < length self.old.threads }
         ensures outcome { record { scene = scene_of self.new; event = result }
             ≡ outcome_of_ret (top_of (thread_at (scene_of self.old) t).stack) t program.now
             (scene_of self.old) }
         ensures phasers { ChangedAt root.0 self.old.phasers self.new.phasers }
     {
-        let terminates = self.players[t].register(Reg::R0) != 0;
+        let terminates = self.threads[t].register(Reg::R0) != 0;
         let manner = manner_of(program.rows()[row as usize]);
-        self.players[t].leave_routine(registers, row);
+        self.threads[t].leave_routine(registers, row);
         self.routine_ended(manner, root, terminates, t)
     }
 
@@ -125,7 +125,7 @@ impl Stage {
         requires there { root.0 < length self.old.phasers }
         requires root { root_at (phasers_of self.old.phasers) root.0 ≡ root.0 }
         requires pending { is_pending (flat_at (phasers_of self.old.phasers) root.0) ≡ true }
-        requires ends { (phaser_at (phasers_of self.old.phasers) root.0).ends < 2147483647 }
+        requires ends { (phaser_at (phasers_of self.old.phasers) root.0).ends < most_after }
         requires thread { t < length self.old.threads }
         requires place { (thread_at (scene_of self.old) t).pc < 65535 }
         ensures outcome { record { scene = scene_of self.new; event = result }
@@ -133,14 +133,14 @@ impl Stage {
             terminates t (scene_of self.old) }
         ensures phasers { ChangedAt root.0 self.old.phasers self.new.phasers }
     {
-        let phase = self.forest.phase_number(root).number();
-        if self.forest.is_terminated(root) {
+        let phase = self.phasers.phase_number(root).number();
+        if self.phasers.is_terminated(root) {
             let answer = if manner.waits {
-                self.forest.phase(root)
+                self.phasers.phase(root)
             } else {
                 phase
             };
-            return alone(self.players[t].answer(manner.into, answer));
+            return alone(self.threads[t].answer(manner.into, answer));
         }
         self.end_phase(manner, root, phase, terminates, t)
     }
@@ -167,10 +167,10 @@ impl Stage {
         ensures phasers { self.new.phasers ≡ self.old.phasers }
     {
         let manner = manner_of(program.rows()[row as usize]);
-        self.players[t].leave_routine(registers, row);
-        self.gates[barrier as usize].end_action(true);
+        self.threads[t].leave_routine(registers, row);
+        self.barriers[barrier as usize].end_action(true);
         Event {
-            what: self.players[t].answer(manner.into, 0),
+            what: self.threads[t].answer(manner.into, 0),
             mark: Mark::Tripped(barrier),
         }
     }

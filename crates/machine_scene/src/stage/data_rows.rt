@@ -51,7 +51,7 @@ impl Stage {
         ensures memory { IsErr result → length (thread_at (scene_of self.old) t).output < 4096 }
         ensures phasers { self.new.phasers ≡ self.old.phasers }
     {
-        Ok(alone(self.players[t].out(value)?))
+        Ok(alone(self.threads[t].out(value)?))
     }
 
     /// `lds`.
@@ -63,8 +63,8 @@ impl Stage {
             ≡ outcome_of_turn (turn_of_answer into (cell_at (scene_of self.old) cell) (thread_at (scene_of self.old) t)) t (scene_of self.old) }
         ensures phasers { self.new.phasers ≡ self.old.phasers }
     {
-        let number = self.numbers[cell as usize];
-        alone(self.players[t].answer(into, number))
+        let number = self.cells[cell as usize];
+        alone(self.threads[t].answer(into, number))
     }
 
     /// `self`.
@@ -75,7 +75,7 @@ impl Stage {
             ≡ outcome_of_turn (turn_of_answer into (pos t) (thread_at (scene_of self.old) t)) t (scene_of self.old) }
         ensures phasers { self.new.phasers ≡ self.old.phasers }
     {
-        alone(self.players[t].answer(into, t as i32))
+        alone(self.threads[t].answer(into, t as i32))
     }
 
     /// `intrd`.
@@ -86,7 +86,7 @@ impl Stage {
             ≡ outcome_of_turn (turn_of_intrd into (thread_at (scene_of self.old) t)) t (scene_of self.old) }
         ensures phasers { self.new.phasers ≡ self.old.phasers }
     {
-        alone(self.players[t].take_interrupt(into))
+        alone(self.threads[t].take_interrupt(into))
     }
 
     /// `sts`.
@@ -97,8 +97,8 @@ impl Stage {
         ensures outcome { record { scene = scene_of self.new; event = result } ≡ outcome_of_store from cell t (scene_of self.old) }
         ensures phasers { self.new.phasers ≡ self.old.phasers }
     {
-        self.numbers[cell as usize] = self.players[t].register(from);
-        alone(self.players[t].done())
+        self.cells[cell as usize] = self.threads[t].register(from);
+        alone(self.threads[t].done())
     }
 
     /// `intr`.
@@ -109,7 +109,7 @@ impl Stage {
         ensures outcome { record { scene = scene_of self.new; event = result } ≡ outcome_of_interrupt other t (scene_of self.old) }
         ensures phasers { self.new.phasers ≡ self.old.phasers }
     {
-        self.players[other].interrupt();
-        alone(self.players[t].done())
+        self.threads[other].interrupt();
+        alone(self.threads[t].done())
     }
 }

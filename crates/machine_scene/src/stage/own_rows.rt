@@ -20,7 +20,7 @@ impl Stage {
         ensures phasers { self.new.phasers ≡ self.old.phasers }
         ensures asleep { (self.new).asleep ≡ self.old.asleep }
     {
-        alone(self.players[t].local_row(row))
+        alone(self.threads[t].local_row(row))
     }
 
     /// `halt`, the one row of their group beside them.
@@ -33,7 +33,7 @@ impl Stage {
         ensures phasers { self.new.phasers ≡ self.old.phasers }
     {
         match row {
-            Row::Halt => alone(self.players[t].halt()),
+            Row::Halt => alone(self.threads[t].halt()),
             _ => unreachable!(),
         }
     }

@@ -11,6 +11,7 @@ ghost use Rattle.machine_scene.specs.PhaserRows.{outcome_of_ended_phase, outcome
 ghost use Rattle.machine_scene.specs.PhaserRows.{outcome_of_arrival, outcome_of_registration, outcome_of_bulk};
 ghost use Rattle.machine_scene.specs.PhaserRows.{outcome_of_await, outcome_of_force, outcome_of_phaser_row};
 ghost use Rattle.machine_scene.specs.Undo.{PhasersWithin, reach_of_row};
+ghost use Rattle.machine_scene.specs.Sound.{most_after};
 
 use super::{Stage, alone};
 use crate::manner::Manner;
@@ -78,9 +79,8 @@ impl Stage {
     pub(super) fn phaser_row(&mut self, program: &Loaded, row: Row, t: usize) -> Event
         requires ready { is_some (outcome_of_phaser_row row t program.now (scene_of self.old)) ≡ true }
         requires named { IsNamed (counts_in program.now self.old) row }
-        requires few { length self.old.phasers ≤ 64 }
         requires routines { length program.now.routines ≡ length self.old.phasers }
-        requires ends { (p : ℕ) → (phaser_at (phasers_of self.old.phasers) p).ends < 2147483647 }
+        requires ends { (p : ℕ) → (phaser_at (phasers_of self.old.phasers) p).ends < most_after }
         requires thread { t < length self.old.threads }
         requires place { (thread_at (scene_of self.old) t).pc < 65535 }
         ensures outcome { outcome_of_phaser_row row t program.now (scene_of self.old)
@@ -135,7 +135,7 @@ impl Stage {
                 phase,
                 timeout,
             } => {
-                let time = self.players[t].register(timeout);
+                let time = self.threads[t].register(timeout);
                 self.await_unless_own(Patience::Timed(time), into, phaser, phase, t)
             }
             Row::Pforce { phaser } => self.force(phaser, t),
@@ -146,12 +146,11 @@ impl Stage {
     /// Whether the thread runs the advance routine of this phaser's tree.
     pub(super) fn is_own_tree(&self, phaser: u16, t: usize) -> bool
         requires phaser { phaser < length self.now.phasers }
-        requires few { length self.now.phasers ≤ 64 }
         requires thread { t < length self.now.threads }
         ensures { result ≡ is_own_tree phaser (thread_at (scene_of self.now) t) (scene_of self.now) }
     {
-        let root = self.forest.root(PhaserId(phaser as u8));
-        self.players[t].advances(root.0)
+        let root = self.phasers.root(self.phaser_id(phaser));
+        self.threads[t].advances(root.0)
     }
 
     /// `preg`.
@@ -160,7 +159,6 @@ impl Stage {
         requires ready { is_some (unless_own phaser t (scene_of self.old)
             (outcome_of_registration into phaser 1 t (scene_of self.old))) ≡ true }
         requires phaser { phaser < length self.old.phasers }
-        requires few { length self.old.phasers ≤ 64 }
         requires thread { t < length self.old.threads }
         requires place { (thread_at (scene_of self.old) t).pc < 65535 }
         ensures outcome { unless_own phaser t (scene_of self.old)
@@ -169,7 +167,7 @@ impl Stage {
         ensures phasers { ChangedAt phaser self.old.phasers self.new.phasers }
     {
         if self.is_own_tree(phaser, t) {
-            return alone(self.players[t].throw(1));
+            return alone(self.threads[t].throw(1));
         }
         self.registration(into, phaser, 1, t)
     }
@@ -181,7 +179,6 @@ impl Stage {
             (outcome_of_bulk into phaser (value_in (thread_at (scene_of self.old) t).registers count) t (scene_of self.old)))
             ≡ true }
         requires phaser { phaser < length self.old.phasers }
-        requires few { length self.old.phasers ≤ 64 }
         requires thread { t < length self.old.threads }
         requires place { (thread_at (scene_of self.old) t).pc < 65535 }
         ensures outcome { unless_own phaser t (scene_of self.old)
@@ -190,11 +187,11 @@ impl Stage {
         ensures phasers { ChangedAt phaser self.old.phasers self.new.phasers }
     {
         if self.is_own_tree(phaser, t) {
-            return alone(self.players[t].throw(1));
+            return alone(self.threads[t].throw(1));
         }
-        let count = self.players[t].register(count);
+        let count = self.threads[t].register(count);
         if count < 0 {
-            return alone(self.players[t].throw(2));
+            return alone(self.threads[t].throw(2));
         }
         self.registration(into, phaser, count as u32, t)
     }
@@ -203,17 +200,17 @@ impl Stage {
     fn registration(&mut self, into: Reg, phaser: u16, count: u32, t: usize) -> Event
         requires ready { is_some (outcome_of_registration into phaser count t (scene_of self.old)) ≡ true }
         requires phaser { phaser < length self.old.phasers }
-        requires few { length self.old.phasers ≤ 64 }
         requires thread { t < length self.old.threads }
         requires place { (thread_at (scene_of self.old) t).pc < 65535 }
         ensures outcome { outcome_of_registration into phaser count t (scene_of self.old)
             ≡ Some (record { scene = scene_of self.new; event = result }) }
         ensures phasers { ChangedAt phaser self.old.phasers self.new.phasers }
     {
-        match self.forest.register(PhaserId(phaser as u8), count) {
-            Registered::At(phase) => alone(self.players[t].answer(into, phase)),
-            Registered::Dead(view) => alone(self.players[t].answer(into, view)),
-            Registered::TooMany => alone(self.players[t].throw(1)),
+        let id = self.phaser_id(phaser);
+        match self.phasers.register(id, count) {
+            Registered::At(phase) => alone(self.threads[t].answer(into, phase)),
+            Registered::Dead(view) => alone(self.threads[t].answer(into, view)),
+            Registered::TooMany => alone(self.threads[t].throw(1)),
             Registered::Held => unreachable!(),
         }
     }
@@ -228,9 +225,8 @@ impl Stage {
         t: usize,
     ) -> Event
         requires phaser { phaser < length self.old.phasers }
-        requires few { length self.old.phasers ≤ 64 }
         requires routines { length program.now.routines ≡ length self.old.phasers }
-        requires ends { (p : ℕ) → (phaser_at (phasers_of self.old.phasers) p).ends < 2147483647 }
+        requires ends { (p : ℕ) → (phaser_at (phasers_of self.old.phasers) p).ends < most_after }
         requires thread { t < length self.old.threads }
         requires place { (thread_at (scene_of self.old) t).pc < 65535 }
         ensures outcome { unless_own phaser t (scene_of self.old)
@@ -239,7 +235,7 @@ impl Stage {
         ensures phasers { ChangedAt phaser self.old.phasers self.new.phasers }
     {
         if self.is_own_tree(phaser, t) {
-            return alone(self.players[t].throw(1));
+            return alone(self.threads[t].throw(1));
         }
         self.arrival(program, manner, phaser, t)
     }
@@ -248,17 +244,16 @@ impl Stage {
     #[tactic(auto, using(tier_tree::proofs::Changed::changed_nothing))]
     fn arrival(&mut self, program: &Loaded, manner: Manner, phaser: u16, t: usize) -> Event
         requires phaser { phaser < length self.old.phasers }
-        requires few { length self.old.phasers ≤ 64 }
         requires routines { length program.now.routines ≡ length self.old.phasers }
-        requires ends { (p : ℕ) → (phaser_at (phasers_of self.old.phasers) p).ends < 2147483647 }
+        requires ends { (p : ℕ) → (phaser_at (phasers_of self.old.phasers) p).ends < most_after }
         requires thread { t < length self.old.threads }
         requires place { (thread_at (scene_of self.old) t).pc < 65535 }
         ensures outcome { record { scene = scene_of self.new; event = result }
             ≡ outcome_of_arrival manner phaser t program.now (scene_of self.old) }
         ensures phasers { ChangedAt phaser self.old.phasers self.new.phasers }
     {
-        if self.has_routine(phaser) && self.players[t].is_full() {
-            return alone(self.players[t].throw(6));
+        if self.has_routine(phaser) && self.threads[t].is_full() {
+            return alone(self.threads[t].throw(6));
         }
         self.arrival_with_room(program, manner, phaser, t)
     }
@@ -266,11 +261,10 @@ impl Stage {
     /// Whether the phaser's tree has an advance routine.
     fn has_routine(&self, phaser: u16) -> bool
         requires phaser { phaser < length self.now.phasers }
-        requires few { length self.now.phasers ≤ 64 }
         ensures { result ≡ has_routine phaser (scene_of self.now) }
     {
-        let root = self.forest.root(PhaserId(phaser as u8));
-        matches!(self.forest.policy(root), Policy::Routine)
+        let root = self.phasers.root(self.phaser_id(phaser));
+        matches!(self.phasers.policy(root), Policy::Routine)
     }
 
     /// The arrival itself.
@@ -282,25 +276,24 @@ impl Stage {
         t: usize,
     ) -> Event
         requires phaser { phaser < length self.old.phasers }
-        requires few { length self.old.phasers ≤ 64 }
         requires room { (has_routine phaser (scene_of self.old) && is_full (thread_at (scene_of self.old) t)) ≡ false }
         requires routines { length program.now.routines ≡ length self.old.phasers }
-        requires ends { (p : ℕ) → (phaser_at (phasers_of self.old.phasers) p).ends < 2147483647 }
+        requires ends { (p : ℕ) → (phaser_at (phasers_of self.old.phasers) p).ends < most_after }
         requires thread { t < length self.old.threads }
         requires place { (thread_at (scene_of self.old) t).pc < 65535 }
         ensures outcome { record { scene = scene_of self.new; event = result }
             ≡ outcome_with_room manner phaser t program.now (scene_of self.old) }
         ensures phasers { ChangedAt phaser self.old.phasers self.new.phasers }
     {
-        self.forest.is_forest();
-        match self.forest.arrive(PhaserId(phaser as u8), manner.leaves) {
-            Arrived::At(phase) => alone(arrive_at(&mut self.players[t], manner, phase)),
+        self.phasers.is_forest();
+        match self.phasers.arrive(PhaserId(phaser as u8), manner.leaves) {
+            Arrived::At(phase) => alone(arrive_at(&mut self.threads[t], manner, phase)),
             Arrived::Turning { root, phase, .. } => {
-                self.forest.is_forest();
+                self.phasers.is_forest();
                 self.turning(program, manner, root, phase, t)
             }
-            Arrived::Dead(view) => alone(self.players[t].answer(manner.into, view)),
-            Arrived::NotThere => alone(self.players[t].throw(1)),
+            Arrived::Dead(view) => alone(self.threads[t].answer(manner.into, view)),
+            Arrived::NotThere => alone(self.threads[t].throw(1)),
         }
     }
 
@@ -318,7 +311,7 @@ impl Stage {
         requires top { root_at (phasers_of self.old.phasers) root.0 ≡ root.0 }
         requires turned { (flat_at (phasers_of self.old.phasers) root.0).turned ≡ true }
         requires live { (flat_at (phasers_of self.old.phasers) root.0).ended ≡ false }
-        requires ends { (phaser_at (phasers_of self.old.phasers) root.0).ends < 2147483647 }
+        requires ends { (phaser_at (phasers_of self.old.phasers) root.0).ends < most_after }
         requires room { answer_of_policy root.0 (scene_of self.old) ≡ None
             → is_full (thread_at (scene_of self.old) t) ≡ false }
         requires routines { root.0 < length program.now.routines }
@@ -329,16 +322,16 @@ impl Stage {
             program.now (scene_of self.old) }
         ensures phasers { ChangedAt root.0 self.old.phasers self.new.phasers }
     {
-        let parties = self.forest.parties(root);
+        let parties = self.phasers.parties(root);
         let answer = self
-            .forest
+            .phasers
             .policy(root)
-            .ends(self.forest.phase_number(root), parties);
+            .ends(self.phasers.phase_number(root), parties);
         match answer {
             Some(terminates) => self.end_phase(manner, root, phase, terminates, t),
             None => {
                 let first = program.routines()[root.0 as usize];
-                alone(self.players[t].enter_advance(root.0, phase, parties, first))
+                alone(self.threads[t].enter_advance(root.0, phase, parties, first))
             }
         }
     }
@@ -356,14 +349,14 @@ impl Stage {
         requires top { root_at (phasers_of self.old.phasers) root.0 ≡ root.0 }
         requires turned { (flat_at (phasers_of self.old.phasers) root.0).turned ≡ true }
         requires live { (flat_at (phasers_of self.old.phasers) root.0).ended ≡ false }
-        requires ends { (phaser_at (phasers_of self.old.phasers) root.0).ends < 2147483647 }
+        requires ends { (phaser_at (phasers_of self.old.phasers) root.0).ends < most_after }
         requires thread { t < length self.old.threads }
         requires place { (thread_at (scene_of self.old) t).pc < 65535 }
         ensures outcome { record { scene = scene_of self.new; event = result }
             ≡ outcome_of_phase_end manner root.0 phase terminates t (scene_of self.old) }
         ensures phasers { ChangedAt root.0 self.old.phasers self.new.phasers }
     {
-        self.forest.finish_turn(root, terminates);
+        self.phasers.finish_turn(root, terminates);
         self.phase_ended(manner, root, phase, t)
     }
 
@@ -376,8 +369,8 @@ impl Stage {
             ≡ outcome_of_ended_phase manner root.0 phase t (scene_of self.old) }
         ensures phasers { self.new.phasers ≡ self.old.phasers }
     {
-        let view = self.forest.phase(root);
-        let what = self.players[t].answer(manner.into, if manner.waits { view } else { phase });
+        let view = self.phasers.phase(root);
+        let what = self.threads[t].answer(manner.into, if manner.waits { view } else { phase });
         Event {
             what,
             mark: Mark::Phase { root: root.0, view },
@@ -394,7 +387,6 @@ impl Stage {
         t: usize,
     ) -> Event
         requires phaser { phaser < length self.old.phasers }
-        requires few { length self.old.phasers ≤ 64 }
         requires thread { t < length self.old.threads }
         requires place { (thread_at (scene_of self.old) t).pc < 65535 }
         ensures outcome { unless_own phaser t (scene_of self.old)
@@ -404,37 +396,36 @@ impl Stage {
         ensures phasers { self.new.phasers ≡ self.old.phasers }
     {
         if self.is_own_tree(phaser, t) {
-            return alone(self.players[t].throw(1));
+            return alone(self.threads[t].throw(1));
         }
-        let view = self.forest.phase(PhaserId(phaser as u8));
-        let phase = self.players[t].register(phase);
-        alone(await_phase(&mut self.players[t], patience, into, phase, view))
+        let view = self.phasers.phase(self.phaser_id(phaser));
+        let phase = self.threads[t].register(phase);
+        alone(await_phase(&mut self.threads[t], patience, into, phase, view))
     }
 
     /// `pforce`.
     fn force(&mut self, phaser: u16, t: usize) -> Event
         requires phaser { phaser < length self.old.phasers }
-        requires few { length self.old.phasers ≤ 64 }
         requires thread { t < length self.old.threads }
         requires place { (thread_at (scene_of self.old) t).pc < 65535 }
         ensures outcome { record { scene = scene_of self.new; event = result }
             ≡ outcome_of_force phaser t (scene_of self.old) }
         ensures phasers { ChangedAt phaser self.old.phasers self.new.phasers }
     {
-        let id = PhaserId(phaser as u8);
-        let ended = self.forest.is_terminated(id);
-        let root = self.forest.root(id);
-        self.forest.force(id);
+        let id = self.phaser_id(phaser);
+        let ended = self.phasers.is_terminated(id);
+        let root = self.phasers.root(id);
+        self.phasers.force(id);
         let mark = if ended {
             Mark::Nothing
         } else {
             Mark::Phase {
                 root: root.0,
-                view: self.forest.phase(root),
+                view: self.phasers.phase(root),
             }
         };
         Event {
-            what: self.players[t].done(),
+            what: self.threads[t].done(),
             mark,
         }
     }

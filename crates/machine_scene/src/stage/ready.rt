@@ -14,7 +14,7 @@ use cyclic_barrier::WaitState;
 use instruction_table::Row;
 use loader::Loaded;
 use thread_state::Status;
-use tier_tree::{PhaserId, Registered};
+use tier_tree::Registered;
 
 /// Whether there are threads that have to wait before they play the row.
 #[inline(always)]
@@ -39,7 +39,6 @@ impl Stage {
     #[inline(never)]
     pub(super) fn is_blocked(&self, program: &Loaded, row: Row, t: usize) -> bool
         requires named { IsNamed (counts_in program.now self.now) row }
-        requires few { length self.now.phasers ≤ 64 }
         requires thread { t < length self.now.threads }
         ensures { result ≡ is_blocked row t (scene_of self.now) }
     {
@@ -47,7 +46,7 @@ impl Stage {
             Row::Preg { phaser, .. } => self.is_held(phaser, 1, t),
             Row::Pbulk { phaser, count, .. } => self.is_held(
                 phaser,
-                self.players[t].register(count),
+                self.threads[t].register(count),
                 t,
             ),
             Row::Cawait { barrier, .. }
@@ -62,7 +61,6 @@ impl Stage {
     /// Whether a registration would wait for the phase's end.
     fn is_held(&self, phaser: u16, count: i32, t: usize) -> bool
         requires phaser { phaser < length self.now.phasers }
-        requires few { length self.now.phasers ≤ 64 }
         requires thread { t < length self.now.threads }
         ensures { result ≡ registration_is_held phaser count t (scene_of self.now) }
     {
@@ -70,8 +68,8 @@ impl Stage {
             return false;
         }
         let answer = self
-            .forest
-            .registration(PhaserId(phaser as u8), count as u32);
+            .phasers
+            .registration(self.phaser_id(phaser), count as u32);
         matches!(answer, Registered::Held)
     }
 
@@ -80,7 +78,7 @@ impl Stage {
         requires there { barrier < length self.now.barriers }
         ensures { result ≡ is_run_by_another t (barrier_at (scene_of self.now) barrier).runner }
     {
-        match self.gates[barrier as usize].runner() {
+        match self.barriers[barrier as usize].runner() {
             Some(runner) => runner as usize != t,
             None => false,
         }
@@ -95,14 +93,13 @@ impl Stage {
         t: usize,
     ) -> bool
         requires named { IsNamed (counts_in program.now self.now) row }
-        requires few { length self.now.phasers ≤ 64 }
         requires thread { t < length self.now.threads }
         ensures { result ≡ is_some (outcome_of_phase_wait row phase t (scene_of self.now)) }
     {
         match row {
             Row::Paaa { phaser, .. } | Row::Pawait { phaser, .. } => self.is_past(phaser, phase),
             Row::Pawaiti { phaser, .. } | Row::Pawaitt { phaser, .. } => self.is_past(phaser, phase)
-                || self.players[t].interrupted(),
+                || self.threads[t].interrupted(),
             _ => false,
         }
     }
@@ -138,8 +135,8 @@ impl Stage {
             into index barrier t (scene_of self.now)) }
     {
         match self.wait_state(barrier, t) {
-            WaitState::Waiting => self.players[t].interrupted()
-                && self.gates[barrier as usize].runner().is_none(),
+            WaitState::Waiting => self.threads[t].interrupted()
+                && self.barriers[barrier as usize].runner().is_none(),
             WaitState::Tripped | WaitState::Broken => true,
         }
     }
@@ -151,10 +148,10 @@ impl Stage {
         ensures { result ≡ is_some (timeout_in (thread_at (scene_of self.now) t).status row t
             (scene_of self.now)) }
     {
-        match self.players[t].status() {
+        match self.threads[t].status() {
             Status::AwaitsPhase(_) => matches!(row, Row::Pawaitt { .. }),
             Status::AwaitsBarrier(_) => match row {
-                Row::Cawaitt { barrier, .. } => self.gates[barrier as usize].runner().is_none(),
+                Row::Cawaitt { barrier, .. } => self.barriers[barrier as usize].runner().is_none(),
                 _ => false,
             },
             _ => false,

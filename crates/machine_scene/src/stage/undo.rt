@@ -1,7 +1,7 @@
 ghost use Rattle.std.specs.Prelude.{◌≡◌, ◌<◌, ◌≤◌, length, None};
 ghost use Rattle.machine_scene.specs.declared.note.Touched.TheVariants.{Nothing};
 ghost use Rattle.machine_scene.specs.Scene.{scene_of};
-ghost use Rattle.machine_scene.specs.Sound.{IsSound};
+ghost use Rattle.machine_scene.specs.Sound.{IsSound, most_before};
 ghost use Rattle.machine_scene.specs.Undo.{IsThere, CanPutBack, CanUndo};
 ghost use Rattle.machine_scene.specs.Undo.{touched_by, with_touched, note_of, undone};
 
@@ -10,7 +10,6 @@ use crate::note::{SceneNote, Touched};
 use crate::reach::{Reach, reach_in};
 use loader::Loaded;
 use thread_state::ThreadNote;
-use tier_tree::PhaserId;
 
 impl Stage {
     /// What is kept before a thread's turn, or before the expiry of its wait, so that either can be undone: it is written
@@ -18,19 +17,19 @@ impl Stage {
     #[inline(never)]
     #[tactic(auto, using(crate::proofs::Reaches::reach_there))]
     pub fn note(&self, program: &Loaded, t: usize, note: &mut SceneNote)
-        requires sound { IsSound program.now 2147483646 (scene_of self.now) }
+        requires sound { IsSound program.now most_before (scene_of self.now) }
         requires thread { t < length self.now.threads }
         requires top { (note.old).before.top ≡ None }
         requires touched { (note.old).touched ≡ Nothing }
         ensures { note.new ≡ note_of t program.now self.now }
     {
-        let player = &self.players[t];
+        let thread = &self.threads[t];
         let row = self.row_of(program, t);
-        let top = player.top();
+        let top = thread.top();
         self.top_is_placed(program, &top, t);
-        let reach = reach_in(player.status(), row, &top);
+        let reach = reach_in(thread.status(), row, &top);
         note.number = t as u8;
-        player.note(&mut note.own);
+        thread.note(&mut note.own);
         if !matches!(reach, Reach::Nothing) {
             self.touched(reach, &mut note.beside);
         }
@@ -41,7 +40,6 @@ impl Stage {
     #[inline(never)]
     fn touched(&self, reach: Reach, touched: &mut Touched)
         requires there { IsThere reach self.now }
-        requires few { length self.now.phasers ≤ 64 }
         requires nothing { touched.old ≡ Nothing }
         ensures { touched.new ≡ touched_by reach self.now }
     {
@@ -50,21 +48,21 @@ impl Stage {
             Reach::Cell(cell) => {
                 *touched = Touched::Cell {
                     cell,
-                    number: self.numbers[cell as usize],
+                    number: self.cells[cell as usize],
                 };
             }
             Reach::Thread(thread) => {
                 let mut before = ThreadNote::new();
-                self.players[thread as usize].note(&mut before);
+                self.threads[thread as usize].note(&mut before);
                 *touched = Touched::Thread { thread, before };
             }
             Reach::Tree(phaser) => {
-                *touched = Touched::Tree(self.forest.save(PhaserId(phaser as u8)));
+                *touched = Touched::Tree(self.phasers.save(self.phaser_id(phaser)));
             }
             Reach::Barrier(barrier) => {
                 *touched = Touched::Barrier {
                     barrier,
-                    before: self.gates[barrier as usize],
+                    before: self.barriers[barrier as usize],
                 };
             }
         }
@@ -76,7 +74,7 @@ impl Stage {
         ensures { self.new ≡ undone note.now self.old }
     {
         self.put_back(&note.beside);
-        self.players[note.number as usize].undo(&note.own);
+        self.threads[note.number as usize].undo(&note.own);
         self.asleep = note.asleep;
     }
 
@@ -88,10 +86,10 @@ impl Stage {
     {
         match touched {
             Touched::Nothing => {}
-            Touched::Cell { cell, number } => self.numbers[*cell as usize] = *number,
-            Touched::Thread { thread, before } => self.players[*thread as usize].undo(before),
-            Touched::Tree(saved) => self.forest.restore(saved),
-            Touched::Barrier { barrier, before } => self.gates[*barrier as usize] = *before,
+            Touched::Cell { cell, number } => self.cells[*cell as usize] = *number,
+            Touched::Thread { thread, before } => self.threads[*thread as usize].undo(before),
+            Touched::Tree(saved) => self.phasers.restore(saved),
+            Touched::Barrier { barrier, before } => self.barriers[*barrier as usize] = *before,
         }
     }
 }

@@ -1,7 +1,7 @@
 ghost use Rattle.std.specs.Prelude.{◌≡◌, ◌<◌, length};
 ghost use Rattle.machine_scene.specs.Scene.{scene_of};
 ghost use Rattle.machine_scene.specs.Unwinding.{outcome_of_pop};
-ghost use Rattle.machine_scene.specs.Sound.{IsSound};
+ghost use Rattle.machine_scene.specs.Sound.{IsSound, most_before};
 
 use super::{Stage, alone};
 use loader::Loaded;
@@ -10,23 +10,23 @@ use thread_state::{Event, Frame, Mark};
 impl Stage {
     /// One turn of a thread that throws this exception: it pops an entry, and that of an action breaks its barrier.
     pub(super) fn unwind(&mut self, program: &Loaded, code: i32, t: usize) -> Event
-        requires sound { IsSound program.now 2147483646 (scene_of self.old) }
+        requires sound { IsSound program.now most_before (scene_of self.old) }
         requires thread { t < length self.old.threads }
         ensures outcome { record { scene = scene_of self.new; event = result }
             ≡ outcome_of_pop code t (scene_of self.old) }
         ensures phasers { self.new.phasers ≡ self.old.phasers }
     {
-        let top = self.players[t].top();
+        let top = self.threads[t].top();
         self.top_is_placed(program, &top, t);
         match &top {
             Some(Frame::Action(barrier, _, _)) => {
-                self.gates[*barrier as usize].end_action(false);
+                self.barriers[*barrier as usize].end_action(false);
                 Event {
-                    what: self.players[t].pop(code),
+                    what: self.threads[t].pop(code),
                     mark: Mark::Broke(*barrier),
                 }
             }
-            _ => alone(self.players[t].pop(code)),
+            _ => alone(self.threads[t].pop(code)),
         }
     }
 }

@@ -14,16 +14,14 @@ use cyclic_barrier::WaitState;
 use instruction_table::{Reg, Row};
 use loader::Loaded;
 use thread_state::{Event, Mark};
-use tier_tree::PhaserId;
 
 impl Stage {
     /// Whether a phase of this number is not the one that the phaser is in.
     pub(super) fn is_past(&self, phaser: u16, phase: i32) -> bool
         requires phaser { phaser < length self.now.phasers }
-        requires few { length self.now.phasers ≤ 64 }
         ensures { result ≡ is_past phaser phase (scene_of self.now) }
     {
-        self.forest.phase(PhaserId(phaser as u8)) != phase
+        self.phasers.phase(self.phaser_id(phaser)) != phase
     }
 
     /// Finishes a thread's wait for a phase.
@@ -36,7 +34,6 @@ impl Stage {
     ) -> Event
         requires ready { is_some (outcome_of_phase_wait row phase t (scene_of self.old)) ≡ true }
         requires named { IsNamed (counts_in program.now self.old) row }
-        requires few { length self.old.phasers ≤ 64 }
         requires thread { t < length self.old.threads }
         requires place { (thread_at (scene_of self.old) t).pc < 65535 }
         ensures outcome { outcome_of_phase_wait row phase t (scene_of self.old)
@@ -56,18 +53,17 @@ impl Stage {
     fn finish_awaited(&mut self, looks: bool, into: Reg, phaser: u16, phase: i32, t: usize) -> Event
         requires ready { is_some (outcome_of_awaited looks into phaser phase t (scene_of self.old)) ≡ true }
         requires phaser { phaser < length self.old.phasers }
-        requires few { length self.old.phasers ≤ 64 }
         requires thread { t < length self.old.threads }
         requires place { (thread_at (scene_of self.old) t).pc < 65535 }
         ensures outcome { outcome_of_awaited looks into phaser phase t (scene_of self.old)
             ≡ Some (record { scene = scene_of self.new; event = result }) }
         ensures phasers { self.new.phasers ≡ self.old.phasers }
     {
-        let view = self.forest.phase(PhaserId(phaser as u8));
+        let view = self.phasers.phase(self.phaser_id(phaser));
         if view != phase {
-            return alone(self.players[t].answer(into, view));
+            return alone(self.threads[t].answer(into, view));
         }
-        alone(self.players[t].take_interruption())
+        alone(self.threads[t].take_interruption())
     }
 
     /// What the thread's wait at the barrier has come to.
@@ -77,7 +73,7 @@ impl Stage {
         requires thread { t < length self.now.threads }
         ensures { Some result ≡ wait_at (barrier_at (scene_of self.now) barrier).waits t }
     {
-        self.gates[barrier as usize].look(t as u8)
+        self.barriers[barrier as usize].look(t as u8)
     }
 
     /// Finishes a thread's wait at a barrier.
@@ -116,17 +112,17 @@ impl Stage {
     {
         match self.wait_state(barrier, t) {
             WaitState::Tripped => {
-                self.gates[barrier as usize].leave(t as u8);
-                alone(self.players[t].answer(into, index))
+                self.barriers[barrier as usize].leave(t as u8);
+                alone(self.threads[t].answer(into, index))
             }
             WaitState::Broken => {
-                self.gates[barrier as usize].leave(t as u8);
-                alone(self.players[t].throw(4))
+                self.barriers[barrier as usize].leave(t as u8);
+                alone(self.threads[t].throw(4))
             }
             WaitState::Waiting => {
-                self.gates[barrier as usize].interrupt(t as u8);
+                self.barriers[barrier as usize].interrupt(t as u8);
                 Event {
-                    what: self.players[t].take_interruption(),
+                    what: self.threads[t].take_interruption(),
                     mark: Mark::Broke(barrier as u8),
                 }
             }
@@ -142,7 +138,7 @@ impl Stage {
         ensures phasers { self.new.phasers ≡ self.old.phasers }
     {
         match row {
-            Row::Pawaitt { .. } => alone(self.players[t].throw(5)),
+            Row::Pawaitt { .. } => alone(self.threads[t].throw(5)),
             _ => unreachable!(),
         }
     }
@@ -185,9 +181,9 @@ impl Stage {
             (with_barrier (expire t (barrier_at (scene_of self.old) barrier)) barrier (scene_of self.old)) }
         ensures phasers { self.new.phasers ≡ self.old.phasers }
     {
-        self.gates[barrier as usize].expire(t as u8);
+        self.barriers[barrier as usize].expire(t as u8);
         Event {
-            what: self.players[t].throw(5),
+            what: self.threads[t].throw(5),
             mark: Mark::Broke(barrier as u8),
         }
     }

@@ -20,8 +20,8 @@ impl Machine {
         if self.is_choice_ready(choice) {
             return 0;
         }
-        let times = most.min(MOST_CHOICES - self.chosen);
-        self.chosen += times;
+        let times = most.min(MOST_CHOICES - self.choices);
+        self.choices += times;
         times
     }
 }

@@ -11,10 +11,10 @@ use std::marker::Model;
 /// stack entry at most, and puts out one value at most.
 #[derive(Drop)]
 pub struct ThreadNote {
-    place: u16,
-    values: Regs,
-    state: Status,
-    was_interrupted: bool,
+    pc: u16,
+    registers: Regs,
+    status: Status,
+    interrupted: bool,
     depth: u8,
     top: Option<Frame>,
     outputs: u16,
@@ -27,10 +27,10 @@ impl Model for ThreadNote {
     ghost Value = { Note };
 
     ghost view = { λ note. record {
-      pc = note.place;
-      registers = note.values;
-      status = note.state;
-      interrupted = note.was_interrupted;
+      pc = note.pc;
+      registers = note.registers;
+      status = note.status;
+      interrupted = note.interrupted;
       depth = note.depth;
       top = note.top;
       outputs = note.outputs;
@@ -45,10 +45,10 @@ impl ThreadNote {
         ensures { result.top ≡ None }
     {
         ThreadNote {
-            place: 0,
-            values: Regs::new(),
-            state: Status::Runs,
-            was_interrupted: false,
+            pc: 0,
+            registers: Regs::new(),
+            status: Status::Runs,
+            interrupted: false,
             depth: 0,
             top: None,
             outputs: 0,
@@ -62,32 +62,31 @@ impl Thread {
         requires { (note.old).top ≡ None }
         ensures { note.new ≡ note_of self.now }
     {
-        note.place = self.place;
-        note.values = self.values;
-        note.state = self.state;
-        note.was_interrupted = self.was_interrupted;
-        note.depth = self.entries.len() as u8;
-        if let Some(top) = self.entries.last() {
+        note.pc = self.pc;
+        note.registers = self.registers;
+        note.status = self.status;
+        note.interrupted = self.interrupted;
+        note.depth = self.stack.len() as u8;
+        if let Some(top) = self.stack.last() {
             note.top = Some(*top);
         }
-        note.outputs = self.put_out.len() as u16;
+        note.outputs = self.output.len() as u16;
     }
 
     /// Undoes one turn: it is as it was when the note was taken.
     pub fn undo(&mut self, note: &ThreadNote)
         ensures { self.new ≡ undone note.now self.old }
     {
-        self.place = note.place;
-        self.values = note.values;
-        self.state = note.state;
-        self.was_interrupted = note.was_interrupted;
-        self.entries
-            .truncate((note.depth as usize).saturating_sub(1));
+        self.pc = note.pc;
+        self.registers = note.registers;
+        self.status = note.status;
+        self.interrupted = note.interrupted;
+        self.stack.truncate((note.depth as usize).saturating_sub(1));
         if let Some(top) = &note.top {
-            if self.entries.push(*top).is_err() {
+            if self.stack.push(*top).is_err() {
                 unreachable!()
             }
         }
-        self.put_out.truncate(note.outputs as usize);
+        self.output.truncate(note.outputs as usize);
     }
 }

@@ -1,10 +1,15 @@
 use Rattle.std.proofs.Common.{◌≡◌, All}
-use Rattle.shared_phaser.specs.Known.{Caller, phaser_of}
+use Rattle.std.specs.Prelude.{map}
+use Rattle.std.specs.List.{range_with_len}
+use Rattle.race.specs.Race.{IsFresh, number_of}
 use Rattle.race.proofs.meeting.callers.Given as goal
 
+-- a caller a turn, each with the next number
 abbrev pub invariant-loop : goal.invariant-loop
 invariant-loop l = record {
   number : l.first.known.number ≡ 0;
-  phaser : phaser_of l.first ≡ l.phaser;
-  callers : All (λ (p : Caller). phaser_of p ≡ l.phaser) l.callers.items;
+  splits : l.first.known.splits ≡ l.counter;
+  fresh : IsFresh l.phaser l.first;
+  callers : All (IsFresh l.phaser) l.callers.items;
+  numbers : map number_of l.callers.items ≡ range_with_len 1 l.counter;
 }

@@ -1,6 +1,6 @@
-use Rattle.std.proofs.Common.{◌≡◌}
-use Rattle.shared_phaser.specs.Known.{phaser_of}
+use Rattle.race.specs.Race.{HasMet}
 use Rattle.race.proofs.meeting.work.Given as goal
 
+-- a meeting a turn
 abbrev pub invariant-loop : goal.invariant-loop
-invariant-loop g l = phaser_of l.party ≡ l.phaser
+invariant-loop g l = HasMet l.initial.party l.counter l.party

@@ -1,3 +1,5 @@
+use Rattle.std.proofs.Common.{refl}
+use Rattle.workbench.proofs.Conversations.{none_given}
 use Rattle.workbench.proofs.Debugged.{debugged, so_far, without_memory}
 use Rattle.workbench.proofs.debug.debug.Goals as goal
 
@@ -15,3 +17,9 @@ pub returns-clause-unread : goal.returns-clause-unread
 returns-clause-unread g c = λ is.
     so_far c.in-Ok.image c.in-Ok-first_debugger.debugger _ _ _ _ _ _ c.in-Ok-first_debugger.ensures.first
     c.in-Ok.ensures.program (c.converse.ensures.read is).1
+
+pub returns-in-Err-clause-few : goal.returns-in-Err-clause-few
+returns-in-Err-clause-few g c = none_given _ _ refl
+
+pub returns-in-Err-first_debugger-clause-few : goal.returns-in-Err-first_debugger-clause-few
+returns-in-Err-first_debugger-clause-few g c = none_given _ _ refl

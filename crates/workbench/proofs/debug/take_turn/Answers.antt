@@ -2,7 +2,7 @@ use Rattle.std.proofs.Common.{◌≡◌, ◌≢◌, ◌∙◌, ◌++◌, inl, []
 use Rattle.std.proofs.lemmas.List.{nil_from_length}
 use Rattle.std.specs.Io.KnownBytes.{Consumes}
 use Rattle.workbench.specs.Debug.{HasNoEnd}
-use Rattle.workbench.proofs.Conversations.{ends_with_a_line, ends_without_a_line, is_cut, is_left, left_unanswered, part_given, quits, was_read}
+use Rattle.workbench.proofs.Conversations.{each_given, ends_with_a_line, ends_without_a_line, is_cut, is_left, left_unanswered, part_given, quits, was_read}
 use Rattle.workbench.proofs.debug.take_turn.Goals as goal
 use Rattle.workbench.proofs.debug.take_turn.Goals.{else-not-is_ended-via-then-not-is_ended+else-is_empty, else-not-is_ended-via-else-not-is_ended}
 
@@ -14,7 +14,7 @@ returns-in-Err-clause-memory g c = λ is.
 pub returns-in-Err-clause-read : goal.returns-in-Err-clause-read
 returns-in-Err-clause-read g c = λ is.
     let e = c.in-Err.ensures.read is in
-    (e.0, is_cut c.args.debugger.now _ _ _ _ c.read_line.new.line.items e.1 c.in-Err.ensures.line refl)
+    (each_given _ _ _ _ c.read_line.new.line.items e.0 e.1, is_cut c.args.debugger.now _ _ _ _ c.read_line.new.line.items e.1 c.in-Err.ensures.line refl)
 
 pub returns-then-is_empty-clause-last : goal.returns-then-is_empty-clause-last
 returns-then-is_empty-clause-last g c = λ _.
@@ -27,7 +27,7 @@ returns-then-is_ended-clause-last g c = λ is.
     let off : c.in-Ok-answer.goes_on ≡ false = cc in
     let line = c.as_slice.ensures.value in
     quits c.args.debugger.now c.answer.new.debugger _ _ _ _ c.as_slice.result.now
-    (subst (λ l. Consumes (g.S.Source.left c.args.commands.now) (g.S.Source.left c.read_line.new.source) (l ++ 10 ∷ [])) (sym line) (c.in-Ok.ensures.ended (ap Ok c.if-is_ended.true)))
+    (subst (λ l. Consumes (g.S.Source.left c.args.commands.now) (g.S.Source.left c.read_line.new.source) (l ++ 10 ∷ [])) (sym line) (c.in-Ok.ensures.ended (ap Ok c.if-is_ended.true)).0)
     (subst HasNoEnd (sym line) c.in-Ok.ensures.line)
     (sym c.in-Ok-answer.ensures.goes_on ∙ off)
     c.in-Ok-answer.ensures.answered
@@ -49,12 +49,12 @@ returns-else-is_ended-clause-last g c = λ _.
 pub returns-in-Err-answer-clause-memory : goal.returns-in-Err-answer-clause-memory
 returns-in-Err-answer-clause-memory g c = λ is.
     left_unanswered c.args.debugger.now _ _ _ _ c.read_line.new.line.items c.in-Ok.is_ended
-    (λ e. c.in-Ok.ensures.ended (ap Ok e)) (λ e. c.in-Ok.ensures.last (ap Ok e)) c.in-Ok.ensures.line
+    (λ e. (c.in-Ok.ensures.ended (ap Ok e)).0) (λ e. c.in-Ok.ensures.last (ap Ok e)) c.in-Ok.ensures.line
     (c.in-Err-answer.ensures.memory is).1
 
 pub returns-in-Err-answer-clause-write : goal.returns-in-Err-answer-clause-write
 returns-in-Err-answer-clause-write g c = λ is. (
   c.in-Err-answer.ensures.write is,
   was_read _ _ c.read_line.new.line.items c.in-Ok.is_ended
-      (λ e. c.in-Ok.ensures.ended (ap Ok e)) (λ e. c.in-Ok.ensures.last (ap Ok e)) c.in-Ok.ensures.line,
+      (λ e. (c.in-Ok.ensures.ended (ap Ok e)).0) (λ e. c.in-Ok.ensures.last (ap Ok e)) c.in-Ok.ensures.line,
 )

@@ -1,5 +1,5 @@
-use Rattle.std.proofs.Common.{◌≡◌, ◌≢◌, ◌≤◌, ◌+◌, ◌++◌, [], ◌∷◌, Ok, Some, ap, subst, sym, rules}
-use Rattle.std.specs.Prelude.{All, vec_len}
+use Rattle.std.proofs.Common.{◌≡◌, ◌≢◌, ◌∙◌, ◌+◌, ◌++◌, ℕ, List, [], ◌∷◌, Ok, Some, ap, arith, length, length-append, subst, sym, rules}
+use Rattle.std.specs.Prelude.{All}
 use Rattle.std.specs.Io.KnownBytes.{Consumes}
 use Rattle.workbench.proofs.Conversations.{one_more, given_on}
 use Rattle.workbench.proofs.input_line.read_line.Goals as goal
@@ -7,27 +7,48 @@ use Rattle.workbench.proofs.input_line.read_line.Goals as goal
 pub returns-in-Ok-Some-eq10-clause-ended : goal.returns-in-Ok-Some-eq10-clause-ended
 returns-in-Ok-Some-eq10-clause-ended g c = λ _.
     let is : c.in-Ok-Some-eq10.field-0 ≡ Some 10 = cc in
-    given_on _ _ _ c.loop.line.items 10 c.loop.invariant.given (c.in-Ok-Some-eq10.ensures.byte 10 (ap Ok is))
+    let given = given_on _ _ _ c.loop-reads.line.items 10 c.loop-reads.invariant.given (c.in-Ok-Some-eq10.ensures.byte 10 (ap Ok is)) in
+    (given, omega (arith, c.loop-reads.invariant.counted, c.loop-reads-test.true))
 
 pub returns-then-is_err-clause-memory : goal.returns-then-is_err-clause-memory
 returns-then-is_err-clause-memory g c = λ _.
     let is : c.in-Ok-Some.field-0 ≡ Some c.in-Ok-Some.byte = cc in (
-      c.loop.line.items ++ c.in-Ok-Some.byte ∷ [],
+      c.loop-reads.line.items ++ c.in-Ok-Some.byte ∷ [],
       (
-        one_more c.loop.line.items c.in-Ok-Some.byte c.loop.invariant.no_end c.in-Ok-Some.byte-test.1,
-        given_on _ _ _ c.loop.line.items c.in-Ok-Some.byte c.loop.invariant.given
+        one_more c.loop-reads.line.items c.in-Ok-Some.byte c.loop-reads.invariant.no_end c.in-Ok-Some.byte-test.1,
+        given_on _ _ _ c.loop-reads.line.items c.in-Ok-Some.byte c.loop-reads.invariant.given
             (c.in-Ok-Some.ensures.byte c.in-Ok-Some.byte (ap Ok is)),
       ),
     )
 
-pub loop-preserved : goal.loop-preserved
-loop-preserved g c =
+pub loop-reads-preserved : goal.loop-reads-preserved
+loop-reads-preserved g c =
     let is : c.in-Ok-Some.field-0 ≡ Some c.in-Ok-Some.byte = cc in
-    let grown : c.push.new.self.items ≡ c.loop.line.items ++ c.in-Ok-Some.byte ∷ [] = search rules in
-    let counted : c.loop.counter + 1 ≤ vec_len c.push.new.self = search rules in
+    let grown : c.push.new.self.items ≡ c.loop-reads.line.items ++ c.in-Ok-Some.byte ∷ [] = search rules in
+    let longer : length c.push.new.self.items ≡ length c.loop-reads.line.items + 1 =
+    ap (λ (l : List ℕ). length l) grown ∙ length-append c.loop-reads.line.items (c.in-Ok-Some.byte ∷ []) in
     record {
-      given = subst (Consumes _ _) (sym grown) (given_on _ _ _ c.loop.line.items c.in-Ok-Some.byte c.loop.invariant.given
+      given = subst (Consumes _ _) (sym grown) (given_on _ _ _ c.loop-reads.line.items c.in-Ok-Some.byte c.loop-reads.invariant.given
           (c.in-Ok-Some.ensures.byte c.in-Ok-Some.byte (ap Ok is)));
-      no_end = subst (All (λ byte. byte ≢ 10)) (sym grown) (one_more c.loop.line.items c.in-Ok-Some.byte c.loop.invariant.no_end c.in-Ok-Some.byte-test.1);
-      counted = counted;
+      no_end = subst (All (λ byte. byte ≢ 10)) (sym grown) (one_more c.loop-reads.line.items c.in-Ok-Some.byte c.loop-reads.invariant.no_end c.in-Ok-Some.byte-test.1);
+      counted = omega (arith, c.loop-reads.invariant.counted, c.loop-reads-test.true, longer);
     }
+
+pub returns-in-Ok-Some-eq10-clause-few : goal.returns-in-Ok-Some-eq10-clause-few
+returns-in-Ok-Some-eq10-clause-few g c =
+    let is : c.in-Ok-Some-eq10.field-0 ≡ Some 10 = cc in
+    let bytes = c.loop-reads.line.items ++ 10 ∷ [] in
+    let given = given_on _ _ _ c.loop-reads.line.items 10 c.loop-reads.invariant.given (c.in-Ok-Some-eq10.ensures.byte 10 (ap Ok is)) in
+    (bytes, (given, omega (arith, c.loop-reads.invariant.counted, c.loop-reads-test.true, length-append c.loop-reads.line.items (10 ∷ []))))
+
+pub returns-then-is_err-clause-few : goal.returns-then-is_err-clause-few
+returns-then-is_err-clause-few g c =
+    let is : c.in-Ok-Some.field-0 ≡ Some c.in-Ok-Some.byte = cc in
+    let bytes = c.loop-reads.line.items ++ c.in-Ok-Some.byte ∷ [] in
+    let given = given_on _ _ _ c.loop-reads.line.items c.in-Ok-Some.byte c.loop-reads.invariant.given
+    (c.in-Ok-Some.ensures.byte c.in-Ok-Some.byte (ap Ok is)) in
+    (bytes, (given, omega (arith, c.loop-reads.invariant.counted, c.loop-reads-test.true, length-append c.loop-reads.line.items (c.in-Ok-Some.byte ∷ []))))
+
+pub returns-clause-few : goal.returns-clause-few
+returns-clause-few g c =
+    (c.loop-reads.line.items, (c.loop-reads.invariant.given, omega (arith, c.loop-reads.invariant.counted)))

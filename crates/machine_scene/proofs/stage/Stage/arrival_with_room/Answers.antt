@@ -14,15 +14,15 @@ pub turning-requires-clause-room : goal.turning-requires-clause-room
 turning-requires-clause-room c none =
     let inside = c.self.inside in
     let seen : List PhaserState → Scene =
-    λ phasers. record { cells = inside.numbers; threads = inside.players.items; phasers = phasers; barriers = inside.gates.items } in
-    room_left (seen (phasers_of inside.forest)) (seen (phasers_of c.arrive.new.self)) c.args.phaser c.in-Turning.root.0 c.args.t
+    λ phasers. record { cells = inside.cells; threads = inside.threads.items; phasers = phasers; barriers = inside.barriers.items } in
+    room_left (seen (phasers_of inside.phasers)) (seen (phasers_of c.arrive.new.self)) c.args.phaser c.in-Turning.root.0 c.args.t
     (subst (λ (s : StoredScene). (has_routine c.args.phaser (scene_of s) && is_full (thread_at (scene_of s) c.args.t)) ≡ false)
     (sym c.self.view_is) c.requires.room)
     c.arrive.ensures.places c.in-Turning.ensures.turning.1 refl none
 
 pub returns-in-Turning-clause-phasers : goal.returns-in-Turning-clause-phasers
 returns-in-Turning-clause-phasers c =
-    let before = c.self.inside.forest in
+    let before = c.self.inside.phasers in
     let after = c.turning.new.self.phasers in
     let there : c.args.phaser < length before =
     subst (λ (s : StoredScene). c.args.phaser < length s.phasers) (sym c.self.view_is) c.requires.phaser in

@@ -9,7 +9,7 @@ use Rattle.thread_machine.proofs.machine.Machine.idle.Goals as goal
 pub returns-clause-played : goal.returns-clause-played
 returns-clause-played c =
     let n = c.min-times.result in
-    let within : c.self.inside.chosen + n ≤ 1000000000000 =
+    let within : c.self.inside.choices + n ≤ 1000000000000 =
     omega (arith, c.min-times.ensures, c.self.invariant.choices) in
     idle_execution n (world_of c.args.self.now) c.args.choice c.requires
     (sym c.is_choice_ready.ensures ∙ c.if-is_choice_ready.false)

@@ -1,0 +1,171 @@
+//! What the help says, in lines of at most 80 columns.
+
+/// What stands below the help of each command.
+pub const STATUSES: &str = "\
+Exit statuses:
+  0  done
+  1  a trace isn't that of the run (`compare`), or is none (`choices`)
+  2  the command line is wrong
+  3  the input is refused: standard error has a line `refused ..`
+  4  memory is wanting, or a thread: standard error has `memory` or `spawn`
+  5  a file can't be read or written: standard error has `read` or `write`
+
+`vuthgal explain`, with the words of such a line behind it, says what it means
+and what helps. docs/FORMATS.md has the formats.";
+
+pub const PROGRAM: &str = "\
+Plays small programs of threads that call the phasers and barriers of
+java.util.concurrent.
+
+Without words it reads a program text from standard input, then a line `.run`
+and a schedule, and writes the trace: a line for each choice, and then the
+state. It may tell `refused asm`, `refused load`, `refused schedule`, `memory`,
+`read` or `write`.
+
+Example: vuthgal < examples/two-threads-meet.txt";
+
+pub const ASM: &str = "\
+Assembles the program text in SRC and writes its image to OUT.
+
+OUT is made empty first, and is a file of that name also where it is `-`. SRC
+and OUT can't be one file. Whether the program can be loaded is not looked at.
+
+It may tell `refused asm`, `memory`, `read` or `write`.
+
+Example: vuthgal asm examples/meeting.asm meeting.image";
+
+pub const LIST: &str = "\
+Writes the canonical text of the program in FILE, an image or a program text.
+
+FILE is an image where its first four bytes are `PBW1` or `PBW2`, else a text.
+
+It may tell `refused asm` of a text, `refused image` of an image, `memory`,
+`read` or `write`.
+
+Example: vuthgal list meeting.image";
+
+pub const RUN: &str = "\
+Plays the program in FILE under the schedule in SCHEDULE and writes the trace:
+a line for each choice, and then the state.
+
+FILE is an image where its first four bytes are `PBW1` or `PBW2`, else a program
+text. SCHEDULE is a file, or `-` for standard input; it may be as long as you
+like.
+
+It may tell `refused asm`, `refused image`, `refused load`, `refused schedule`,
+`memory`, `read` or `write`.
+
+Example: vuthgal run examples/meeting.asm - <<< 't0 t1 t0*3 t1*2'";
+
+pub const COMPARE: &str = "\
+Compares the trace in TRACE with the run of the program in FILE under the
+choices that the trace names.
+
+It writes `same`; `differs LINE`, the first line that isn't the run's, byte for
+byte; or `not a trace LINE`, the first line that is no trace's. FILE is an image
+where its first four bytes are `PBW1` or `PBW2`, else a program text. TRACE is a
+file, or `-` for standard input; it may be as long as you like.
+
+It may tell `refused asm`, `refused image`, `refused load`, `memory`, `read` or
+`write`.
+
+Example: vuthgal compare examples/meeting.asm examples/two-threads-meet.trace";
+
+pub const DEBUG: &str = "\
+Plays the program in FILE by the commands on standard input, forwards and
+backwards.
+
+FILE is an image where its first four bytes are `PBW1` or `PBW2`, else a program
+text. Each line of standard input is one command, and its answer stands on
+standard output before the next line is read:
+
+  s tN       one choice: thread N's turn; `s xN` lets its timed wait expire
+  b          one choice back; the last 4096 can be taken back
+  k ROW      a breakpoint at a row of the program, numbered from 0
+  c ROW      no breakpoint there any more
+  g TOKENS   choices, as in a schedule, up to the first that leads a thread to
+             a breakpoint
+  p          the state of all threads, phasers and barriers
+  q          the end, as the end of standard input
+
+What is none of these is answered with `?`.
+
+It may tell `refused asm`, `refused image`, `refused load`, `memory`, `read` or
+`write`.
+
+Example: vuthgal debug examples/meeting.asm <<< 'g t0 t1 t0'";
+
+pub const SHOW: &str = "\
+Writes a page that shows a run: one HTML file that any browser opens, with no
+network.
+
+FILE is an image where its first four bytes are `PBW1` or `PBW2`, else a program
+text. SCHEDULE is a file, or `-` for standard input. Without it FILE is a text
+with its schedule behind a line `.run`. A page shows 2000 choices at most.
+
+It may tell `refused asm`, `refused image`, `refused load`, `refused schedule`,
+`refused show`, `memory`, `read` or `write`.
+
+Example: vuthgal show examples/two-threads-meet.txt > meeting.html";
+
+pub const DRAW: &str = "\
+Draws a run as text: a column for each thread, a line for each choice.
+
+FILE is an image where its first four bytes are `PBW1` or `PBW2`, else a program
+text. SCHEDULE is a file, or `-` for standard input. Without it FILE is a text
+with its schedule behind a line `.run`. No line has more than N bytes.
+
+It may tell `refused asm`, `refused image`, `refused load`, `refused schedule`,
+`refused draw`, `memory`, `read` or `write`.
+
+Example: vuthgal draw examples/two-threads-meet.txt";
+
+pub const LIVE: &str = "\
+Plays the program in FILE on real threads, one for each of its own, and writes
+the trace of the run that came about.
+
+FILE is an image where its first four bytes are `PBW1` or `PBW2`, else a program
+text. The run is recorded choice by choice, and what is written is the trace of
+that record: `vuthgal compare` finds it the same. It ends where all threads have
+ended, where none can go on, or after N steps.
+
+It may tell `refused asm`, `refused image`, `refused load`, `memory`, `spawn`,
+`read` or `write`.
+
+Example: vuthgal live examples/meeting.asm";
+
+pub const RACE: &str = "\
+Lets real threads meet at one shared phaser, round after round, and writes the
+word that they leave.
+
+N threads call `arriveAndAwaitAdvance` R times each on a phaser of N parties.
+The line is `phase A parties B unarrived C`: A is R, and B and C are N, whatever
+the threads' order was.
+
+It may tell `memory`, `spawn` or `write`.
+
+Example: vuthgal race --parties 4 --rounds 10000";
+
+pub const CHOICES: &str = "\
+Writes the schedule of the trace in TRACE: the choices that its lines name, up
+to its state.
+
+TRACE is a file, or `-` for standard input; it may be as long as you like. Of
+what is no trace it writes `not a trace LINE`, the first line that is none.
+Nothing is played, so it wants no program.
+
+It may tell `memory`, `read` or `write`.
+
+Example: vuthgal choices examples/two-threads-meet.trace";
+
+pub const EXPLAIN: &str = "\
+Says in words what a line on standard error means: what is wrong, what helps, a
+command that makes it, and where the documents say more.
+
+The words are those of the line. A place may be left out: `explain asm 5` is the
+fifth kind of a program text's fault. `explain status 4` is an exit status,
+`explain exception 6` the number of an exception; `explain not a trace`,
+`explain none` and `explain ?` are words of traces and sessions. Without words
+it lists what can be asked.
+
+Example: vuthgal explain refused asm 2 5";

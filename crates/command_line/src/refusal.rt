@@ -1,0 +1,51 @@
+//! Why words that the commands take ask for nothing.
+ghost use Rattle.std.specs.Prelude.{◌≡◌};
+ghost use Rattle.command_line.specs.declared.refusal.Refusal.{Refusal};
+ghost use Rattle.command_line.specs.declared.refusal.Refusal.TheVariants as refusal;
+
+use std::alloc::AllocError;
+
+/// An option whose value is none that it may have.
+#[derive(Clone, Copy, PartialEq, Eq)]
+pub enum WrongOption {
+    Width,
+    Limit,
+    Parties,
+    Rounds,
+}
+
+/// Why words that the commands take ask for nothing.
+#[derive(Clone, Copy, PartialEq, Eq)]
+pub enum Refusal {
+    /// There was no memory for them.
+    Memory,
+    Wrong(WrongOption),
+}
+
+impl From<AllocError> for Refusal {
+    ghost from_gives = { λ _ why. why ≡ refusal.Memory };
+
+    fn from(_error: AllocError) -> Refusal {
+        Refusal::Memory
+    }
+}
+
+impl From<WrongOption> for Refusal {
+    ghost from_gives = { λ option why. why ≡ refusal.Wrong option };
+
+    fn from(option: WrongOption) -> Refusal {
+        Refusal::Wrong(option)
+    }
+}
+
+impl WrongOption {
+    /// What is told of it.
+    pub fn told(self) -> &'static str {
+        match self {
+            WrongOption::Width => "--width N: N is 60 to 1000, in digits alone",
+            WrongOption::Limit => "--limit N: N is 1 to 1000000000, in digits alone",
+            WrongOption::Parties => "--parties N: N is 1 to 16, in digits alone",
+            WrongOption::Rounds => "--rounds R: R is 1 to 1000000, in digits alone",
+        }
+    }
+}

@@ -1,0 +1,4 @@
+mod Drawings
+mod NoPicture
+mod Pages
+mod Written

@@ -1,0 +1,5 @@
+pub mod Command
+pub mod Drawing
+pub mod Fault
+pub mod Page
+pub mod Picture

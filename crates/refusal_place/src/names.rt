@@ -1,0 +1,95 @@
+//! The names that a text gives.
+
+use crate::operands::is_directive;
+use crate::text::label_name;
+use std::alloc::{AllocError, Global};
+use strsim::levenshtein;
+
+fn is_blank(byte: u8) -> bool {
+    byte == b' ' || byte == b'\t' || byte == b'\r'
+}
+
+/// A line without its comment.
+fn before_comment(line: &[u8]) -> &[u8] {
+    match line.iter().position(|byte| *byte == b';') {
+        Some(at) => line.get(..at).unwrap_or(line),
+        None => line,
+    }
+}
+
+/// The name that a line gives, if it gives one: its label's, or that of what it declares.
+pub fn name_given(line: &[u8]) -> Option<&[u8]> {
+    let mut words = before_comment(line)
+        .split(|byte| is_blank(*byte))
+        .filter(|word| !word.is_empty());
+    let first = words.next()?;
+    let label = label_name(first);
+    if label.is_some() {
+        return label;
+    }
+    if is_directive(first) {
+        return words.next();
+    }
+    None
+}
+
+/// How many lines give this name.
+fn count_given(text: &[u8], name: &[u8]) -> u64 {
+    let mut count: u64 = 0;
+    for line in text.split(|byte| *byte == b'\n') {
+        if name_given(line) == Some(name) {
+            count = count.saturating_add(1);
+        }
+    }
+    count
+}
+
+/// Whether a line gives this name.
+pub fn is_given(text: &[u8], name: &[u8]) -> bool {
+    count_given(text, name) > 0
+}
+
+/// Whether two lines give this name.
+pub fn is_given_twice(text: &[u8], name: &[u8]) -> bool {
+    count_given(text, name) > 1
+}
+
+/// The number of the first line that gives this name, from 1.
+pub fn first_line(text: &[u8], name: &[u8]) -> Option<u64> {
+    let mut number: u64 = 0;
+    for line in text.split(|byte| *byte == b'\n') {
+        number = number.saturating_add(1);
+        if name_given(line) == Some(name) {
+            return Some(number);
+        }
+    }
+    None
+}
+
+/// How far two words are from each other, in letters that are changed, left out or put in.
+fn distance(alloc: Global, a: &[u8], b: &[u8]) -> Result<usize, AllocError> {
+    match (str::from_utf8(a), str::from_utf8(b)) {
+        (Ok(a), Ok(b)) => levenshtein(alloc, a, b),
+        _ => Ok(usize::MAX),
+    }
+}
+
+/// The name of the text that is nearest to this one, where it is near at all.
+pub fn nearest<'a>(
+    alloc: Global,
+    text: &'a [u8],
+    name: &[u8],
+) -> Result<Option<&'a [u8]>, AllocError> {
+    let mut found: Option<&'a [u8]> = None;
+    let mut least = 3;
+    for line in text.split(|byte| *byte == b'\n') {
+        if let Some(given) = name_given(line) {
+            let far = distance(alloc, given, name)?;
+            if far < least && far < name.len() {
+                found = Some(given);
+                least = far;
+            }
+        }
+    }
+    Ok(found)
+}

@@ -1,0 +1,12 @@
+pub mod Asm
+pub mod Declare
+pub mod Entry
+pub mod Exception
+pub mod Image
+pub mod Kinds
+pub mod Line
+pub mod Load
+pub mod Question
+pub mod Schedule
+pub mod Status
+pub mod Subject

@@ -1,0 +1,98 @@
+ghost use Rattle.std.specs.Prelude.{◌≡◌};
+ghost use Rattle.refusal_words.specs.Entry.{text_entry};
+ghost use Rattle.refusal_words.specs.Line.{line_entry};
+
+use crate::entry::Entry;
+use crate::subject::Line;
+
+/// What the table says of a line that is a fixed word.
+pub fn line_entry(line: Line) -> Entry
+    ensures { text_entry result ≡ line_entry line }
+{
+    match line {
+        Line::Show => Entry {
+            told: "refused show 2000",
+            means: "the schedule has more choices than a page shows",
+            helps: "a schedule of at most 2000 choices",
+            example: "printf '.thread t #0\\nhalt\\n.run\\nt0*2001\\n' > a.txt; vuthgal show a.txt",
+            more: "docs/FORMATS.md, \"Page\"",
+        },
+        Line::Draw => Entry {
+            told: "refused draw 2000",
+            means: "the schedule has more choices than a picture shows",
+            helps: "a schedule of at most 2000 choices",
+            example: "printf '.thread t #0\\nhalt\\n.run\\nt0*2001\\n' > a.txt; vuthgal draw a.txt",
+            more: "docs/FORMATS.md, \"Picture\"",
+        },
+        Line::Memory => Entry {
+            told: "memory",
+            means: "memory was refused",
+            helps: "more memory, or a shorter input",
+            example: "none: where it ends depends on the machine",
+            more: "docs/FORMATS.md, \"Exit statuses\"",
+        },
+        Line::Spawn => Entry {
+            told: "spawn",
+            means: "the system refused to start a thread",
+            helps: "fewer threads, or a higher `ulimit -u`",
+            example: "none: where it comes depends on the machine",
+            more: "docs/FORMATS.md, \"Exit statuses\"",
+        },
+        Line::Read => Entry {
+            told: "read",
+            means: "a file or standard input can't be read, isn't there, or is too long",
+            helps: "a file that is there and no folder, of up to 16777216 bytes",
+            example: "vuthgal list no-such-file",
+            more: "docs/FORMATS.md, \"Exit statuses\"",
+        },
+        Line::Write => Entry {
+            told: "write",
+            means: "standard output or OUT can't be written, or OUT is SRC itself",
+            helps: "room on the device, leave to write, another OUT",
+            example: "vuthgal --help > /dev/full",
+            more: "docs/FORMATS.md, \"Exit statuses\"",
+        },
+        Line::NotATrace => Entry {
+            told: "not a trace LINE",
+            means: "this line of TRACE is none that a trace has there",
+            helps: "the lines that `run` writes: choices, then the state",
+            example: "printf '.thread t #0\\nhalt\\n' > a.txt; echo hello | vuthgal compare a.txt -",
+            more: "docs/FORMATS.md, \"Comparing\"",
+        },
+        Line::Differs => Entry {
+            told: "differs LINE",
+            means: "this line of TRACE isn't the one that the run has there, byte for byte",
+            helps: "`vuthgal run` with the choices of TRACE writes the run's own lines",
+            example: "printf '.thread t #0\\nhalt\\n' > a.txt; echo 1 t0 0 ok | vuthgal compare a.txt -",
+            more: "docs/FORMATS.md, \"Comparing\"",
+        },
+        Line::NoThread => Entry {
+            told: "none",
+            means: "a choice of a thread that the program doesn't have",
+            helps: "threads are numbered from 0, in the order of their .thread lines",
+            example: "printf '.thread t #0\\nhalt\\n.run\\nt5\\n' | vuthgal",
+            more: "docs/FORMATS.md, \"Trace text\"",
+        },
+        Line::StepLimit => Entry {
+            told: "limit",
+            means: "the machine has taken all the steps or choices that it may",
+            helps: "a shorter schedule",
+            example: "none: it takes 1000000000 steps",
+            more: "docs/FORMATS.md, \"Trace text\"",
+        },
+        Line::Unknown => Entry {
+            told: "?",
+            means: "the line is no command of `debug`, or names a row that isn't there",
+            helps: "the commands that `vuthgal debug --help` lists",
+            example: "printf '.thread t #0\\nhalt\\n' > a.txt; echo z | vuthgal debug a.txt",
+            more: "docs/FORMATS.md, \"Debugger commands\"",
+        },
+        Line::NoHistory => Entry {
+            told: "no history",
+            means: "no choice is left that could be taken back",
+            helps: "`b` takes back the last 4096 choices at most",
+            example: "printf '.thread t #0\\nhalt\\n' > a.txt; echo b | vuthgal debug a.txt",
+            more: "docs/FORMATS.md, \"Debugger commands\"",
+        },
+    }
+}

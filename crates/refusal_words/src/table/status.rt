@@ -1,0 +1,56 @@
+ghost use Rattle.std.specs.Prelude.{◌≡◌};
+ghost use Rattle.refusal_words.specs.Entry.{text_entry};
+ghost use Rattle.refusal_words.specs.Status.{status_entry};
+
+use crate::entry::Entry;
+use crate::subject::Status;
+
+/// What the table says of an exit status.
+pub fn status_entry(status: Status) -> Entry
+    ensures { text_entry result ≡ status_entry status }
+{
+    match status {
+        Status::Done => Entry {
+            told: "status 0",
+            means: "done: all that was asked for is written",
+            helps: "nothing is wrong, also where threads are stuck",
+            example: "vuthgal --version",
+            more: "docs/FORMATS.md, \"Exit statuses\"",
+        },
+        Status::Unlike => Entry {
+            told: "status 1",
+            means: "`compare` wrote `differs LINE` or `not a trace LINE`",
+            helps: "a look at that line",
+            example: "printf '.thread t #0\\nhalt\\n' > a.txt; echo hello | vuthgal compare a.txt -",
+            more: "docs/FORMATS.md, \"Exit statuses\"",
+        },
+        Status::WrongWords => Entry {
+            told: "status 2",
+            means: "the command line is wrong, and nothing was read",
+            helps: "vuthgal --help",
+            example: "vuthgal --speed",
+            more: "docs/FORMATS.md, \"Exit statuses\"",
+        },
+        Status::Refused => Entry {
+            told: "status 3",
+            means: "the input is refused: standard error has a line `refused ..`",
+            helps: "`vuthgal explain` with the words of that line",
+            example: "printf 'halt\\n' | vuthgal",
+            more: "docs/FORMATS.md, \"Exit statuses\"",
+        },
+        Status::Wanting => Entry {
+            told: "status 4",
+            means: "memory or a thread is wanting: standard error has `memory` or `spawn`",
+            helps: "more memory, or fewer threads",
+            example: "none: where it comes depends on the machine",
+            more: "docs/FORMATS.md, \"Exit statuses\"",
+        },
+        Status::Failed => Entry {
+            told: "status 5",
+            means: "a file can't be read or written: standard error has `read` or `write`",
+            helps: "`vuthgal explain read` and `vuthgal explain write`",
+            example: "vuthgal list no-such-file",
+            more: "docs/FORMATS.md, \"Exit statuses\"",
+        },
+    }
+}

@@ -1,0 +1,4 @@
+pub mod Threads
+pub mod Runs
+pub mod LinesNamed
+pub mod Laws

@@ -1,0 +1,4 @@
+pub mod Naming
+pub mod Joined
+pub mod Named
+pub mod Shown
