@@ -7,9 +7,13 @@ use Rattle.clap.specs.declared.builder.action.ArgAction.TheVariants.{Append}
 abbrev pub place_rule : Text → Rule
 place_rule name = record (new_rule name) { required = true }
 
--- an option that has to be there, with one value
+-- an option with one value, which may be left out
+abbrev pub option_rule : Text → Rule
+option_rule name = record (new_rule name) { long = Some name; value_names = 1 }
+
+-- one that has to be there
 abbrev pub number_rule : Text → Rule
-number_rule name = record (new_rule name) { long = Some name; value_names = 1; required = true }
+number_rule name = record (option_rule name) { required = true }
 
 -- the option `--limit`, which is 1000000 where it isn't there
 abbrev pub limit_rule : Rule
@@ -45,13 +49,13 @@ abbrev pub list_shape : Shape
 list_shape = command (codes "list") (file_rule ∷ [])
 
 abbrev pub run_shape : Shape
-run_shape = command (codes "run") (file_rule ∷ place_rule (codes "SCHEDULE") ∷ [])
+run_shape = command (codes "run") (file_rule ∷ place_rule (codes "SCHEDULE") ∷ option_rule (codes "expect") ∷ [])
 
 abbrev pub compare_shape : Shape
 compare_shape = command (codes "compare") (file_rule ∷ place_rule (codes "TRACE") ∷ [])
 
 abbrev pub debug_shape : Shape
-debug_shape = command (codes "debug") (file_rule ∷ [])
+debug_shape = command (codes "debug") (file_rule ∷ option_rule (codes "at") ∷ [])
 
 abbrev pub show_shape : Shape
 show_shape = command (codes "show") (file_rule ∷ new_rule (codes "SCHEDULE") ∷ [])
@@ -60,7 +64,7 @@ abbrev pub draw_shape : Shape
 draw_shape = command (codes "draw") (file_rule ∷ new_rule (codes "SCHEDULE") ∷ width_rule ∷ [])
 
 abbrev pub live_shape : Shape
-live_shape = command (codes "live") (file_rule ∷ limit_rule ∷ [])
+live_shape = command (codes "live") (file_rule ∷ limit_rule ∷ option_rule (codes "stir") ∷ option_rule (codes "expect") ∷ [])
 
 abbrev pub race_shape : Shape
 race_shape = command (codes "race") (number_rule (codes "parties") ∷ number_rule (codes "rounds") ∷ [])

@@ -1,13 +1,13 @@
 //! The commands, their words and options, and what help says of each.
 ghost use Rattle.std.specs.Prelude.{◌≡◌, IfOk, IsOkAnd, false, [], codes};
 ghost use Rattle.clap.specs.Words.{AddsSubcommand, app_of, new_rule, rule_of, with_rule, with_subcommand};
-ghost use Rattle.command_help.specs.Commands.{alone, command, limit_rule, number_rule, place_rule, vuthgal, width_rule, words_rule};
+ghost use Rattle.command_help.specs.Commands.{alone, command, limit_rule, number_rule, option_rule, place_rule, vuthgal, width_rule, words_rule};
 ghost use Rattle.command_help.specs.Commands.{asm_shape, compare_shape, debug_shape, list_shape};
 ghost use Rattle.command_help.specs.Commands.{choices_shape, draw_shape, explain_shape, live_shape, race_shape, run_shape, show_shape};
 
 use crate::names::{
-    ASM, CHOICES, COMPARE, DEBUG, DRAW, EXPLAIN, FILE, LIMIT, LIST, LIVE, OUT, PARTIES, RACE,
-    ROUNDS, RUN, SCHEDULE, SHOW, SRC, TRACE, WIDTH, WORD,
+    ASM, AT, CHOICES, COMPARE, DEBUG, DRAW, EXPECT, EXPLAIN, FILE, LIMIT, LIST, LIVE, OUT, PARTIES,
+    RACE, ROUNDS, RUN, SCHEDULE, SHOW, SRC, STIR, TRACE, WIDTH, WORD,
 };
 use crate::texts;
 use clap::{Arg, ArgAction, Command};
@@ -19,6 +19,30 @@ fn place<'a>(alloc: Global, name: &'a str, help: &'a str) -> Arg<'a>
     ensures local { result.global ≡ false }
 {
     Arg::new(alloc, name).required(true).help(help)
+}
+
+/// An option with one value, which may be left out.
+fn option<'a>(alloc: Global, name: &'a str, value: &'a str, help: &'a str) -> Arg<'a>
+    ensures rule { rule_of result ≡ option_rule name.entry.now }
+    ensures local { result.global ≡ false }
+{
+    Arg::new(alloc, name)
+        .long(name)
+        .value_name(value)
+        .help(help)
+}
+
+/// How a run is expected to end.
+fn expect<'a>(alloc: Global) -> Arg<'a>
+    ensures rule { rule_of result ≡ option_rule (codes "expect") }
+    ensures local { result.global ≡ false }
+{
+    option(
+        alloc,
+        EXPECT,
+        "STATE",
+        "Answers 1 where the run ends otherwise: all, stuck or live",
+    )
 }
 
 /// A command with what its help says, without words.
@@ -75,7 +99,7 @@ fn list<'a>(alloc: Global) -> Result<Command<'a>, AllocError>
 fn run<'a>(alloc: Global) -> Result<Command<'a>, AllocError>
     ensures { IfOk result (λ command. app_of command ≡ alone run_shape) }
 {
-    with_two(
+    let command = with_two(
         told(
             alloc,
             RUN,
@@ -88,7 +112,8 @@ fn run<'a>(alloc: Global) -> Result<Command<'a>, AllocError>
             SCHEDULE,
             "The file of the schedule, or `-` for standard input",
         ),
-    )
+    )?;
+    command.arg(expect(alloc))
 }
 
 fn compare<'a>(alloc: Global) -> Result<Command<'a>, AllocError>
@@ -113,13 +138,21 @@ fn compare<'a>(alloc: Global) -> Result<Command<'a>, AllocError>
 fn debug<'a>(alloc: Global) -> Result<Command<'a>, AllocError>
     ensures { IfOk result (λ command. app_of command ≡ alone debug_shape) }
 {
-    told(
-        alloc,
-        DEBUG,
-        "Plays a program by commands, forwards and backwards",
-        texts::DEBUG,
+    with_two(
+        told(
+            alloc,
+            DEBUG,
+            "Plays a program by commands, forwards and backwards",
+            texts::DEBUG,
+        ),
+        place(alloc, FILE, "The file of the image or of the program text"),
+        option(
+            alloc,
+            AT,
+            "TRACE",
+            "Begins behind the choices of the trace in this file",
+        ),
     )
-    .arg(place(alloc, FILE, "The file of the image or of the program text"))
 }
 
 /// A schedule that may be left out.
@@ -178,7 +211,7 @@ fn limit<'a>(alloc: Global) -> Arg<'a>
 fn live<'a>(alloc: Global) -> Result<Command<'a>, AllocError>
     ensures { IfOk result (λ command. app_of command ≡ alone live_shape) }
 {
-    with_two(
+    let command = with_two(
         told(
             alloc,
             LIVE,
@@ -187,6 +220,16 @@ fn live<'a>(alloc: Global) -> Result<Command<'a>, AllocError>
         ),
         place(alloc, FILE, "The file of the image or of the program text"),
         limit(alloc),
+    )?;
+    with_two(
+        command,
+        option(
+            alloc,
+            STIR,
+            "SEED",
+            "Lets threads pause before some of their turns, 0 to 4294967295",
+        ),
+        expect(alloc),
     )
 }
 
@@ -195,11 +238,7 @@ fn number<'a>(alloc: Global, name: &'a str, value: &'a str, help: &'a str) -> Ar
     ensures rule { rule_of result ≡ number_rule name.entry.now }
     ensures local { result.global ≡ false }
 {
-    Arg::new(alloc, name)
-        .long(name)
-        .value_name(value)
-        .required(true)
-        .help(help)
+    option(alloc, name, value, help).required(true)
 }
 
 fn race<'a>(alloc: Global) -> Result<Command<'a>, AllocError>

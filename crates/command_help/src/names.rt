@@ -41,3 +41,9 @@ pub const LIMIT: &str = "limit";
 pub const PARTIES: &str = "parties";
 
 pub const ROUNDS: &str = "rounds";
+
+pub const EXPECT: &str = "expect";
+
+pub const STIR: &str = "stir";
+
+pub const AT: &str = "at";

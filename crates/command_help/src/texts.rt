@@ -4,7 +4,8 @@
 pub const STATUSES: &str = "\
 Exit statuses:
   0  done
-  1  a trace isn't that of the run (`compare`), or is none (`choices`)
+  1  a trace isn't that of the run (`compare`), or is none (`choices`, `debug`);
+     or the run ended otherwise than `--expect` says
   2  the command line is wrong
   3  the input is refused: standard error has a line `refused ..`
   4  memory is wanting, or a thread: standard error has `memory` or `spawn`
@@ -50,7 +51,8 @@ a line for each choice, and then the state.
 
 FILE is an image where its first four bytes are `PBW1` or `PBW2`, else a program
 text. SCHEDULE is a file, or `-` for standard input; it may be as long as you
-like.
+like. A run ends `all` where all threads have ended, `stuck` where none of the
+others can go on, and else `live`: the word of its state line.
 
 It may tell `refused asm`, `refused image`, `refused load`, `refused schedule`,
 `memory`, `read` or `write`.
@@ -88,7 +90,9 @@ standard output before the next line is read:
   p          the state of all threads, phasers and barriers
   q          the end, as the end of standard input
 
-What is none of these is answered with `?`.
+What is none of these is answered with `?`. With `--at TRACE` the first command
+is a `g` with the choices of the trace in that file; of what is no trace it
+writes `not a trace LINE`, and reads no commands.
 
 It may tell `refused asm`, `refused image`, `refused load`, `memory`, `read` or
 `write`.
@@ -127,7 +131,10 @@ the trace of the run that came about.
 FILE is an image where its first four bytes are `PBW1` or `PBW2`, else a program
 text. The run is recorded choice by choice, and what is written is the trace of
 that record: `vuthgal compare` finds it the same. It ends where all threads have
-ended, where none can go on, or after N steps.
+ended, where none can go on, or after N steps: in the state `all`, `stuck` or
+`live`. With `--stir SEED` each thread yields or pauses a little before about
+half of its turns, so that other runs come about too; what is written is still
+the trace of the run that came about, whatever the pauses.
 
 It may tell `refused asm`, `refused image`, `refused load`, `memory`, `spawn`,
 `read` or `write`.

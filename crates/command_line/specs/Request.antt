@@ -6,6 +6,8 @@ use Rattle.clap.specs.Words.{Row, Text, all_of, first_of, kind_of, subcommand_of
 use Rattle.clap.specs.declared.error.Error.{Error}
 use Rattle.clap.specs.declared.error.kind.ErrorKind.TheVariants.{OutOfMemory, ValueValidation}
 use Rattle.command_help.specs.Commands.{vuthgal}
+use Rattle.expected_state.specs.declared.expected.Expected.{Expected}
+use Rattle.expected_state.specs.Words.{name_of, names}
 use Rattle.command_line.specs.declared.refusal.Refusal.{Refusal}
 use Rattle.command_line.specs.declared.refusal.Refusal.TheVariants as refusal
 use Rattle.command_line.specs.declared.refusal.WrongOption.{WrongOption}
@@ -15,7 +17,7 @@ use Rattle.command_line.specs.declared.request.Request.TheVariants as request
 
 -- its numbers are in their ranges
 abbrev pub IsInRange : Request → Type 0
-IsInRange (request.Live file limit) = (1 ≤ limit) × (limit ≤ 1000000000)
+IsInRange (request.Live file limit seed expected) = (1 ≤ limit) × (limit ≤ 1000000000)
 IsInRange (request.Draw file schedule width) = (60 ≤ width) × (width ≤ 1000)
 IsInRange (request.Race parties rounds) = ((1 ≤ parties) × (parties ≤ 16)) × ((1 ≤ rounds) × (rounds ≤ 1000000))
 IsInRange _ = Unit {0}
@@ -40,6 +42,30 @@ Spells text least most number = (length text ≤ 10) × IsNumeral 10 text × (di
 abbrev pub SpellsNone : Text → ℕ → ℕ → Type 0
 SpellsNone text least most = (number : ℕ) → Spells text least most number → ⊥
 
+-- the end that a word says, none where there is no word
+abbrev pub IsExpected : Option Text → Option Expected → Type 0
+IsExpected None None = Unit {0}
+IsExpected None (Some expected) = ⊥
+IsExpected (Some text) None = ⊥
+IsExpected (Some text) (Some expected) = text ≡ name_of expected
+
+-- there is a word, and it says no end
+abbrev pub IsNoState : Option Text → Type 0
+IsNoState None = ⊥
+IsNoState (Some text) = All (λ other. text ≢ other) names
+
+-- the seed that digits spell, none where there are none
+abbrev pub IsSeed : Option Text → Option ℕ → Type 0
+IsSeed None None = Unit {0}
+IsSeed None (Some seed) = ⊥
+IsSeed (Some text) None = ⊥
+IsSeed (Some text) (Some seed) = Spells text 0 4294967295 seed
+
+-- there are digits, and they spell no seed
+abbrev pub IsNoSeed : Option Text → Type 0
+IsNoSeed None = ⊥
+IsNoSeed (Some text) = SpellsNone text 0 4294967295
+
 abbrev pub command_names : List Text
 command_names =
     codes "asm" ∷ codes "list" ∷ codes "run" ∷ codes "compare" ∷ codes "debug" ∷ codes "show" ∷ codes "draw"
@@ -52,19 +78,21 @@ IsAskedBy name rows (request.Asm source image) = (name ≡ codes "asm")
     × (source.now ≡ word_at (codes "SRC") rows) × (image.now ≡ word_at (codes "OUT") rows)
 IsAskedBy name rows (request.List file) = (name ≡ codes "list")
     × (file.now ≡ word_at (codes "FILE") rows)
-IsAskedBy name rows (request.Run file schedule) = (name ≡ codes "run")
+IsAskedBy name rows (request.Run file schedule expected) = (name ≡ codes "run")
     × (file.now ≡ word_at (codes "FILE") rows) × (schedule.now ≡ word_at (codes "SCHEDULE") rows)
+    × IsExpected (word_given (codes "expect") rows) expected
 IsAskedBy name rows (request.Compare file trace) = (name ≡ codes "compare")
     × (file.now ≡ word_at (codes "FILE") rows) × (trace.now ≡ word_at (codes "TRACE") rows)
-IsAskedBy name rows (request.Debug file) = (name ≡ codes "debug")
-    × (file.now ≡ word_at (codes "FILE") rows)
+IsAskedBy name rows (request.Debug file trace) = (name ≡ codes "debug")
+    × (file.now ≡ word_at (codes "FILE") rows) × (option_map (λ s. s.now) trace ≡ word_given (codes "at") rows)
 IsAskedBy name rows (request.Show file schedule) = (name ≡ codes "show")
     × (file.now ≡ word_at (codes "FILE") rows) × (option_map (λ s. s.now) schedule ≡ word_given (codes "SCHEDULE") rows)
 IsAskedBy name rows (request.Draw file schedule width) = (name ≡ codes "draw")
     × (file.now ≡ word_at (codes "FILE") rows) × (option_map (λ s. s.now) schedule ≡ word_given (codes "SCHEDULE") rows)
     × Spells (word_at (codes "width") rows) 60 1000 width
-IsAskedBy name rows (request.Live file limit) = (name ≡ codes "live")
+IsAskedBy name rows (request.Live file limit seed expected) = (name ≡ codes "live")
     × (file.now ≡ word_at (codes "FILE") rows) × Spells (word_at (codes "limit") rows) 1 1000000000 limit
+    × IsSeed (word_given (codes "stir") rows) seed × IsExpected (word_given (codes "expect") rows) expected
 IsAskedBy name rows (request.Race parties rounds) = (name ≡ codes "race")
     × Spells (word_at (codes "parties") rows) 1 16 parties
     × Spells (word_at (codes "rounds") rows) 1 1000000 rounds
@@ -73,11 +101,13 @@ IsAskedBy name rows (request.Choices trace) = (name ≡ codes "choices")
 IsAskedBy name rows (request.Explain words) = (name ≡ codes "explain")
     × (map (λ w. w.now) words.items ≡ words_at (codes "WORD") rows)
 
--- the subcommand of this name has this option, with a value that is no number of its range
+-- the subcommand of this name has this option, with a value that it can't have
 abbrev pub IsWrong : WrongOption → Text → List Row → Type 0
 IsWrong option.Width name rows = (name ≡ codes "draw") × SpellsNone (word_at (codes "width") rows) 60 1000
 IsWrong option.Limit name rows = (name ≡ codes "live") × SpellsNone (word_at (codes "limit") rows) 1 1000000000
 IsWrong option.Parties name rows = (name ≡ codes "race") × SpellsNone (word_at (codes "parties") rows) 1 16
+IsWrong option.Expect name rows = ((name ≡ codes "run") ⊎ (name ≡ codes "live")) × IsNoState (word_given (codes "expect") rows)
+IsWrong option.Stir name rows = (name ≡ codes "live") × IsNoSeed (word_given (codes "stir") rows)
 IsWrong option.Rounds name rows = (name ≡ codes "race") × SpellsNone (word_at (codes "rounds") rows) 1 1000000
 
 -- memory may be refused always, else an option is wrong

@@ -12,6 +12,8 @@ pub enum WrongOption {
     Limit,
     Parties,
     Rounds,
+    Expect,
+    Stir,
 }
 
 /// Why words that the commands take ask for nothing.
@@ -46,6 +48,8 @@ impl WrongOption {
             WrongOption::Limit => "--limit N: N is 1 to 1000000000, in digits alone",
             WrongOption::Parties => "--parties N: N is 1 to 16, in digits alone",
             WrongOption::Rounds => "--rounds R: R is 1 to 1000000, in digits alone",
+            WrongOption::Expect => "--expect STATE: STATE is all, stuck or live",
+            WrongOption::Stir => "--stir SEED: SEED is 0 to 4294967295, in digits alone",
         }
     }
 }

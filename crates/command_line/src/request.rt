@@ -6,16 +6,19 @@ ghost use Rattle.std.specs.String.{string_bytes};
 ghost use Rattle.command_help.specs.Commands.{vuthgal};
 ghost use Rattle.command_line.specs.Request.{Asks, Fails, Refuses};
 ghost use Rattle.command_line.specs.Request.{IsAsked, IsAskedBy, IsInRange, IsRefused, IsRefusedBy, IsWrong};
+ghost use Rattle.command_line.specs.Request.{IsExpected, IsNoSeed, IsNoState, IsSeed};
 ghost use Rattle.command_line.specs.Request.{Spells, SpellsNone, word_at, word_given, words_at};
+ghost use Rattle.command_line.specs.declared.refusal.WrongOption.TheVariants as option;
 
 use crate::refusal::{Refusal, WrongOption};
 use clap::error::ErrorKind;
 use clap::{ArgMatches, Command, Error};
 use command_help::commands::program;
 use command_help::names::{
-    ASM, CHOICES, COMPARE, DEBUG, DRAW, EXPLAIN, FILE, LIMIT, LIST, LIVE, OUT, PARTIES, RACE,
-    ROUNDS, RUN, SCHEDULE, SHOW, SRC, TRACE, WIDTH, WORD,
+    ASM, AT, CHOICES, COMPARE, DEBUG, DRAW, EXPECT, EXPLAIN, FILE, LIMIT, LIST, LIVE, OUT, PARTIES,
+    RACE, ROUNDS, RUN, SCHEDULE, SHOW, SRC, STIR, TRACE, WIDTH, WORD,
 };
+use expected_state::Expected;
 use std::alloc::{AllocError, Global};
 
 /// What a command line asks for. A file is named as it was written.
@@ -32,19 +35,21 @@ pub enum Request<'a> {
     List {
         file: &'a str,
     },
-    /// `run FILE SCHEDULE`; the schedule `-` is standard input.
+    /// `run FILE SCHEDULE [--expect STATE]`; the schedule `-` is standard input.
     Run {
         file: &'a str,
         schedule: &'a str,
+        expected: Option<Expected>,
     },
     /// `compare FILE TRACE`; the trace `-` is standard input.
     Compare {
         file: &'a str,
         trace: &'a str,
     },
-    /// `debug FILE`.
+    /// `debug FILE [--at TRACE]`.
     Debug {
         file: &'a str,
+        trace: Option<&'a str>,
     },
     /// `show FILE [SCHEDULE]`; the schedule `-` is standard input, and without it it stands in FILE.
     Show {
@@ -57,10 +62,12 @@ pub enum Request<'a> {
         schedule: Option<&'a str>,
         width: u16,
     },
-    /// `live FILE --limit N`: 1 to 1,000,000,000 steps.
+    /// `live FILE --limit N [--stir SEED] [--expect STATE]`: 1 to 1,000,000,000 steps.
     Live {
         file: &'a str,
         limit: u32,
+        seed: Option<u32>,
+        expected: Option<Expected>,
     },
     /// `race --parties N --rounds R`: 1 to 16 threads, 1 to 1,000,000 phases.
     Race {
@@ -116,6 +123,50 @@ fn number(text: &str, least: u32, most: u32) -> Option<u32>
     }
 }
 
+/// How a run is expected to end, if that is said, and is one of the ways in which it may end.
+fn expected(matches: &ArgMatches<'_>) -> Result<Option<Expected>, WrongOption>
+    ensures asked { IfOk result (IsExpected (word_given (codes "expect") (rows_of (found_of matches.now)))) }
+    ensures wrong { IfErr result (λ wrong. (wrong ≡ option.Expect)
+        × IsNoState (word_given (codes "expect") (rows_of (found_of matches.now)))) }
+{
+    let Some(name) = given(matches, EXPECT) else {
+        return Ok(None);
+    };
+    match Expected::named(name) {
+        Some(word) => Ok(Some(word)),
+        None => Err(WrongOption::Expect),
+    }
+}
+
+/// The seed of the pauses, if there is one, and it is in range.
+fn seed(matches: &ArgMatches<'_>) -> Result<Option<u32>, WrongOption>
+    ensures asked { IfOk result (IsSeed (word_given (codes "stir") (rows_of (found_of matches.now)))) }
+    ensures wrong { IfErr result (λ wrong. (wrong ≡ option.Stir)
+        × IsNoSeed (word_given (codes "stir") (rows_of (found_of matches.now)))) }
+{
+    let Some(digits) = given(matches, STIR) else {
+        return Ok(None);
+    };
+    match number(digits, 0, 4_294_967_295) {
+        Some(seed) => Ok(Some(seed)),
+        None => Err(WrongOption::Stir),
+    }
+}
+
+/// The run that these matches ask for, where it may end as it is expected to.
+fn run<'a>(matches: &ArgMatches<'a>) -> Result<Request<'a>, WrongOption>
+    ensures range { IfOk result (λ request. IsInRange request) }
+    ensures asked { IfOk result (IsAskedBy (codes "run") (rows_of (found_of matches.now))) }
+    ensures wrong { IfErr result (λ option. IsWrong option (codes "run") (rows_of (found_of matches.now))) }
+{
+    let expected = expected(matches)?;
+    Ok(Request::Run {
+        file: word(matches, FILE),
+        schedule: word(matches, SCHEDULE),
+        expected,
+    })
+}
+
 /// The drawing that these matches ask for, where its width is in range.
 fn draw<'a>(matches: &ArgMatches<'a>) -> Result<Request<'a>, WrongOption>
     ensures range { IfOk result (λ request. IsInRange request) }
@@ -132,19 +183,23 @@ fn draw<'a>(matches: &ArgMatches<'a>) -> Result<Request<'a>, WrongOption>
     }
 }
 
-/// The live run that these matches ask for, where its limit is in range.
+/// The live run that these matches ask for, where its numbers are in range, and it may end as it is expected to.
 fn live<'a>(matches: &ArgMatches<'a>) -> Result<Request<'a>, WrongOption>
     ensures range { IfOk result (λ request. IsInRange request) }
     ensures asked { IfOk result (IsAskedBy (codes "live") (rows_of (found_of matches.now))) }
     ensures wrong { IfErr result (λ option. IsWrong option (codes "live") (rows_of (found_of matches.now))) }
 {
-    match number(word(matches, LIMIT), 1, 1_000_000_000) {
-        Some(limit) => Ok(Request::Live {
-            file: word(matches, FILE),
-            limit,
-        }),
-        None => Err(WrongOption::Limit),
-    }
+    let Some(limit) = number(word(matches, LIMIT), 1, 1_000_000_000) else {
+        return Err(WrongOption::Limit);
+    };
+    let seed = seed(matches)?;
+    let expected = expected(matches)?;
+    Ok(Request::Live {
+        file: word(matches, FILE),
+        limit,
+        seed,
+        expected,
+    })
 }
 
 /// The race that these matches ask for, where both numbers are in range.
@@ -183,16 +238,14 @@ fn request_by<'a>(
         LIST => Request::List {
             file: word(matches, FILE),
         },
-        RUN => Request::Run {
-            file: word(matches, FILE),
-            schedule: word(matches, SCHEDULE),
-        },
+        RUN => run(matches)?,
         COMPARE => Request::Compare {
             file: word(matches, FILE),
             trace: word(matches, TRACE),
         },
         DEBUG => Request::Debug {
             file: word(matches, FILE),
+            trace: given(matches, AT),
         },
         SHOW => Request::Show {
             file: word(matches, FILE),

@@ -4,6 +4,15 @@ use Rattle.std.specs.List.{starts_with, ends_with, slice_split}
 use Rattle.expected_state.specs.declared.expected.Expected.{Expected}
 use Rattle.expected_state.specs.declared.expected.Expected.TheVariants as expected
 
+-- how a word is written
+abbrev pub name_of : Expected → List ℕ
+name_of expected.All = codes "all"
+name_of expected.Stuck = codes "stuck"
+name_of expected.Live = codes "live"
+
+abbrev pub names : List (List ℕ)
+names = codes "all" ∷ codes "stuck" ∷ codes "live" ∷ []
+
 -- what a line's end says
 abbrev pub word_at_end : List ℕ → Option Expected
 word_at_end line =

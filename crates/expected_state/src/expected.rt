@@ -1,5 +1,5 @@
-ghost use Rattle.std.specs.Prelude.{◌≡◌};
-ghost use Rattle.expected_state.specs.Words.{word_at_end, word_of};
+ghost use Rattle.std.specs.Prelude.{◌≡◌, ◌≢◌, All, MatchOption};
+ghost use Rattle.expected_state.specs.Words.{name_of, names, word_at_end, word_of};
 
 /// The word of a state line.
 #[derive(Clone, Copy, Debug, PartialEq, Eq)]
@@ -10,6 +10,20 @@ pub enum Expected {
     Stuck,
     /// Some thread may still take a step.
     Live,
+}
+
+impl Expected {
+    /// The word that is written so.
+    pub fn named(name: &str) -> Option<Expected>
+        ensures { MatchOption result (All (λ other. name.now ≢ other) names) (λ word. name.now ≡ name_of word) }
+    {
+        match name {
+            "all" => Some(Expected::All),
+            "stuck" => Some(Expected::Stuck),
+            "live" => Some(Expected::Live),
+            _ => None,
+        }
+    }
 }
 
 /// What a line's end says.

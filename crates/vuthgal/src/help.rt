@@ -31,13 +31,13 @@ impl<'a> Files<'a> {
     pub fn of(request: &Request<'a>) -> Files<'a> {
         let (program, schedule) = match request {
             Request::Asm { source, .. } => (*source, None),
-            Request::Run { file, schedule } => (*file, Some(named(schedule))),
+            Request::Run { file, schedule, .. } => (*file, Some(named(schedule))),
             Request::Show { file, schedule } | Request::Draw { file, schedule, .. } => (
                 *file,
                 schedule.map(|word| named(word)),
             ),
             Request::List { file }
-            | Request::Debug { file }
+            | Request::Debug { file, .. }
             | Request::Compare { file, .. }
             | Request::Live { file, .. } => (*file, None),
             Request::Both

@@ -5,6 +5,7 @@ ghost use Rattle.std.specs.Prelude.{◌≤◌};
 ghost use Rattle.command_line.specs.Request.{IsInRange};
 
 mod ending;
+mod expectation;
 mod files;
 mod help;
 mod no_command;
@@ -14,9 +15,13 @@ mod words;
 
 use byte_ports::{ReadPort, Sink, Source, WritePort};
 use choices_command::choices::choices_cmd;
+use choices_command::opening::{Opening, opening_of};
 use command_line::request::Request;
 use ending::{ended, flushed, held_line};
+use expectation::as_expected;
+use expected_state::{Expected, StateWatch};
 use help::{Files, push_refusal};
+use leading_source::LeadingSource;
 use no_command::NoCommand;
 use picture_commands::command::{picture_both_cmd, picture_cmd};
 use picture_commands::drawing::Drawing;
@@ -30,14 +35,17 @@ use std::io::{BufWriter, IsTerminal};
 use std::process::ExitCode;
 use std::sync::Wait;
 use std::thread::Threads;
+use stirred_gate::Stirred;
+use thread_runner::{Gate, NoGate};
+use trace_choices::naming::NamingFault;
 use until_failure::UntilFailure;
 use workbench::asm::asm_cmd;
 use workbench::both::both_cmd;
 use workbench::compare::compare_cmd;
 use workbench::debug::debug_cmd;
-use workbench::fault::DONE;
+use workbench::fault::{DONE, Fault, UNLIKE, push_counted_line};
 use workbench::list::list_cmd;
-use workbench::live::live_cmd;
+use workbench::live::live_through_cmd;
 use workbench::run::run_cmd;
 
 /// How many bytes are written at a time.
@@ -86,12 +94,13 @@ fn list<'a, E: Sink>(rt: &HostRuntime, errors: &mut E, file: &'a str) -> Result<
     Ok(flushed(errors, status, &mut output))
 }
 
-/// Plays the program in a file under a schedule.
+/// Plays the program in a file under a schedule. Only where an end is expected is what is written looked at.
 fn run_under<'a, S: Source, E: Sink>(
     rt: &HostRuntime,
     errors: &mut E,
     program: File,
     schedule: &mut S,
+    expected: Option<Expected>,
 ) -> Result<u8, NoCommand<'a>> {
     let Ok(writer) = BufWriter::with_capacity(rt.alloc(), BUFFER, UntilFailure::new(rt.stdout()))
     else {
@@ -100,15 +109,17 @@ fn run_under<'a, S: Source, E: Sink>(
     let Ok(mut line) = held_line(rt) else {
         return Err(NoCommand::Memory);
     };
+    let alloc = rt.alloc();
+    let mut program = ReadPort::new(program);
     let mut output = WritePort::new(writer);
-    let status = run_cmd(
-        rt.alloc(),
-        &mut ReadPort::new(program),
-        schedule,
-        &mut output,
-        &mut line,
-    );
-    Ok(ended(errors, status, &mut output, &line))
+    let Some(expected) = expected else {
+        let status = run_cmd(alloc, &mut program, schedule, &mut output, &mut line);
+        return Ok(ended(errors, status, &mut output, &line));
+    };
+    let mut watch = StateWatch::new(output);
+    let status = run_cmd(alloc, &mut program, schedule, &mut watch, &mut line);
+    let status = as_expected(status, expected, watch.word());
+    Ok(ended(errors, status, &mut watch.into_inner(), &line))
 }
 
 /// The same with the files that two words name, the schedule standard input where its word is `-`.
@@ -117,13 +128,20 @@ fn run<'a, E: Sink>(
     errors: &mut E,
     file: &'a str,
     schedule: &'a str,
+    expected: Option<Expected>,
 ) -> Result<u8, NoCommand<'a>> {
     let program = files::read(rt, file)?;
     if schedule == "-" {
-        return run_under(rt, errors, program, &mut ReadPort::new(rt.stdin()));
+        return run_under(
+            rt,
+            errors,
+            program,
+            &mut ReadPort::new(rt.stdin()),
+            expected,
+        );
     }
     let schedule = files::read(rt, schedule)?;
-    run_under(rt, errors, program, &mut ReadPort::new(schedule))
+    run_under(rt, errors, program, &mut ReadPort::new(schedule), expected)
 }
 
 /// Compares a trace with the run of the program in a file.
@@ -159,26 +177,79 @@ fn compare<'a, E: Sink>(
     compare_with(rt, errors, program, &mut ReadPort::new(trace))
 }
 
-/// Answers the commands on standard input, which are about the program in a file. Nothing is kept back: standard output is
-/// flushed at each line's end.
-fn debug<'a, E: Sink>(
+/// Answers commands about the program in a file. Nothing is kept back: standard output is flushed at each line's end.
+fn session<'a, S: Source, E: Sink>(
     rt: &HostRuntime,
     errors: &mut E,
-    file: &'a str,
+    program: File,
+    commands: &mut S,
 ) -> Result<u8, NoCommand<'a>> {
-    let program = files::read(rt, file)?;
-    if rt.stdin().is_terminal() {
-        let _ = errors.push(b"reading commands from the terminal (debug --help lists them)\n");
-    }
     let mut output = WritePort::new(rt.stdout());
     let status = debug_cmd(
         rt.alloc(),
         &mut ReadPort::new(program),
-        &mut ReadPort::new(rt.stdin()),
+        commands,
         &mut output,
         errors,
     );
     Ok(flushed(errors, status, &mut output))
+}
+
+/// Writes which line is the first that is no line of a trace.
+fn not_a_trace<'a, E: Sink>(
+    rt: &HostRuntime,
+    errors: &mut E,
+    line: u64,
+) -> Result<u8, NoCommand<'a>> {
+    let mut output = WritePort::new(rt.stdout());
+    if push_counted_line(&mut output, b"not a trace ", line).is_err() {
+        let _ = Fault::Write.tell(errors);
+        return Ok(Fault::Write.status());
+    }
+    Ok(flushed(errors, UNLIKE, &mut output))
+}
+
+/// Answers the commands on standard input as if one that plays the choices of a trace stood before them.
+fn session_at<'a, E: Sink>(
+    rt: &HostRuntime,
+    errors: &mut E,
+    program: File,
+    trace: File,
+) -> Result<u8, NoCommand<'a>> {
+    match opening_of(rt.alloc(), &mut ReadPort::new(trace)) {
+        Ok(Opening::Line(line)) => {
+            let commands = ReadPort::new(rt.stdin());
+            let mut commands = LeadingSource::new(line.as_bytes(), commands);
+            session(rt, errors, program, &mut commands)
+        }
+        Ok(Opening::NotATrace { line }) => not_a_trace(rt, errors, line),
+        Err(NamingFault::Memory) => Err(NoCommand::Memory),
+        Err(NamingFault::Read) => {
+            let _ = Fault::Read.tell(errors);
+            Ok(Fault::Read.status())
+        }
+    }
+}
+
+/// Answers the commands on standard input, which are about the program in a file.
+fn debug<'a, E: Sink>(
+    rt: &HostRuntime,
+    errors: &mut E,
+    file: &'a str,
+    trace: Option<&'a str>,
+) -> Result<u8, NoCommand<'a>> {
+    let program = files::read(rt, file)?;
+    let trace = match trace {
+        Some(trace) => Some(files::read(rt, trace)?),
+        None => None,
+    };
+    if rt.stdin().is_terminal() {
+        let _ = errors.push(b"reading commands from the terminal (debug --help lists them)\n");
+    }
+    match trace {
+        Some(trace) => session_at(rt, errors, program, trace),
+        None => session(rt, errors, program, &mut ReadPort::new(rt.stdin())),
+    }
 }
 
 /// Writes the picture of the program in a file and a schedule. It is written at once, so nothing is kept back.
@@ -238,17 +309,18 @@ fn picture<'a, P: Picture, E: Sink>(
     picture_under(rt, errors, picture, program, &mut ReadPort::new(schedule))
 }
 
-/// Plays the program in a file on real threads.
-fn live<'a, R: Threads + Wait + Sync, E: Sink>(
+/// Plays the program in a file on real threads that pass a gate. Only where an end is expected is what is written looked at.
+fn live_through<'a, R: Threads + Wait + Sync, G: Gate + Sync, E: Sink>(
     threads: &R,
     rt: &HostRuntime,
     errors: &mut E,
-    file: &'a str,
+    program: File,
     limit: u32,
+    gate: &G,
+    expected: Option<Expected>,
 ) -> Result<u8, NoCommand<'a>>
     requires { limit ≤ 1000000000 }
 {
-    let program = files::read(rt, file)?;
     let Ok(writer) = BufWriter::with_capacity(rt.alloc(), BUFFER, UntilFailure::new(rt.stdout()))
     else {
         return Err(NoCommand::Memory);
@@ -256,16 +328,56 @@ fn live<'a, R: Threads + Wait + Sync, E: Sink>(
     let Ok(mut line) = held_line(rt) else {
         return Err(NoCommand::Memory);
     };
+    let alloc = rt.alloc();
+    let mut program = ReadPort::new(program);
     let mut output = WritePort::new(writer);
-    let status = live_cmd(
+    let Some(expected) = expected else {
+        let status = live_through_cmd(
+            threads,
+            alloc,
+            limit,
+            gate,
+            &mut program,
+            &mut output,
+            &mut line,
+        );
+        return Ok(ended(errors, status, &mut output, &line));
+    };
+    let mut watch = StateWatch::new(output);
+    let status = live_through_cmd(
         threads,
-        rt.alloc(),
+        alloc,
         limit,
-        &mut ReadPort::new(program),
-        &mut output,
+        gate,
+        &mut program,
+        &mut watch,
         &mut line,
     );
-    Ok(ended(errors, status, &mut output, &line))
+    let status = as_expected(status, expected, watch.word());
+    Ok(ended(errors, status, &mut watch.into_inner(), &line))
+}
+
+/// Plays the program in a file on real threads, which pause a little where there is a seed.
+fn live<'a, R: Threads + Wait + Sync, E: Sink>(
+    threads: &R,
+    rt: &HostRuntime,
+    errors: &mut E,
+    file: &'a str,
+    limit: u32,
+    seed: Option<u32>,
+    expected: Option<Expected>,
+) -> Result<u8, NoCommand<'a>>
+    requires { limit ≤ 1000000000 }
+{
+    let program = files::read(rt, file)?;
+    let Some(seed) = seed else {
+        return live_through(threads, rt, errors, program, limit, &NoGate, expected);
+    };
+    let gate = Stirred {
+        seed: u64::from(seed),
+        run: 0,
+    };
+    live_through(threads, rt, errors, program, limit, &gate, expected)
 }
 
 /// Lets real threads meet at a shared phaser.
@@ -329,16 +441,25 @@ fn done<'a, R: Threads + Wait + Sync, E: Sink>(
         Request::Both => both(rt, errors),
         Request::Asm { source, image } => asm(rt, errors, source, image),
         Request::List { file } => list(rt, errors, file),
-        Request::Run { file, schedule } => run(rt, errors, file, schedule),
+        Request::Run {
+            file,
+            schedule,
+            expected,
+        } => run(rt, errors, file, schedule, expected),
         Request::Compare { file, trace } => compare(rt, errors, file, trace),
-        Request::Debug { file } => debug(rt, errors, file),
+        Request::Debug { file, trace } => debug(rt, errors, file, trace),
         Request::Show { file, schedule } => picture(rt, errors, &Page, file, schedule),
         Request::Draw {
             file,
             schedule,
             width,
         } => picture(rt, errors, &Drawing { width }, file, schedule),
-        Request::Live { file, limit } => live(threads, rt, errors, file, limit),
+        Request::Live {
+            file,
+            limit,
+            seed,
+            expected,
+        } => live(threads, rt, errors, file, limit, seed, expected),
         Request::Race { parties, rounds } => meet(threads, rt, errors, parties, rounds),
         Request::Choices { trace } => choices(rt, errors, trace),
         Request::Explain { words } => explain(rt, errors, words.as_slice()),
