@@ -32,7 +32,8 @@ pub fn choices_cmd<S: Source, K: Sink, E: Sink>(
         (K.written output.old) (K.written output.new)) }
     ensures told { (((result ≡ 0) ⊎ (result ≡ 1)) × (E.written errors.new ≡ E.written errors.old))
         ⊎ ((fault : Fault) × ((result ≡ status_of fault)
-        × HasTold fault (E.has_failed errors.new) (E.written errors.old) (E.written errors.new))) }
+        × (HasTold fault (E.has_failed errors.new) (E.written errors.old) (E.written errors.new)
+        × (fault ≡ Fault.Read → K.written output.new ≡ K.written output.old)))) }
     ensures unchanged { result ≡ 4 → K.written output.new ≡ K.written output.old }
     ensures port { result ≡ 5 → (IsTrue (S.has_failed trace.new)
         ⊎ GivesOnAndOn (S.left trace.old) (S.left trace.new))
@@ -56,6 +57,7 @@ fn choices<S: Source, K: Sink>(alloc: Global, trace: &mut S, output: &mut K) -> 
         (K.written output.old) (K.written output.new))) }
     ensures fault { IfErr result (λ fault. (fault ≡ Fault.Memory) ⊎ ((fault ≡ Fault.Read) ⊎ (fault ≡ Fault.Write))) }
     ensures unchanged { result ≡ Err Fault.Memory → K.written output.new ≡ K.written output.old }
+    ensures unread { result ≡ Err Fault.Read → K.written output.new ≡ K.written output.old }
     ensures read { result ≡ Err Fault.Read → IsTrue (S.has_failed trace.new)
         ⊎ GivesOnAndOn (S.left trace.old) (S.left trace.new) }
     ensures write { result ≡ Err Fault.Write → IsTrue (K.has_failed output.new) }

@@ -14,8 +14,8 @@ status_entry status.Done = record {
 }
 status_entry status.Unlike = record {
   told = codes "status 1";
-  means = codes "`compare` wrote `differs LINE` or `not a trace LINE`";
-  helps = codes "a look at that line";
+  means = codes "a trace differs or is none, or a run ended otherwise than `--expect` says";
+  helps = codes "a look at the line that is named, or at the line `state`";
   example = codes "printf '.thread t #0\\nhalt\\n' > a.txt; echo hello | vuthgal compare a.txt -";
   more = codes "docs/FORMATS.md, \"Exit statuses\"";
 }

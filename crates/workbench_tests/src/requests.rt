@@ -1,10 +1,11 @@
 //! What the words of a command line ask for.
 use command_line::request::{Request, parse};
+use expected_state::Expected;
 use std::alloc::Global;
 use std::test::Fail;
 
 /// Command lines that ask for nothing, and the status of each.
-static REFUSED: [(&str, i32); 34] = [
+static REFUSED: [(&str, i32); 39] = [
     ("asm", 2),
     ("asm a", 2),
     ("asm a b c", 2),
@@ -27,6 +28,11 @@ static REFUSED: [(&str, i32); 34] = [
     ("live a --limit 0", 2),
     ("live a --limit 1000000001", 2),
     ("live a --limit 99999999999", 2),
+    ("live a --stir 4294967296", 2),
+    ("live a --stir -1", 2),
+    ("live a --expect ALL", 2),
+    ("run a b --expect", 2),
+    ("run a b --expect ended", 2),
     ("examples/stuck.txt", 2),
     ("--nonsense", 2),
     ("race --parties 2", 2),
@@ -84,6 +90,7 @@ fn command_lines_ask_for_programs(rt: HostRuntime) -> Result<(), Fail> {
             &Request::Run {
                 file: "a.image",
                 schedule: "-",
+                expected: None,
             }
         )?
     );
@@ -97,7 +104,16 @@ fn command_lines_ask_for_programs(rt: HostRuntime) -> Result<(), Fail> {
             }
         )?
     );
-    assert!(rt; asks(alloc, "debug a.image", &Request::Debug { file: "a.image" })?);
+    assert!(rt;
+        asks(
+            alloc,
+            "debug a.image",
+            &Request::Debug {
+                file: "a.image",
+                trace: None,
+            }
+        )?
+    );
     Ok(())
 }
 
@@ -171,6 +187,8 @@ fn command_lines_ask_for_threads(rt: HostRuntime) -> Result<(), Fail> {
             &Request::Live {
                 file: "a.txt",
                 limit: 1_000_000,
+                seed: None,
+                expected: None,
             }
         )?
     );
@@ -181,6 +199,8 @@ fn command_lines_ask_for_threads(rt: HostRuntime) -> Result<(), Fail> {
             &Request::Live {
                 file: "a.txt",
                 limit: 1,
+                seed: None,
+                expected: None,
             }
         )?
     );
@@ -191,6 +211,8 @@ fn command_lines_ask_for_threads(rt: HostRuntime) -> Result<(), Fail> {
             &Request::Live {
                 file: "a.txt",
                 limit: 1_000_000_000,
+                seed: None,
+                expected: None,
             }
         )?
     );
@@ -211,6 +233,45 @@ fn command_lines_ask_for_threads(rt: HostRuntime) -> Result<(), Fail> {
             &Request::Race {
                 parties: 1,
                 rounds: 1,
+            }
+        )?
+    );
+    Ok(())
+}
+
+#[test]
+fn command_lines_ask_for_ends_and_pauses(rt: HostRuntime) -> Result<(), Fail> {
+    let alloc = rt.alloc();
+    assert!(rt;
+        asks(
+            alloc,
+            "run a.txt b --expect stuck",
+            &Request::Run {
+                file: "a.txt",
+                schedule: "b",
+                expected: Some(Expected::Stuck),
+            }
+        )?
+    );
+    assert!(rt;
+        asks(
+            alloc,
+            "live a.txt --stir 4294967295 --expect=all",
+            &Request::Live {
+                file: "a.txt",
+                limit: 1_000_000,
+                seed: Some(4_294_967_295),
+                expected: Some(Expected::All),
+            }
+        )?
+    );
+    assert!(rt;
+        asks(
+            alloc,
+            "debug --at b.trace a.txt",
+            &Request::Debug {
+                file: "a.txt",
+                trace: Some("b.trace"),
             }
         )?
     );

@@ -19,8 +19,8 @@ pub fn status_entry(status: Status) -> Entry
         },
         Status::Unlike => Entry {
             told: "status 1",
-            means: "`compare` wrote `differs LINE` or `not a trace LINE`",
-            helps: "a look at that line",
+            means: "a trace differs or is none, or a run ended otherwise than `--expect` says",
+            helps: "a look at the line that is named, or at the line `state`",
             example: "printf '.thread t #0\\nhalt\\n' > a.txt; echo hello | vuthgal compare a.txt -",
             more: "docs/FORMATS.md, \"Exit statuses\"",
         },
