@@ -1,7 +1,7 @@
 -- The program's commands, by what is read of them when words are parsed.
 use Rattle.std.specs.Prelude.{List, [], ◌∷◌, Some, true, false, codes}
 use Rattle.clap.specs.Words.{App, Rule, Shape, Text, new_app, new_rule}
-use Rattle.clap.specs.declared.builder.action.ArgAction.TheVariants.{Append}
+use Rattle.clap.specs.declared.builder.action.ArgAction.TheVariants.{Append, SetTrue}
 
 -- a word that has to be there, in its place
 abbrev pub place_rule : Text → Rule
@@ -31,6 +31,10 @@ width_rule = record (new_rule (codes "width")) {
   defaults = codes "80" ∷ [];
 }
 
+-- an option without a value
+abbrev pub flag_rule : Text → Rule
+flag_rule name = record (new_rule name) { long = Some name; action = Some SetTrue }
+
 -- words, as many as there are
 abbrev pub words_rule : Rule
 words_rule = record (new_rule (codes "WORD")) { action = Some Append }
@@ -46,7 +50,7 @@ abbrev pub asm_shape : Shape
 asm_shape = command (codes "asm") (place_rule (codes "SRC") ∷ place_rule (codes "OUT") ∷ [])
 
 abbrev pub list_shape : Shape
-list_shape = command (codes "list") (file_rule ∷ [])
+list_shape = command (codes "list") (file_rule ∷ flag_rule (codes "rows") ∷ [])
 
 abbrev pub run_shape : Shape
 run_shape = command (codes "run") (file_rule ∷ place_rule (codes "SCHEDULE") ∷ option_rule (codes "expect") ∷ [])

@@ -1,13 +1,13 @@
 //! The commands, their words and options, and what help says of each.
 ghost use Rattle.std.specs.Prelude.{◌≡◌, IfOk, IsOkAnd, false, [], codes};
 ghost use Rattle.clap.specs.Words.{AddsSubcommand, app_of, new_rule, rule_of, with_rule, with_subcommand};
-ghost use Rattle.command_help.specs.Commands.{alone, command, limit_rule, number_rule, option_rule, place_rule, vuthgal, width_rule, words_rule};
+ghost use Rattle.command_help.specs.Commands.{alone, command, flag_rule, limit_rule, number_rule, option_rule, place_rule, vuthgal, width_rule, words_rule};
 ghost use Rattle.command_help.specs.Commands.{asm_shape, compare_shape, debug_shape, list_shape};
 ghost use Rattle.command_help.specs.Commands.{choices_shape, draw_shape, explain_shape, live_shape, race_shape, run_shape, show_shape};
 
 use crate::names::{
     ASM, AT, CHOICES, COMPARE, DEBUG, DRAW, EXPECT, EXPLAIN, FILE, LIMIT, LIST, LIVE, OUT, PARTIES,
-    RACE, ROUNDS, RUN, SCHEDULE, SHOW, SRC, STIR, TRACE, WIDTH, WORD,
+    RACE, ROUNDS, ROWS, RUN, SCHEDULE, SHOW, SRC, STIR, TRACE, WIDTH, WORD,
 };
 use crate::texts;
 use clap::{Arg, ArgAction, Command};
@@ -84,16 +84,30 @@ fn asm<'a>(alloc: Global) -> Result<Command<'a>, AllocError>
     )
 }
 
+/// Whether the rows are listed instead.
+fn rows<'a>(alloc: Global) -> Arg<'a>
+    ensures rule { rule_of result ≡ flag_rule (codes "rows") }
+    ensures local { result.global ≡ false }
+{
+    Arg::new(alloc, ROWS)
+        .long(ROWS)
+        .action(ArgAction::SetTrue)
+        .help("Writes each row behind its number, and of a text its line")
+}
+
 fn list<'a>(alloc: Global) -> Result<Command<'a>, AllocError>
     ensures { IfOk result (λ command. app_of command ≡ alone list_shape) }
 {
-    told(
-        alloc,
-        LIST,
-        "Writes the canonical text of a program",
-        texts::LIST,
+    with_two(
+        told(
+            alloc,
+            LIST,
+            "Writes the canonical text of a program",
+            texts::LIST,
+        ),
+        place(alloc, FILE, "The file of the image or of the program text"),
+        rows(alloc),
     )
-    .arg(place(alloc, FILE, "The file of the image or of the program text"))
 }
 
 fn run<'a>(alloc: Global) -> Result<Command<'a>, AllocError>

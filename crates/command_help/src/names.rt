@@ -47,3 +47,5 @@ pub const EXPECT: &str = "expect";
 pub const STIR: &str = "stir";
 
 pub const AT: &str = "at";
+
+pub const ROWS: &str = "rows";

@@ -39,6 +39,8 @@ pub const LIST: &str = "\
 Writes the canonical text of the program in FILE, an image or a program text.
 
 FILE is an image where its first four bytes are `PBW1` or `PBW2`, else a text.
+With `--rows` it writes a line for each row instead: the row's number, as traces
+have it; of a text the number of its line, and that line; of an image the row.
 
 It may tell `refused asm` of a text, `refused image` of an image, `memory`,
 `read` or `write`.

@@ -1,6 +1,6 @@
 -- What a command line asks for, by the subcommand that its words name and by that one's matches.
 use Rattle.std.specs.Prelude.{◌≡◌, ◌≢◌, ◌≤◌, ◌⊎◌, ℕ, List, [], ◌∷◌, Option, Some, None, length, map}
-use Rattle.std.specs.Prelude.{All, codes, option_map, true, unwrap_or}
+use Rattle.std.specs.Prelude.{All, codes, option_map, true, false, Bool, unwrap_or}
 use Rattle.std.specs.Str.Parse.{IsNumeral, digits_value}
 use Rattle.clap.specs.Words.{Row, Text, all_of, first_of, kind_of, subcommand_of, takes}
 use Rattle.clap.specs.declared.error.Error.{Error}
@@ -42,6 +42,13 @@ Spells text least most number = (length text ≤ 10) × IsNumeral 10 text × (di
 abbrev pub SpellsNone : Text → ℕ → ℕ → Type 0
 SpellsNone text least most = (number : ℕ) → Spells text least most number → ⊥
 
+-- whether an option without a value is there: it is told as the word `true`
+abbrev pub IsFlag : Option Text → Bool → Type 0
+IsFlag None true = ⊥
+IsFlag None false = Unit {0}
+IsFlag (Some text) true = text ≡ codes "true"
+IsFlag (Some text) false = text ≢ codes "true"
+
 -- the end that a word says, none where there is no word
 abbrev pub IsExpected : Option Text → Option Expected → Type 0
 IsExpected None None = Unit {0}
@@ -76,8 +83,8 @@ abbrev pub IsAskedBy : Text → List Row → Request → Type 0
 IsAskedBy name rows request.Both = All (λ other. name ≢ other) command_names
 IsAskedBy name rows (request.Asm source image) = (name ≡ codes "asm")
     × (source.now ≡ word_at (codes "SRC") rows) × (image.now ≡ word_at (codes "OUT") rows)
-IsAskedBy name rows (request.List file) = (name ≡ codes "list")
-    × (file.now ≡ word_at (codes "FILE") rows)
+IsAskedBy name rows (request.List file has_rows) = (name ≡ codes "list")
+    × (file.now ≡ word_at (codes "FILE") rows) × IsFlag (word_given (codes "rows") rows) has_rows
 IsAskedBy name rows (request.Run file schedule expected) = (name ≡ codes "run")
     × (file.now ≡ word_at (codes "FILE") rows) × (schedule.now ≡ word_at (codes "SCHEDULE") rows)
     × IsExpected (word_given (codes "expect") rows) expected

@@ -6,7 +6,7 @@ ghost use Rattle.std.specs.String.{string_bytes};
 ghost use Rattle.command_help.specs.Commands.{vuthgal};
 ghost use Rattle.command_line.specs.Request.{Asks, Fails, Refuses};
 ghost use Rattle.command_line.specs.Request.{IsAsked, IsAskedBy, IsInRange, IsRefused, IsRefusedBy, IsWrong};
-ghost use Rattle.command_line.specs.Request.{IsExpected, IsNoSeed, IsNoState, IsSeed};
+ghost use Rattle.command_line.specs.Request.{IsExpected, IsFlag, IsNoSeed, IsNoState, IsSeed};
 ghost use Rattle.command_line.specs.Request.{Spells, SpellsNone, word_at, word_given, words_at};
 ghost use Rattle.command_line.specs.declared.refusal.WrongOption.TheVariants as option;
 
@@ -16,7 +16,7 @@ use clap::{ArgMatches, Command, Error};
 use command_help::commands::program;
 use command_help::names::{
     ASM, AT, CHOICES, COMPARE, DEBUG, DRAW, EXPECT, EXPLAIN, FILE, LIMIT, LIST, LIVE, OUT, PARTIES,
-    RACE, ROUNDS, RUN, SCHEDULE, SHOW, SRC, STIR, TRACE, WIDTH, WORD,
+    RACE, ROUNDS, ROWS, RUN, SCHEDULE, SHOW, SRC, STIR, TRACE, WIDTH, WORD,
 };
 use expected_state::Expected;
 use std::alloc::{AllocError, Global};
@@ -31,9 +31,10 @@ pub enum Request<'a> {
         source: &'a str,
         image: &'a str,
     },
-    /// `list FILE`.
+    /// `list FILE [--rows]`.
     List {
         file: &'a str,
+        has_rows: bool,
     },
     /// `run FILE SCHEDULE [--expect STATE]`; the schedule `-` is standard input.
     Run {
@@ -107,6 +108,16 @@ fn several<'a>(
     ensures { IfOk result (λ words. map (λ w. w.now) words.items ≡ words_at place.now (rows_of (found_of matches.now))) }
 {
     Vec::from_slice(alloc, matches.get_strs(place).unwrap_or(&[]))
+}
+
+/// Whether an option without a value is there.
+fn is_set(matches: &ArgMatches<'_>, flag: &str) -> bool
+    ensures { IsFlag (word_given flag.now (rows_of (found_of matches.now))) result }
+{
+    match given(matches, flag) {
+        Some("true") => true,
+        _ => false,
+    }
 }
 
 /// The number that one to ten digits spell, where it is one of `least` to `most`; no sign may stand before them.
@@ -237,6 +248,7 @@ fn request_by<'a>(
         },
         LIST => Request::List {
             file: word(matches, FILE),
+            has_rows: is_set(matches, ROWS),
         },
         RUN => run(matches)?,
         COMPARE => Request::Compare {

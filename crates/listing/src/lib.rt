@@ -13,7 +13,7 @@ ghost use Rattle.listing.specs.Listing.{canonical};
 mod barriers;
 mod phasers;
 mod pieces;
-mod rows;
+pub mod rows;
 mod threads;
 
 use barriers::push_barriers;

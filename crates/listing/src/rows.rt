@@ -1,4 +1,4 @@
-// The lines of the rows.
+//! The lines of the rows.
 ghost use Rattle.std.specs.Prelude.{◌≡◌, ◌++◌, OnOk, All, map};
 ghost use Rattle.std.specs.List.{flat_map};
 ghost use Rattle.row_code.specs.RowFields.{IsRow};
@@ -41,8 +41,9 @@ fn push_operands(
     Ok(())
 }
 
+/// The line of a row, as it stands in the canonical text of every image that has the row.
 #[tactic(auto, using(crate::proofs::ListedTexts::option_steps))]
-fn push_row(text: &mut Vec<u8>, row: Row) -> Result<(), AllocError>
+pub fn push_row(text: &mut Vec<u8>, row: Row) -> Result<(), AllocError>
     ensures text { OnOk result (text.new.items ≡ text.old.items ++ line_text (row_words row)) }
     ensures fits { IsRow row }
 {

@@ -36,7 +36,7 @@ impl<'a> Files<'a> {
                 *file,
                 schedule.map(|word| named(word)),
             ),
-            Request::List { file }
+            Request::List { file, .. }
             | Request::Debug { file, .. }
             | Request::Compare { file, .. }
             | Request::Live { file, .. } => (*file, None),

@@ -30,6 +30,7 @@ use picture_commands::picture::Picture;
 use race::race_cmd;
 use refusal_words::explain_cmd;
 use refusal_words::told_line::ToldLine;
+use row_listing::rows_cmd;
 use std::fs::File;
 use std::io::{BufWriter, IsTerminal};
 use std::process::ExitCode;
@@ -86,11 +87,20 @@ fn asm<'a, E: Sink>(
     Ok(flushed(errors, status, &mut output))
 }
 
-/// Writes the canonical text of the program in a file.
-fn list<'a, E: Sink>(rt: &HostRuntime, errors: &mut E, file: &'a str) -> Result<u8, NoCommand<'a>> {
-    let input = files::read(rt, file)?;
+/// Writes the canonical text of the program in a file, or its rows.
+fn list<'a, E: Sink>(
+    rt: &HostRuntime,
+    errors: &mut E,
+    file: &'a str,
+    has_rows: bool,
+) -> Result<u8, NoCommand<'a>> {
+    let mut input = ReadPort::new(files::read(rt, file)?);
     let mut output = WritePort::new(rt.stdout());
-    let status = list_cmd(rt.alloc(), &mut ReadPort::new(input), &mut output, errors);
+    let status = if has_rows {
+        rows_cmd(rt.alloc(), &mut input, &mut output, errors)
+    } else {
+        list_cmd(rt.alloc(), &mut input, &mut output, errors)
+    };
     Ok(flushed(errors, status, &mut output))
 }
 
@@ -440,7 +450,7 @@ fn done<'a, R: Threads + Wait + Sync, E: Sink>(
     match request {
         Request::Both => both(rt, errors),
         Request::Asm { source, image } => asm(rt, errors, source, image),
-        Request::List { file } => list(rt, errors, file),
+        Request::List { file, has_rows } => list(rt, errors, file, has_rows),
         Request::Run {
             file,
             schedule,

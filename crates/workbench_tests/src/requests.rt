@@ -81,8 +81,26 @@ fn command_lines_ask_for_programs(rt: HostRuntime) -> Result<(), Fail> {
             }
         )?
     );
-    assert!(rt; asks(alloc, "list -", &Request::List { file: "-" })?);
-    assert!(rt; asks(alloc, "list -- --help", &Request::List { file: "--help" })?);
+    assert!(rt;
+        asks(
+            alloc,
+            "list - --rows",
+            &Request::List {
+                file: "-",
+                has_rows: true,
+            }
+        )?
+    );
+    assert!(rt;
+        asks(
+            alloc,
+            "list -- --rows",
+            &Request::List {
+                file: "--rows",
+                has_rows: false,
+            }
+        )?
+    );
     assert!(rt;
         asks(
             alloc,

@@ -1,0 +1,75 @@
+-- What is listed of the rows of a program.
+use Rattle.std.specs.Prelude.{◌≡◌, ◌⊎◌, ℕ, ◌-◌, true, false, List, [], ◌∷◌, length, take, drop, decimal, slice_index_or, Option, Ok}
+use Rattle.std.specs.Char.{is_ascii_whitespace}
+use Rattle.std.specs.Io.KnownBytes.{Appends}
+use Rattle.std.specs.List.{flat_map, prefix_len, suffix_len}
+use Rattle.instruction_table.specs.declared.row.Row.{Row}
+use Rattle.row_code.specs.Reading.{image_of as image_in}
+use Rattle.row_code.specs.declared.image.Image.{Image}
+use Rattle.line_reader.specs.declared.statement.Line.{Line}
+use Rattle.line_reader.specs.declared.statement.Statement.TheVariants as statement
+use Rattle.line_reader.specs.declared.symbolic_row.SymbolicRow.{SymbolicRow}
+use Rattle.line_reader.specs.Spelling.{Says}
+use Rattle.line_reader.specs.Symbols.{Name}
+use Rattle.line_reader.specs.Words.{lines_of}
+use Rattle.listing.specs.Listing.{line_text, numbered, row_words}
+use Rattle.assembler.specs.Meaning.{image_of, row_of, SayInOrder, StandsFor}
+use Rattle.assembler.specs.Symbols.{row_line}
+use Rattle.workbench.specs.Input.{GivesAll}
+use Rattle.workbench.specs.ProgramFile.{is_image_file}
+
+-- a line without the blanks at its start and its end
+abbrev pub trimmed : List ℕ → List ℕ
+trimmed line =
+    let rest = drop (prefix_len is_ascii_whitespace line) line in
+    take (length rest - suffix_len is_ascii_whitespace rest) rest
+
+-- the line of this number, from 1
+abbrev pub line_at : List (List ℕ) → ℕ → List ℕ
+line_at texts number = slice_index_or texts (number - 1) []
+
+-- what is told of the row of this number, which stands in the line of that number
+abbrev pub text_row_words : List (List ℕ) → (row number : ℕ) → List (List ℕ)
+text_row_words texts row number = decimal row ∷ decimal number ∷ trimmed (line_at texts number) ∷ []
+
+-- the same where nothing but the row is known
+abbrev pub image_row_words : ℕ → Row → List (List ℕ)
+image_row_words n row = decimal n ∷ row_words row
+
+-- the numbers of the lines that say a row, in their order
+abbrev pub row_lines : List (Line Name) → List ℕ
+row_lines lines = flat_map row_line lines
+
+-- there are as many numbers as rows, and the line of each number says its row; names are those of all lines
+abbrev pub AreSaid : List (List ℕ) → List (Line Name) → List Row → List ℕ → Type 0
+AreSaid texts lines [] [] = Unit {0}
+AreSaid texts lines (row ∷ rows) (number ∷ numbers) =
+    ((label : Option Name) × ((said : SymbolicRow Name)
+    × (Says (line_at texts number) (statement.Row label said) × (row ≡ row_of lines said))))
+    × AreSaid texts lines rows numbers
+AreSaid texts lines _ _ = ⊥
+
+-- a line for each row of a text, and of an image; the first row has the number 0
+abbrev pub text_listing : List (List ℕ) → List (Line Name) → List ℕ
+text_listing texts lines = flat_map line_text (numbered (text_row_words texts) 0 (row_lines lines))
+
+abbrev pub image_listing : Image → List ℕ
+image_listing image = flat_map line_text (numbered image_row_words 0 image.rows)
+
+-- the listing of a text: its lines say this, which makes the image that the text stands for
+abbrev pub IsTextListing : List ℕ → List ℕ → Type 0
+IsTextListing text listing =
+    (lines : List (Line Name)) × (SayInOrder 1 (lines_of text) lines × StandsFor text (image_of lines)
+    × (listing ≡ text_listing (lines_of text) lines))
+
+-- the listing of the program in a file
+abbrev pub IsRowListing : List ℕ → List ℕ → Type 0
+IsRowListing file listing =
+    ((is_image_file file ≡ true) × ((image : Image) × ((image_in file ≡ Ok image) × (listing ≡ image_listing image))))
+    ⊎ ((is_image_file file ≡ false) × IsTextListing file listing)
+
+-- the file was read to its end, and the rows of its program were listed
+abbrev pub HasListedRows : (file_before file_after output_before output_after : Option (List ℕ)) → Type 0
+HasListedRows file_before file_after output_before output_after =
+    (file : List ℕ) × ((listing : List ℕ) × (GivesAll file_before file_after file × IsRowListing file listing
+    × Appends output_before output_after listing))
