@@ -12,11 +12,15 @@ use Rattle.line_reader.specs.Symbols.{Name}
 use Rattle.line_reader.specs.Words.{is_line_end, lines_of, without_empty_last}
 use Rattle.listing.specs.Listing.{line_text, numbered}
 use Rattle.assembler.specs.Meaning.{image_of, rows_in, SayInOrder, StandsFor}
+use Rattle.assembler.specs.Reading.{line_behind}
+use Rattle.assembler.specs.Statements.{Follows}
 use Rattle.assembler.specs.Passes.{assembled, first_unknown, lines_read, looked_up}
 use Rattle.assembler.specs.Symbols.{SymbolTable, symbols_in, symbols_of}
 use Rattle.assembler.proofs.FirstPass.{one_less}
 use Rattle.assembler.proofs.ReadLines.{lines_take, stands_for-assembled}
-use Rattle.row_listing.specs.Rows.{AreSaid, IsTextListing, line_at, row_lines, text_row_words}
+use Rattle.assembler.proofs.SpelledLines.{LineSays, line_again}
+use Rattle.row_code.specs.Reading.{image_of as image_in}
+use Rattle.row_listing.specs.Rows.{AreSaid, IsRowListing, IsTextListing, image_listing, line_at, row_lines, text_listing, text_row_words}
 
 -- ---- the lines of a text, with an empty one behind the last line end
 
@@ -134,3 +138,49 @@ said_from texts lines n (text ∷ rest) more left (inr s) =
 pub rows_said : (text : List ℕ) (lines : List (Line Name)) → SayInOrder 1 (lines_of text) lines
     → AreSaid (lines_of text) lines (image_of lines).rows (row_lines lines)
 rows_said text lines s = said_from (lines_of text) lines 0 (lines_of text) lines refl s
+
+-- ---- a file has one listing
+
+-- behind no line anything may stand
+follows_none : (said : Statement Name) → Follows [] said
+follows_none (statement.Phaser p) = record { name = refl; place = refl; room = refl }
+follows_none (statement.Barrier b) = record { name = refl; place = refl; room = refl }
+follows_none (statement.Thread t) = record { name = refl; place = refl; room = refl }
+follows_none (statement.Cell name) = record { name = refl; place = refl; room = refl }
+follows_none (statement.Label name) = record { name = refl; place = refl; room = refl }
+follows_none (statement.Row None row) = record { name = refl; place = refl; room = refl }
+follows_none (statement.Row (Some label) row) = record { name = refl; place = refl; room = refl }
+
+alike : {A B : Type 0} (x y : A) (r : Result A B) → r ≡ Ok x → r ≡ Ok y → x ≡ y
+alike x y r e f = cc
+
+same_statement : (text : List ℕ) (s t : Option (Statement Name)) → LineSays [] text s → LineSays [] text t → s ≡ t
+same_statement text s t p q = alike s t (line_behind [] text) (line_again [] text s p) (line_again [] text t q)
+
+abbrev numbered_line : ℕ → Statement Name → Line Name
+numbered_line n said = record { number = n; statement = said }
+
+next_same : (n : ℕ) (a b : List (Line Name)) (s t : Statement Name) (c d : List (Line Name)) → a ≡ numbered_line n s ∷ c
+    → b ≡ numbered_line n t ∷ d → Some s ≡ Some t → c ≡ d → a ≡ b
+next_same n a b s t c d is also said others = cc
+
+same_lines : (n : ℕ) (texts : List (List ℕ)) (a b : List (Line Name)) → SayInOrder n texts a → SayInOrder n texts b → a ≡ b
+same_lines n [] a b s t = s ∙ sym t
+same_lines n (text ∷ texts) a b (inl s) (inl t) = same_lines (n + 1) texts a b s.1 t.1
+same_lines n (text ∷ texts) a b (inl s) (inr t) =
+    let bad = same_statement text None (Some t.0) s.0 (t.3, follows_none t.0) in absurd (cc)
+same_lines n (text ∷ texts) a b (inr s) (inl t) =
+    let bad = same_statement text (Some s.0) None (s.3, follows_none s.0) t.0 in absurd (cc)
+same_lines n (text ∷ texts) a b (inr s) (inr t) =
+    next_same n a b s.0 t.0 s.1 t.1 s.2 t.2
+    (same_statement text (Some s.0) (Some t.0) (s.3, follows_none s.0) (t.3, follows_none t.0))
+    (same_lines (n + 1) texts s.1 t.1 s.4 t.4)
+
+pub one_listing : (file a b : List ℕ) → IsRowListing file a → IsRowListing file b → a ≡ b
+one_listing file a b (inl (is, (i, (same, told)))) (inl (also, (j, (like, said)))) =
+    told ∙ ap (λ (image : Image). image_listing image) (alike i j (image_in file) same like) ∙ sym said
+one_listing file a b (inl s) (inr t) = absurd (cc (s.0, t.0))
+one_listing file a b (inr s) (inl t) = absurd (cc (s.0, t.0))
+one_listing file a b (inr (is, (lines, (say, stands, told)))) (inr (also, (others, (speak, means, said)))) =
+    told ∙ ap (λ (ls : List (Line Name)). text_listing (lines_of file) ls) (same_lines 1 (lines_of file) lines others say speak)
+    ∙ sym said

@@ -1,13 +1,18 @@
-ghost use Rattle.std.specs.Prelude.{List, ℕ};
+ghost use Rattle.std.specs.Prelude.{◌≡◌, List, ℕ};
 ghost use Rattle.assembler.specs.Meaning.{SayInOrder, image_of};
 ghost use Rattle.line_reader.specs.declared.statement.Line.{Line};
 ghost use Rattle.line_reader.specs.Symbols.{Name};
 ghost use Rattle.line_reader.specs.Words.{lines_of};
-ghost use Rattle.row_listing.specs.Rows.{AreSaid, row_lines};
+ghost use Rattle.row_listing.specs.Rows.{AreSaid, IsRowListing, row_lines};
 
 /// What is told of a row is the line that says it: the numbers of the lines are one for each row of the image, and the line
 /// there says this row.
 pub fn a_row_is_told_with_the_line_that_says_it()
     ensures { (text : List ℕ) (lines : List (Line Name)) → SayInOrder 1 (lines_of text) lines
         → AreSaid (lines_of text) lines (image_of lines).rows (row_lines lines) }
+{}
+
+/// A file has one listing.
+pub fn a_file_has_one_listing()
+    ensures { (file a b : List ℕ) → IsRowListing file a → IsRowListing file b → a ≡ b }
 {}

@@ -11,4 +11,4 @@ mod law;
 mod text_rows;
 
 pub use command::rows_cmd;
-pub use law::a_row_is_told_with_the_line_that_says_it;
+pub use law::{a_file_has_one_listing, a_row_is_told_with_the_line_that_says_it};
