@@ -2,3 +2,4 @@ pub mod Port
 pub mod FailAt
 pub mod MemorySource
 pub mod MemorySink
+pub mod BlockPort

@@ -16,6 +16,10 @@ pub mod failed;
 pub mod sink;
 pub mod source;
 
+// Ports over another one.
+pub mod block_port;
+pub mod block_source;
+
 // Ports over bytes in memory.
 mod fail_at;
 pub mod memory_sink;
@@ -26,6 +30,8 @@ mod interruption;
 pub mod read_port;
 pub mod write_port;
 
+pub use block_port::BlockPort;
+pub use block_source::BlockSource;
 pub use failed::Failed;
 pub use interruption::MOST_TRIES;
 pub use memory_sink::MemorySink;

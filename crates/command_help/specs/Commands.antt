@@ -56,7 +56,7 @@ abbrev pub run_shape : Shape
 run_shape = command (codes "run") (file_rule ∷ place_rule (codes "SCHEDULE") ∷ option_rule (codes "expect") ∷ [])
 
 abbrev pub compare_shape : Shape
-compare_shape = command (codes "compare") (file_rule ∷ place_rule (codes "TRACE") ∷ [])
+compare_shape = command (codes "compare") (file_rule ∷ place_rule (codes "TRACE") ∷ flag_rule (codes "show") ∷ [])
 
 abbrev pub debug_shape : Shape
 debug_shape = command (codes "debug") (file_rule ∷ option_rule (codes "at") ∷ [])
@@ -68,7 +68,7 @@ abbrev pub draw_shape : Shape
 draw_shape = command (codes "draw") (file_rule ∷ new_rule (codes "SCHEDULE") ∷ width_rule ∷ [])
 
 abbrev pub live_shape : Shape
-live_shape = command (codes "live") (file_rule ∷ limit_rule ∷ option_rule (codes "stir") ∷ option_rule (codes "expect") ∷ [])
+live_shape = command (codes "live") (file_rule ∷ limit_rule ∷ option_rule (codes "stir") ∷ option_rule (codes "runs") ∷ option_rule (codes "expect") ∷ [])
 
 abbrev pub race_shape : Shape
 race_shape = command (codes "race") (number_rule (codes "parties") ∷ number_rule (codes "rounds") ∷ [])
@@ -79,10 +79,14 @@ choices_shape = command (codes "choices") (place_rule (codes "TRACE") ∷ [])
 abbrev pub explain_shape : Shape
 explain_shape = command (codes "explain") (words_rule ∷ [])
 
+-- the program by itself, which takes one option where no command is named
+abbrev pub bare : App
+bare = record { top = record (command (codes "vuthgal") (option_rule (codes "expect") ∷ [])) { has_version = true }; subs = [] }
+
 -- the program with all its commands
 abbrev pub vuthgal : App
 vuthgal = record {
-  top = record (new_app (codes "vuthgal")).top { has_version = true; is_leaf = false };
+  top = record bare.top { is_leaf = false };
   subs = asm_shape ∷ list_shape ∷ run_shape ∷ compare_shape ∷ debug_shape ∷ show_shape ∷ draw_shape ∷ live_shape ∷ race_shape
       ∷ choices_shape ∷ explain_shape ∷ [];
 }

@@ -1,13 +1,13 @@
 //! The commands, their words and options, and what help says of each.
 ghost use Rattle.std.specs.Prelude.{◌≡◌, IfOk, IsOkAnd, false, [], codes};
 ghost use Rattle.clap.specs.Words.{AddsSubcommand, app_of, new_rule, rule_of, with_rule, with_subcommand};
-ghost use Rattle.command_help.specs.Commands.{alone, command, flag_rule, limit_rule, number_rule, option_rule, place_rule, vuthgal, width_rule, words_rule};
+ghost use Rattle.command_help.specs.Commands.{alone, bare, command, flag_rule, limit_rule, number_rule, option_rule, place_rule, vuthgal, width_rule, words_rule};
 ghost use Rattle.command_help.specs.Commands.{asm_shape, compare_shape, debug_shape, list_shape};
 ghost use Rattle.command_help.specs.Commands.{choices_shape, draw_shape, explain_shape, live_shape, race_shape, run_shape, show_shape};
 
 use crate::names::{
     ASM, AT, CHOICES, COMPARE, DEBUG, DRAW, EXPECT, EXPLAIN, FILE, LIMIT, LIST, LIVE, OUT, PARTIES,
-    RACE, ROUNDS, ROWS, RUN, SCHEDULE, SHOW, SRC, STIR, TRACE, WIDTH, WORD,
+    RACE, ROUNDS, ROWS, RUN, RUNS, SCHEDULE, SHOW, SRC, STIR, TRACE, WIDTH, WORD,
 };
 use crate::texts;
 use clap::{Arg, ArgAction, Command};
@@ -84,15 +84,15 @@ fn asm<'a>(alloc: Global) -> Result<Command<'a>, AllocError>
     )
 }
 
-/// Whether the rows are listed instead.
-fn rows<'a>(alloc: Global) -> Arg<'a>
-    ensures rule { rule_of result ≡ flag_rule (codes "rows") }
+/// An option without a value.
+fn flag<'a>(alloc: Global, name: &'a str, help: &'a str) -> Arg<'a>
+    ensures rule { rule_of result ≡ flag_rule name.entry.now }
     ensures local { result.global ≡ false }
 {
-    Arg::new(alloc, ROWS)
-        .long(ROWS)
+    Arg::new(alloc, name)
+        .long(name)
         .action(ArgAction::SetTrue)
-        .help("Writes each row behind its number, and of a text its line")
+        .help(help)
 }
 
 fn list<'a>(alloc: Global) -> Result<Command<'a>, AllocError>
@@ -106,7 +106,11 @@ fn list<'a>(alloc: Global) -> Result<Command<'a>, AllocError>
             texts::LIST,
         ),
         place(alloc, FILE, "The file of the image or of the program text"),
-        rows(alloc),
+        flag(
+            alloc,
+            ROWS,
+            "Writes each row behind its number, and of a text its line",
+        ),
     )
 }
 
@@ -133,7 +137,7 @@ fn run<'a>(alloc: Global) -> Result<Command<'a>, AllocError>
 fn compare<'a>(alloc: Global) -> Result<Command<'a>, AllocError>
     ensures { IfOk result (λ command. app_of command ≡ alone compare_shape) }
 {
-    with_two(
+    let command = with_two(
         told(
             alloc,
             COMPARE,
@@ -146,7 +150,12 @@ fn compare<'a>(alloc: Global) -> Result<Command<'a>, AllocError>
             TRACE,
             "The file of the trace, or `-` for standard input",
         ),
-    )
+    )?;
+    command.arg(flag(
+        alloc,
+        SHOW,
+        "Writes the two lines that differ, or what a line has to be",
+    ))
 }
 
 fn debug<'a>(alloc: Global) -> Result<Command<'a>, AllocError>
@@ -235,7 +244,7 @@ fn live<'a>(alloc: Global) -> Result<Command<'a>, AllocError>
         place(alloc, FILE, "The file of the image or of the program text"),
         limit(alloc),
     )?;
-    with_two(
+    let command = with_two(
         command,
         option(
             alloc,
@@ -243,8 +252,14 @@ fn live<'a>(alloc: Global) -> Result<Command<'a>, AllocError>
             "SEED",
             "Lets threads pause before some of their turns, 0 to 4294967295",
         ),
-        expect(alloc),
-    )
+        option(
+            alloc,
+            RUNS,
+            "N",
+            "Plays N runs and writes what they came to, 1 to 100000",
+        ),
+    )?;
+    command.arg(expect(alloc))
 }
 
 /// An option that has to be there, with a number.
@@ -355,15 +370,23 @@ fn with_threads<'a>(alloc: Global, program: Command<'a>) -> Result<Command<'a>, 
     with(program, race(alloc))
 }
 
-/// The program with all its commands, of this version.
-pub fn program<'a>(alloc: Global, version: &'a str) -> Result<Command<'a>, AllocError>
-    ensures { IfOk result (λ program. app_of program ≡ vuthgal) }
+/// The program without its commands, of this version.
+fn bare<'a>(alloc: Global, version: &'a str) -> Result<Command<'a>, AllocError>
+    ensures { IfOk result (λ program. app_of program ≡ bare) }
 {
-    let program = Command::new(alloc, "vuthgal")
+    Command::new(alloc, "vuthgal")
         .version(version)
         .about("Plays programs of threads that call phasers and barriers")
         .long_about(texts::PROGRAM)
-        .after_help(texts::STATUSES);
+        .after_help(texts::STATUSES)
+        .arg(expect(alloc))
+}
+
+/// The program with all its commands.
+pub fn program<'a>(alloc: Global, version: &'a str) -> Result<Command<'a>, AllocError>
+    ensures { IfOk result (λ program. app_of program ≡ vuthgal) }
+{
+    let program = bare(alloc, version)?;
     let program = with_forms(alloc, program)?;
     let program = with_plays(alloc, program)?;
     let program = with_pictures(alloc, program)?;

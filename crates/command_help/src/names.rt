@@ -49,3 +49,5 @@ pub const STIR: &str = "stir";
 pub const AT: &str = "at";
 
 pub const ROWS: &str = "rows";
+
+pub const RUNS: &str = "runs";

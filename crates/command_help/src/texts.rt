@@ -23,6 +23,9 @@ and a schedule, and writes the trace: a line for each choice, and then the
 state. It may tell `refused asm`, `refused load`, `refused schedule`, `memory`,
 `read` or `write`.
 
+With `--expect STATE` it answers 1 where the state's word is another than STATE.
+Behind a command's name the option is that command's.
+
 Example: vuthgal < examples/two-threads-meet.txt";
 
 pub const ASM: &str = "\
@@ -69,6 +72,11 @@ It writes `same`; `differs LINE`, the first line that isn't the run's, byte for
 byte; or `not a trace LINE`, the first line that is no trace's. FILE is an image
 where its first four bytes are `PBW1` or `PBW2`, else a program text. TRACE is a
 file, or `-` for standard input; it may be as long as you like.
+
+With `--show` two lines follow a verdict that isn't `same`: behind `differs LINE`
+`trace ..` and `run ..`, that line of each; behind `not a trace LINE` the line of
+the trace, and what a line has to be. TRACE is read again for that, or is held in
+memory where it is `-`.
 
 It may tell `refused asm`, `refused image`, `refused load`, `memory`, `read` or
 `write`.
@@ -137,6 +145,12 @@ ended, where none can go on, or after N steps: in the state `all`, `stuck` or
 `live`. With `--stir SEED` each thread yields or pauses a little before about
 half of its turns, so that other runs come about too; what is written is still
 the trace of the run that came about, whatever the pauses.
+
+With `--runs N` it plays N runs and writes no trace, but a line for each state
+that a run ended in, the most frequent first: how often one did, `all`, `stuck`
+or `live`, and the schedule of the first that did. `vuthgal run FILE -` plays
+that schedule again. How many choices it took makes no other state. With
+`--expect` the exit status is 1 where any run ended otherwise.
 
 It may tell `refused asm`, `refused image`, `refused load`, `memory`, `spawn`,
 `read` or `write`.

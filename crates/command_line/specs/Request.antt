@@ -1,8 +1,8 @@
 -- What a command line asks for, by the subcommand that its words name and by that one's matches.
 use Rattle.std.specs.Prelude.{◌≡◌, ◌≢◌, ◌≤◌, ◌⊎◌, ℕ, List, [], ◌∷◌, Option, Some, None, length, map}
-use Rattle.std.specs.Prelude.{All, codes, option_map, true, false, Bool, unwrap_or}
+use Rattle.std.specs.Prelude.{All, IfSome, codes, option_map, true, false, Bool, unwrap_or}
 use Rattle.std.specs.Str.Parse.{IsNumeral, digits_value}
-use Rattle.clap.specs.Words.{Row, Text, all_of, first_of, kind_of, subcommand_of, takes}
+use Rattle.clap.specs.Words.{Row, Text, all_of, first_of, kind_of, matches_of, subcommand_of, takes}
 use Rattle.clap.specs.declared.error.Error.{Error}
 use Rattle.clap.specs.declared.error.kind.ErrorKind.TheVariants.{OutOfMemory, ValueValidation}
 use Rattle.command_help.specs.Commands.{vuthgal}
@@ -17,7 +17,7 @@ use Rattle.command_line.specs.declared.request.Request.TheVariants as request
 
 -- its numbers are in their ranges
 abbrev pub IsInRange : Request → Type 0
-IsInRange (request.Live file limit seed expected) = (1 ≤ limit) × (limit ≤ 1000000000)
+IsInRange (request.Live file limit seed runs expected) = ((1 ≤ limit) × (limit ≤ 1000000000)) × IfSome runs (λ n. (1 ≤ n) × (n ≤ 100000))
 IsInRange (request.Draw file schedule width) = (60 ≤ width) × (width ≤ 1000)
 IsInRange (request.Race parties rounds) = ((1 ≤ parties) × (parties ≤ 16)) × ((1 ≤ rounds) × (rounds ≤ 1000000))
 IsInRange _ = Unit {0}
@@ -61,17 +61,17 @@ abbrev pub IsNoState : Option Text → Type 0
 IsNoState None = ⊥
 IsNoState (Some text) = All (λ other. text ≢ other) names
 
--- the seed that digits spell, none where there are none
-abbrev pub IsSeed : Option Text → Option ℕ → Type 0
-IsSeed None None = Unit {0}
-IsSeed None (Some seed) = ⊥
-IsSeed (Some text) None = ⊥
-IsSeed (Some text) (Some seed) = Spells text 0 4294967295 seed
+-- the number, one of `least` to `most`, that digits spell, none where there are none
+abbrev pub IsNumber : ℕ → ℕ → Option Text → Option ℕ → Type 0
+IsNumber least most None None = Unit {0}
+IsNumber least most None (Some number) = ⊥
+IsNumber least most (Some text) None = ⊥
+IsNumber least most (Some text) (Some number) = Spells text least most number
 
--- there are digits, and they spell no seed
-abbrev pub IsNoSeed : Option Text → Type 0
-IsNoSeed None = ⊥
-IsNoSeed (Some text) = SpellsNone text 0 4294967295
+-- there are digits, and they spell no such number
+abbrev pub IsNoNumber : ℕ → ℕ → Option Text → Type 0
+IsNoNumber least most None = ⊥
+IsNoNumber least most (Some text) = SpellsNone text least most
 
 abbrev pub command_names : List Text
 command_names =
@@ -80,7 +80,7 @@ command_names =
 
 -- the request is what the subcommand of this name asks for by these matches
 abbrev pub IsAskedBy : Text → List Row → Request → Type 0
-IsAskedBy name rows request.Both = All (λ other. name ≢ other) command_names
+IsAskedBy name rows (request.Both expected) = (expected ≡ None) × All (λ other. name ≢ other) command_names
 IsAskedBy name rows (request.Asm source image) = (name ≡ codes "asm")
     × (source.now ≡ word_at (codes "SRC") rows) × (image.now ≡ word_at (codes "OUT") rows)
 IsAskedBy name rows (request.List file has_rows) = (name ≡ codes "list")
@@ -88,8 +88,9 @@ IsAskedBy name rows (request.List file has_rows) = (name ≡ codes "list")
 IsAskedBy name rows (request.Run file schedule expected) = (name ≡ codes "run")
     × (file.now ≡ word_at (codes "FILE") rows) × (schedule.now ≡ word_at (codes "SCHEDULE") rows)
     × IsExpected (word_given (codes "expect") rows) expected
-IsAskedBy name rows (request.Compare file trace) = (name ≡ codes "compare")
+IsAskedBy name rows (request.Compare file trace is_shown) = (name ≡ codes "compare")
     × (file.now ≡ word_at (codes "FILE") rows) × (trace.now ≡ word_at (codes "TRACE") rows)
+    × IsFlag (word_given (codes "show") rows) is_shown
 IsAskedBy name rows (request.Debug file trace) = (name ≡ codes "debug")
     × (file.now ≡ word_at (codes "FILE") rows) × (option_map (λ s. s.now) trace ≡ word_given (codes "at") rows)
 IsAskedBy name rows (request.Show file schedule) = (name ≡ codes "show")
@@ -97,9 +98,10 @@ IsAskedBy name rows (request.Show file schedule) = (name ≡ codes "show")
 IsAskedBy name rows (request.Draw file schedule width) = (name ≡ codes "draw")
     × (file.now ≡ word_at (codes "FILE") rows) × (option_map (λ s. s.now) schedule ≡ word_given (codes "SCHEDULE") rows)
     × Spells (word_at (codes "width") rows) 60 1000 width
-IsAskedBy name rows (request.Live file limit seed expected) = (name ≡ codes "live")
+IsAskedBy name rows (request.Live file limit seed runs expected) = (name ≡ codes "live")
     × (file.now ≡ word_at (codes "FILE") rows) × Spells (word_at (codes "limit") rows) 1 1000000000 limit
-    × IsSeed (word_given (codes "stir") rows) seed × IsExpected (word_given (codes "expect") rows) expected
+    × IsNumber 0 4294967295 (word_given (codes "stir") rows) seed
+    × IsNumber 1 100000 (word_given (codes "runs") rows) runs × IsExpected (word_given (codes "expect") rows) expected
 IsAskedBy name rows (request.Race parties rounds) = (name ≡ codes "race")
     × Spells (word_at (codes "parties") rows) 1 16 parties
     × Spells (word_at (codes "rounds") rows) 1 1000000 rounds
@@ -114,7 +116,9 @@ IsWrong option.Width name rows = (name ≡ codes "draw") × SpellsNone (word_at 
 IsWrong option.Limit name rows = (name ≡ codes "live") × SpellsNone (word_at (codes "limit") rows) 1 1000000000
 IsWrong option.Parties name rows = (name ≡ codes "race") × SpellsNone (word_at (codes "parties") rows) 1 16
 IsWrong option.Expect name rows = ((name ≡ codes "run") ⊎ (name ≡ codes "live")) × IsNoState (word_given (codes "expect") rows)
-IsWrong option.Stir name rows = (name ≡ codes "live") × IsNoSeed (word_given (codes "stir") rows)
+IsWrong option.Stir name rows = (name ≡ codes "live") × IsNoNumber 0 4294967295 (word_given (codes "stir") rows)
+IsWrong option.Runs name rows = (name ≡ codes "live") × IsNoNumber 1 100000 (word_given (codes "runs") rows)
+IsWrong option.Early name rows = ⊥
 IsWrong option.Rounds name rows = (name ≡ codes "race") × SpellsNone (word_at (codes "rounds") rows) 1 1000000
 
 -- memory may be refused always, else an option is wrong
@@ -122,23 +126,39 @@ abbrev pub IsRefusedBy : Refusal → Text → List Row → Type 0
 IsRefusedBy refusal.Memory name rows = Unit {0}
 IsRefusedBy (refusal.Wrong option) name rows = IsWrong option name rows
 
--- the same of the words as a whole: with no subcommand they ask for `Both`
-abbrev pub IsAsked : Option (Text × List Row) → Request → Type 0
-IsAsked None asked = asked ≡ request.Both
-IsAsked (Some named) asked = IsAskedBy named.0 named.1 asked
+-- the option `--expect` alone asks for this, and so do no words at all
+abbrev pub IsBoth : List Row → Request → Type 0
+IsBoth rows (request.Both expected) = IsExpected (word_given (codes "expect") rows) expected
+IsBoth rows _ = ⊥
 
-abbrev pub IsRefused : Option (Text × List Row) → Refusal → Type 0
-IsRefused None refusal.Memory = Unit {0}
-IsRefused None (refusal.Wrong option) = ⊥
-IsRefused (Some named) why = IsRefusedBy why named.0 named.1
+-- the same of the words as a whole, by those before a subcommand, and the subcommand: where there is one, nothing stands
+-- before it
+abbrev pub IsAsked : List Row → Option (Text × List Row) → Request → Type 0
+IsAsked rows None asked = IsBoth rows asked
+IsAsked rows (Some named) asked = (word_given (codes "expect") rows ≡ None) × IsAskedBy named.0 named.1 asked
+
+-- an option is wrong where there is no subcommand
+abbrev pub IsWrongAlone : WrongOption → List Row → Type 0
+IsWrongAlone option.Expect rows = IsNoState (word_given (codes "expect") rows)
+IsWrongAlone _ rows = ⊥
+
+-- an option stands before the subcommand, or is the subcommand's and wrong
+abbrev pub IsWrongWith : WrongOption → List Row → Text × List Row → Type 0
+IsWrongWith option.Early rows named = word_given (codes "expect") rows ≢ None
+IsWrongWith wrong rows named = IsWrong wrong named.0 named.1
+
+abbrev pub IsRefused : List Row → Option (Text × List Row) → Refusal → Type 0
+IsRefused rows named refusal.Memory = Unit {0}
+IsRefused rows None (refusal.Wrong option) = IsWrongAlone option rows
+IsRefused rows (Some named) (refusal.Wrong option) = IsWrongWith option rows named
 
 -- a command line, whose first word is the program's own name, asks for this
 abbrev pub Asks : List Text → Request → Type 0
-Asks words = IsAsked (subcommand_of vuthgal words)
+Asks words = IsAsked (matches_of vuthgal words) (subcommand_of vuthgal words)
 
 -- it is refused for this
 abbrev pub Refuses : List Text → Refusal → Type 0
-Refuses words = IsRefused (subcommand_of vuthgal words)
+Refuses words = IsRefused (matches_of vuthgal words) (subcommand_of vuthgal words)
 
 -- an error where no memory is left, where `clap` doesn't take the words, or where an option is wrong
 abbrev pub Fails : List Text → Error → Type 0

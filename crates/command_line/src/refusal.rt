@@ -14,6 +14,9 @@ pub enum WrongOption {
     Rounds,
     Expect,
     Stir,
+    Runs,
+    /// `--expect` before the name of a command.
+    Early,
 }
 
 /// Why words that the commands take ask for nothing.
@@ -50,6 +53,8 @@ impl WrongOption {
             WrongOption::Rounds => "--rounds R: R is 1 to 1000000, in digits alone",
             WrongOption::Expect => "--expect STATE: STATE is all, stuck or live",
             WrongOption::Stir => "--stir SEED: SEED is 0 to 4294967295, in digits alone",
+            WrongOption::Runs => "--runs N: N is 1 to 100000, in digits alone",
+            WrongOption::Early => "--expect STATE stands behind the command's name",
         }
     }
 }

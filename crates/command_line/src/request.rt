@@ -1,12 +1,12 @@
 //! What the words of a command line ask for.
-ghost use Rattle.std.specs.Prelude.{◌≡◌, ◌≤◌, IfErr, IfOk, IfSome, MatchOption, codes, map, option_map, true};
+ghost use Rattle.std.specs.Prelude.{◌≡◌, ◌≤◌, IfErr, IfOk, IfSome, MatchOption, None, codes, map, option_map, true};
 ghost use Rattle.clap.specs.Words.{app_of, found_of, kind_of, rows_of, subcommand_rows_of, takes};
 ghost use Rattle.clap.specs.declared.error.kind.ErrorKind.TheVariants.{OutOfMemory};
 ghost use Rattle.std.specs.String.{string_bytes};
 ghost use Rattle.command_help.specs.Commands.{vuthgal};
 ghost use Rattle.command_line.specs.Request.{Asks, Fails, Refuses};
 ghost use Rattle.command_line.specs.Request.{IsAsked, IsAskedBy, IsInRange, IsRefused, IsRefusedBy, IsWrong};
-ghost use Rattle.command_line.specs.Request.{IsExpected, IsFlag, IsNoSeed, IsNoState, IsSeed};
+ghost use Rattle.command_line.specs.Request.{IsExpected, IsFlag, IsNoNumber, IsNoState, IsNumber};
 ghost use Rattle.command_line.specs.Request.{Spells, SpellsNone, word_at, word_given, words_at};
 ghost use Rattle.command_line.specs.declared.refusal.WrongOption.TheVariants as option;
 
@@ -16,7 +16,7 @@ use clap::{ArgMatches, Command, Error};
 use command_help::commands::program;
 use command_help::names::{
     ASM, AT, CHOICES, COMPARE, DEBUG, DRAW, EXPECT, EXPLAIN, FILE, LIMIT, LIST, LIVE, OUT, PARTIES,
-    RACE, ROUNDS, ROWS, RUN, SCHEDULE, SHOW, SRC, STIR, TRACE, WIDTH, WORD,
+    RACE, ROUNDS, ROWS, RUN, RUNS, SCHEDULE, SHOW, SRC, STIR, TRACE, WIDTH, WORD,
 };
 use expected_state::Expected;
 use std::alloc::{AllocError, Global};
@@ -24,8 +24,10 @@ use std::alloc::{AllocError, Global};
 /// What a command line asks for. A file is named as it was written.
 #[derive(PartialEq, Eq, Drop)]
 pub enum Request<'a> {
-    /// No words: play what standard input holds.
-    Both,
+    /// No command, `[--expect STATE]`: play what standard input holds.
+    Both {
+        expected: Option<Expected>,
+    },
     /// `asm SRC OUT`.
     Asm {
         source: &'a str,
@@ -42,10 +44,11 @@ pub enum Request<'a> {
         schedule: &'a str,
         expected: Option<Expected>,
     },
-    /// `compare FILE TRACE`; the trace `-` is standard input.
+    /// `compare FILE TRACE [--show]`; the trace `-` is standard input.
     Compare {
         file: &'a str,
         trace: &'a str,
+        is_shown: bool,
     },
     /// `debug FILE [--at TRACE]`.
     Debug {
@@ -63,11 +66,12 @@ pub enum Request<'a> {
         schedule: Option<&'a str>,
         width: u16,
     },
-    /// `live FILE --limit N [--stir SEED] [--expect STATE]`: 1 to 1,000,000,000 steps.
+    /// `live FILE --limit N [--stir SEED] [--runs N] [--expect STATE]`: 1 to 1,000,000,000 steps, 1 to 100,000 runs.
     Live {
         file: &'a str,
         limit: u32,
         seed: Option<u32>,
+        runs: Option<u32>,
         expected: Option<Expected>,
     },
     /// `race --parties N --rounds R`: 1 to 16 threads, 1 to 1,000,000 phases.
@@ -149,18 +153,25 @@ fn expected(matches: &ArgMatches<'_>) -> Result<Option<Expected>, WrongOption>
     }
 }
 
-/// The seed of the pauses, if there is one, and it is in range.
-fn seed(matches: &ArgMatches<'_>) -> Result<Option<u32>, WrongOption>
-    ensures asked { IfOk result (IsSeed (word_given (codes "stir") (rows_of (found_of matches.now)))) }
-    ensures wrong { IfErr result (λ wrong. (wrong ≡ option.Stir)
-        × IsNoSeed (word_given (codes "stir") (rows_of (found_of matches.now)))) }
+/// The number behind an option that may be left out, if there is one, and it is one of `least` to `most`.
+fn number_given(
+    matches: &ArgMatches<'_>,
+    option: &str,
+    least: u32,
+    most: u32,
+    wrong: WrongOption,
+) -> Result<Option<u32>, WrongOption>
+    ensures range { IfOk result (λ number. IfSome number (λ n. (least ≤ n) × (n ≤ most))) }
+    ensures asked { IfOk result (IsNumber least most (word_given option.now (rows_of (found_of matches.now)))) }
+    ensures wrong { IfErr result (λ why. (why ≡ wrong)
+        × IsNoNumber least most (word_given option.now (rows_of (found_of matches.now)))) }
 {
-    let Some(digits) = given(matches, STIR) else {
+    let Some(digits) = given(matches, option) else {
         return Ok(None);
     };
-    match number(digits, 0, 4_294_967_295) {
-        Some(seed) => Ok(Some(seed)),
-        None => Err(WrongOption::Stir),
+    match number(digits, least, most) {
+        Some(number) => Ok(Some(number)),
+        None => Err(wrong),
     }
 }
 
@@ -203,12 +214,14 @@ fn live<'a>(matches: &ArgMatches<'a>) -> Result<Request<'a>, WrongOption>
     let Some(limit) = number(word(matches, LIMIT), 1, 1_000_000_000) else {
         return Err(WrongOption::Limit);
     };
-    let seed = seed(matches)?;
+    let seed = number_given(matches, STIR, 0, 4_294_967_295, WrongOption::Stir)?;
+    let runs = number_given(matches, RUNS, 1, 100_000, WrongOption::Runs)?;
     let expected = expected(matches)?;
     Ok(Request::Live {
         file: word(matches, FILE),
         limit,
         seed,
+        runs,
         expected,
     })
 }
@@ -254,6 +267,7 @@ fn request_by<'a>(
         COMPARE => Request::Compare {
             file: word(matches, FILE),
             trace: word(matches, TRACE),
+            is_shown: is_set(matches, SHOW),
         },
         DEBUG => Request::Debug {
             file: word(matches, FILE),
@@ -272,21 +286,35 @@ fn request_by<'a>(
         EXPLAIN => Request::Explain {
             words: several(alloc, matches, WORD)?,
         },
-        _ => Request::Both,
+        _ => Request::Both { expected: None },
     };
     Ok(request)
+}
+
+/// What matches without a subcommand ask for, if no option is wrong.
+fn both<'a>(matches: &ArgMatches<'_>) -> Result<Request<'a>, WrongOption>
+    ensures range { IfOk result (λ request. IsInRange request) }
+    ensures asked { IfOk result (IsAsked (rows_of (found_of matches.now)) None) }
+    ensures wrong { IfErr result (λ wrong. (wrong ≡ option.Expect)
+        × IsNoState (word_given (codes "expect") (rows_of (found_of matches.now)))) }
+{
+    let expected = expected(matches)?;
+    Ok(Request::Both { expected })
 }
 
 /// What these matches ask for, if no option is wrong.
 fn request_of<'a>(alloc: Global, matches: &ArgMatches<'a>) -> Result<Request<'a>, Refusal>
     ensures range { IfOk result (λ request. IsInRange request) }
-    ensures asked { IfOk result (IsAsked (subcommand_rows_of matches.now)) }
-    ensures refused { IfErr result (IsRefused (subcommand_rows_of matches.now)) }
+    ensures asked { IfOk result (IsAsked (rows_of (found_of matches.now)) (subcommand_rows_of matches.now)) }
+    ensures refused { IfErr result (IsRefused (rows_of (found_of matches.now)) (subcommand_rows_of matches.now)) }
 {
-    match matches.subcommand() {
-        Some((name, matches)) => request_by(alloc, name, matches),
-        None => Ok(Request::Both),
+    let Some((name, of_command)) = matches.subcommand() else {
+        return Ok(both(matches)?);
+    };
+    if given(matches, EXPECT).is_some() {
+        return Err(Refusal::Wrong(WrongOption::Early));
     }
+    request_by(alloc, name, of_command)
 }
 
 /// What the words ask for by the program's commands, if they take the words; then if no option is wrong.

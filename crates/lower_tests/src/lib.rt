@@ -3,6 +3,8 @@
 #![tactic(auto)]
 
 #[cfg(test)]
+mod block_ports;
+#[cfg(test)]
 mod local_rows;
 #[cfg(test)]
 mod memory_sinks;

@@ -40,14 +40,15 @@ use Rattle.machine_scene.specs.OwnRows.{outcome_of_own_row}
 use Rattle.machine_scene.specs.CallRows.{outcome_of_routine_end, outcome_of_ret, outcome_of_call_row}
 use Rattle.machine_scene.specs.DataRows.{outcome_of_data_row}
 use Rattle.machine_scene.specs.GetterRows.{outcome_of_getter_row}
-use Rattle.machine_scene.specs.PhaserRows.{is_own_tree, is_past, has_routine, answer_of_policy, unless_own, outcome_of_turning, outcome_of_arrived, outcome_of_arrival, outcome_of_registered, outcome_of_bulk, outcome_of_phaser_row}
+use Rattle.machine_scene.specs.PhaserRows.{is_own_tree, is_past, has_routine, answer_of_policy, unless_own, outcome_of_pending_end, outcome_of_arrived, outcome_of_arrival, outcome_of_registered, outcome_of_bulk, outcome_of_phaser_row}
 use Rattle.machine_scene.specs.BarrierRows.{is_run_by, is_run_by_another, unless_busy, unless_runner, outcome_of_entered, outcome_of_await_at, outcome_of_barrier_row}
 use Rattle.machine_scene.specs.Unwinding.{outcome_of_popped}
 use Rattle.machine_scene.specs.Waits.{outcome_of_awaited, outcome_of_phase_wait, outcome_of_release, outcome_of_barrier_wait, outcome_of_phase_timeout, outcome_of_barrier_timeout}
 use Rattle.machine_scene.specs.Outcomes.{outcome_in_group, outcome_in, is_ready, timeout_in}
 use Rattle.machine_scene.specs.Asleep.{is_asleep_in, is_asleep, AreOthersAsleep, KeepsAsleep, interrupts, is_loud_at, may_wake}
 use Rattle.machine_scene.proofs.Plain.{either}
-use Rattle.machine_scene.proofs.ReadyThreads.{is_awaited, is_released, is_over_at, is_over, phase_wait_ready, barrier_wait_ready}
+use Rattle.machine_scene.specs.Ready.{is_awaited, is_released, is_over_at, is_over}
+use Rattle.machine_scene.proofs.ReadyThreads.{phase_wait_ready, barrier_wait_ready}
 use Rattle.machine_scene.proofs.ThreadSets.{nobody}
 use Rattle.machine_scene.proofs.Standings.{Standing, KeepsStandings, registration-standings, arrival-standings}
 
@@ -257,7 +258,7 @@ calm_bulk into p count t row scene =
     either (CalmIf t row scene) (int_lt count (pos 0)) (λ calm. still t row scene _) (calm_registration into p (nat_abs count) t row scene)
 
 calm_turning : (answer : Option Bool) (manner : Manner) (root : ℕ) (phase : ℤ) (t : ℕ) (row : Row) (program : Program) (scene mid : Scene)
-    → CalmIf t row scene (Some (outcome_of_turning answer manner root phase t program mid))
+    → CalmIf t row scene (Some (outcome_of_pending_end answer manner root phase t program mid))
 calm_turning (Some ends) manner root phase t row program scene mid = λ calm. absurd (cc calm)
 calm_turning None manner root phase t row program scene mid = λ calm. absurd (cc calm)
 

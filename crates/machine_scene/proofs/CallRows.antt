@@ -9,8 +9,8 @@ use Rattle.instruction_table.specs.declared.register.Reg.TheVariants.{R0}
 use Rattle.instruction_table.specs.Registers.{value_in}
 use Rattle.packed_phaser.specs.Flat.{view_of}
 use Rattle.tier_tree.specs.Forest.{flat_at}
-use Rattle.tier_tree.specs.PhaseEnd.{after_turn}
-use Rattle.tier_tree.specs.Trees.{CanTurn}
+use Rattle.tier_tree.specs.PhaseEnd.{after_phase_end}
+use Rattle.tier_tree.proofs.Trees.{CanEnd}
 use Rattle.cyclic_barrier.specs.Barrier.{end_action}
 use Rattle.loader.specs.Program.{Program, row_at}
 use Rattle.thread_state.specs.declared.event.What.TheVariants as what
@@ -20,7 +20,8 @@ use Rattle.thread_state.specs.declared.status.Status.TheVariants as status
 use Rattle.thread_state.specs.Thread.{ThreadState, Turn, top_of, is_full, with_entry, left_routine, turn_of_throw, turn_of_answer, turn_of_call, turn_of_try, turn_of_endtry}
 use Rattle.machine_scene.specs.declared.manner.Manner.{Manner}
 use Rattle.machine_scene.specs.Scene.{Scene, no_thread, thread_at, barrier_at, with_thread, outcome_of_turn}
-use Rattle.machine_scene.specs.CallRows.{manner_of, outcome_of_routine_end, outcome_of_ret, outcome_of_call_row}
+use Rattle.machine_scene.specs.Manner.{manner_of}
+use Rattle.machine_scene.specs.CallRows.{outcome_of_routine_end, outcome_of_ret, outcome_of_call_row}
 use Rattle.machine_scene.specs.Unwinding.{outcome_of_popped}
 use Rattle.machine_scene.specs.Sound.{IsSound}
 use Rattle.machine_scene.proofs.Facts.{RunsOn, ThrowsOn, DiesOn, top_named, advance_pending}
@@ -83,7 +84,7 @@ or_false false is = absurd (cc (is))
 -- the root of the routine that is on top can be turned, unless it is terminated
 pub can_turn_on_top : (program : Program) (steps t root row : ℕ) (registers : List ℤ) (scene : Scene) → IsSound program steps scene
     → steps < 2147483647 → t < length scene.threads → top_of (thread_at scene t).stack ≡ Some (frame.Advance root registers row)
-    → (flat_at scene.phasers root).ended ≡ false → CanTurn root scene.phasers
+    → (flat_at scene.phasers root).ended ≡ false → CanEnd root scene.phasers
 can_turn_on_top program steps t root row registers scene sound few there is live =
     let named = top_named program steps scene t (frame.Advance root registers row) sound there is in
     let flat = flat_at scene.phasers root in
@@ -111,7 +112,7 @@ sound_routine_end false program steps t root row registers manner ends scene end
     let left = left_routine registers row (thread_at scene t) in
     let flat = flat_at scene.phasers root in
     let can = can_turn_on_top program steps t root row registers scene stands.sound stands.few stands.there is end in
-    let after = after_turn root ends scene.phasers in
+    let after = after_phase_end root ends scene.phasers in
     let f : ThreadState → ThreadState = λ th. (turn_of_answer manner.into (if manner.waits then view_of (flat_at after root) else pos flat.phase) th).thread in
     subst (λ (ts : List ThreadState). IsSound program (steps + 1) (record scene { threads = ts; phasers = after })) (twice scene.threads t left f stands.there)
     (sound_turn_end program steps t root row registers ends scene (f left) stands.sound stands.there can is refl named.0 RunsOn

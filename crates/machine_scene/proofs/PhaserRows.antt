@@ -15,8 +15,8 @@ use Rattle.tier_tree.specs.declared.id.PhaserId.{PhaserId}
 use Rattle.tier_tree.specs.Forest.{PhaserState, flat_at}
 use Rattle.tier_tree.specs.Registration.{registration, after_registration}
 use Rattle.tier_tree.specs.Arrival.{arrival}
-use Rattle.tier_tree.specs.PhaseEnd.{after_turn, after_force}
-use Rattle.tier_tree.specs.Trees.{KeepsTrees}
+use Rattle.tier_tree.specs.PhaseEnd.{after_phase_end, after_force}
+use Rattle.tier_tree.proofs.Trees.{KeepsTrees}
 use Rattle.tier_tree.proofs.Trees.{trees_registered, trees_arrived, trees_forced, trees_turned_at_once, more_trees}
 use Rattle.loader.specs.Named.{stops}
 use Rattle.loader.specs.Program.{Program}
@@ -26,7 +26,7 @@ use Rattle.machine_scene.specs.declared.manner.Manner.{Manner}
 use Rattle.machine_scene.specs.declared.patience.Patience.{Patience}
 use Rattle.machine_scene.specs.declared.patience.Patience.TheVariants as patience
 use Rattle.machine_scene.specs.Scene.{Scene, Outcome, thread_at, routine_at, with_phasers, outcome_of_turn}
-use Rattle.machine_scene.specs.PhaserRows.{is_own_tree, has_routine, answer_of_policy, turn_of_arrival, turn_of_patience, turn_of_await, unless_own, outcome_of_turning, outcome_of_arrived, outcome_with_room, outcome_of_arrival, outcome_of_registered, outcome_of_registration, outcome_of_bulk, outcome_of_await, outcome_of_force, outcome_of_phaser_row}
+use Rattle.machine_scene.specs.PhaserRows.{is_own_tree, has_routine, answer_of_policy, turn_of_arrival, turn_of_patience, turn_of_await, unless_own, outcome_of_pending_end, outcome_of_arrived, outcome_with_room, outcome_of_arrival, outcome_of_registered, outcome_of_registration, outcome_of_bulk, outcome_of_await, outcome_of_force, outcome_of_phaser_row}
 use Rattle.machine_scene.specs.Sound.{IsSound}
 use Rattle.machine_scene.proofs.Facts.{RunsOn, routine_within}
 use Rattle.machine_scene.proofs.Plain.{KeepsSound, StandsAt, either, free_in}
@@ -62,10 +62,10 @@ sound_turning : (answer : Option Bool) (program : Program) (steps t p : ℕ) (ma
     → StandsAt program steps t scene status.Runs row → stops row ≡ false → p < length scene.phasers
     → (arrival p manner.leaves scene.phasers).answer ≡ arrived.Turning root phase parties
     → IsSound program (steps + 1)
-    (outcome_of_turning answer manner root.0 phase t program (with_phasers (arrival p manner.leaves scene.phasers).phasers scene)).scene
+    (outcome_of_pending_end answer manner root.0 phase t program (with_phasers (arrival p manner.leaves scene.phasers).phasers scene)).scene
 sound_turning (Some ends) program steps t p manner scene row root phase parties stands goes there is =
     let arrived_at = (arrival p manner.leaves scene.phasers).phasers in
-    let after = after_turn root.0 ends arrived_at in
+    let after = after_phase_end root.0 ends arrived_at in
     let before = thread_at scene t in
     let value = if manner.waits then view_of (flat_at after root.0) else phase in
     sound_with_trees program steps t scene status.Runs row (turn_of_answer manner.into value before) after stands RunsOn

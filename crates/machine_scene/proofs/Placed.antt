@@ -1,14 +1,15 @@
 -- What a turn may count on in a sound scene, said of the scene as it is stored.
 use Rattle.std.proofs.Common.{◌≡◌, ◌∙◌, ℕ, ◌<◌, true, false, length, refl, sym, ap, subst, arith}
 use Rattle.std.specs.Prelude.{is_some, Option, Some, None}
-use Rattle.std.proofs.lemmas.List.{length-map}
 use Rattle.instruction_table.specs.declared.row.Row.{Row}
-use Rattle.tier_tree.specs.Sound.{place_of}
 use Rattle.tier_tree.proofs.Shown.{length-shown}
 use Rattle.cyclic_barrier.specs.declared.answer.WaitState.{WaitState}
 use Rattle.cyclic_barrier.specs.Waits.{wait_at}
 use Rattle.cyclic_barrier.specs.Barrier.{has_wait}
-use Rattle.loader.specs.Program.{Program, IsNamed, row_at}
+use Rattle.loader.specs.declared.named.Named.{Named}
+use Rattle.loader.specs.declared.named.Named.TheVariants as named
+use Rattle.loader.specs.Named.{named_by}
+use Rattle.loader.specs.Program.{Program, IsThere, IsNamed, row_at}
 use Rattle.thread_state.specs.declared.frame.Frame.{Frame}
 use Rattle.thread_state.specs.declared.frame.Frame.TheVariants as frame
 use Rattle.thread_state.specs.declared.status.Status.{Status}
@@ -35,25 +36,34 @@ its_wait (status.AwaitsBarrier index) row t scene known = λ b at none.
 its_wait status.Ended row t scene known = λ b. none_if (wait_at (barrier_at scene b).waits t) (known b)
 its_wait (status.Died code) row t scene known = λ b. none_if (wait_at (barrier_at scene b).waits t) (known b)
 
+-- a program has fewer than 65536 rows
+of_few : (thing : Named) (rows threads phasers barriers : ℕ) → rows < 65536
+    → IsThere (record { rows = rows; threads = threads; phasers = phasers; barriers = barriers }) thing
+    → IsThere (record { rows = 65536; threads = threads; phasers = phasers; barriers = barriers }) thing
+of_few named.Nothing rows threads phasers barriers few there = tt
+of_few (named.Target row) rows threads phasers barriers few there = omega (arith, few, there)
+of_few (named.Cell cell) rows threads phasers barriers few there = there
+of_few (named.Thread thread) rows threads phasers barriers few there = there
+of_few (named.Phaser phaser) rows threads phasers barriers few there = there
+of_few (named.Barrier barrier) rows threads phasers barriers few there = there
+
 -- what the row at this place names is there
 pub named_in : (program : Program) (steps pc : ℕ) (stored : StoredScene) → IsSound program steps (scene_of stored)
-    → pc < length program.rows → IsNamed (counts_in program stored) (row_at program.rows pc)
+    → pc < length program.rows → IsNamed (counts_in stored) (row_at program.rows pc)
 named_in program steps pc stored sound within =
-    subst (λ (n : ℕ). IsNamed (record { rows = length program.rows; threads = length stored.threads; phasers = n; barriers = length stored.barriers }) (row_at program.rows pc))
-    (length-shown stored.phasers) (named_at program (counts_of program (scene_of stored)) pc sound.code within)
+    let row = row_at program.rows pc in
+    of_few (named_by row) (length program.rows) (length stored.threads) (length stored.phasers) (length stored.barriers) sound.code.few
+    (subst (λ (n : ℕ). IsNamed (record { rows = length program.rows; threads = length stored.threads; phasers = n; barriers = length stored.barriers }) row)
+    (length-shown stored.phasers) (named_at program (counts_of program (scene_of stored)) pc sound.code within))
 
 -- what a look at the thread's wait may count on
 pub wait_placed : (program : Program) (steps : ℕ) (row : Row) (t : ℕ) (stored : StoredScene) → IsSound program steps (scene_of stored)
-    → t < length stored.threads → row ≡ row_at program.rows (thread_at (scene_of stored) t).pc → SeesWait program row t stored
+    → t < length stored.threads → row ≡ row_at program.rows (thread_at (scene_of stored) t).pc → SeesWait row t stored
 wait_placed program steps row t stored sound there is =
     let scene = scene_of stored in
     let placed = placed_at program steps scene t sound there in
-    let many : length scene.phasers ≡ length stored.phasers = length-shown stored.phasers in
-    let places = length-map scene.phasers place_of in
-    let few = sound.trees.forest.few in
     record {
-      named = subst (IsNamed (counts_in program stored)) (sym is) (named_in program steps (thread_at scene t).pc stored sound placed.pc);
-      few = omega (arith, many, places, few);
+      named = subst (IsNamed (counts_in stored)) (sym is) (named_in program steps (thread_at scene t).pc stored sound placed.pc);
       waits = its_wait (thread_at scene t).status row t scene
           (λ b. subst (λ (r : Row). has_wait t (barrier_at scene b) ≡ awaits b (thread_at scene t).status r) (sym is) (sound.waits b t));
     }
@@ -61,26 +71,23 @@ wait_placed program steps row t stored sound there is =
 -- the same row after a turn
 pub named_still : (program : Program) (row : Row) (t : ℕ) (old new : StoredScene) → IsSound program 2147483646 (scene_of old)
     → t < length old.threads → row ≡ row_at program.rows (thread_at (scene_of old) t).pc → IsSound program 2147483647 (scene_of new)
-    → IsNamed (counts_in program new) row
+    → IsNamed (counts_in new) row
 named_still program row t old new sound there is after =
-    subst (IsNamed (counts_in program new)) (sym is)
+    subst (IsNamed (counts_in new)) (sym is)
     (named_in program 2147483647 (thread_at (scene_of old) t).pc new after (placed_at program 2147483646 (scene_of old) t sound there).pc)
 
 -- what a turn at the thread's row may count on
 pub turn_placed : (program : Program) (row : Row) (t : ℕ) (stored : StoredScene) → IsSound program 2147483646 (scene_of stored)
     → t < length stored.threads → row ≡ row_at program.rows (thread_at (scene_of stored) t).pc → StandsAt program row t stored
 turn_placed program row t stored sound there is =
-    let seen = wait_placed program 2147483646 row t stored sound there is in
     let rows = sound.code.few in
     let within = (placed_at program 2147483646 (scene_of stored) t sound there).pc in
     record {
-      named = seen.named;
-      few = seen.few;
+      plays = record { thread = there; place = omega (arith, rows, within) };
+      sees = wait_placed program 2147483646 row t stored sound there is;
       routines = sound.code.all_routines ∙ length-shown stored.phasers;
       actions = sound.code.all_actions;
       ends = λ p. let most = sound.trees.ends p in omega (arith, most);
-      place = omega (arith, rows, within);
-      waits = seen.waits;
     }
 
 -- by the top entry

@@ -4,7 +4,8 @@ use Rattle.std.specs.Prelude.{Option, Some, None, slice_set, count_by, All}
 use Rattle.std.proofs.lemmas.List.Elements.{All-take, All-push}
 use Rattle.instruction_table.specs.declared.row.Row.{Row}
 use Rattle.tier_tree.specs.Forest.{PhaserState}
-use Rattle.tier_tree.specs.Trees.{AreTrees, KeepsTrees}
+use Rattle.tier_tree.specs.Trees.{AreTrees}
+use Rattle.tier_tree.proofs.Trees.{KeepsTrees}
 use Rattle.tier_tree.proofs.Trees.{trees_same, more_trees}
 use Rattle.loader.specs.Named.{stops}
 use Rattle.loader.specs.Program.{Program, IsNamed, row_at}

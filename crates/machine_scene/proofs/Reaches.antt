@@ -31,7 +31,7 @@ ret_there (Some (frame.Handler row)) program stored is = tt
 ret_there (Some (frame.Advance root registers row)) program stored is = is.0.1
 ret_there (Some (frame.Action b registers row)) program stored is = is.0.1
 
-row_there : (row : Row) (top : Option Frame) (program : Program) (stored : StoredScene) → IsNamed (counts_in program stored) row
+row_there : (row : Row) (top : Option Frame) (program : Program) (stored : StoredScene) → IsNamed (counts_in stored) row
     → IsTop program stored top → IsThere (reach_of_row row top) stored
 row_there Ret top program stored named is = ret_there top program stored is
 row_there (Sts from cell) top program stored named is = named
@@ -47,14 +47,14 @@ row_there (Cawaitt into b time) top program stored named is = named
 row_there (Creset b) top program stored named is = named
 row_there _ top program stored named is = tt
 
-wait_there : (row : Row) (program : Program) (stored : StoredScene) → IsNamed (counts_in program stored) row
+wait_there : (row : Row) (program : Program) (stored : StoredScene) → IsNamed (counts_in stored) row
     → IsThere (reach_of_wait row) stored
 wait_there (Cawait into b) program stored named = named
 wait_there (Cawaitt into b time) program stored named = named
 wait_there _ program stored named = tt
 
 pub reach_there : (state : Status) (row : Row) (top : Option Frame) (program : Program) (stored : StoredScene)
-    → IsNamed (counts_in program stored) row → IsTop program stored top → IsThere (reach_in state row top) stored
+    → IsNamed (counts_in stored) row → IsTop program stored top → IsThere (reach_in state row top) stored
 reach_there status.Runs row top program stored named is = row_there row top program stored named is
 reach_there (status.Throws code) row top program stored named is = entry_there top program stored is
 reach_there (status.AwaitsPhase phase) row top program stored named is = tt

@@ -1,4 +1,4 @@
--- Which turns are ready, and which timed waits can run out, listed by status and row: these have an outcome, and no others.
+-- Whoever is listed as ready has an outcome, and nobody else.
 use Rattle.std.proofs.Common.{◌≡◌, ℕ, ℤ, Bool, true, false, not, cond, ◌||◌, ◌&&◌, refl, ◌∙◌, ap, Option, Some, None, is_some}
 use Rattle.instruction_table.specs.declared.row.Row.{Row}
 use Rattle.instruction_table.specs.declared.row.Row.TheVariants as row
@@ -13,60 +13,8 @@ use Rattle.machine_scene.specs.Scene.{Scene, thread_at, barrier_at}
 use Rattle.machine_scene.specs.PhaserRows.{is_past}
 use Rattle.machine_scene.specs.Waits.{outcome_of_phase_wait, outcome_of_release, outcome_of_barrier_wait}
 use Rattle.machine_scene.specs.Outcomes.{outcome_in, is_ready, timeout_in, outcome_of_expiry}
-use Rattle.machine_scene.specs.Ready.{is_blocked}
+use Rattle.machine_scene.specs.Ready.{is_awaited, is_released, is_over, is_listed, is_timed_phase_wait, is_timed_barrier_wait, can_run_out}
 use Rattle.machine_scene.proofs.Readiness.{row_is_ready}
-
--- the wait for a phase is over, or is one that an interruption ends
-abbrev pub is_awaited : Row → ℤ → ℕ → Scene → Bool
-is_awaited (row.Paaa into p) phase t scene = is_past p phase scene
-is_awaited (row.Pawait into p number) phase t scene = is_past p phase scene
-is_awaited (row.Pawaiti into p number) phase t scene = is_past p phase scene || (thread_at scene t).interrupted
-is_awaited (row.Pawaitt into p number time) phase t scene = is_past p phase scene || (thread_at scene t).interrupted
-is_awaited _ phase t scene = false
-
-abbrev pub is_released : Option WaitState → Bool
-is_released (Some state.Tripped) = true
-is_released (Some state.Broken) = true
-is_released (Some state.Waiting) = false
-is_released None = false
-
--- the thread was released at this barrier, or it still waits there, is interrupted, and no thread runs the action
-abbrev pub is_over_at : ℕ → ℕ → Scene → Bool
-is_over_at b t scene =
-    is_released (wait_at (barrier_at scene b).waits t)
-    || (is_waiting (wait_at (barrier_at scene b).waits t)
-    && ((thread_at scene t).interrupted && not (is_some (barrier_at scene b).runner)))
-
-abbrev pub is_over : Row → ℕ → Scene → Bool
-is_over (row.Cawait into b) t scene = is_over_at b t scene
-is_over (row.Cawaitt into b time) t scene = is_over_at b t scene
-is_over _ t scene = false
-
--- what is ready, by status and row
-abbrev pub is_listed : Status → Row → ℕ → Scene → Bool
-is_listed status.Runs r t scene = not (is_blocked r t scene)
-is_listed (status.Throws code) r t scene = true
-is_listed (status.AwaitsPhase phase) r t scene = is_awaited r phase t scene
-is_listed (status.AwaitsBarrier index) r t scene = is_over r t scene
-is_listed status.Ended r t scene = false
-is_listed (status.Died code) r t scene = false
-
--- a wait at this row has a time; at a barrier it runs out only while no thread runs the action
-abbrev is_timed_phase_wait : Row → Bool
-is_timed_phase_wait (row.Pawaitt into p number time) = true
-is_timed_phase_wait _ = false
-
-abbrev is_timed_barrier_wait : Row → Scene → Bool
-is_timed_barrier_wait (row.Cawaitt into b time) scene = not (is_some (barrier_at scene b).runner)
-is_timed_barrier_wait _ scene = false
-
-abbrev pub can_run_out : Status → Row → Scene → Bool
-can_run_out status.Runs r scene = false
-can_run_out (status.Throws code) r scene = false
-can_run_out (status.AwaitsPhase phase) r scene = is_timed_phase_wait r
-can_run_out (status.AwaitsBarrier index) r scene = is_timed_barrier_wait r scene
-can_run_out status.Ended r scene = false
-can_run_out (status.Died code) r scene = false
 
 some_where : {A : Type 0} (test : Bool) (x : A) → is_some (cond test (Some x) None) ≡ test
 some_where true x = refl

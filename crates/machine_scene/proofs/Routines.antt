@@ -7,8 +7,9 @@ use Rattle.tier_tree.specs.declared.arrived.Arrived.TheVariants as arrived
 use Rattle.tier_tree.specs.declared.id.PhaserId.{PhaserId}
 use Rattle.tier_tree.specs.Forest.{PhaserState, flat_at, root_at}
 use Rattle.tier_tree.specs.Arrival.{Arrives, arrival}
-use Rattle.tier_tree.specs.PhaseEnd.{after_turn}
-use Rattle.tier_tree.specs.Trees.{AreTrees, CanTurn, is_pending}
+use Rattle.tier_tree.specs.PhaseEnd.{after_phase_end}
+use Rattle.tier_tree.specs.Trees.{AreTrees, is_pending}
+use Rattle.tier_tree.proofs.Trees.{CanEnd}
 use Rattle.tier_tree.proofs.Trees.{trees_arrived, trees_turned, arrived_can_turn, if_turning, more_trees}
 use Rattle.tier_tree.proofs.Stands.{same-is, other-is}
 use Rattle.loader.specs.Program.{Program}
@@ -33,11 +34,11 @@ other-no m n apart = other-is m n (λ is. apart (sym is))
 -- what is known of the root that the last arrival of a tree turns
 pub turning_root : (steps id : ℕ) (leave : Bool) (phasers : List PhaserState) (root : PhaserId) (phase : _) (parties : ℕ)
     → AreTrees steps phasers → steps < 2147483647 → id < length phasers → (arrival id leave phasers).answer ≡ arrived.Turning root phase parties
-    → (root.0 ≡ root_at phasers id) × (is_pending (flat_at phasers root.0) ≡ false) × CanTurn root.0 (arrival id leave phasers).phasers
+    → (root.0 ≡ root_at phasers id) × (is_pending (flat_at phasers root.0) ≡ false) × CanEnd root.0 (arrival id leave phasers).phasers
 turning_root steps id leave phasers root phase parties trees few there is =
     let all : Arrives = arrival id leave phasers in
     if_turning all.answer
-    (λ own. (own.0 ≡ root_at phasers id) × (is_pending (flat_at phasers own.0) ≡ false) × CanTurn own.0 all.phasers)
+    (λ own. (own.0 ≡ root_at phasers id) × (is_pending (flat_at phasers own.0) ≡ false) × CanEnd own.0 all.phasers)
     (arrived_can_turn steps id leave phasers trees few there) root phase parties is
 
 -- into a routine: the root gets its one entry as it gets pending
@@ -100,15 +101,15 @@ sound_enter program steps t p leave scene root phase parties count first sound f
 
 -- out of a routine: the root loses its one entry as its phase ends
 pub sound_turn_end : (program : Program) (steps t root row : ℕ) (registers : List ℤ) (ends : Bool) (scene : Scene) (thread : ThreadState)
-    → IsSound program steps scene → t < length scene.threads → CanTurn root scene.phasers
+    → IsSound program steps scene → t < length scene.threads → CanEnd root scene.phasers
     → top_of (thread_at scene t).stack ≡ Some (frame.Advance root registers row)
     → thread.stack ≡ take (length (thread_at scene t).stack - 1) (thread_at scene t).stack
     → thread.pc < length program.rows → IsFree thread.status → IsFree (thread_at scene t).status
     → IsSound program (steps + 1)
-    (record scene { threads = slice_set scene.threads t thread; phasers = after_turn root ends scene.phasers })
+    (record scene { threads = slice_set scene.threads t thread; phasers = after_phase_end root ends scene.phasers })
 sound_turn_end program steps t root row registers ends scene thread sound there can is stack within free free_before =
     let before = thread_at scene t in
-    let phasers = after_turn root ends scene.phasers in
+    let phasers = after_phase_end root ends scene.phasers in
     let after : Scene = record scene { threads = slice_set scene.threads t thread; phasers = phasers } in
     let turned = trees_turned steps root ends scene.phasers sound.trees can in
     sound_by program steps (steps + 1) t thread scene after sound there (record {

@@ -6,7 +6,7 @@ use Rattle.std.proofs.lemmas.List.{get_or-set_same, get_or-set_other}
 use Rattle.instruction_table.specs.declared.row.Row.{Row}
 use Rattle.instruction_table.specs.declared.register.Reg.{Reg}
 use Rattle.tier_tree.specs.Forest.{PhaserState}
-use Rattle.tier_tree.specs.Trees.{KeepsTrees}
+use Rattle.tier_tree.proofs.Trees.{KeepsTrees}
 use Rattle.tier_tree.proofs.Stands.{same-is}
 use Rattle.cyclic_barrier.specs.Barrier.{BarrierState, has_wait}
 use Rattle.loader.specs.Named.{stops}

@@ -78,7 +78,7 @@ can_put_back (reach.Cell cell) t old new there stored gives within = there
 can_put_back (reach.Thread other) t old new there stored gives within =
     let many = many_threads (reach.Thread other) t old.threads new.threads gives.threads in omega (arith, many, there)
 can_put_back (reach.Tree p) t old new there stored gives within =
-    subst IsStored (sym (restored_line (stored_at old.phasers p).line old.phasers new.phasers within)) stored
+    record { before = old.phasers; id = p; forest = stored; kept = refl; changed = within }
 can_put_back (reach.Barrier b) t old new there stored gives within =
     let many : length new.barriers ≡ length old.barriers =
     sym (length-set new.barriers b (slice_index_or old.barriers b (fresh 1 false))) ∙ ap length gives.barriers in
@@ -95,7 +95,7 @@ undone_within reach t old new there thread stored gives within =
       threads = many;
     }
 
-names_thread : (row : Row) (program : Program) (stored : StoredScene) → IsNamed (counts_in program stored) row → NamesThread row (scene_of stored)
+names_thread : (row : Row) (program : Program) (stored : StoredScene) → IsNamed (counts_in stored) row → NamesThread row (scene_of stored)
 names_thread (Intr other) program stored named = named
 names_thread _ program stored named = tt
 
@@ -104,7 +104,7 @@ reached : (program : Program) (t : ℕ) (old : StoredScene) → IsSound program 
 reached program t old sound there =
     let thread = thread_at (scene_of old) t in
     reach_there thread.status (row_at program.rows thread.pc) (top_of thread.stack) program old
-    (turn_placed program (row_at program.rows thread.pc) t old sound there refl).named
+    (turn_placed program (row_at program.rows thread.pc) t old sound there refl).sees.named
     (top_placed program (top_of thread.stack) t old sound there refl)
 
 -- a turn, of a thread that stands at this row
@@ -119,7 +119,7 @@ turn_undone_at row program t old new event at sound there stored is within =
     let thread = thread_at scene t in
     let own_row = row_at program.rows thread.pc in
     let reach = reach_of t program scene in
-    let named = names_thread own_row program old (turn_placed program own_row t old sound there refl).named in
+    let named = names_thread own_row program old (turn_placed program own_row t old sound there refl).sees.named in
     let outcome : outcome_of t program scene ≡ Some (record { scene = scene_of new; event = event }) =
     ap (λ (r : Row). outcome_in thread.status r t program scene) (sym at) ∙ is in
     undone_within reach t old new (reached program t old sound there) there stored

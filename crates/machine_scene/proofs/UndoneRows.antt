@@ -16,7 +16,7 @@ use Rattle.packed_phaser.specs.Flat.{view_of}
 use Rattle.tier_tree.specs.Forest.{PhaserState, flat_at}
 use Rattle.tier_tree.specs.Registration.{registration, after_registration}
 use Rattle.tier_tree.specs.Arrival.{Arrives, arrival}
-use Rattle.tier_tree.specs.PhaseEnd.{after_turn, after_force}
+use Rattle.tier_tree.specs.PhaseEnd.{after_phase_end, after_force}
 use Rattle.cyclic_barrier.specs.declared.answer.Entered.{Entered}
 use Rattle.cyclic_barrier.specs.declared.answer.Entered.TheVariants as entered
 use Rattle.cyclic_barrier.specs.declared.answer.WaitState.{WaitState}
@@ -44,7 +44,7 @@ use Rattle.machine_scene.specs.OwnRows.{outcome_of_own_row}
 use Rattle.machine_scene.specs.CallRows.{outcome_of_routine_end, outcome_of_ret, outcome_of_call_row}
 use Rattle.machine_scene.specs.DataRows.{outcome_of_data_row}
 use Rattle.machine_scene.specs.GetterRows.{outcome_of_getter_row}
-use Rattle.machine_scene.specs.PhaserRows.{is_own_tree, is_past, has_routine, answer_of_policy, turn_of_arrival, turn_of_patience, turn_of_await, unless_own, outcome_of_turning, outcome_of_arrived, outcome_of_arrival, outcome_of_registered, outcome_of_registration, outcome_of_bulk, outcome_of_await, outcome_of_phaser_row}
+use Rattle.machine_scene.specs.PhaserRows.{is_own_tree, is_past, has_routine, answer_of_policy, turn_of_arrival, turn_of_patience, turn_of_await, unless_own, outcome_of_pending_end, outcome_of_arrived, outcome_of_arrival, outcome_of_registered, outcome_of_registration, outcome_of_bulk, outcome_of_await, outcome_of_phaser_row}
 use Rattle.machine_scene.specs.BarrierRows.{is_run_by, is_run_by_another, unless_busy, unless_runner, outcome_of_entered, outcome_of_await_at, outcome_of_barrier_row}
 use Rattle.machine_scene.specs.Unwinding.{outcome_of_popped}
 use Rattle.machine_scene.specs.Waits.{outcome_of_awaited, outcome_of_phase_wait, outcome_of_release, outcome_of_barrier_wait, outcome_of_phase_timeout, outcome_of_barrier_timeout}
@@ -190,7 +190,7 @@ back_routine_end : (ended : Bool) (manner : Manner) (root : ℕ) (ends : Bool) (
 back_routine_end true manner root ends t scene left there stack output =
     back_at_arrival (reach.Tree root) t scene (with_thread left t scene) left manner.into _ (λ first last. refl) there stack output refl refl refl
 back_routine_end false manner root ends t scene left there stack output =
-    back_at_arrival (reach.Tree root) t scene (with_phasers (after_turn root ends scene.phasers) (with_thread left t scene)) left manner.into _
+    back_at_arrival (reach.Tree root) t scene (with_phasers (after_phase_end root ends scene.phasers) (with_thread left t scene)) left manner.into _
     (λ first last. refl) there stack output refl refl refl
 
 back_ret : (top : Option Frame) (t : ℕ) (program : Program) (scene : Scene) → t < length scene.threads
@@ -299,9 +299,9 @@ back_bulk into p count t scene there =
 
 back_turning : (answer : Option Bool) (manner : Manner) (p root : ℕ) (phase : ℤ) (t : ℕ) (program : Program) (scene : Scene) (phasers : List PhaserState)
     → t < length scene.threads
-    → GivesBack (reach.Tree p) t scene (outcome_of_turning answer manner root phase t program (with_phasers phasers scene)).scene
+    → GivesBack (reach.Tree p) t scene (outcome_of_pending_end answer manner root phase t program (with_phasers phasers scene)).scene
 back_turning (Some ends) manner p root phase t program scene phasers there =
-    at_tree p t scene (after_turn root ends phasers) _ there (answered (thread_at scene t) manner.into _)
+    at_tree p t scene (after_phase_end root ends phasers) _ there (answered (thread_at scene t) manner.into _)
 back_turning None manner p root phase t program scene phasers there =
     let turn = turn_of_advance root phase (flat_at phasers root).parties (routine_at program root) (thread_at scene t) in
     at_tree p t scene phasers turn.thread there

@@ -2,7 +2,7 @@
 use Rattle.std.specs.Prelude.{ℕ, pos, not, Bool, false, true, if◌then◌else◌, Option, Some, None}
 use Rattle.std.specs.Ordering.{int_eq}
 use Rattle.instruction_table.specs.declared.row.Row.{Row}
-use Rattle.instruction_table.specs.declared.row.Row.TheVariants.{Call, Ret, Try, Endtry, Throw, Parr, Pdereg, Paaa, Cawait, Cawaitt}
+use Rattle.instruction_table.specs.declared.row.Row.TheVariants.{Call, Ret, Try, Endtry, Throw}
 use Rattle.instruction_table.specs.declared.register.Reg.TheVariants.{R0}
 use Rattle.instruction_table.specs.Registers.{value_in}
 use Rattle.packed_phaser.specs.Flat.{Flat, view_of}
@@ -14,17 +14,9 @@ use Rattle.thread_state.specs.declared.frame.Frame.{Frame}
 use Rattle.thread_state.specs.declared.frame.Frame.TheVariants as frame
 use Rattle.thread_state.specs.Thread.{ThreadState, turn_of_throw, turn_of_answer, turn_of_call, turn_of_try, turn_of_endtry, turn_of_return, top_of, left_routine}
 use Rattle.machine_scene.specs.declared.manner.Manner.{Manner}
+use Rattle.machine_scene.specs.Manner.{manner_of}
 use Rattle.machine_scene.specs.Scene.{Scene, Outcome, thread_at, barrier_at, with_thread, with_barrier, outcome_of_turn, outcome_marked}
 use Rattle.machine_scene.specs.PhaserRows.{outcome_of_phase_end}
-
--- how the arrival at this row is made; a routine or an action begins at no other row
-abbrev pub manner_of : Row → Manner
-manner_of (Parr into p) = record { into = into; leaves = false; waits = false }
-manner_of (Pdereg into p) = record { into = into; leaves = true; waits = false }
-manner_of (Paaa into p) = record { into = into; leaves = false; waits = true }
-manner_of (Cawait into b) = record { into = into; leaves = false; waits = true }
-manner_of (Cawaitt into b time) = record { into = into; leaves = false; waits = true }
-manner_of _ = record { into = R0; leaves = false; waits = false }
 
 -- an advance routine has answered, and its thread is back at the arrival: the phase ends, or the tree was terminated
 -- meanwhile and no phase ends

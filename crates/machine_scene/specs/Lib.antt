@@ -1,6 +1,7 @@
 pub mod Scene
 pub mod Group
 pub mod OwnRows
+pub mod Manner
 pub mod PhaserRows
 pub mod CallRows
 pub mod DataRows

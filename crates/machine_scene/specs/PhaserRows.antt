@@ -17,7 +17,7 @@ use Rattle.tier_tree.specs.declared.arrived.Arrived.TheVariants as arrived
 use Rattle.tier_tree.specs.Forest.{phaser_at, flat_at, root_at}
 use Rattle.tier_tree.specs.Registration.{registration, after_registration}
 use Rattle.tier_tree.specs.Arrival.{Arrives, arrival}
-use Rattle.tier_tree.specs.PhaseEnd.{after_turn, after_force}
+use Rattle.tier_tree.specs.PhaseEnd.{after_phase_end, after_force}
 use Rattle.loader.specs.Program.{Program}
 use Rattle.thread_state.specs.declared.event.Mark.TheVariants as mark
 use Rattle.thread_state.specs.Frame.{is_advance}
@@ -25,6 +25,7 @@ use Rattle.thread_state.specs.Thread.{ThreadState, Turn, turn_of_throw, turn_of_
 use Rattle.machine_scene.specs.declared.manner.Manner.{Manner}
 use Rattle.machine_scene.specs.declared.patience.Patience.{Patience}
 use Rattle.machine_scene.specs.declared.patience.Patience.TheVariants as patience
+use Rattle.machine_scene.specs.Manner.{manner_of}
 use Rattle.machine_scene.specs.Scene.{Scene, Outcome, thread_at, routine_at, with_phasers, outcome_of_turn, outcome_marked}
 
 -- the thread runs the advance routine of this phaser's tree
@@ -55,16 +56,17 @@ outcome_of_ended_phase manner root phase t scene =
     outcome_marked (mark.Phase root view)
     (turn_of_answer manner.into (if manner.waits then view else phase) (thread_at scene t)) t scene
 
--- the phase of a turned root ends
+-- the pending phase end of a root comes
 abbrev pub outcome_of_phase_end : Manner → ℕ → ℤ → Bool → ℕ → Scene → Outcome
 outcome_of_phase_end manner root phase terminates t scene =
-    outcome_of_ended_phase manner root phase t (with_phasers (after_turn root terminates scene.phasers) scene)
+    outcome_of_ended_phase manner root phase t (with_phasers (after_phase_end root terminates scene.phasers) scene)
 
--- an arrival has turned a root: what its policy answers ends the phase in the same step, and a routine is entered
-abbrev pub outcome_of_turning : Option Bool → Manner → ℕ → ℤ → ℕ → Program → Scene → Outcome
-outcome_of_turning (Some terminates) manner root phase t program scene =
+-- an arrival has left a root's phase end pending: what the root's policy answers ends the phase in the same step, and a
+-- routine is entered
+abbrev pub outcome_of_pending_end : Option Bool → Manner → ℕ → ℤ → ℕ → Program → Scene → Outcome
+outcome_of_pending_end (Some terminates) manner root phase t program scene =
     outcome_of_phase_end manner root phase terminates t scene
-outcome_of_turning None manner root phase t program scene =
+outcome_of_pending_end None manner root phase t program scene =
     outcome_of_turn
     (turn_of_advance root phase (flat_at scene.phasers root).parties (routine_at program root) (thread_at scene t)) t scene
 
@@ -78,7 +80,7 @@ abbrev pub outcome_of_arrived : Arrived → Manner → ℕ → Program → Scene
 outcome_of_arrived (arrived.At phase) manner t program scene =
     outcome_of_turn (turn_of_arrival manner phase (thread_at scene t)) t scene
 outcome_of_arrived (arrived.Turning root phase parties) manner t program scene =
-    outcome_of_turning (answer_of_policy root.0 scene) manner root.0 phase t program scene
+    outcome_of_pending_end (answer_of_policy root.0 scene) manner root.0 phase t program scene
 outcome_of_arrived (arrived.Dead view) manner t program scene =
     outcome_of_turn (turn_of_answer manner.into view (thread_at scene t)) t scene
 outcome_of_arrived arrived.NotThere manner t program scene =
@@ -166,13 +168,13 @@ outcome_of_phaser_row (Pbulk into p count) t program scene =
     unless_own p t scene (outcome_of_bulk into p (value_in (thread_at scene t).registers count) t scene)
 outcome_of_phaser_row (Parr into p) t program scene =
     unless_own p t scene
-    (Some (outcome_of_arrival (record { into = into; leaves = false; waits = false }) p t program scene))
+    (Some (outcome_of_arrival (manner_of (Parr into p)) p t program scene))
 outcome_of_phaser_row (Pdereg into p) t program scene =
     unless_own p t scene
-    (Some (outcome_of_arrival (record { into = into; leaves = true; waits = false }) p t program scene))
+    (Some (outcome_of_arrival (manner_of (Pdereg into p)) p t program scene))
 outcome_of_phaser_row (Paaa into p) t program scene =
     unless_own p t scene
-    (Some (outcome_of_arrival (record { into = into; leaves = false; waits = true }) p t program scene))
+    (Some (outcome_of_arrival (manner_of (Paaa into p)) p t program scene))
 outcome_of_phaser_row (Pawait into p phase) t program scene =
     unless_own p t scene
     (Some (outcome_of_await patience.Endless into p (value_in (thread_at scene t).registers phase) t scene))

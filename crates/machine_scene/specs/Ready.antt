@@ -1,14 +1,19 @@
--- Which rows of a running thread have to wait before they can be played: a look at the scene, beside which stands the
--- lemma that just these have no outcome.
-use Rattle.std.specs.Prelude.{ℕ, ℤ, pos, nat_abs, int_lt, Bool, true, false, not, ◌&&◌}
+-- Which turns are ready, and which timed waits can run out, listed by status and row: these have an outcome, and no others, as
+-- `who_is_ready` says.
+use Rattle.std.specs.Prelude.{ℕ, ℤ, pos, nat_abs, int_lt, Bool, true, false, not, ◌&&◌, ◌||◌, is_some, Option, Some, None}
 use Rattle.instruction_table.specs.declared.row.Row.{Row}
-use Rattle.instruction_table.specs.declared.row.Row.TheVariants.{Preg, Pbulk, Cawait, Cawaitt, Creset, Cbroken, Cwaiting}
+use Rattle.instruction_table.specs.declared.row.Row.TheVariants.{Preg, Pbulk, Paaa, Pawait, Pawaiti, Pawaitt, Cawait, Cawaitt, Creset, Cbroken, Cwaiting}
 use Rattle.instruction_table.specs.Registers.{value_in}
 use Rattle.tier_tree.specs.declared.registered.Registered.{Registered}
 use Rattle.tier_tree.specs.declared.registered.Registered.TheVariants as registered
 use Rattle.tier_tree.specs.Registration.{registration}
+use Rattle.cyclic_barrier.specs.declared.answer.WaitState.{WaitState}
+use Rattle.cyclic_barrier.specs.declared.answer.WaitState.TheVariants as state
+use Rattle.cyclic_barrier.specs.Waits.{wait_at, is_waiting}
+use Rattle.thread_state.specs.declared.status.Status.{Status}
+use Rattle.thread_state.specs.declared.status.Status.TheVariants as status
 use Rattle.machine_scene.specs.Scene.{Scene, thread_at, barrier_at}
-use Rattle.machine_scene.specs.PhaserRows.{is_own_tree}
+use Rattle.machine_scene.specs.PhaserRows.{is_own_tree, is_past}
 use Rattle.machine_scene.specs.BarrierRows.{is_run_by_another}
 
 -- a registration that waits for a phase's end
@@ -45,3 +50,58 @@ is_blocked (Creset b) t scene = is_run_by_another t (barrier_at scene b).runner
 is_blocked (Cbroken into b) t scene = is_run_by_another t (barrier_at scene b).runner
 is_blocked (Cwaiting into b) t scene = is_run_by_another t (barrier_at scene b).runner
 is_blocked _ t scene = false
+
+-- the wait for a phase is over, or is one that an interruption ends
+abbrev pub is_awaited : Row → ℤ → ℕ → Scene → Bool
+is_awaited (Paaa into p) phase t scene = is_past p phase scene
+is_awaited (Pawait into p number) phase t scene = is_past p phase scene
+is_awaited (Pawaiti into p number) phase t scene = is_past p phase scene || (thread_at scene t).interrupted
+is_awaited (Pawaitt into p number time) phase t scene = is_past p phase scene || (thread_at scene t).interrupted
+is_awaited _ phase t scene = false
+
+-- a wait that was released
+abbrev pub is_released : Option WaitState → Bool
+is_released (Some state.Tripped) = true
+is_released (Some state.Broken) = true
+is_released (Some state.Waiting) = false
+is_released None = false
+
+-- the thread was released at this barrier, or it still waits there, is interrupted, and no thread runs the action
+abbrev pub is_over_at : ℕ → ℕ → Scene → Bool
+is_over_at b t scene =
+    is_released (wait_at (barrier_at scene b).waits t)
+    || (is_waiting (wait_at (barrier_at scene b).waits t)
+    && ((thread_at scene t).interrupted && not (is_some (barrier_at scene b).runner)))
+
+-- the wait at this row's barrier is over
+abbrev pub is_over : Row → ℕ → Scene → Bool
+is_over (Cawait into b) t scene = is_over_at b t scene
+is_over (Cawaitt into b time) t scene = is_over_at b t scene
+is_over _ t scene = false
+
+-- the turns that are ready, by status and row
+abbrev pub is_listed : Status → Row → ℕ → Scene → Bool
+is_listed status.Runs row t scene = not (is_blocked row t scene)
+is_listed (status.Throws code) row t scene = true
+is_listed (status.AwaitsPhase phase) row t scene = is_awaited row phase t scene
+is_listed (status.AwaitsBarrier index) row t scene = is_over row t scene
+is_listed status.Ended row t scene = false
+is_listed (status.Died code) row t scene = false
+
+-- a wait at this row has a time; at a barrier it runs out only while no thread runs the action
+abbrev pub is_timed_phase_wait : Row → Bool
+is_timed_phase_wait (Pawaitt into p number time) = true
+is_timed_phase_wait _ = false
+
+abbrev pub is_timed_barrier_wait : Row → Scene → Bool
+is_timed_barrier_wait (Cawaitt into b time) scene = not (is_some (barrier_at scene b).runner)
+is_timed_barrier_wait _ scene = false
+
+-- the timed waits that can run out, by status and row, of threads whose turn isn't ready
+abbrev pub can_run_out : Status → Row → Scene → Bool
+can_run_out status.Runs row scene = false
+can_run_out (status.Throws code) row scene = false
+can_run_out (status.AwaitsPhase phase) row scene = is_timed_phase_wait row
+can_run_out (status.AwaitsBarrier index) row scene = is_timed_barrier_wait row scene
+can_run_out status.Ended row scene = false
+can_run_out (status.Died code) row scene = false

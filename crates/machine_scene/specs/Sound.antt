@@ -3,6 +3,7 @@ use Rattle.std.specs.Prelude.{◌≡◌, ◌≢◌, ℕ, ◌+◌, ◌<◌, ◌�
 use Rattle.instruction_table.specs.declared.row.Row.{Row}
 use Rattle.instruction_table.specs.declared.row.Row.TheVariants.{Cawait, Cawaitt}
 use Rattle.tier_tree.specs.Forest.{phaser_at, flat_at, root_at}
+use Rattle.tier_tree.specs.PhaseEnd.{most_ends}
 use Rattle.tier_tree.specs.Stored.{phasers_of}
 use Rattle.tier_tree.specs.Trees.{AreTrees, is_pending}
 use Rattle.cyclic_barrier.specs.Waits.{wait_at}
@@ -57,13 +58,13 @@ awaits b (status.Died code) row = false
 abbrev pub thread_awaits : Program → ℕ → ThreadState → Bool
 thread_awaits program b thread = awaits b thread.status (row_at program.rows thread.pc)
 
--- how many steps may have been taken before a turn, and so after it: each ends at most one phase, and phase ends are counted
--- to 2147483647
+-- how many steps may have been taken before a turn, and so after it: each ends at most one phase, and of so many phase ends
+-- a forest keeps count
 abbrev pub most_before : ℕ
 most_before = 2147483646
 
 abbrev pub most_after : ℕ
-most_after = 2147483647
+most_after = most_ends
 
 -- the program fits its scene and each thread stands in it; of each root's advance routine there is at most one entry on
 -- all stacks, and none unless the root's phase end is pending or the root is terminated; of each barrier's action there is
@@ -92,20 +93,22 @@ HasItsWait status.Ended row t scene = (b : ℕ) → wait_at (barrier_at scene b)
 HasItsWait (status.Died code) row t scene = (b : ℕ) → wait_at (barrier_at scene b).waits t ≡ None
 
 -- what a look at the wait of thread t at this row may count on
-pub record SeesWait (program : Program) (row : Row) (t : ℕ) (stored : StoredScene) : Type 0 where
-  pub named : IsNamed (counts_in program stored) row
-  pub few : length stored.phasers ≤ 64
+pub record SeesWait (row : Row) (t : ℕ) (stored : StoredScene) : Type 0 where
+  pub named : IsNamed (counts_in stored) row
   pub waits : HasItsWait (thread_at (scene_of stored) t).status row t (scene_of stored)
+
+-- thread t is there, and the number of the row behind its own is one that a row can have
+pub record CanPlay (t : ℕ) (stored : StoredScene) : Type 0 where
+  pub thread : t < length stored.threads
+  pub place : (thread_at (scene_of stored) t).pc < 65535
 
 -- what a turn of thread t at this row may count on
 pub record StandsAt (program : Program) (row : Row) (t : ℕ) (stored : StoredScene) : Type 0 where
-  pub named : IsNamed (counts_in program stored) row
-  pub few : length stored.phasers ≤ 64
+  pub plays : CanPlay t stored
+  pub sees : SeesWait row t stored
   pub routines : length program.routines ≡ length stored.phasers
   pub actions : length program.actions ≡ length stored.barriers
   pub ends : (p : ℕ) → (phaser_at (phasers_of stored.phasers) p).ends < most_after
-  pub place : (thread_at (scene_of stored) t).pc < 65535
-  pub waits : HasItsWait (thread_at (scene_of stored) t).status row t (scene_of stored)
 
 -- what the top entry of a stack may be counted on for: a routine's root is there, its phase end is pending or it is
 -- terminated; a thread runs the action; and there is a row past the one at which either began

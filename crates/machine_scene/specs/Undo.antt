@@ -2,8 +2,8 @@
 use Rattle.std.specs.Prelude.{◌≡◌, ℕ, ◌<◌, List, length, slice_set, Option, Some}
 use Rattle.instruction_table.specs.declared.row.Row.{Row}
 use Rattle.instruction_table.specs.declared.row.Row.TheVariants.{Ret, Sts, Intr, Preg, Pbulk, Parr, Pdereg, Paaa, Pforce, Cawait, Cawaitt, Creset}
-use Rattle.tier_tree.specs.Stored.{Stored, IsStored, ChangedAt}
-use Rattle.tier_tree.specs.Undo.{saved_of, restored}
+use Rattle.tier_tree.specs.Stored.{Stored, ChangedAt}
+use Rattle.tier_tree.specs.Undo.{saved_of, IsSavedOf, restored}
 use Rattle.loader.specs.Program.{Program, row_at}
 use Rattle.thread_state.specs.declared.frame.Frame.{Frame}
 use Rattle.thread_state.specs.declared.frame.Frame.TheVariants as frame
@@ -126,7 +126,7 @@ abbrev pub CanPutBack : Touched → StoredScene → Type 0
 CanPutBack touched.Nothing stored = Unit {0}
 CanPutBack (touched.Cell cell number) stored = cell < 32
 CanPutBack (touched.Thread other before) stored = other < length stored.threads
-CanPutBack (touched.Tree saved) stored = IsStored (restored saved stored.phasers)
+CanPutBack (touched.Tree saved) stored = IsSavedOf saved stored.phasers
 CanPutBack (touched.Barrier b before) stored = b < length stored.barriers
 
 -- the note is one of a turn that led to this scene

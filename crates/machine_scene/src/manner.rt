@@ -1,4 +1,7 @@
-use instruction_table::Reg;
+ghost use Rattle.std.specs.Prelude.{◌≡◌};
+ghost use Rattle.machine_scene.specs.Manner.{manner_of};
+
+use instruction_table::{Reg, Row};
 
 /// How an arrival is made: the register that its answer goes to, whether the party leaves
 /// (`arriveAndDeregister`), and whether it waits for the phase's end (`arriveAndAwaitAdvance`).
@@ -7,4 +10,23 @@ pub struct Manner {
     pub into: Reg,
     pub leaves: bool,
     pub waits: bool,
+}
+
+/// How the arrival at this row is made; nobody arrives at another row, and no routine and no action begins there.
+pub fn manner_of(row: Row) -> Manner
+    ensures { result ≡ manner_of row }
+{
+    let (into, leaves, waits) = match row {
+        Row::Parr { into, .. } => (into, false, false),
+        Row::Pdereg { into, .. } => (into, true, false),
+        Row::Paaa { into, .. } | Row::Cawait { into, .. } | Row::Cawaitt { into, .. } => (
+            into, false, true,
+        ),
+        _ => (Reg::R0, false, false),
+    };
+    Manner {
+        into,
+        leaves,
+        waits,
+    }
 }

@@ -73,7 +73,7 @@ fn alone(what: What) -> Event
     }
 }
 
-/// The same threads.
+/// The threads once more, word for word.
 fn copies(alloc: Global, threads: &[Thread]) -> Result<Vec<Thread>, AllocError>
     ensures { IfOk result (λ copies. copies.items ≡ threads.now) }
 {
@@ -205,7 +205,7 @@ impl Stage {
         !asleep::is_in(self.asleep, t) && self.goes_on(program, t)
     }
 
-    /// The same, by a look at what the thread does.
+    /// `is_ready` without the set of those that are known to be asleep: a look at what the thread does.
     #[tactic(auto, using(crate::proofs::Readiness::row_is_ready))]
     fn goes_on(&self, program: &Loaded, t: usize) -> bool
         requires sound { IsSound program.now most_before (scene_of self.now) }
@@ -214,10 +214,10 @@ impl Stage {
     {
         let row = self.row_of(program, t);
         match self.threads[t].status() {
-            Status::Runs => !self.is_blocked(program, row, t),
+            Status::Runs => !self.is_blocked(row, t),
             Status::Throws(_) => true,
-            Status::AwaitsPhase(phase) => self.is_phase_wait_over(program, row, phase, t),
-            Status::AwaitsBarrier(index) => self.is_barrier_wait_over(program, row, index, t),
+            Status::AwaitsPhase(phase) => self.is_phase_wait_over(row, phase, t),
+            Status::AwaitsBarrier(_) => self.is_barrier_wait_over(row, t),
             Status::Ended | Status::Died(_) => false,
         }
     }
@@ -238,7 +238,7 @@ impl Stage {
         let row = self.row_of(program, t);
         match self.threads[t].status() {
             Status::Runs => {
-                if may_be_blocked(row) && self.is_blocked(program, row, t) {
+                if may_be_blocked(row) && self.is_blocked(row, t) {
                     return None;
                 }
                 Some(row)
@@ -274,7 +274,7 @@ impl Stage {
             return None;
         }
         let row = self.row_of(program, t);
-        if self.has_time(program, row, t) {
+        if self.has_time(row, t) {
             Some(row)
         } else {
             None
@@ -317,7 +317,7 @@ impl Stage {
         }
     }
 
-    /// The same of a running thread that stands at this row on registers alone: who was asleep is so still.
+    /// `turn` at a row on registers alone: nobody is woken, so the set of those asleep stays as it is.
     #[inline(always)]
     fn local_turn(&mut self, program: &Loaded, row: Row, t: usize) -> Event
         requires sound { IsSound program.now most_before (scene_of self.old) }
@@ -340,8 +340,8 @@ impl Stage {
         self.local_row(row, t)
     }
 
-    /// The same of a thread that stands at this row, where it isn't such a turn, and which threads are asleep is yet to be
-    /// found out.
+    /// `turn` at any other row, but for the set of those asleep: the turn may have woken some, which its caller finds out.
+    /// That the scene stays sound and can be given back is shown here.
     fn turn_of_row(&mut self, program: &Loaded, row: Row, t: usize) -> Result<Event, AllocError>
         requires sound { IsSound program.now most_before (scene_of self.old) }
         requires thread { t < length self.old.threads }
@@ -363,13 +363,14 @@ impl Stage {
             → AreOthersAsleep program.now t row self.old.asleep self.new) }
     {
         self.phasers_are_stored();
+        // The answer goes on as it is: each arm names its case for the proof.
         match self.turn_at(program, row, t) {
             Ok(event) => Ok(event),
             Err(refused) => Err(refused),
         }
     }
 
-    /// The same by what the thread is doing.
+    /// What the thread is doing decides: it plays its row, pops a stack entry, or finishes its wait.
     #[tactic(auto, using(crate::proofs::Reaches::within_same))]
     fn turn_at(&mut self, program: &Loaded, row: Row, t: usize) -> Result<Event, AllocError>
         requires sound { IsSound program.now most_before (scene_of self.old) }
@@ -389,8 +390,8 @@ impl Stage {
         match self.threads[t].status() {
             Status::Runs => self.row(program, row, t),
             Status::Throws(code) => Ok(self.unwind(program, code, t)),
-            Status::AwaitsPhase(phase) => Ok(self.finish_phase_wait(program, row, phase, t)),
-            Status::AwaitsBarrier(index) => Ok(self.finish_barrier_wait(program, row, index, t)),
+            Status::AwaitsPhase(phase) => Ok(self.finish_phase_wait(row, phase, t)),
+            Status::AwaitsBarrier(index) => Ok(self.finish_barrier_wait(row, index, t)),
             Status::Ended | Status::Died(_) => unreachable!(),
         }
     }
@@ -414,9 +415,9 @@ impl Stage {
         match group_of(row) {
             Group::Own => Ok(self.halt_row(row, t)),
             Group::Calls => Ok(self.call_row(program, row, t)),
-            Group::Data => self.data_row(program, row, t),
+            Group::Data => self.data_row(row, t),
             Group::Phasers => Ok(self.phaser_row(program, row, t)),
-            Group::Getters => Ok(self.getter_row(program, row, t)),
+            Group::Getters => Ok(self.getter_row(row, t)),
             Group::Barriers => Ok(self.barrier_row(program, row, t)),
         }
     }
@@ -445,7 +446,7 @@ impl Stage {
         event
     }
 
-    /// The same of a thread that stands at this row, and which threads are asleep is yet to be found out.
+    /// `expire`, but for the set of those asleep, as `turn_of_row` is `turn`.
     fn expiry_of_row(&mut self, program: &Loaded, row: Row, t: usize) -> Event
         requires sound { IsSound program.now most_before (scene_of self.old) }
         requires thread { t < length self.old.threads }
@@ -467,7 +468,7 @@ impl Stage {
         self.expire_at(program, row, t)
     }
 
-    /// The same of a thread that stands at this row, and whose turn isn't ready.
+    /// What the thread waits for decides: a phase, or a barrier, which breaks.
     fn expire_at(&mut self, program: &Loaded, row: Row, t: usize) -> Event
         requires thread { t < length self.old.threads }
         requires at { StandsAt program.now row t self.old }
@@ -481,7 +482,7 @@ impl Stage {
     {
         match self.threads[t].status() {
             Status::AwaitsPhase(_) => self.expire_phase_wait(row, t),
-            Status::AwaitsBarrier(index) => self.expire_barrier_wait(program, row, index, t),
+            Status::AwaitsBarrier(index) => self.expire_barrier_wait(row, index, t),
             _ => unreachable!(),
         }
     }

@@ -1,3 +1,4 @@
 pub mod Numbers
 pub mod Streams
 pub mod Tokens
+pub mod Turns

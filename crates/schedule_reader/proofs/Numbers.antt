@@ -14,7 +14,7 @@ use Rattle.schedule_reader.specs.Places.{number_by, thread_by, times_by, thread_
 pub digits_of-digit : (b : ℕ) (part : List ℕ) → is_ascii_digit b ≡ true → digits_of (b ∷ part) ≡ b ∷ digits_of part
 digits_of-digit b part digit = take_while-cons is_ascii_digit b part ∙ ap (λ t. cond t (b ∷ digits_of part) []) digit
 
-digit_value-digit : (b : ℕ) → is_ascii_digit b ≡ true → digit_value b ≡ b - 48
+pub digit_value-digit : (b : ℕ) → is_ascii_digit b ≡ true → digit_value b ≡ b - 48
 digit_value-digit b digit = grind (arith, nat_tests)
 
 -- more digits make no smaller number

@@ -1,6 +1,6 @@
 -- A stream's bytes one by one, and the runs that they add.
-use Rattle.std.proofs.Common.{suc, ◌≡◌, ◌∙◌, ◌⊎◌, inl, inr, ◌+◌, ◌-◌, ◌<◌, ◌≤◌, ◌==◌, if◌then◌else◌, ℕ, Bool, true, false, List, [], ◌∷◌, ◌++◌, length, drop, refl, ap, sym, subst, arith, append_assoc, length-append, drop-cons}
-use Rattle.std.specs.Prelude.{Some, None, Result, Ok, Err, IfOk, get_or}
+use Rattle.std.proofs.Common.{◌≡◌, ◌∙◌, ◌⊎◌, inl, inr, ◌+◌, ◌-◌, ◌<◌, ◌≤◌, ◌==◌, if◌then◌else◌, ℕ, Bool, true, false, List, [], ◌∷◌, ◌++◌, length, drop, refl, ap, sym, subst, arith, append_assoc, length-append}
+use Rattle.std.specs.Prelude.{Some, None, Result, Ok, Err, IfOk}
 use Rattle.std.specs.List.{slice_split, onto_first}
 use Rattle.std.proofs.lemmas.List.{append-nil, drop_all}
 use Rattle.std.proofs.lemmas.List.Splits.{slice_split-cons_yes, slice_split-cons_no, length-slice_split}
@@ -89,7 +89,7 @@ plain finished p at b rest (Err f) no_blank same inside = inr
     ∙ faulty-pieces finished p at b f (slice_split is_blank rest) same (some_piece rest))
 
 -- pieces between tokens are those of the definition
-between-pieces : (finished : Bool) (at : ℕ) (pieces : List (List ℕ)) → pieces_from finished place.Between at pieces ≡ schedule_in finished at pieces
+pub between-pieces : (finished : Bool) (at : ℕ) (pieces : List (List ℕ)) → pieces_from finished place.Between at pieces ≡ schedule_in finished at pieces
 between-pieces finished at [] = refl
 between-pieces finished at (piece ∷ []) = refl
 between-pieces finished at (piece ∷ next ∷ pieces) = refl
@@ -140,34 +140,10 @@ finished-end (place.Thread expiry digits number) at = refl
 finished-end (place.Times choice digits number) at = refl
 
 -- runs before runs
-with_runs-append : (first second : List Run) (schedule : Schedule)
+pub with_runs-append : (first second : List Run) (schedule : Schedule)
     → with_runs first (with_runs second schedule) ≡ with_runs (first ++ second) schedule
 with_runs-append first second schedule =
     ap (λ rs. record { runs = rs; fault = schedule.fault }) (sym (append_assoc first second schedule.runs))
-
--- one result after another
-pub takes-then : {X Y I : Type 0} (x : X) (result : Result Y ScheduleFault) (before between after : List Run) (from : I → Schedule)
-    (left : I → X → Schedule) (left_after : I → Y → Schedule)
-    → Takes (Ok x) before between from left → Takes result between after (λ i. left i x) left_after
-    → Takes result before after from left_after
-takes-then x result before between after from left left_after one two = record {
-  added = one.added ++ two.added;
-  list = two.list ∙ ap (λ rs. rs ++ two.added) one.list ∙ append_assoc before one.added two.added;
-  schedules = λ i. let first = one.schedules i in let second = two.schedules i in (
-    second.0,
-    (
-      first.1.0 ∙ ap (with_runs one.added) (first.1.1 ∙ second.1.0) ∙ with_runs-append one.added two.added second.0,
-      second.1.1,
-    ),
-  );
-}
-
--- the bytes from the one at hand on
-from-byte : (i : ℕ) (piece rest : List ℕ) → i < length piece
-    → drop i piece ++ rest ≡ get_or piece i 0 ∷ (drop (i + 1) piece ++ rest)
-from-byte i piece rest there =
-    let next : suc i ≡ i + 1 = omega arith in
-    ap (λ bs. bs ++ rest) (drop-cons piece i 0 there) ∙ ap (λ n. get_or piece i 0 ∷ (drop n piece ++ rest)) next
 
 -- nothing was added
 pub takes-plain : {X I : Type 0} (result : Result X ScheduleFault) (runs : List Run) (from : I → Schedule) (left : I → X → Schedule)
@@ -288,35 +264,6 @@ told-open : {X : Type 0} (old : Progress) (bytes piece : List ℕ) (result : Res
     ≡ with_runs ((open_schedule bytes).runs ++ takes.added) (takes.schedules (false, [])).0
 told-open old bytes piece result before after from left has same takes =
     ap open_schedule (sym (append-nil (bytes ++ piece))) ∙ told old bytes piece result before after from left has same takes false []
-
--- the runs of a piece so far, and those of its next byte
-pub takes-next : {X : Type 0} (p next : Place) (at offset i : ℕ) (piece : List ℕ) (before between after : List Run) (result : Result X ScheduleFault)
-    (left : Bool × List ℕ → X → Schedule) → i < length piece
-    → Takes (Ok next) before between (λ (stream : Bool × List ℕ). schedule_from stream.0 p at (piece ++ stream.1))
-    (λ stream q. schedule_from stream.0 q offset (drop i piece ++ stream.1))
-    → Takes result between after (λ (stream : Bool × List ℕ). schedule_from stream.0 next offset (get_or piece i 0 ∷ stream.1)) left
-    → Takes result before after (λ (stream : Bool × List ℕ). schedule_from stream.0 p at (piece ++ stream.1))
-    (λ stream x. left (stream.0, drop (i + 1) piece ++ stream.1) x)
-takes-next p next at offset i piece before between after result left there so_far one =
-    takes-then next result before between after (λ (stream : Bool × List ℕ). schedule_from stream.0 p at (piece ++ stream.1))
-    (λ stream q. schedule_from stream.0 q offset (drop i piece ++ stream.1))
-    (λ stream x. left (stream.0, drop (i + 1) piece ++ stream.1) x)
-    so_far
-    (record {
-      added = one.added;
-      list = one.list;
-      schedules = λ (stream : Bool × List ℕ). let t = one.schedules (stream.0, drop (i + 1) piece ++ stream.1) in
-          (t.0, (ap (schedule_from stream.0 next offset) (from-byte i piece stream.1 there) ∙ t.1.0, t.1.1));
-    })
-
--- a fault leaves nothing to go on from
-pub takes-fault : {X Y I : Type 0} (f : ScheduleFault) (before after : List Run) (from : I → Schedule) (left : I → X → Schedule) (other : I → Y → Schedule)
-    → Takes (Err f) before after from left → Takes (Err f) before after from other
-takes-fault f before after from left other takes = record {
-  added = takes.added;
-  list = takes.list;
-  schedules = λ i. let t = takes.schedules i in (t.0, (t.1.0, t.1.1));
-}
 
 -- the piece is at its end
 pub takes-end : (p next : Place) (at offset i : ℕ) (piece : List ℕ) (before after : List Run) → length piece ≤ i → i ≤ length piece → offset ≡ at + i

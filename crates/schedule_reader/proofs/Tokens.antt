@@ -22,7 +22,7 @@ is_digit : (c : ℕ) → digit_value c < 10 → is_ascii_digit c ≡ true
 is_digit c below = grind (arith, nat_tests)
 
 -- digits up to what is none
-digits-then : (ds rest : List ℕ) → AllDigits 10 ds → digits_of rest ≡ [] → digits_of (ds ++ rest) ≡ ds
+pub digits-then : (ds rest : List ℕ) → AllDigits 10 ds → digits_of rest ≡ [] → digits_of (ds ++ rest) ≡ ds
 digits-then [] rest all stops = stops
 digits-then (d ∷ ds) rest all stops = digits_of-digit d (ds ++ rest) (is_digit d all.0) ∙ ap (λ more. d ∷ more) (digits-then ds rest all.1 stops)
 
@@ -56,7 +56,7 @@ times-read at choice times small =
     ∙ ap (λ n. reading_of_count at choice count (drop count part) n) (number_by-some count times 10 1000000000 few small)
     ∙ ap (reading_by_times at choice times count) (drop-before (decimal times) [])
 
-not_zero : (n : ℕ) → 0 < n → (n == 0) ≡ false
+pub not_zero : (n : ℕ) → 0 < n → (n == 0) ≡ false
 not_zero n some = grind (arith, nat_tests)
 
 -- how often was written
@@ -101,7 +101,7 @@ abbrev pub Above : List ℕ → Type 0
 Above [] = Unit {0}
 Above (b ∷ bs) = (33 ≤ b) × Above bs
 
-above-digits : (ds : List ℕ) → AllDigits 10 ds → Above ds
+pub above-digits : (ds : List ℕ) → AllDigits 10 ds → Above ds
 above-digits [] all = tt
 above-digits (d ∷ ds) all = (digit_above d all.0, above-digits ds all.1)
 
@@ -109,7 +109,7 @@ above-append : (xs ys : List ℕ) → Above xs → Above ys → Above (xs ++ ys)
 above-append [] ys first second = second
 above-append (x ∷ xs) ys first second = (first.0, above-append xs ys first.1 second)
 
-above-blanks : (bs : List ℕ) → Above bs → All (λ b. is_blank b ≡ false) bs
+pub above-blanks : (bs : List ℕ) → Above bs → All (λ b. is_blank b ≡ false) bs
 above-blanks [] above = λ k d there. absurd (omega arith)
 above-blanks (b ∷ bs) above = All-cons (λ c. is_blank c ≡ false) b bs (no_blank b above.0) (above-blanks bs above.1)
 

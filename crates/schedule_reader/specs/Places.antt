@@ -2,7 +2,7 @@
 -- believe this: it is what proofs go by, and a reader's contracts hand it on from call to call.
 use Rattle.std.specs.Prelude.{◌≡◌, ◌≤◌, ℕ, ◌+◌, ◌-◌, ◌==◌, ◌||◌, ◌⊎◌, nat_lt, if◌then◌else◌, Bool, true, false, List, [], ◌∷◌, ◌++◌, length, drop, Option, Some, None, Result, Ok, Err}
 use Rattle.std.specs.List.{slice_split}
-use Rattle.std.specs.Str.Parse.{digits_value_after}
+use Rattle.std.specs.Str.Parse.{AllDigits, digits_value_after}
 use Rattle.thread_machine.specs.declared.choice.Choice.{Choice}
 use Rattle.schedule_reader.specs.declared.run.Run.{Run}
 use Rattle.schedule_reader.specs.declared.fault.ScheduleFault.{ScheduleFault}
@@ -111,6 +111,18 @@ abbrev pub spent : Place → ℕ
 spent place.Between = 0
 spent (place.Thread expiry digits number) = if digits == 0 then 1 else 2
 spent (place.Times choice digits number) = 2
+
+-- bytes begin with so many, a turn of this thread that is named once and the space behind it
+pub record BeginsWithTurn (bytes : List ℕ) (thread count : ℕ) : Type 0 where
+  pub digits : List ℕ
+  pub counted : count ≡ length digits + 2
+  pub some : 1 ≤ length digits
+  pub few : length digits ≤ 2
+  pub all : AllDigits 10 digits
+  pub value : digits_value_after 10 0 digits ≡ thread
+  pub small : thread ≤ 63
+  pub begins : bytes ≡ (116 ∷ digits) ++ (32 ∷ drop count bytes)
+  pub within : count ≤ length bytes
 
 -- a schedule is faulty, is left to memory, or is that of what was answered
 abbrev pub IsLeft : {X : Type 0} → Result X ScheduleFault → (X → Schedule) → Schedule → Type 0

@@ -1,15 +1,19 @@
-ghost use Rattle.std.specs.Prelude.{◌≡◌, ◌≢◌, ◌⊎◌, ◌+◌, ◌*◌, ◌/◌, ◌<◌, ◌≤◌, List, ◌∷◌, [], ◌++◌, ℕ, Bool, length, IfOk, IfErr, OnOk, IsErr, All, Err, Ok, Some, None};
+ghost use Rattle.std.specs.Prelude.{◌≡◌, ◌≢◌, ◌⊎◌, ◌+◌, ◌*◌, ◌/◌, ◌<◌, ◌≤◌, List, ◌∷◌, [], ◌++◌, ℕ, Bool, false, length, drop, IfOk, IfSome, IfErr, OnOk, IsErr, All, Err, Ok, Some, None};
 ghost use Rattle.std.specs.Vec.{vec_len, vec_capacity};
 ghost use Rattle.schedule_reader.specs.declared.fault.ScheduleFault.TheVariants.{Memory};
 ghost use Rattle.schedule_reader.specs.declared.place.Place.TheVariants.{Between};
-ghost use Rattle.schedule_reader.specs.Schedule.{Schedule, IsRun, open_schedule, finished_schedule};
+ghost use Rattle.schedule_reader.specs.Schedule.{Schedule, IsRun, choice_of, run_of, open_schedule, finished_schedule};
 ghost use Rattle.schedule_reader.specs.Reading.{Adds, answer_of};
-ghost use Rattle.schedule_reader.specs.Places.{IsPlace, HasRead, Takes, spent, piece_with, schedule_from};
+ghost use Rattle.schedule_reader.specs.Places.{IsPlace, HasRead, Takes, BeginsWithTurn, spent, piece_with, schedule_from};
 
 use crate::fault::ScheduleFault;
 use crate::place::{Place, is_blank};
 use crate::run::Run;
 use std::marker::Model;
+use thread_machine::Choice;
+
+/// The highest number that a thread can have.
+const LAST_THREAD: u8 = 63;
 
 /// Reads one schedule, a stream of bytes that comes in pieces. A token is whole when the blank
 /// after it, or `finish`, has come. After a fault every call answers that fault.
@@ -137,14 +141,106 @@ fn read_bytes(
 {
     let mut next = place;
     let mut offset = at;
-    for byte in piece {
-        match read_byte(next, offset, *byte, runs) {
-            Ok(place) => next = place,
+    let mut done = 0;
+    while done < piece.len() {
+        match read_some(next, offset, bytes_from(piece, done), runs) {
+            Ok((place, count)) => {
+                next = place;
+                offset += count as u64;
+                done += count;
+            }
             Err(fault) => return Err(fault),
         }
-        offset += 1;
     }
     Ok(next)
+}
+
+/// The bytes from this one on.
+#[inline(always)]
+fn bytes_from(piece: &[u8], done: usize) -> &[u8]
+    requires { done ≤ length piece.now }
+    ensures rest { result.now ≡ drop done piece.now }
+    ensures length { done + length result.now ≡ length piece.now }
+{
+    &piece[done..]
+}
+
+/// Goes on from a place over the first of the bytes that begin at this offset: over a turn that is
+/// named once and the space behind it where they begin so, else over one. Answers how many.
+#[inline(always)]
+fn read_some(
+    place: Place,
+    at: u64,
+    rest: &[u8],
+    runs: &mut Vec<Run>,
+) -> Result<(Place, usize), ScheduleFault>
+    requires place { IsPlace at place }
+    requires some { 0 < length rest.now }
+    requires length { at + length rest.now < 9223372036854775807 }
+    ensures takes { Takes result runs.old.items runs.new.items
+        (λ (stream : Bool × List ℕ). schedule_from stream.0 place at (rest.now ++ stream.1))
+        (λ stream next. schedule_from stream.0 next.0 (at + next.1)
+        (drop next.1 rest.now ++ stream.1)) }
+    ensures place { IfOk result (λ next. IsPlace (at + next.1) next.0) }
+    ensures some { IfOk result (λ next. 0 < next.1) }
+    ensures within { IfOk result (λ next. next.1 ≤ length rest.now) }
+    ensures spelled { All IsRun runs.old.items → All IsRun runs.new.items }
+    ensures few { IfOk result (λ next. 3 * length runs.new.items + spent next.0
+        ≤ 3 * length runs.old.items + spent place + next.1) }
+    ensures few_err { 3 * length runs.new.items
+        ≤ 3 * length runs.old.items + spent place + length rest.now }
+    ensures capacity { vec_capacity runs.old ≤ vec_capacity runs.new }
+    ensures room { 3 * vec_len runs.old + spent place + length rest.now
+        < 3 * vec_capacity runs.old + 3 → result ≢ Err Memory }
+{
+    if let Place::Between = place {
+        if let Some((thread, count)) = turn_before_space(rest) {
+            return match runs.push(turn_of(thread)) {
+                Ok(()) => Ok((Place::Between, count)),
+                Err(_) => Err(ScheduleFault::Memory),
+            };
+        }
+    }
+    match read_byte(place, at, rest[0], runs) {
+        Ok(next) => Ok((next, 1)),
+        Err(fault) => Err(fault),
+    }
+}
+
+/// One turn of a thread.
+fn turn_of(thread: u8) -> Run
+    ensures { result ≡ run_of (choice_of false thread) 1 }
+{
+    Run {
+        choice: Choice {
+            thread,
+            expiry: false,
+        },
+        times: 1,
+    }
+}
+
+/// The thread, where the bytes begin with a turn that is named once and a space behind it, and
+/// how many bytes those are.
+#[inline(always)]
+fn turn_before_space(bytes: &[u8]) -> Option<(u8, usize)>
+    ensures turn { IfSome result (λ turn. BeginsWithTurn bytes.now turn.0 turn.1) }
+{
+    if bytes.len() < 4 || bytes[0] != b't' || !bytes[1].is_ascii_digit() {
+        return None;
+    }
+    let first = bytes[1] - b'0';
+    if bytes[2] == b' ' {
+        return Some((first, 3));
+    }
+    if !bytes[2].is_ascii_digit() || bytes[3] != b' ' {
+        return None;
+    }
+    let thread = first * 10 + (bytes[2] - b'0');
+    if thread > LAST_THREAD {
+        return None;
+    }
+    Some((thread, 4))
 }
 
 /// Goes on from a place over the byte at this offset.

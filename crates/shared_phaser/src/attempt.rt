@@ -42,6 +42,9 @@ impl SharedPhaser {
                     .shared
                     .compare_exchange::<Exchange<C>>(seat, 0, found, bits);
                 if shown == found {
+                    if bits >> 32 != found >> 32 {
+                        self.ended.notify_all();
+                    }
                     return Attempt::Made(answer);
                 }
                 words_of_a_live_record_are_equal();

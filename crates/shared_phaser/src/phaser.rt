@@ -7,6 +7,7 @@ use crate::history::{Setup, View};
 use crate::rule::{Both, Halves, Law, Watch};
 use atomic_table::{Seat, Table};
 use crossbeam_utils::CachePadded;
+use crossbeam_utils::sync::EventCount;
 use packed_phaser::{Policy, Word};
 use phase_number::Phase;
 use std::alloc::Global;
@@ -17,6 +18,8 @@ use std::marker::Model;
 pub struct SharedPhaser {
     pub(crate) table: CachePadded<Table<(), View, Setup, Law, Global>>,
     pub(crate) policy: Policy,
+    /// Counts the ends of phases: the waiters that sleep are woken at each.
+    pub(crate) ended: CachePadded<EventCount>,
 }
 
 impl Model for SharedPhaser {
@@ -94,6 +97,7 @@ impl SharedPhaser {
             SharedPhaser {
                 table: CachePadded::new(table),
                 policy,
+                ended: CachePadded::new(EventCount::new()),
             },
             Party { seat },
         ))
@@ -132,7 +136,11 @@ impl SharedPhaser {
         requires phaser { phaser_of first ≡ self }
         ensures { EndsAs first.known result }
     {
-        let SharedPhaser { table, policy: _ } = self;
+        let SharedPhaser {
+            table,
+            policy: _,
+            ended: _,
+        } = self;
         let Party { seat } = first;
         let closed = table.into_inner().close_with(seat);
         let bits = closed.word(0);

@@ -11,6 +11,7 @@ use crate::calls::reply_of;
 use crate::history::{Answer, Call, Reply};
 use crate::phaser::{Party, SharedPhaser};
 use crate::rule::Asked;
+use crossbeam_utils::sync::Key;
 use std::hint::spin_loop;
 use std::marker::Brand;
 use std::sync::Wait;
@@ -20,20 +21,40 @@ use std::thread::yield_now;
 #[derive(Clone, Copy, Debug, PartialEq, Eq)]
 pub struct NotThere;
 
-/// How many rounds of a wait spin; each one after them lets another thread run.
+/// How many rounds of a wait spin.
 const SPINS: u32 = 64;
 
-/// One round of a wait, after so many.
-fn pause(rounds: u32) -> u32 {
+/// How many rounds behind them let another thread run. Each one after those sleeps until a phase
+/// ends: on a machine with other work to do, a waiter that only yields takes the turn of the
+/// thread that it waits for.
+const YIELDS: u32 = 128;
+
+/// One round of a wait, after so many. A wait that was announced before the last try sleeps,
+/// unless a phase has ended since.
+fn rest<R: Wait>(rt: &R, key: Option<Key<'_>>, rounds: u32) -> u32 {
+    if let Some(key) = key {
+        key.wait(rt);
+        return rounds;
+    }
     if rounds < SPINS {
         spin_loop();
-        return rounds + 1;
+    } else {
+        yield_now();
     }
-    yield_now();
-    rounds
+    rounds.saturating_add(1)
 }
 
 impl SharedPhaser {
+    /// Announces a wait that will sleep, before the try that decides on it: an end of a phase
+    /// between that try and the sleep wakes it, so none is missed.
+    fn announced(&self, rounds: u32) -> Option<Key<'_>> {
+        if rounds < SPINS + YIELDS {
+            None
+        } else {
+            Some(self.ended.prepare_wait())
+        }
+    }
+
     /// Tries of a call until it has an answer.
     fn insist<C: Asked, R: Wait>(&self, rt: &R, party: &mut Party, call: Call) -> Answer
         requires call { C.call ≡ call }
@@ -45,11 +66,12 @@ impl SharedPhaser {
     {
         let mut rounds = 0;
         for _ in rt.forever() {
+            let key = self.announced(rounds);
             let tried = self.attempt::<C>(party, call);
             match tried {
                 Attempt::Made(answer) => return answer,
                 Attempt::Lost(_) => {}
-                Attempt::Waiting => rounds = pause(rounds),
+                Attempt::Waiting => rounds = rest(rt, key, rounds),
             }
         }
         unreachable!()

@@ -15,8 +15,8 @@ use Rattle.tier_tree.specs.declared.id.PhaserId.{PhaserId}
 use Rattle.tier_tree.specs.Forest.{PhaserState, flat_at, root_at}
 use Rattle.tier_tree.specs.Registration.{registration, after_registration}
 use Rattle.tier_tree.specs.Arrival.{Arrives, arrival}
-use Rattle.tier_tree.specs.PhaseEnd.{after_turn, after_force}
-use Rattle.tier_tree.specs.Origin.{Origin, StandsFor, after_arrival, origin_after_registration}
+use Rattle.tier_tree.specs.PhaseEnd.{after_phase_end, after_force}
+use Rattle.tier_tree.specs.Origin.{Origin, StandsFor, origin_after_arrival, origin_after_registration}
 use Rattle.tier_tree.specs.Trees.{AreTrees}
 use Rattle.tier_tree.proofs.Kept.{registration-ends, arrival-ends, force-ends}
 use Rattle.tier_tree.proofs.Joined.{stands_registered}
@@ -43,11 +43,12 @@ use Rattle.machine_scene.specs.declared.patience.Patience.TheVariants as patienc
 use Rattle.machine_scene.specs.Scene.{Scene, Outcome, thread_at, barrier_at, with_thread, with_phasers, with_barrier, outcome_of_turn, outcome_marked}
 use Rattle.machine_scene.specs.Group.{group_of}
 use Rattle.machine_scene.specs.OwnRows.{outcome_of_own_row}
-use Rattle.machine_scene.specs.CallRows.{manner_of, outcome_of_routine_end, outcome_of_ret, outcome_of_call_row}
+use Rattle.machine_scene.specs.Manner.{manner_of}
+use Rattle.machine_scene.specs.CallRows.{outcome_of_routine_end, outcome_of_ret, outcome_of_call_row}
 use Rattle.machine_scene.specs.DataRows.{outcome_of_data_row}
 use Rattle.machine_scene.specs.GetterRows.{outcome_of_getter_row}
 use Rattle.machine_scene.specs.BarrierRows.{is_run_by, is_run_by_another, unless_busy, unless_runner, outcome_of_entered, outcome_of_entry, outcome_of_await_at, outcome_of_barrier_row}
-use Rattle.machine_scene.specs.PhaserRows.{is_past, is_own_tree, has_routine, answer_of_policy, outcome_of_turning, outcome_of_arrived, outcome_with_room, outcome_of_arrival, outcome_of_registered, outcome_of_registration, outcome_of_bulk, outcome_of_await, unless_own, outcome_of_phaser_row}
+use Rattle.machine_scene.specs.PhaserRows.{is_past, is_own_tree, has_routine, answer_of_policy, outcome_of_pending_end, outcome_of_arrived, outcome_with_room, outcome_of_arrival, outcome_of_registered, outcome_of_registration, outcome_of_bulk, outcome_of_await, unless_own, outcome_of_phaser_row}
 use Rattle.machine_scene.specs.Unwinding.{outcome_of_popped}
 use Rattle.machine_scene.specs.Waits.{outcome_of_view, outcome_of_awaited, outcome_of_phase_wait, outcome_of_release, outcome_of_barrier_wait, outcome_of_phase_timeout, outcome_of_barrier_timeout}
 use Rattle.machine_scene.specs.Outcomes.{outcome_in_group, outcome_in, timeout_in}
@@ -229,7 +230,7 @@ turning_fares : (answer : Option Bool) (program : Program) (steps t p : ℕ) (ma
     → (arrival p manner.leaves scene.phasers).answer ≡ arrived.Turning root phase parties
     → StandsFor (arrival p manner.leaves scene.phasers).phasers counted
     → FaresTo scene counted
-    (Some (outcome_of_turning answer manner root.0 phase t program (with_phasers (arrival p manner.leaves scene.phasers).phasers scene)))
+    (Some (outcome_of_pending_end answer manner root.0 phase t program (with_phasers (arrival p manner.leaves scene.phasers).phasers scene)))
 turning_fares (Some ends) program steps t p manner scene counted root phase parties trees few there is stands =
     let phasers = scene.phasers in
     let all : Arrives = arrival p manner.leaves phasers in
@@ -257,12 +258,12 @@ arrived_fares arrived.NotThere program steps t p manner scene counted trees few 
 
 room_fares : (program : Program) (steps t p : ℕ) (manner : Manner) (scene : Scene) (origin : Origin) → AreTrees steps scene.phasers
     → steps < 2147483647 → p < length scene.phasers → StandsFor scene.phasers origin
-    → FaresTo scene (after_arrival (arrival p manner.leaves scene.phasers).answer p (root_at scene.phasers p) manner.leaves origin)
+    → FaresTo scene (origin_after_arrival (arrival p manner.leaves scene.phasers).answer p (root_at scene.phasers p) manner.leaves origin)
     (Some (outcome_with_room manner p t program scene))
 room_fares program steps t p manner scene origin trees few there stands =
     let all : Arrives = arrival p manner.leaves scene.phasers in
     arrived_fares all.answer program steps t p manner scene
-    (after_arrival all.answer p (root_at scene.phasers p) manner.leaves origin) trees few there refl
+    (origin_after_arrival all.answer p (root_at scene.phasers p) manner.leaves origin) trees few there refl
     (stands_after_arrival scene.phasers origin p manner.leaves all trees.forest there refl stands)
 
 -- a row that is refused before its call counts nothing
@@ -288,7 +289,7 @@ arrival_fares program steps t p manner scene origin trees few there stands =
     let thread = thread_at scene t in
     let same = fares_same scene.phasers origin stands in
     full_or (is_own_tree p thread scene) (has_routine p scene && is_full thread) scene origin
-    (after_arrival (arrival p manner.leaves scene.phasers).answer p (root_at scene.phasers p) manner.leaves origin)
+    (origin_after_arrival (arrival p manner.leaves scene.phasers).answer p (root_at scene.phasers p) manner.leaves origin)
     (Some (outcome_of_turn (turn_of_throw (pos 1) thread) t scene)) (outcome_of_turn (turn_of_throw (pos 6) thread) t scene)
     (outcome_with_room manner p t program scene) same same
     (room_fares program steps t p manner scene origin trees few there stands)
@@ -348,7 +349,7 @@ routine_end_fares true program steps t root row registers manner ends scene afte
 routine_end_fares false program steps t root row registers manner ends scene after origin same end stands is counts =
     let phasers = scene.phasers in
     let can = can_turn_on_top program steps t root row registers scene stands.sound stands.few stands.there is end in
-    subst (λ (before : List PhaserState). Fares phasers (after_turn root ends before) origin) (sym same)
+    subst (λ (before : List PhaserState). Fares phasers (after_phase_end root ends before) origin) (sym same)
     (fares_ended root ends phasers phasers origin stands.sound.trees.forest can (trees_same steps phasers stands.sound.trees).places refl
     (λ id. refl) (λ id. refl) counts)
 

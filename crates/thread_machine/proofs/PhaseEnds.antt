@@ -5,14 +5,14 @@ use Rattle.std.proofs.lemmas.Bool.{cases_eq}
 use Rattle.std.proofs.lemmas.List.{length-map, get_or-set_same, get_or-set_other}
 use Rattle.packed_phaser.specs.Flat.{Flat, advance}
 use Rattle.tier_tree.specs.Forest.{PhaserState, no_phaser, phaser_at, root_of, root_at}
-use Rattle.tier_tree.specs.PhaseEnd.{follow, in_step, after_turn}
+use Rattle.tier_tree.specs.PhaseEnd.{follow, in_step, after_phase_end}
 use Rattle.tier_tree.specs.Sound.{IsForest}
 use Rattle.tier_tree.specs.Answer.{KeepsPlaces, KeepsEnds}
-use Rattle.tier_tree.specs.Trees.{CanTurn}
-use Rattle.tier_tree.specs.Origin.{Origin, StandsFor, HaveAllArrived, after_phase_end}
+use Rattle.tier_tree.proofs.Trees.{CanEnd}
+use Rattle.tier_tree.specs.Origin.{Origin, StandsFor, HaveAllArrived, origin_after_phase_end}
 use Rattle.tier_tree.proofs.Stands.{same-is, other-is}
 use Rattle.tier_tree.proofs.Safe.{all_arrived}
-use Rattle.tier_tree.proofs.Turned.{stands_after_turn}
+use Rattle.tier_tree.proofs.Turned.{stands_after_phase_end}
 use Rattle.thread_machine.specs.DirectCounts.{has_ended_phase, NumbersStay, set_back}
 use Rattle.thread_machine.proofs.PhaseNumbers.{KeepsNumbers, turn-number}
 
@@ -81,13 +81,13 @@ in_step-ends root phase ended (x ∷ phasers) (suc n) = in_step-ends root phase 
 
 -- of the turned root, and of no other
 turn_ended : (root : ℕ) (ends : Bool) (before mid : List PhaserState) → KeepsEnds before mid → root < length mid → (r : ℕ)
-    → has_ended_phase r before (after_turn root ends mid) ≡ (r == root)
+    → has_ended_phase r before (after_phase_end root ends mid) ≡ (r == root)
 turn_ended root ends before mid kept within r =
     let own = phaser_at mid root in
     let flat = advance ends own.flat in
     let new : PhaserState = record own { flat = flat; ends = own.ends + 1 } in
     let moved = map (in_step root flat.phase flat.ended) mid in
-    let after = after_turn root ends mid in
+    let after = after_phase_end root ends mid in
     elim (cases_eq r root) as (λ _. has_ended_phase r before after ≡ (r == root)) [
       | inl is ↦
           let many = length-map mid (in_step root flat.phase flat.ended) in
@@ -112,18 +112,18 @@ equal_of m n is = elim (cases_eq m n) as (λ _. m ≡ n) [
 ]
 
 -- the phase of a turned root ends
-pub fares_ended : (root : ℕ) (ends : Bool) (before mid : List PhaserState) (counted : Origin) → IsForest mid → CanTurn root mid
+pub fares_ended : (root : ℕ) (ends : Bool) (before mid : List PhaserState) (counted : Origin) → IsForest mid → CanEnd root mid
     → KeepsPlaces before mid → length mid ≡ length before → KeepsEnds before mid → KeepsNumbers before mid → StandsFor mid counted
-    → Fares before (after_turn root ends mid) counted
+    → Fares before (after_phase_end root ends mid) counted
 fares_ended root ends before mid counted forest can places many kept numbers stands =
-    let after = after_turn root ends mid in
+    let after = after_phase_end root ends mid in
     record {
-      stands = stands_same after (after_phase_end root mid counted) (set_back before after counted) (record {
+      stands = stands_same after (origin_after_phase_end root mid counted) (set_back before after counted) (record {
         registered = λ n. refl;
         unarrived = λ n. ap (λ (b : Bool). if b then counted.registered n else counted.unarrived n)
             (turn_ended root ends before mid kept can.there (root_at before n) ∙ ap (λ (m : ℕ). m == root) (sym (places.roots n)));
         stray = λ n. refl;
-      }) (stands_after_turn root ends mid after counted forest can.there can.top can.live refl stands);
+      }) (stands_after_phase_end root ends mid after counted forest can.there can.top can.live refl stands);
       safe = λ r ended clean.
           let own : r ≡ root = equal_of r root (sym (turn_ended root ends before mid kept can.there r) ∙ ended) in
           let all = all_arrived mid counted root forest stands (sym (ap counted.stray own) ∙ clean) can.turned in

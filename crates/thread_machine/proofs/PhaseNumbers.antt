@@ -5,7 +5,7 @@ use Rattle.packed_phaser.specs.Flat.{Flat, advance, force}
 use Rattle.tier_tree.specs.Forest.{PhaserState, no_phaser, phaser_at, flat_at, root_of, root_at}
 use Rattle.tier_tree.specs.Registration.{after_registration}
 use Rattle.tier_tree.specs.Arrival.{arrival}
-use Rattle.tier_tree.specs.PhaseEnd.{follow, in_step, after_turn, terminated, after_force}
+use Rattle.tier_tree.specs.PhaseEnd.{follow, in_step, after_phase_end, terminated, after_force}
 use Rattle.tier_tree.proofs.Stands.{same-is}
 use Rattle.machine_scene.proofs.Standings.{Standing, registration-standings, arrival-standings}
 
@@ -45,7 +45,7 @@ in_step-aside root phase ended (p ∷ phasers) zero apart = step_aside (root_of 
 in_step-aside root phase ended (p ∷ phasers) (suc q) apart = in_step-aside root phase ended phasers q apart
 
 pub turn-number : (root : ℕ) (ends : Bool) (phasers : List PhaserState) (q : ℕ) → root_at phasers root ≡ root
-    → (root_at phasers q == root) ≡ false → (flat_at (after_turn root ends phasers) q).phase ≡ (flat_at phasers q).phase
+    → (root_at phasers q == root) ≡ false → (flat_at (after_phase_end root ends phasers) q).phase ≡ (flat_at phasers q).phase
 turn-number root ends phasers q top apart =
     let before = phaser_at phasers root in
     let flat = advance ends before.flat in

@@ -6,7 +6,7 @@ use Rattle.instruction_table.specs.Registers.{value_in}
 use Rattle.tier_tree.specs.Forest.{PhaserState, phaser_at, flat_at, root_at}
 use Rattle.tier_tree.specs.Registration.{registration}
 use Rattle.tier_tree.specs.Arrival.{arrival}
-use Rattle.tier_tree.specs.Origin.{Origin, HaveAllArrived, after_arrival, origin_after_registration}
+use Rattle.tier_tree.specs.Origin.{Origin, HaveAllArrived, origin_after_arrival, origin_after_registration}
 use Rattle.loader.specs.Program.{Program, row_at}
 use Rattle.thread_state.specs.declared.status.Status.{Status}
 use Rattle.thread_state.specs.declared.status.Status.TheVariants as status
@@ -31,7 +31,7 @@ with_registration p count t scene counts =
 abbrev pub with_arrival : ℕ → Bool → ℕ → Scene → Origin → Origin
 with_arrival p leaves t scene counts =
     if is_own_tree p (thread_at scene t) scene || (has_routine p scene && is_full (thread_at scene t)) then counts
-    else after_arrival (arrival p leaves scene.phasers).answer p (root_at scene.phasers p) leaves counts
+    else origin_after_arrival (arrival p leaves scene.phasers).answer p (root_at scene.phasers p) leaves counts
 
 -- only these rows register or arrive
 abbrev pub with_row : Row → ℕ → Scene → Origin → Origin

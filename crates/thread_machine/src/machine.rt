@@ -145,6 +145,7 @@ impl Machine {
         ensures err { OnErr result (self.new ≡ self.old) }
     {
         self.is_sound();
+        // The answer goes on as it is: each arm names its case for the proof.
         match self.stepped(choice) {
             Ok(event) => Ok(event),
             Err(fault) => Err(fault),

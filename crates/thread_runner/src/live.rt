@@ -32,6 +32,8 @@ impl Origin for Brand {
 pub struct Live<O: Origin> {
     pub journaled: Journaled,
     pub broken: Option<Break>,
+    /// The workers that were last found to wait: that of thread `n` is the bit `1 << n`.
+    pub sleepers: u64,
     pub of: PhantomData<O>,
     pub ghost begins: { journaled.first ≡ O.first },
 }
@@ -46,6 +48,7 @@ impl<O: Origin> Live<O> {
         Live {
             journaled,
             broken: None,
+            sleepers: 0,
             of: PhantomData,
         }
     }
@@ -66,6 +69,33 @@ impl<O: Origin> Live<O> {
         ensures { result ≡ waits self.now.broken (world_after self.now.journaled) thread }
     {
         !self.journaled.may_choose(thread) && !self.leaves(thread)
+    }
+
+    /// The same, and it is noted who waits.
+    pub fn falls_asleep(&mut self, thread: u8) -> bool
+        requires { thread < length O.first.scene.threads }
+        ensures waits { result ≡ waits self.old.broken (world_after self.old.journaled) thread }
+        ensures journaled { self.new.journaled ≡ self.old.journaled }
+        ensures broken { self.new.broken ≡ self.old.broken }
+    {
+        let waits = self.waits(thread);
+        let worker = 1u64 << (thread & 63);
+        if waits {
+            self.sleepers |= worker;
+        } else {
+            self.sleepers &= !worker;
+        }
+        waits
+    }
+
+    /// Whether one of the workers that wait needn't wait any more.
+    pub fn some_wakes(&self) -> bool {
+        for thread in 0..self.journaled.thread_count() {
+            if self.sleepers >> (thread as u32 & 63) & 1 == 1 && !self.waits(thread as u8) {
+                return true;
+            }
+        }
+        false
     }
 
     /// The turn of a worker that needn't wait: it makes its thread's choice and goes on, or it stops.

@@ -32,11 +32,12 @@ pub struct LiveRun {
 }
 
 /// The worker of a thread. It passes the gate, takes the lock, waits until it has something to do, makes its thread's
-/// choice, and wakes all others before it lets go.
+/// choice, and wakes the others before it lets go, where one of them that waits needn't any more.
 ///
 /// No wake-up is lost: whether a worker waits is read from what lies under the lock alone, which only `turn` and `refuse`
-/// change; after each of them all are notified before the lock is let go, and who waits has its place among those to be
-/// notified before it lets the lock go.
+/// change. A worker that is about to wait is noted among the sleepers, and has its place among those to be notified, before
+/// it lets the lock go; it is noted until it has found, under the lock, that it needn't wait. After each turn every sleeper
+/// is asked anew, and all are notified where one needn't wait; after a refusal all are.
 fn work<O: Origin, R: Wait, G: Gate>(
     rt: &R,
     lock: &Mutex<Live<O>>,
@@ -56,11 +57,13 @@ fn work<O: Origin, R: Wait, G: Gate>(
             |live| -> bool
                 requires { thread < length O.first.scene.threads }
                 ensures { (result ≡ waits live.old.broken (world_after live.old.journaled) thread)
-                    × (live.new ≡ live.old) }
-            { live.waits(thread) },
+                    × (live.new.journaled ≡ live.old.journaled) × (live.new.broken ≡ live.old.broken) }
+            { live.falls_asleep(thread) },
         );
         let goes_on = live.turn(thread);
-        changed.notify_all();
+        if live.some_wakes() {
+            changed.notify_all();
+        }
         drop(live);
         if !goes_on {
             return;

@@ -12,11 +12,11 @@ use Rattle.std.specs.Prelude.{ℤ}
 use Rattle.tier_tree.specs.declared.registered.Registered.TheVariants as registered_answer
 use Rattle.tier_tree.specs.Registration.{registration, after_registration, joined, joins, joins_along, registered_by}
 use Rattle.tier_tree.specs.Arrival.{Arrives, arrival}
-use Rattle.tier_tree.specs.PhaseEnd.{after_turn, after_force}
+use Rattle.tier_tree.specs.PhaseEnd.{after_phase_end, after_force}
 use Rattle.tier_tree.specs.Sound.{places_of}
 use Rattle.tier_tree.specs.Stored.{Stored, stored_at, kept_flat, present, shown, phasers_of, place_in, IsStored}
-use Rattle.tier_tree.specs.Answer.{IfTurning, Turns, KeepsPlaces, KeepsEnds, HaveOnePhase}
-use Rattle.tier_tree.specs.Origin.{Origin, StandsFor, Carries, origin_after_registration, after_arrival, after_phase_end}
+use Rattle.tier_tree.specs.Answer.{IfTurning, MakesPending, KeepsPlaces, KeepsEnds, HaveOnePhase}
+use Rattle.tier_tree.specs.Origin.{Origin, StandsFor, Carries, origin_after_registration, origin_after_arrival, origin_after_phase_end}
 use Rattle.tier_tree.specs.declared.id.PhaserId.{PhaserId}
 use Rattle.packed_phaser.specs.declared.policy.Policy.{Policy}
 use Rattle.std.specs.Prelude.{Option}
@@ -32,7 +32,7 @@ use Rattle.tier_tree.proofs.Lines.{joined-places, place_at-places}
 use Rattle.tier_tree.proofs.Lines.{registration-places, arrival-places, turn-places, force-places}
 use Rattle.tier_tree.proofs.Stands.{stands_after_arrival}
 use Rattle.tier_tree.proofs.Joined.{stands_registered}
-use Rattle.tier_tree.proofs.Turned.{stands_after_turn, stands_after_force}
+use Rattle.tier_tree.proofs.Turned.{stands_after_phase_end, stands_after_force}
 use Rattle.tier_tree.proofs.Shown.{top_at, length-shown, flat_shown, root_shown, top_there, top-top, present-phase, present-ended}
 use Rattle.tier_tree.proofs.Changed.{there_shown}
 use Rattle.tier_tree.proofs.Kept.{keeps_places, registration-ends, arrival-ends, force-ends}
@@ -76,7 +76,7 @@ registered items given now written id count answer value view stored there is fo
 
 pub arrived : (items given now written : List Stored) (id : ℕ) (leave : Bool) (answer : Arrived) → given ≡ items → items ≡ now → IsStored items
     → id < length now → record { phasers = phasers_of written; answer = answer } ≡ arrival id leave (phasers_of given)
-    → Keeps (after_arrival answer id (root_at (phasers_of given) id) leave) (phasers_of given) (phasers_of written)
+    → Keeps (origin_after_arrival answer id (root_at (phasers_of given) id) leave) (phasers_of given) (phasers_of written)
 arrived items given now written id leave answer value view stored there is = record {
   places = keeps_places (phasers_of given) (phasers_of written)
       (ap (λ (a : Arrives). places_of a.phasers) is ∙ arrival-places id leave (phasers_of given));
@@ -95,18 +95,18 @@ forced items given now written id value view stored there forest = record {
       (subst IsStored (sym value) stored).places (there_given given now id (value ∙ view) there) forest stands;
 }
 
-pub turned_places : (given written : List Stored) (root : ℕ) (ends : Bool) → phasers_of written ≡ after_turn root ends (phasers_of given)
+pub turned_places : (given written : List Stored) (root : ℕ) (ends : Bool) → phasers_of written ≡ after_phase_end root ends (phasers_of given)
     → KeepsPlaces (phasers_of given) (phasers_of written)
 turned_places given written root ends forest =
     keeps_places (phasers_of given) (phasers_of written) (ap places_of forest ∙ turn-places root ends (phasers_of given))
 
 pub turned_origin : (items given now written : List Stored) (root : ℕ) (ends : Bool) → given ≡ items → items ≡ now → IsStored items
     → root < length now → root_at (phasers_of now) root ≡ root → (flat_at (phasers_of now) root).ended ≡ false
-    → phasers_of written ≡ after_turn root ends (phasers_of given)
-    → Carries (after_phase_end root (phasers_of given)) (phasers_of given) (phasers_of written)
+    → phasers_of written ≡ after_phase_end root ends (phasers_of given)
+    → Carries (origin_after_phase_end root (phasers_of given)) (phasers_of given) (phasers_of written)
 turned_origin items given now written root ends value view stored there top live forest =
     let same = value ∙ view in
-    λ origin stands. stands_after_turn root ends (phasers_of given) (phasers_of written) origin (subst IsStored (sym value) stored).places
+    λ origin stands. stands_after_phase_end root ends (phasers_of given) (phasers_of written) origin (subst IsStored (sym value) stored).places
     (there_given given now root same there) (subst (λ (ss : List Stored). root_at (phasers_of ss) root ≡ root) (sym same) top)
     (subst (λ (ss : List Stored). (flat_at (phasers_of ss) root).ended ≡ false) (sym same) live) forest stands
 
@@ -134,7 +134,7 @@ all_full forest id there =
 
 pub arrived_turning : (items given now written : List Stored) (id : ℕ) (leave : Bool) (answer : Arrived) → given ≡ items → items ≡ now → IsStored items
     → id < length now → length written ≡ length given → record { phasers = phasers_of written; answer = answer } ≡ arrival id leave (phasers_of given)
-    → IfTurning answer (λ root. (root.0 < length written) × (root.0 ≡ root_at (phasers_of given) id) × Turns root.0 (phasers_of given) (phasers_of written))
+    → IfTurning answer (λ root. (root.0 < length written) × (root.0 ≡ root_at (phasers_of given) id) × MakesPending root.0 (phasers_of given) (phasers_of written))
 arrived_turning items given now written id leave answer value view stored there many is =
     let sound : IsStored given = subst IsStored (sym value) stored in
     let within : id < length given = subst (λ (ss : List Stored). id < length ss) (sym (value ∙ view)) there in

@@ -17,7 +17,7 @@ use Rattle.tier_tree.specs.declared.registered.Registered.TheVariants as registe
 use Rattle.tier_tree.specs.Forest.{PhaserState, no_phaser, phaser_at, flat_at, root_of, root_at, with_flat}
 use Rattle.tier_tree.specs.Registration.{Join, joins, joined, flat_by, registration, registered_by, after_registration}
 use Rattle.tier_tree.specs.Arrival.{Climbed, is_top, passed_on, with_child, climbed_by, climbed, arrival_by, arrival}
-use Rattle.tier_tree.specs.PhaseEnd.{follow, in_step, terminated, after_turn, after_force}
+use Rattle.tier_tree.specs.PhaseEnd.{follow, in_step, terminated, after_phase_end, after_force}
 use Rattle.tier_tree.specs.Sound.{Place, place_of, places_of, IsForest, IsForestOf, IsLine, IsLinked, line_at}
 
 -- a phaser in the place of the one that stands there
@@ -117,7 +117,7 @@ place_at-places [] id = refl
 place_at-places (p ∷ phasers) zero = refl
 place_at-places (p ∷ phasers) (suc id) = place_at-places phasers id
 
-pub turn-places : (root : ℕ) (ends : Bool) (phasers : List PhaserState) → places_of (after_turn root ends phasers) ≡ places_of phasers
+pub turn-places : (root : ℕ) (ends : Bool) (phasers : List PhaserState) → places_of (after_phase_end root ends phasers) ≡ places_of phasers
 turn-places root ends phasers =
     let before = phaser_at phasers root in
     let flat = advance ends before.flat in

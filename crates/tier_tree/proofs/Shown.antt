@@ -9,7 +9,7 @@ use Rattle.packed_phaser.specs.Flat.{Flat, advance, renew, force, fresh}
 use Rattle.packed_phaser.specs.Word.{record_of}
 use Rattle.phase_number.specs.Phase.{next_phase}
 use Rattle.tier_tree.specs.Forest.{PhaserState, no_phaser, phaser_at, flat_at, root_of, root_at, with_flat}
-use Rattle.tier_tree.specs.PhaseEnd.{follow, in_step, terminated, after_turn}
+use Rattle.tier_tree.specs.PhaseEnd.{follow, in_step, terminated, after_phase_end}
 use Rattle.tier_tree.specs.Sound.{Place, places_of}
 use Rattle.tier_tree.specs.Stored.{Stored, no_stored, stored_at, kept_flat, top_of, present, shown, phasers_of, behind, IsNear, IsLive, IsStored, place_in, ChangedOnly}
 use Rattle.tier_tree.proofs.Lines.{root_within, forest_kept, with_flat-places, turn-places, terminated-places}
@@ -481,7 +481,7 @@ turned_shows : (forest : List Stored) (root w : ℕ) (ends : Bool) (now : List S
     → (stored_at forest root).ends < 2147483647
     → record_of w ≡ advance ends (flat_at (phasers_of forest) root)
     → IsTopPut forest root w ((stored_at forest root).ends + 1) now
-    → phasers_of now ≡ after_turn root ends (phasers_of forest)
+    → phasers_of now ≡ after_phase_end root ends (phasers_of forest)
 turned_shows forest root w ends now stored there is_root live few is changed =
     let put = changed.put in
     let ps = phasers_of forest in
@@ -708,7 +708,7 @@ pub turns : (forest : List Stored) (root w : ℕ) (ends : Bool) (d x : Stored) �
     → root_at (phasers_of forest) root ≡ root → (flat_at (phasers_of forest) root).ended ≡ false
     → (phaser_at (phasers_of forest) root).ends < 2147483647
     → record_of w ≡ advance ends (flat_at (phasers_of forest) root)
-    → Changes root forest (slice_set forest root x) (after_turn root ends (phasers_of forest))
+    → Changes root forest (slice_set forest root x) (after_phase_end root ends (phasers_of forest))
 turns forest root w ends d x is stored there is_root live few is_word =
     let new : Stored = record (stored_at forest root) { word = w; ends = (stored_at forest root).ends + 1 } in
     let now = slice_set forest root x in

@@ -14,20 +14,47 @@ use Rattle.tier_tree.specs.declared.id.PhaserId.{PhaserId}
 use Rattle.tier_tree.specs.Forest.{PhaserState, no_phaser, phaser_at, flat_at, root_at, root_of}
 use Rattle.tier_tree.specs.Registration.{Join, joins, joined, flat_by, registration, registered_by, after_registration}
 use Rattle.tier_tree.specs.Arrival.{Arrives, Climbed, is_top, passed_on, with_child, climbed_by, climbed, arrival_by, arrival}
-use Rattle.tier_tree.specs.PhaseEnd.{after_turn, after_force, follow, in_step}
+use Rattle.tier_tree.specs.PhaseEnd.{most_ends, after_phase_end, after_force, follow, in_step}
 use Rattle.tier_tree.specs.Sound.{Place, place_of, places_of}
 use Rattle.tier_tree.specs.Stored.{Stored, phasers_of, IsStored}
 use Rattle.tier_tree.specs.Answer.{IfTurning, KeepsPlaces}
-use Rattle.tier_tree.specs.Answer.{Turns as TurnsRoot}
-use Rattle.tier_tree.specs.Origin.{Origin, StandsFor, origin_after_registration, after_arrival, after_phase_end}
-use Rattle.tier_tree.specs.Trees.{is_pending, AreTrees, CanTurn, StaysPending, KeepsTrees, EndsPhase}
+use Rattle.tier_tree.specs.Answer.{MakesPending}
+use Rattle.tier_tree.specs.Origin.{Origin, StandsFor, origin_after_registration, origin_after_arrival, origin_after_phase_end}
+use Rattle.tier_tree.specs.Trees.{is_pending, AreTrees}
 use Rattle.tier_tree.proofs.Lines.{root_within, registration-places, arrival-places, turn-places, force-places, forest_kept, length-places, place_at-places}
 use Rattle.tier_tree.proofs.Balance.{flat-other}
 use Rattle.tier_tree.proofs.Stands.{same-is, stands_after_arrival}
 use Rattle.tier_tree.proofs.Joined.{stands_registered}
-use Rattle.tier_tree.proofs.Turned.{turn_change, force_change, stands_after_turn, stands_after_force}
+use Rattle.tier_tree.proofs.Turned.{turn_change, force_change, stands_after_phase_end, stands_after_force}
 use Rattle.tier_tree.proofs.Kept.{keeps_places, registration-ends, arrival-ends, force-ends}
 use Rattle.tier_tree.proofs.Turning.{IsFull, turning}
+
+-- the pending phase end of this root can come: what `finish_turn` asks
+pub record CanEnd (root : ℕ) (phasers : List PhaserState) : Type 0 where
+  pub there : root < length phasers
+  pub top : root_at phasers root ≡ root
+  pub turned : (flat_at phasers root).turned ≡ true
+  pub live : (flat_at phasers root).ended ≡ false
+  pub ends : (phaser_at phasers root).ends < most_ends
+
+-- this root is pending, if it was
+abbrev pub StaysPending : ℕ → List PhaserState → List PhaserState → Type 0
+StaysPending root before after =
+    is_pending (flat_at before root) ≡ true → is_pending (flat_at after root) ≡ true
+
+-- a call that ends no phase: the trees are the same, and each root that was pending is
+pub record KeepsTrees (most : ℕ) (before : List PhaserState) (after : List PhaserState) : Type 0 where
+  pub places : KeepsPlaces before after
+  pub many : length after ≡ length before
+  pub trees : AreTrees most after
+  pub pending : (root : ℕ) → root_at before root ≡ root → StaysPending root before after
+
+-- the end of a phase of this root: the same, but for this root, and one more phase has ended
+pub record EndsPhase (root : ℕ) (most : ℕ) (before : List PhaserState) (after : List PhaserState) : Type 0 where
+  pub places : KeepsPlaces before after
+  pub many : length after ≡ length before
+  pub trees : AreTrees (most + 1) after
+  pub pending : (other : ℕ) → other ≢ root → root_at before other ≡ other → StaysPending other before after
 
 -- of a turned phaser all have arrived
 abbrev pub AreFull : List PhaserState → Type 0
@@ -161,8 +188,8 @@ force_pending id phasers r is =
       | inr outside ↦ ap is_pending (change.apart r there outside) ∙ is
     ]
 
-pub turn_pending : (root : ℕ) (ends : Bool) (phasers : List PhaserState) → CanTurn root phasers → (other : ℕ) → other ≢ root
-    → root_at phasers other ≡ other → StaysPending other phasers (after_turn root ends phasers)
+pub turn_pending : (root : ℕ) (ends : Bool) (phasers : List PhaserState) → CanEnd root phasers → (other : ℕ) → other ≢ root
+    → root_at phasers other ≡ other → StaysPending other phasers (after_phase_end root ends phasers)
 turn_pending root ends phasers can other apart top is =
     ap is_pending ((turn_change root ends phasers can.there can.top).apart other (pending_there phasers other is) (λ same. apart (sym top ∙ same))) ∙ is
 
@@ -223,7 +250,7 @@ trees_arrived most id leave phasers trees there =
       trees = record {
         forest = forest_kept phasers all.phasers same trees.forest;
         stands = (
-          after_arrival all.answer id (root_at phasers id) leave trees.stands.0,
+          origin_after_arrival all.answer id (root_at phasers id) leave trees.stands.0,
           stands_after_arrival phasers trees.stands.0 id leave all trees.forest there refl trees.stands.1,
         );
         ends = λ n. (let few = trees.ends n in let e = arrival-ends id leave phasers n in omega (arith, few, e));
@@ -260,7 +287,7 @@ in_step-ends root phase ended (x ∷ phasers) zero = if-ends (root_of x == root)
 in_step-ends root phase ended (x ∷ phasers) (suc n) = in_step-ends root phase ended phasers n
 
 pub turn-ends : (root most : ℕ) (ends : Bool) (phasers : List PhaserState) → ((id : ℕ) → (phaser_at phasers id).ends ≤ most)
-    → (id : ℕ) → (phaser_at (after_turn root ends phasers) id).ends ≤ most + 1
+    → (id : ℕ) → (phaser_at (after_phase_end root ends phasers) id).ends ≤ most + 1
 turn-ends root most ends phasers few id =
     let before = phaser_at phasers root in
     let flat = advance ends before.flat in
@@ -272,10 +299,10 @@ turn-ends root most ends phasers few id =
     (record before { flat = flat; ends = before.ends + 1 }) (λ h. own) id others
 
 -- a phase end
-pub trees_turned : (most root : ℕ) (ends : Bool) (phasers : List PhaserState) → AreTrees most phasers → CanTurn root phasers
-    → EndsPhase root most phasers (after_turn root ends phasers)
+pub trees_turned : (most root : ℕ) (ends : Bool) (phasers : List PhaserState) → AreTrees most phasers → CanEnd root phasers
+    → EndsPhase root most phasers (after_phase_end root ends phasers)
 trees_turned most root ends phasers trees can =
-    let after = after_turn root ends phasers in
+    let after = after_phase_end root ends phasers in
     let same = turn-places root ends phasers in
     record {
       places = keeps_places phasers after same;
@@ -283,8 +310,8 @@ trees_turned most root ends phasers trees can =
       trees = record {
         forest = forest_kept phasers after same trees.forest;
         stands = (
-          after_phase_end root phasers trees.stands.0,
-          stands_after_turn root ends phasers after trees.stands.0 trees.forest can.there can.top can.live refl trees.stands.1,
+          origin_after_phase_end root phasers trees.stands.0,
+          stands_after_phase_end root ends phasers after trees.stands.0 trees.forest can.there can.top can.live refl trees.stands.1,
         );
         ends = turn-ends root most ends phasers trees.ends;
       };
@@ -308,13 +335,13 @@ turning_gives arrived.NotThere P Q gives told = tt
 -- who turns a root found it not pending, and its phase can be ended
 pub arrived_can_turn : (most id : ℕ) (leave : Bool) (phasers : List PhaserState) → AreTrees most phasers → most < 2147483647 → id < length phasers
     → IfTurning (arrival id leave phasers).answer (λ root. (root.0 ≡ root_at phasers id) × (is_pending (flat_at phasers root.0) ≡ false)
-    × CanTurn root.0 (arrival id leave phasers).phasers)
+    × CanEnd root.0 (arrival id leave phasers).phasers)
 arrived_can_turn most id leave phasers trees few there =
     let all : Arrives = arrival id leave phasers in
     let many = many_same phasers all.phasers (arrival-places id leave phasers) in
     turning_gives all.answer
-    (λ root. (root.0 < length phasers) × (root.0 ≡ root_at phasers id) × TurnsRoot root.0 phasers all.phasers)
-    (λ root. (root.0 ≡ root_at phasers id) × (is_pending (flat_at phasers root.0) ≡ false) × CanTurn root.0 all.phasers)
+    (λ root. (root.0 < length phasers) × (root.0 ≡ root_at phasers id) × MakesPending root.0 phasers all.phasers)
+    (λ root. (root.0 ≡ root_at phasers id) × (is_pending (flat_at phasers root.0) ≡ false) × CanEnd root.0 all.phasers)
     (λ root told. (
       told.1,
       ap (λ (t : Bool). t || (flat_at phasers root.0).ended) told.2.unturned_before ∙ told.2.live_before,
@@ -332,14 +359,14 @@ arrived_can_turn most id leave phasers trees few there =
 -- an arrival that is the last of its tree, and the end of the phase with it
 pub trees_turned_at_once : (most id : ℕ) (leave ends : Bool) (phasers : List PhaserState) (root : PhaserId) (phase : _) (parties : ℕ)
     → AreTrees most phasers → most < 2147483647 → id < length phasers → (arrival id leave phasers).answer ≡ arrived.Turning root phase parties
-    → KeepsTrees (most + 1) phasers (after_turn root.0 ends (arrival id leave phasers).phasers)
+    → KeepsTrees (most + 1) phasers (after_phase_end root.0 ends (arrival id leave phasers).phasers)
 trees_turned_at_once most id leave ends phasers root phase parties trees few there is =
     let all : Arrives = arrival id leave phasers in
     let first = trees_arrived most id leave phasers trees there in
-    let told = if_turning all.answer (λ own. (own.0 ≡ root_at phasers id) × (is_pending (flat_at phasers own.0) ≡ false) × CanTurn own.0 all.phasers)
+    let told = if_turning all.answer (λ own. (own.0 ≡ root_at phasers id) × (is_pending (flat_at phasers own.0) ≡ false) × CanEnd own.0 all.phasers)
     (arrived_can_turn most id leave phasers trees few there) root phase parties is in
     let second = trees_turned most root.0 ends all.phasers first.trees told.2 in
-    let after = after_turn root.0 ends all.phasers in
+    let after = after_phase_end root.0 ends all.phasers in
     let same : places_of after ≡ places_of phasers = second.places.places ∙ first.places.places in
     record {
       places = keeps_places phasers after same;

@@ -6,9 +6,9 @@ use Rattle.std.proofs.lemmas.Bool.Decides.{nat_tests}
 use Rattle.std.proofs.lemmas.List.{length-map, get_or-set_same, get_or-set_other}
 use Rattle.packed_phaser.specs.Flat.{Flat, unarrived_of, advance, force}
 use Rattle.tier_tree.specs.Forest.{PhaserState, no_phaser, phaser_at, flat_at, root_at}
-use Rattle.tier_tree.specs.PhaseEnd.{follow, in_step, terminated, after_turn, after_force}
+use Rattle.tier_tree.specs.PhaseEnd.{follow, in_step, terminated, after_phase_end, after_force}
 use Rattle.tier_tree.specs.Sound.{Place, place_of, places_of, IsForest}
-use Rattle.tier_tree.specs.Origin.{Origin, is_under, children, has_joined, is_awaited, IsTallied, IsSteady, StandsFor, after_phase_end}
+use Rattle.tier_tree.specs.Origin.{Origin, is_under, children, has_joined, is_awaited, IsTallied, IsSteady, StandsFor, origin_after_phase_end}
 use Rattle.tier_tree.proofs.Lines.{length-places, turn-places, force-places}
 use Rattle.tier_tree.proofs.Safe.{linked, line_own, last_of, rest_of, root-parent}
 use Rattle.tier_tree.proofs.Balance.{IsGood, next-parent}
@@ -273,14 +273,14 @@ step_flat phasers root phase ends id there =
     ∙ change_if (root_at phasers id == root) (phaser_at phasers id) (follow phase ends (flat_at phasers id))
 
 pub turn_change : (root : ℕ) (ends : Bool) (phasers : List PhaserState) → root < length phasers → root_at phasers root ≡ root
-    → TreeChange root ends phasers (after_turn root ends phasers)
+    → TreeChange root ends phasers (after_phase_end root ends phasers)
 turn_change root ends phasers within top =
     let before = phaser_at phasers root in
     let flat = advance ends before.flat in
     let moved = map (in_step root flat.phase ends) phasers in
     let new : PhaserState = record before { flat = flat; ends = before.ends + 1 } in
     let many : length moved ≡ length phasers = length-map phasers (in_step root flat.phase ends) in
-    let other_flat : (n : ℕ) → n ≢ root → flat_at (after_turn root ends phasers) n ≡ flat_at moved n =
+    let other_flat : (n : ℕ) → n ≢ root → flat_at (after_phase_end root ends phasers) n ≡ flat_at moved n =
     λ n apart. ap (λ (p : PhaserState). p.flat) (get_or-set_other moved root n new no_phaser apart) in
     record {
       same = turn-places root ends phasers;
@@ -289,8 +289,8 @@ turn_change root ends phasers within top =
           ∙ ap (λ (t : Bool). if t then follow flat.phase ends (flat_at phasers n) else flat_at phasers n) (other-is (root_at phasers n) root outside);
       inside = λ n there tree. (
         flat.phase,
-        elim (cases_eq n root) as (λ _. flat_at (after_turn root ends phasers) n ≡ follow flat.phase ends (flat_at phasers n)) [
-          | inl is ↦ subst (λ (m : ℕ). flat_at (after_turn root ends phasers) m ≡ follow flat.phase ends (flat_at phasers m)) (sym is)
+        elim (cases_eq n root) as (λ _. flat_at (after_phase_end root ends phasers) n ≡ follow flat.phase ends (flat_at phasers n)) [
+          | inl is ↦ subst (λ (m : ℕ). flat_at (after_phase_end root ends phasers) m ≡ follow flat.phase ends (flat_at phasers m)) (sym is)
               (ap (λ (p : PhaserState). p.flat) (get_or-set_same moved root new no_phaser (omega (arith, many, within))) ∙ advance-follows ends before.flat)
           | inr apart ↦ other_flat n apart ∙ step_flat phasers root flat.phase ends n there
               ∙ ap (λ (t : Bool). if t then follow flat.phase ends (flat_at phasers n) else flat_at phasers n)
@@ -299,12 +299,12 @@ turn_change root ends phasers within top =
       );
     }
 
-pub stands_after_turn : (root : ℕ) (ends : Bool) (phasers after : List PhaserState) (origin : Origin) → IsForest phasers → root < length phasers
-    → root_at phasers root ≡ root → (flat_at phasers root).ended ≡ false → after ≡ after_turn root ends phasers → StandsFor phasers origin
-    → StandsFor after (after_phase_end root phasers origin)
-stands_after_turn root ends phasers after origin sound within top live is stands =
-    subst (λ (ps : List PhaserState). StandsFor ps (after_phase_end root phasers origin)) (sym is)
-    (stands_reset phasers (after_turn root ends phasers) origin (after_phase_end root phasers origin) root ends sound within top (λ _. live) stands
+pub stands_after_phase_end : (root : ℕ) (ends : Bool) (phasers after : List PhaserState) (origin : Origin) → IsForest phasers → root < length phasers
+    → root_at phasers root ≡ root → (flat_at phasers root).ended ≡ false → after ≡ after_phase_end root ends phasers → StandsFor phasers origin
+    → StandsFor after (origin_after_phase_end root phasers origin)
+stands_after_phase_end root ends phasers after origin sound within top live is stands =
+    subst (λ (ps : List PhaserState). StandsFor ps (origin_after_phase_end root phasers origin)) (sym is)
+    (stands_reset phasers (after_phase_end root ends phasers) origin (origin_after_phase_end root phasers origin) root ends sound within top (λ _. live) stands
     (turn_change root ends phasers within top)
     (record {
       stray = λ r. refl;

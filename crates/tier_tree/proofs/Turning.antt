@@ -6,7 +6,7 @@ use Rattle.tier_tree.specs.declared.climb.Climb.{Climb}
 use Rattle.tier_tree.specs.declared.climb.Climb.TheVariants as climb
 use Rattle.tier_tree.specs.Forest.{PhaserState, no_phaser, phaser_at, flat_at, root_at, with_flat}
 use Rattle.tier_tree.specs.Answer.{IfTurning}
-use Rattle.tier_tree.specs.Answer.{Turns as TurnsRoot}
+use Rattle.tier_tree.specs.Answer.{MakesPending}
 use Rattle.tier_tree.specs.declared.arrived.Arrived.{Arrived}
 use Rattle.tier_tree.specs.declared.arrived.Arrived.TheVariants as arrived
 use Rattle.tier_tree.specs.Arrival.{Arrives, arrival, arrival_by, Climbed, passed_on, with_child, climbed_by, climbed}
@@ -112,16 +112,16 @@ not_turned f awaits full = by_case f.turned refl
 pub turning : (id m : ℕ) (leave : Bool) (phasers after : List PhaserState) (answer : Arrived) → IsForest phasers → id < length phasers
     → root_at phasers id < m → IsFull (flat_at phasers (root_at phasers id))
     → record { phasers = after; answer = answer } ≡ arrival id leave phasers
-    → IfTurning answer (λ root. (root.0 < m) × (root.0 ≡ root_at phasers id) × TurnsRoot root.0 phasers after)
+    → IfTurning answer (λ root. (root.0 < m) × (root.0 ≡ root_at phasers id) × MakesPending root.0 phasers after)
 turning id m leave phasers after answer sound there below full is =
-    subst (λ (a : Arrives). IfTurning a.answer (λ root. (root.0 < m) × (root.0 ≡ root_at phasers id) × TurnsRoot root.0 phasers a.phasers))
+    subst (λ (a : Arrives). IfTurning a.answer (λ root. (root.0 < m) × (root.0 ≡ root_at phasers id) × MakesPending root.0 phasers a.phasers))
     (sym is) (by_end (flat_at phasers id).ended)
   where
     own : (above : List ℕ) × ((phaser_at phasers id).line ≡ id ∷ above)
     own = line_own phasers id sound there
 
     Tells : Arrives → Type 0
-    Tells a = IfTurning a.answer (λ root. (root.0 < m) × (root.0 ≡ root_at phasers id) × TurnsRoot root.0 phasers a.phasers)
+    Tells a = IfTurning a.answer (λ root. (root.0 < m) × (root.0 ≡ root_at phasers id) × MakesPending root.0 phasers a.phasers)
 
     by_climb : (c : Climb) → (climbed (phaser_at phasers id).line leave phasers).climb ≡ c
         → Tells (arrival_by c id (climbed (phaser_at phasers id).line leave phasers).phasers phasers)

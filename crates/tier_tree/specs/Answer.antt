@@ -29,8 +29,8 @@ IfTurning (arrived.Turning root phase parties) P = P root
 IfTurning (arrived.Dead view) P = Unit {0}
 IfTurning arrived.NotThere P = Unit {0}
 
--- the phase of this root can be ended, and could not be before
-pub record Turns (root : ℕ) (before : List PhaserState) (after : List PhaserState) : Type 0 where
+-- the phase end of this root is pending, and wasn't before
+pub record MakesPending (root : ℕ) (before : List PhaserState) (after : List PhaserState) : Type 0 where
   pub top : root_at after root ≡ root
   pub turned : (flat_at after root).turned ≡ true
   pub live : (flat_at after root).ended ≡ false

@@ -71,15 +71,15 @@ arrived_at id root leave origin =
     }
 
 -- only an arrival that comes through counts
-abbrev pub after_arrival : Arrived → ℕ → ℕ → Bool → Origin → Origin
-after_arrival (arrived.At phase) id root leave origin = arrived_at id root leave origin
-after_arrival (arrived.Turning top phase parties) id root leave origin = arrived_at id root leave origin
-after_arrival (arrived.Dead view) id root leave origin = origin
-after_arrival arrived.NotThere id root leave origin = origin
+abbrev pub origin_after_arrival : Arrived → ℕ → ℕ → Bool → Origin → Origin
+origin_after_arrival (arrived.At phase) id root leave origin = arrived_at id root leave origin
+origin_after_arrival (arrived.Turning top phase parties) id root leave origin = arrived_at id root leave origin
+origin_after_arrival (arrived.Dead view) id root leave origin = origin
+origin_after_arrival arrived.NotThere id root leave origin = origin
 
 -- a phase of the tree has ended: all who are registered directly are to arrive again
-abbrev pub after_phase_end : ℕ → List PhaserState → Origin → Origin
-after_phase_end root phasers origin = record origin {
+abbrev pub origin_after_phase_end : ℕ → List PhaserState → Origin → Origin
+origin_after_phase_end root phasers origin = record origin {
   unarrived = λ n. if root_at phasers n == root then origin.registered n else origin.unarrived n;
 }
 

@@ -1,7 +1,7 @@
 -- What is kept of a forest so that a call can be undone.
-use Rattle.std.specs.Prelude.{ℕ, List, [], ◌∷◌, map, slice_set}
+use Rattle.std.specs.Prelude.{◌≡◌, ℕ, List, [], ◌∷◌, map, slice_set}
 use Rattle.tier_tree.specs.declared.saved.KeptWord.{KeptWord}
-use Rattle.tier_tree.specs.Stored.{Stored, stored_at}
+use Rattle.tier_tree.specs.Stored.{Stored, IsStored, ChangedAt, stored_at}
 
 -- what is kept of one phaser: its number, its word, and how many phases of its tree have ended
 pub record Kept : Type 0 where
@@ -21,6 +21,14 @@ kept_at forest id =
 -- what is kept of a forest before a call at this phaser: all from it up to its root
 abbrev pub saved_of : ℕ → List Stored → List Kept
 saved_of id forest = map (kept_at forest) (stored_at forest id).line
+
+-- this was saved of a forest before calls at one phaser, which led from there to this forest; nobody has to believe it
+pub record IsSavedOf (saved : List Kept) (after : List Stored) : Type 0 where
+  pub before : List Stored
+  pub id : ℕ
+  pub forest : IsStored before
+  pub kept : saved ≡ saved_of id before
+  pub changed : ChangedAt id before after
 
 -- the forest with what was kept of one phaser
 abbrev pub with_kept : Kept → List Stored → List Stored

@@ -1,9 +1,10 @@
 // Callers, each with its proof: what a crate above can say of a forest by the contracts alone.
-ghost use Rattle.std.specs.Prelude.{◌≡◌, ◌<◌, length, false};
+ghost use Rattle.std.specs.Prelude.{◌≡◌, ◌<◌, length, true, false};
 ghost use Rattle.tier_tree.specs.Answer.{IfTurning};
 ghost use Rattle.tier_tree.specs.Arrival.{arrival};
 ghost use Rattle.tier_tree.specs.Forest.{phaser_at, root_at};
-ghost use Rattle.tier_tree.specs.Origin.{Origin, StandsFor, HaveAllArrived, after_arrival};
+ghost use Rattle.tier_tree.specs.Origin.{Origin, StandsFor, HaveAllArrived, origin_after_arrival};
+ghost use Rattle.tier_tree.specs.PhaseEnd.{most_ends, after_phase_end};
 ghost use Rattle.tier_tree.specs.Stored.{ChangedAt, phasers_of};
 
 use crate::arrived::Arrived;
@@ -20,14 +21,14 @@ use std::alloc::Global;
 pub fn arrive_through(forest: &mut Forest, id: PhaserId, ends: bool) -> Arrived
     requires there { id.0 < length forest.old }
     requires few { (phaser_at (phasers_of forest.old) (root_at (phasers_of forest.old) id.0)).ends
-        < 2147483647 }
+        < most_ends }
     ensures answer { result ≡ (arrival id.0 false (phasers_of forest.old)).answer }
     ensures safe { (origin : Origin) → StandsFor (phasers_of forest.old) origin
         → IfTurning result (λ root.
-        (after_arrival result id.0 (root_at (phasers_of forest.old) id.0) false origin).stray root.0
+        (origin_after_arrival result id.0 (root_at (phasers_of forest.old) id.0) false origin).stray root.0
         ≡ false
         → HaveAllArrived
-        (after_arrival result id.0 (root_at (phasers_of forest.old) id.0) false origin) root.0
+        (origin_after_arrival result id.0 (root_at (phasers_of forest.old) id.0) false origin) root.0
         (arrival id.0 false (phasers_of forest.old)).phasers) }
     ensures only { ChangedAt id.0 forest.old forest.new }
     ensures many { length forest.new ≡ length forest.old }
@@ -41,8 +42,24 @@ pub fn arrive_through(forest: &mut Forest, id: PhaserId, ends: bool) -> Arrived
     answer
 }
 
-// The same, then a registration at another phaser, and back again, call by call.
-#[tactic(auto, using(crate::proofs::Changed::restored_line))]
+// The phase of a root ends where it can: whatever `finish_turn` asks for is told by getters.
+pub fn end_turned_phase(forest: &mut Forest, root: PhaserId, ends: bool) -> bool
+    requires { root.0 < length forest.old }
+    ensures ended { result ≡ true
+        → phasers_of forest.new ≡ after_phase_end root.0 ends (phasers_of forest.old) }
+    ensures refused { result ≡ false → forest.new ≡ forest.old }
+{
+    if forest.root(root).0 != root.0 || !forest.is_turned(root) {
+        return false;
+    }
+    if forest.is_terminated(root) || forest.ended_phases(root) >= 2147483647 {
+        return false;
+    }
+    forest.finish_turn(root, ends);
+    true
+}
+
+// An arrival through, then a registration at another phaser, and back again, call by call.
 pub fn undo_two(
     forest: &mut Forest,
     id: PhaserId,
@@ -52,7 +69,7 @@ pub fn undo_two(
     requires there { id.0 < length forest.old }
     requires other { other.0 < length forest.old }
     requires few { (phaser_at (phasers_of forest.old) (root_at (phasers_of forest.old) id.0)).ends
-        < 2147483647 }
+        < most_ends }
     ensures answer { result.0 ≡ (arrival id.0 false (phasers_of forest.old)).answer }
     ensures back { forest.new ≡ forest.old }
 {

@@ -1,16 +1,16 @@
 ghost use Rattle.std.specs.Prelude.{◌≡◌, ℕ, ◌<◌, List, [], length, true, false, IfOk};
-ghost use Rattle.tier_tree.specs.Answer.{DoesntJoin, DoesntArrive, IfTurning, Turns};
+ghost use Rattle.tier_tree.specs.Answer.{DoesntJoin, DoesntArrive, IfTurning, MakesPending};
 ghost use Rattle.tier_tree.specs.Answer.{KeepsPlaces, KeepsEnds, HaveOnePhase};
 ghost use Rattle.tier_tree.specs.Arrival.{arrival};
 ghost use Rattle.tier_tree.specs.Declaration.{AreAllFresh};
 ghost use Rattle.tier_tree.specs.Forest.{phaser_at, flat_at, root_at};
 ghost use Rattle.tier_tree.specs.Law.{NobodyComesBetween};
 ghost use Rattle.tier_tree.specs.Origin.{Origin, StandsFor, Carries, HaveAllArrived};
-ghost use Rattle.tier_tree.specs.Origin.{origin_after_registration, after_arrival, after_phase_end};
-ghost use Rattle.tier_tree.specs.PhaseEnd.{after_turn, after_force};
+ghost use Rattle.tier_tree.specs.Origin.{origin_after_registration, origin_after_arrival, origin_after_phase_end};
+ghost use Rattle.tier_tree.specs.PhaseEnd.{most_ends, after_phase_end, after_force};
 ghost use Rattle.tier_tree.specs.Registration.{registration, after_registration};
 ghost use Rattle.tier_tree.specs.Stored.{Stored, IsStored, ChangedAt, phasers_of};
-ghost use Rattle.tier_tree.specs.Undo.{saved_of, restored};
+ghost use Rattle.tier_tree.specs.Undo.{saved_of, IsSavedOf, restored};
 
 use crate::arrived::Arrived;
 use crate::id::PhaserId;
@@ -112,14 +112,14 @@ impl Forest {
             ≡ arrival id.0 leave (phasers_of self.old) }
         ensures turning { IfTurning result (λ root. (root.0 < length self.new)
             × (root.0 ≡ root_at (phasers_of self.old) id.0)
-            × Turns root.0 (phasers_of self.old) (phasers_of self.new)) }
+            × MakesPending root.0 (phasers_of self.old) (phasers_of self.new)) }
         ensures refused { DoesntArrive result → self.new ≡ self.old }
         ensures only { ChangedAt id.0 self.old self.new }
         ensures many { length self.new ≡ length self.old }
         ensures places { KeepsPlaces (phasers_of self.old) (phasers_of self.new) }
         ensures ends { KeepsEnds (phasers_of self.old) (phasers_of self.new) }
         ensures origin { Carries
-            (after_arrival result id.0 (root_at (phasers_of self.old) id.0) leave)
+            (origin_after_arrival result id.0 (root_at (phasers_of self.old) id.0) leave)
             (phasers_of self.old) (phasers_of self.new) }
     {
         climb::arrive(self.nodes.as_mut_slice(), id.0 as usize, leave)
@@ -128,21 +128,22 @@ impl Forest {
     /// Ends the phase of a turned root, after `onAdvance` answered: `ends` is its answer. Where the
     /// tree had no stray, everybody who registered directly with a phaser of it has arrived by then
     /// (`safe`). Fewer than 2147483647 earlier phase ends are asked for, so that no word that lags
-    /// is ever a whole turn of phases behind; a limit of steps bounds the phase ends of each tree.
+    /// is ever all 2147483648 phase numbers behind; a limit of steps bounds the phase ends of each
+    /// tree. What is asked for is told by `root`, `is_turned`, `is_terminated` and `ended_phases`.
     pub fn finish_turn(&mut self, root: PhaserId, ends: bool)
         requires there { root.0 < length self.old }
         requires root { root_at (phasers_of self.old) root.0 ≡ root.0 }
         requires turned { (flat_at (phasers_of self.old) root.0).turned ≡ true }
         requires live { (flat_at (phasers_of self.old) root.0).ended ≡ false }
-        requires ends { (phaser_at (phasers_of self.old) root.0).ends < 2147483647 }
-        ensures forest { phasers_of self.new ≡ after_turn root.0 ends (phasers_of self.old) }
+        requires ends { (phaser_at (phasers_of self.old) root.0).ends < most_ends }
+        ensures forest { phasers_of self.new ≡ after_phase_end root.0 ends (phasers_of self.old) }
         ensures only { ChangedAt root.0 self.old self.new }
         ensures many { length self.new ≡ length self.old }
         ensures places { KeepsPlaces (phasers_of self.old) (phasers_of self.new) }
         ensures safe { (origin : Origin) → StandsFor (phasers_of self.old) origin
             → origin.stray root.0 ≡ false
             → HaveAllArrived origin root.0 (phasers_of self.old) }
-        ensures origin { Carries (after_phase_end root.0 (phasers_of self.old))
+        ensures origin { Carries (origin_after_phase_end root.0 (phasers_of self.old))
             (phasers_of self.old) (phasers_of self.new) }
     {
         phase_end::end_phase(self.nodes.as_mut_slice(), root.0 as usize, ends);
@@ -171,10 +172,10 @@ impl Forest {
         saved::keep(self.nodes.as_slice(), id.0 as usize)
     }
 
-    /// Undoes the call since the forest was saved: every word is as it was then (`undone`). What was
-    /// saved of another forest can be put back only where a forest comes of it.
+    /// Undoes the call since the forest was saved, or the call and the phase end that it brought:
+    /// every word is as it was then (`undone`).
     pub fn restore(&mut self, saved: &Saved)
-        requires { IsStored (restored saved.now self.old) }
+        requires { IsSavedOf saved.now self.old }
         ensures forest { self.new ≡ restored saved.now self.old }
         ensures many { length self.new ≡ length self.old }
         ensures places { KeepsPlaces (phasers_of self.old) (phasers_of self.new) }
@@ -188,7 +189,7 @@ impl Forest {
 /// Laws: what is true of every forest. Nothing runs.
 impl Forest {
     /// At most 64 phasers, in lines that lead up to roots, no word too far behind and none
-    /// terminated before its root: what `restore` asks for, and the lemmas of a crate above.
+    /// terminated before its root: what the lemmas of a crate above ask for.
     pub fn is_forest(&self)
         ensures { IsStored self.now }
     {

@@ -1,5 +1,5 @@
 ghost use Rattle.std.specs.Prelude.{◌≡◌, ◌<◌, [], ◌∷◌, map, length, true, false};
-ghost use Rattle.tier_tree.specs.PhaseEnd.{terminated, after_turn, after_force};
+ghost use Rattle.tier_tree.specs.PhaseEnd.{most_ends, terminated, after_phase_end, after_force};
 ghost use Rattle.tier_tree.specs.Forest.{phaser_at, flat_at, root_at};
 ghost use Rattle.tier_tree.specs.Stored.{IsStored, ChangedOnly, ChangedAt, phasers_of};
 
@@ -14,8 +14,8 @@ pub fn end_phase(nodes: &mut [Node], root: usize, ends: bool)
     requires root { root_at (phasers_of nodes.old) root ≡ root }
     requires turned { (flat_at (phasers_of nodes.old) root).turned ≡ true }
     requires live { (flat_at (phasers_of nodes.old) root).ended ≡ false }
-    requires ends { (phaser_at (phasers_of nodes.old) root).ends < 2147483647 }
-    ensures present { phasers_of nodes.new ≡ after_turn root ends (phasers_of nodes.old) }
+    requires ends { (phaser_at (phasers_of nodes.old) root).ends < most_ends }
+    ensures present { phasers_of nodes.new ≡ after_phase_end root ends (phasers_of nodes.old) }
     ensures stored { IsStored nodes.new }
     ensures only { ChangedOnly (root ∷ []) nodes.old nodes.new }
 {

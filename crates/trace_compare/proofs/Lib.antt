@@ -10,6 +10,7 @@ pub mod WholeLines
 pub mod Naming
 pub mod StateLines
 pub mod OwnTrace
+pub mod PieceLines
 pub mod NamedThreads
 pub mod StoredOtherwise
 pub mod OneVerdict

@@ -26,7 +26,7 @@ use Rattle.machine_scene.specs.Scene.{Scene, barrier_at, outcome_of_turn, thread
 use Rattle.machine_scene.specs.Group.{group_of}
 use Rattle.machine_scene.specs.BarrierRows.{outcome_of_await_at, outcome_of_barrier_row, outcome_of_entered, unless_busy, unless_runner}
 use Rattle.machine_scene.specs.CallRows.{outcome_of_call_row, outcome_of_ret}
-use Rattle.machine_scene.specs.PhaserRows.{answer_of_policy, has_routine, outcome_of_arrival, outcome_of_arrived, outcome_of_phaser_row, outcome_of_turning, unless_own}
+use Rattle.machine_scene.specs.PhaserRows.{answer_of_policy, has_routine, outcome_of_arrival, outcome_of_arrived, outcome_of_phaser_row, outcome_of_pending_end, unless_own}
 use Rattle.machine_scene.specs.Outcomes.{is_ready, outcome_in, outcome_in_group, outcome_of, outcome_of_expiry, timeout_in}
 use Rattle.thread_machine.specs.declared.choice.Choice.{Choice}
 use Rattle.thread_machine.specs.Ready.{can_expire, can_go_on, outcome_of_choice, some_ready}
@@ -36,8 +36,8 @@ abbrev pub stored_in : List Stored → Program → Program
 stored_in phasers program = record program { phasers = phasers }
 
 turning-same : (phasers : List Stored) (ends : Option Bool) (manner : Manner) (root : ℕ) (phase : ℤ) (t : ℕ) (program : Program)
-    (scene : Scene) → outcome_of_turning ends manner root phase t (stored_in phasers program) scene
-    ≡ outcome_of_turning ends manner root phase t program scene
+    (scene : Scene) → outcome_of_pending_end ends manner root phase t (stored_in phasers program) scene
+    ≡ outcome_of_pending_end ends manner root phase t program scene
 turning-same phasers (Some terminates) manner root phase t program scene = refl
 turning-same phasers None manner root phase t program scene = refl
 

@@ -1,5 +1,7 @@
 ghost use Rattle.std.specs.Prelude.{◌≡◌, ◌≢◌, ◌⊎◌, IsTrue, Err, false, true, ◌==◌, ◌&&◌, ◌<◌, ◌≤◌, ◌+◌, ◌++◌, ◌∷◌, [], List, ℕ, IfOk, OnOk, drop, length, take};
 ghost use Rattle.std.specs.Io.KnownBytes.{Consumes};
+ghost use Rattle.std.specs.List.{position_or_len};
+ghost use Rattle.line_reader.specs.Words.{is_line_end};
 ghost use Rattle.thread_machine.specs.World.{world_of};
 ghost use Rattle.trace_compare.specs.RunText.{GivesOnAndOn};
 ghost use Rattle.trace_compare.specs.Start.{IsRefused, is_want_of_memory};
@@ -52,7 +54,8 @@ pub enum CompareFault {
 /// What follows these bytes.
 fn rest_of(text: &[u8], at: usize) -> &[u8]
     requires { at ≤ length text.now }
-    ensures { result.now ≡ drop at text.now }
+    ensures rest { result.now ≡ drop at text.now }
+    ensures length { at + length result.now ≡ length text.now }
 {
     &text[at..]
 }
@@ -69,6 +72,8 @@ fn first_bytes(text: &[u8], count: usize) -> &[u8]
 #[derive(Drop)]
 struct Comparison {
     machine: Machine,
+    /// The run's line of the last choice.
+    expected: LineEnd,
     /// Whether all choices so far were accepted.
     accepted: bool,
     /// Whether the state line has come.
@@ -90,6 +95,7 @@ impl Comparison {
     {
         Comparison {
             machine,
+            expected: LineEnd::new(),
             accepted: true,
             is_state: false,
             text: Vec::new(alloc),
@@ -116,12 +122,11 @@ impl Comparison {
         if !self.accepted {
             return Ok(Some(Verdict::Differs { line: self.number }));
         }
-        let mut expected = LineEnd::new();
-        let accepted = match line_of_choice(&mut self.machine, choice, &mut expected) {
+        let accepted = match line_of_choice(&mut self.machine, choice, &mut self.expected) {
             Ok(accepted) => accepted,
             Err(error) => return Err(error),
         };
-        if whole != expected.as_slice() {
+        if whole != self.expected.as_slice() {
             return Ok(Some(Verdict::Differs { line: self.number }));
         }
         self.accepted = accepted;
@@ -274,6 +279,62 @@ fn take_byte(
     verdict
 }
 
+/// Goes on over the line that these bytes begin with, up to its LF at this place.
+fn take_whole_line(
+    now: &mut Comparison,
+    alloc: Global,
+    bytes: &[u8],
+    end: usize,
+) -> Result<Option<Verdict>, AllocError>
+    requires end { end ≡ position_or_len is_line_end bytes.now }
+    requires there { end < length bytes.now }
+    requires few { end ≤ 65536 }
+    requires number { now.old.number < 9223372036854775807 }
+    requires at { now.old.at ≤ length now.old.text.items }
+    ensures verdict { (more : List ℕ) → IfOk result (λ verdict.
+        bytes_left now.old [] (bytes.now ++ more)
+        ≡ decided verdict (bytes_left now.new [] (drop (end + 1) bytes.now ++ more))) }
+    ensures at { now.new.at ≤ length now.new.text.items }
+    ensures number { now.new.number ≤ now.old.number + 1 }
+{
+    let whole = first_bytes(bytes, end + 1);
+    now.take_line(alloc, first_bytes(bytes, end), whole)
+}
+
+/// Goes on over some of the next bytes, after those of a line that have come: a line that lies whole in them is taken
+/// where it lies, else one byte. Answers how many.
+fn take_some(
+    now: &mut Comparison,
+    alloc: Global,
+    line: &mut Vec<u8>,
+    rest: &[u8],
+) -> Result<(Option<Verdict>, usize), AllocError>
+    requires some { 0 < length rest.now }
+    requires reading { IsReading now.old line.old.items }
+    requires number { now.old.number < 9223372036854775807 }
+    ensures verdict { (more : List ℕ) → IfOk result (λ taken.
+        bytes_left now.old line.old.items (rest.now ++ more)
+        ≡ decided taken.0 (bytes_left now.new line.new.items (drop taken.1 rest.now ++ more))) }
+    ensures reading { OnOk result (IsReading now.new line.new.items) }
+    ensures some { IfOk result (λ taken. 0 < taken.1) }
+    ensures within { IfOk result (λ taken. taken.1 ≤ length rest.now) }
+    ensures number { now.new.number ≤ now.old.number + 1 }
+{
+    if line.is_empty() {
+        let end = length_before(b'\n', rest);
+        if end < rest.len() && end <= MOST_BYTES {
+            return match take_whole_line(now, alloc, rest, end) {
+                Ok(verdict) => Ok((verdict, end + 1)),
+                Err(error) => Err(error),
+            };
+        }
+    }
+    match take_byte(now, alloc, line, rest[0]) {
+        Ok(verdict) => Ok((verdict, 1)),
+        Err(error) => Err(error),
+    }
+}
+
 /// Goes on over a piece of the trace.
 fn take_piece(
     now: &mut Comparison,
@@ -289,10 +350,11 @@ fn take_piece(
     ensures reading { OnOk result (IsReading now.new line.new.items) }
     ensures number { now.new.number ≤ now.old.number + length piece.now }
 {
-    for byte in piece {
-        match take_byte(now, alloc, line, *byte) {
-            Ok(None) => {}
-            Ok(Some(verdict)) => return Ok(Some(verdict)),
+    let mut done = 0;
+    while done < piece.len() {
+        match take_some(now, alloc, line, rest_of(piece, done)) {
+            Ok((None, count)) => done += count,
+            Ok((Some(verdict), _)) => return Ok(Some(verdict)),
             Err(error) => return Err(error),
         }
     }

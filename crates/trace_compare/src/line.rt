@@ -1,4 +1,4 @@
-ghost use Rattle.std.specs.Prelude.{◌≡◌, ◌++◌, ◌+◌, ◌≤◌, OnOk, OnErr, length};
+ghost use Rattle.std.specs.Prelude.{◌≡◌, ◌++◌, ◌+◌, ◌≤◌, [], OnOk, OnErr, codes, length};
 ghost use Rattle.std.specs.Fmt.{signed_decimal, decimal};
 ghost use Rattle.trace_compare.specs.Lines.{what_text, mark_text, choice_text, event_text, refusal_text};
 
@@ -77,6 +77,25 @@ fn put_mark(line: &mut LineEnd, mark: Mark)
     }
 }
 
+/// What a choice did, from the space before it to the end of a line of which nothing else is there. The most usual answer
+/// is one word.
+#[inline(always)]
+fn put_answer(line: &mut LineEnd, event: &Event)
+    requires { line.old ≡ [] }
+    ensures text { line.new
+        ≡ codes " " ++ (what_text event.now.what ++ (mark_text event.now.mark ++ codes "\n")) }
+    ensures length { length line.new ≤ 54 }
+{
+    if let (What::Done, Mark::Nothing) = (event.what, event.mark) {
+        line.put_word(b" ok\n");
+        return;
+    }
+    line.put_word(b"\n");
+    put_mark(line, event.mark);
+    put_what(line, event.what);
+    line.put_word(b" ");
+}
+
 /// The beginning of a choice's line: its number, from 1, and whose turn or expiry it is. Answers how many digits
 /// the number has.
 #[inline(always)]
@@ -105,10 +124,7 @@ pub fn put_event(line: &mut LineEnd, step: u64, choice: Choice, pc: u16, event: 
     ensures few { result ≤ 20 }
 {
     line.clear();
-    line.put_word(b"\n");
-    put_mark(line, event.mark);
-    put_what(line, event.what);
-    line.put_word(b" ");
+    put_answer(line, event);
     line.put_count(u64::from(pc));
     put_choice(line, step, choice)
 }

@@ -5,7 +5,7 @@ ghost use Rattle.std.specs.Io.KnownBytes.{Appends};
 ghost use Rattle.workbench.specs.declared.fault.Fault.{Fault};
 ghost use Rattle.workbench.specs.Fault.{HasTold, status_of};
 
-use byte_ports::{MemorySink, Sink, WritePort};
+use byte_ports::{BlockPort, MemorySink, Sink, WritePort};
 use std::alloc::AllocError;
 use std::io::Write;
 use workbench::fault::{DONE, Fault, UNLIKE};
@@ -48,14 +48,18 @@ fn settled<E: Sink>(is_flushed: bool, status: u8, line: &[u8], errors: &mut E) -
     Fault::Write.status()
 }
 
-/// The status of a command that has written to a buffered `output`, once that is flushed. Its line is told then.
-pub fn ended<W: Write, E: Sink>(
+/// The status of a command that has written blocks to `output`, once the last is handed on and all is flushed. Its line is
+/// told then.
+pub fn ended<W: Write + Drop, E: Sink>(
     errors: &mut E,
     status: u8,
-    output: &mut WritePort<W>,
+    output: BlockPort<WritePort<W>>,
     line: &MemorySink,
 ) -> u8 {
-    let is_flushed = output.finish().is_ok();
+    let is_flushed = match output.into_inner() {
+        Ok(mut port) => port.finish().is_ok(),
+        Err(_) => false,
+    };
     settled(is_flushed, status, line.bytes(), errors)
 }
 

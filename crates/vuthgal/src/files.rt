@@ -9,6 +9,14 @@ pub fn read<'a>(rt: &HostRuntime, path: &'a str) -> Result<File, NoCommand<'a>> 
     fs::open(rt, path).map_err(|error| NoCommand::Unread(path, error))
 }
 
+/// How many bytes a file has, 0 where that isn't known.
+pub fn size(file: &File) -> u64 {
+    match file.metadata() {
+        Ok(metadata) if metadata.is_file() => metadata.len(),
+        _ => 0,
+    }
+}
+
 /// Whether two open files are one, by whatever names, and of the kind that keeps what is written to it.
 fn is_one_file(a: &Metadata, b: &Metadata) -> bool {
     b.is_file() && a.dev() == b.dev() && a.ino() == b.ino()

@@ -40,7 +40,7 @@ impl<'a> Files<'a> {
             | Request::Debug { file, .. }
             | Request::Compare { file, .. }
             | Request::Live { file, .. } => (*file, None),
-            Request::Both
+            Request::Both { .. }
             | Request::Race { .. }
             | Request::Choices { .. }
             | Request::Explain { .. } => (INPUT, None),

@@ -1,7 +1,7 @@
 //! The program: finds the command that its words ask for, opens the files, and hands them to the command.
 #![tactic(auto)]
 
-ghost use Rattle.std.specs.Prelude.{◌≤◌};
+ghost use Rattle.std.specs.Prelude.{◌≤◌, IfSome};
 ghost use Rattle.command_line.specs.Request.{IsInRange};
 
 mod ending;
@@ -10,10 +10,12 @@ mod files;
 mod help;
 mod no_command;
 mod origin;
+mod progress;
+mod traced;
 mod until_failure;
 mod words;
 
-use byte_ports::{ReadPort, Sink, Source, WritePort};
+use byte_ports::{BlockSource, ReadPort, Sink, Source, WritePort};
 use choices_command::choices::choices_cmd;
 use choices_command::opening::{Opening, opening_of};
 use command_line::request::Request;
@@ -22,52 +24,52 @@ use expectation::as_expected;
 use expected_state::{Expected, StateWatch};
 use help::{Files, push_refusal};
 use leading_source::LeadingSource;
+use live_runs::{Asked, Pauses, runs_cmd};
 use no_command::NoCommand;
 use picture_commands::command::{picture_both_cmd, picture_cmd};
 use picture_commands::drawing::Drawing;
 use picture_commands::page::Page;
 use picture_commands::picture::Picture;
+use progress::{ShownGate, ShownSource};
 use race::race_cmd;
 use refusal_words::explain_cmd;
 use refusal_words::told_line::ToldLine;
 use row_listing::rows_cmd;
+use shown_difference::compare_shown_cmd;
 use std::fs::File;
 use std::io::{BufWriter, IsTerminal};
 use std::process::ExitCode;
 use std::sync::Wait;
 use std::thread::Threads;
-use stirred_gate::Stirred;
-use thread_runner::{Gate, NoGate};
 use trace_choices::naming::NamingFault;
+use traced::{ScheduleTrace, TextTrace, trace_port, traced};
 use until_failure::UntilFailure;
 use workbench::asm::asm_cmd;
-use workbench::both::both_cmd;
 use workbench::compare::compare_cmd;
 use workbench::debug::debug_cmd;
 use workbench::fault::{DONE, Fault, UNLIKE, push_counted_line};
+use workbench::input::read_all;
 use workbench::list::list_cmd;
 use workbench::live::live_through_cmd;
-use workbench::run::run_cmd;
+use workbench::slice_source::SliceSource;
 
 /// How many bytes are written at a time.
 const BUFFER: usize = 65_536;
 
 /// Plays what standard input holds.
-fn both<'a, E: Sink>(rt: &HostRuntime, errors: &mut E) -> Result<u8, NoCommand<'a>> {
+fn both<'a, E: Sink>(
+    rt: &HostRuntime,
+    errors: &mut E,
+    expected: Option<Expected>,
+) -> Result<u8, NoCommand<'a>> {
     if rt.stdin().is_terminal() {
         let _ = errors.push(b"reading a program text from the terminal (--help tells more)\n");
     }
-    let Ok(writer) = BufWriter::with_capacity(rt.alloc(), BUFFER, UntilFailure::new(rt.stdout()))
-    else {
-        return Err(NoCommand::Memory);
+    let mut text = TextTrace {
+        alloc: rt.alloc(),
+        input: ReadPort::new(rt.stdin()),
     };
-    let Ok(mut line) = held_line(rt) else {
-        return Err(NoCommand::Memory);
-    };
-    let mut output = WritePort::new(writer);
-    let mut input = ReadPort::new(rt.stdin());
-    let status = both_cmd(rt.alloc(), &mut input, &mut output, &mut line);
-    Ok(ended(errors, status, &mut output, &line))
+    traced(rt, errors, &mut text, expected)
 }
 
 /// Writes the image of the text in one file to another.
@@ -104,32 +106,20 @@ fn list<'a, E: Sink>(
     Ok(flushed(errors, status, &mut output))
 }
 
-/// Plays the program in a file under a schedule. Only where an end is expected is what is written looked at.
-fn run_under<'a, S: Source, E: Sink>(
+/// Plays the program in a file under a schedule.
+fn run_under<'a, S: Source + Drop, E: Sink>(
     rt: &HostRuntime,
     errors: &mut E,
     program: File,
-    schedule: &mut S,
+    schedule: S,
     expected: Option<Expected>,
 ) -> Result<u8, NoCommand<'a>> {
-    let Ok(writer) = BufWriter::with_capacity(rt.alloc(), BUFFER, UntilFailure::new(rt.stdout()))
-    else {
-        return Err(NoCommand::Memory);
+    let mut run = ScheduleTrace {
+        alloc: rt.alloc(),
+        program: ReadPort::new(program),
+        schedule,
     };
-    let Ok(mut line) = held_line(rt) else {
-        return Err(NoCommand::Memory);
-    };
-    let alloc = rt.alloc();
-    let mut program = ReadPort::new(program);
-    let mut output = WritePort::new(writer);
-    let Some(expected) = expected else {
-        let status = run_cmd(alloc, &mut program, schedule, &mut output, &mut line);
-        return Ok(ended(errors, status, &mut output, &line));
-    };
-    let mut watch = StateWatch::new(output);
-    let status = run_cmd(alloc, &mut program, schedule, &mut watch, &mut line);
-    let status = as_expected(status, expected, watch.word());
-    Ok(ended(errors, status, &mut watch.into_inner(), &line))
+    traced(rt, errors, &mut run, expected)
 }
 
 /// The same with the files that two words name, the schedule standard input where its word is `-`.
@@ -142,16 +132,10 @@ fn run<'a, E: Sink>(
 ) -> Result<u8, NoCommand<'a>> {
     let program = files::read(rt, file)?;
     if schedule == "-" {
-        return run_under(
-            rt,
-            errors,
-            program,
-            &mut ReadPort::new(rt.stdin()),
-            expected,
-        );
+        return run_under(rt, errors, program, ReadPort::new(rt.stdin()), expected);
     }
     let schedule = files::read(rt, schedule)?;
-    run_under(rt, errors, program, &mut ReadPort::new(schedule), expected)
+    run_under(rt, errors, program, ReadPort::new(schedule), expected)
 }
 
 /// Compares a trace with the run of the program in a file.
@@ -181,24 +165,76 @@ fn compare<'a, E: Sink>(
 ) -> Result<u8, NoCommand<'a>> {
     let program = files::read(rt, file)?;
     if trace == "-" {
-        return compare_with(rt, errors, program, &mut ReadPort::new(rt.stdin()));
+        let mut trace = ShownSource::new(rt, ReadPort::new(rt.stdin()), 0);
+        return compare_with(rt, errors, program, &mut trace);
     }
     let trace = files::read(rt, trace)?;
-    compare_with(rt, errors, program, &mut ReadPort::new(trace))
+    let size = files::size(&trace);
+    let mut trace = ShownSource::new(rt, ReadPort::new(trace), size);
+    compare_with(rt, errors, program, &mut trace)
 }
 
-/// Answers commands about the program in a file. Nothing is kept back: standard output is flushed at each line's end.
-fn session<'a, S: Source, E: Sink>(
+/// Compares a trace, and shows the lines that differ.
+fn compare_shown_with<'a, S: Source, A: Source, E: Sink>(
     rt: &HostRuntime,
     errors: &mut E,
     program: File,
-    commands: &mut S,
+    trace: &mut S,
+    again: &mut A,
 ) -> Result<u8, NoCommand<'a>> {
+    let mut output = WritePort::new(rt.stdout());
+    let status = compare_shown_cmd(
+        rt.alloc(),
+        &mut ReadPort::new(program),
+        trace,
+        again,
+        &mut output,
+        errors,
+    );
+    Ok(flushed(errors, status, &mut output))
+}
+
+/// The same with the files that two words name. The trace's is opened twice; standard input is held, where the word is `-`.
+fn compare_shown<'a, E: Sink>(
+    rt: &HostRuntime,
+    errors: &mut E,
+    file: &'a str,
+    trace: &'a str,
+) -> Result<u8, NoCommand<'a>> {
+    let program = files::read(rt, file)?;
+    if trace == "-" {
+        let bytes = match read_all(rt.alloc(), &mut ReadPort::new(rt.stdin())) {
+            Ok(bytes) => bytes,
+            Err(fault) => {
+                let _ = fault.tell(errors);
+                return Ok(fault.status());
+            }
+        };
+        let mut first = SliceSource::new(bytes.as_slice());
+        let mut again = SliceSource::new(bytes.as_slice());
+        return compare_shown_with(rt, errors, program, &mut first, &mut again);
+    }
+    let mut first = ReadPort::new(files::read(rt, trace)?);
+    let mut again = ReadPort::new(files::read(rt, trace)?);
+    compare_shown_with(rt, errors, program, &mut first, &mut again)
+}
+
+/// Answers commands about the program in a file. Nothing is kept back: standard output is flushed at each line's end, and
+/// `commands` are waited for only where none that has come is left.
+fn session<'a, S: Source + Drop, E: Sink>(
+    rt: &HostRuntime,
+    errors: &mut E,
+    program: File,
+    commands: S,
+) -> Result<u8, NoCommand<'a>> {
+    let Ok(mut commands) = BlockSource::new(rt.alloc(), commands) else {
+        return Err(NoCommand::Memory);
+    };
     let mut output = WritePort::new(rt.stdout());
     let status = debug_cmd(
         rt.alloc(),
         &mut ReadPort::new(program),
-        commands,
+        &mut commands,
         &mut output,
         errors,
     );
@@ -229,8 +265,8 @@ fn session_at<'a, E: Sink>(
     match opening_of(rt.alloc(), &mut ReadPort::new(trace)) {
         Ok(Opening::Line(line)) => {
             let commands = ReadPort::new(rt.stdin());
-            let mut commands = LeadingSource::new(line.as_bytes(), commands);
-            session(rt, errors, program, &mut commands)
+            let commands = LeadingSource::new(line.as_bytes(), commands);
+            session(rt, errors, program, commands)
         }
         Ok(Opening::NotATrace { line }) => not_a_trace(rt, errors, line),
         Err(NamingFault::Memory) => Err(NoCommand::Memory),
@@ -239,6 +275,20 @@ fn session_at<'a, E: Sink>(
             Ok(Fault::Read.status())
         }
     }
+}
+
+/// Shows the rows of the program in a file to a person who is about to debug it, and answers 0, or the status where it has none.
+fn show_rows<'a, E: Sink>(
+    rt: &HostRuntime,
+    errors: &mut E,
+    file: &'a str,
+) -> Result<u8, NoCommand<'a>> {
+    if !rt.stdin().is_terminal() || !rt.stderr().is_terminal() {
+        return Ok(DONE);
+    }
+    let mut program = ReadPort::new(files::read(rt, file)?);
+    let mut rows = WritePort::new(rt.stderr());
+    Ok(rows_cmd(rt.alloc(), &mut program, &mut rows, errors))
 }
 
 /// Answers the commands on standard input, which are about the program in a file.
@@ -253,12 +303,16 @@ fn debug<'a, E: Sink>(
         Some(trace) => Some(files::read(rt, trace)?),
         None => None,
     };
+    let status = show_rows(rt, errors, file)?;
+    if status != DONE {
+        return Ok(status);
+    }
     if rt.stdin().is_terminal() {
         let _ = errors.push(b"reading commands from the terminal (debug --help lists them)\n");
     }
     match trace {
         Some(trace) => session_at(rt, errors, program, trace),
-        None => session(rt, errors, program, &mut ReadPort::new(rt.stdin())),
+        None => session(rt, errors, program, ReadPort::new(rt.stdin())),
     }
 }
 
@@ -319,75 +373,104 @@ fn picture<'a, P: Picture, E: Sink>(
     picture_under(rt, errors, picture, program, &mut ReadPort::new(schedule))
 }
 
-/// Plays the program in a file on real threads that pass a gate. Only where an end is expected is what is written looked at.
-fn live_through<'a, R: Threads + Wait + Sync, G: Gate + Sync, E: Sink>(
+/// Plays the program in a file on real threads, which pause a little where there is a seed. Only where an end is expected is
+/// what is written looked at.
+fn live<'a, R: Threads + Wait + Sync, E: Sink>(
     threads: &R,
     rt: &HostRuntime,
     errors: &mut E,
     program: File,
     limit: u32,
-    gate: &G,
+    pauses: Pauses,
     expected: Option<Expected>,
 ) -> Result<u8, NoCommand<'a>>
     requires { limit ≤ 1000000000 }
 {
-    let Ok(writer) = BufWriter::with_capacity(rt.alloc(), BUFFER, UntilFailure::new(rt.stdout()))
-    else {
+    let Ok(mut output) = trace_port(rt) else {
         return Err(NoCommand::Memory);
     };
     let Ok(mut line) = held_line(rt) else {
         return Err(NoCommand::Memory);
     };
     let alloc = rt.alloc();
+    let gate = ShownGate::new(rt, pauses.of_run(0));
     let mut program = ReadPort::new(program);
-    let mut output = WritePort::new(writer);
     let Some(expected) = expected else {
         let status = live_through_cmd(
             threads,
             alloc,
             limit,
-            gate,
+            &gate,
             &mut program,
             &mut output,
             &mut line,
         );
-        return Ok(ended(errors, status, &mut output, &line));
+        gate.end();
+        return Ok(ended(errors, status, output, &line));
     };
     let mut watch = StateWatch::new(output);
     let status = live_through_cmd(
         threads,
         alloc,
         limit,
-        gate,
+        &gate,
         &mut program,
         &mut watch,
         &mut line,
     );
+    gate.end();
     let status = as_expected(status, expected, watch.word());
-    Ok(ended(errors, status, &mut watch.into_inner(), &line))
+    Ok(ended(errors, status, watch.into_inner(), &line))
 }
 
-/// Plays the program in a file on real threads, which pause a little where there is a seed.
-fn live<'a, R: Threads + Wait + Sync, E: Sink>(
+/// Plays it so often, and writes what the runs came to.
+fn live_often<'a, R: Threads + Wait + Sync, E: Sink>(
+    threads: &R,
+    rt: &HostRuntime,
+    errors: &mut E,
+    program: File,
+    asked: &Asked,
+) -> Result<u8, NoCommand<'a>>
+    requires limit { asked.now.limit ≤ 1000000000 }
+    requires count { asked.now.runs ≤ 100000 }
+{
+    let mut output = WritePort::new(rt.stdout());
+    let status = runs_cmd(
+        threads,
+        rt.alloc(),
+        asked,
+        &mut ReadPort::new(program),
+        &mut output,
+        errors,
+    );
+    Ok(flushed(errors, status, &mut output))
+}
+
+/// Plays the program in a file on real threads, once, or as often as is asked for.
+fn play_live<'a, R: Threads + Wait + Sync, E: Sink>(
     threads: &R,
     rt: &HostRuntime,
     errors: &mut E,
     file: &'a str,
+    runs: Option<u32>,
     limit: u32,
-    seed: Option<u32>,
+    pauses: Pauses,
     expected: Option<Expected>,
 ) -> Result<u8, NoCommand<'a>>
-    requires { limit ≤ 1000000000 }
+    requires limit { limit ≤ 1000000000 }
+    requires count { IfSome runs (λ n. n ≤ 100000) }
 {
     let program = files::read(rt, file)?;
-    let Some(seed) = seed else {
-        return live_through(threads, rt, errors, program, limit, &NoGate, expected);
+    let Some(runs) = runs else {
+        return live(threads, rt, errors, program, limit, pauses, expected);
     };
-    let gate = Stirred {
-        seed: u64::from(seed),
-        run: 0,
+    let asked = Asked {
+        runs,
+        limit,
+        pauses,
+        expected,
     };
-    live_through(threads, rt, errors, program, limit, &gate, expected)
+    live_often(threads, rt, errors, program, &asked)
 }
 
 /// Lets real threads meet at a shared phaser.
@@ -448,7 +531,7 @@ fn done<'a, R: Threads + Wait + Sync, E: Sink>(
     requires { IsInRange request }
 {
     match request {
-        Request::Both => both(rt, errors),
+        Request::Both { expected } => both(rt, errors, expected),
         Request::Asm { source, image } => asm(rt, errors, source, image),
         Request::List { file, has_rows } => list(rt, errors, file, has_rows),
         Request::Run {
@@ -456,7 +539,12 @@ fn done<'a, R: Threads + Wait + Sync, E: Sink>(
             schedule,
             expected,
         } => run(rt, errors, file, schedule, expected),
-        Request::Compare { file, trace } => compare(rt, errors, file, trace),
+        Request::Compare {
+            file,
+            trace,
+            is_shown: true,
+        } => compare_shown(rt, errors, file, trace),
+        Request::Compare { file, trace, .. } => compare(rt, errors, file, trace),
         Request::Debug { file, trace } => debug(rt, errors, file, trace),
         Request::Show { file, schedule } => picture(rt, errors, &Page, file, schedule),
         Request::Draw {
@@ -468,8 +556,18 @@ fn done<'a, R: Threads + Wait + Sync, E: Sink>(
             file,
             limit,
             seed,
+            runs,
             expected,
-        } => live(threads, rt, errors, file, limit, seed, expected),
+        } => play_live(
+            threads,
+            rt,
+            errors,
+            file,
+            runs,
+            limit,
+            Pauses { seed },
+            expected,
+        ),
         Request::Race { parties, rounds } => meet(threads, rt, errors, parties, rounds),
         Request::Choices { trace } => choices(rt, errors, trace),
         Request::Explain { words } => explain(rt, errors, words.as_slice()),

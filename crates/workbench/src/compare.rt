@@ -95,7 +95,7 @@ fn compared<F: Source, S: Source, K: Sink>(
 }
 
 /// `compare` in the words of the commands.
-fn verdict_on<S: Source>(alloc: Global, image: Image, trace: &mut S) -> Result<Verdict, Fault>
+pub fn verdict_on<S: Source>(alloc: Global, image: Image, trace: &mut S) -> Result<Verdict, Fault>
     ensures verdict { IfOk result (λ verdict.
         HasCompared image (S.left trace.old) (S.left trace.new) verdict) }
     ensures load { (fault : LoadFault) → result ≡ Err (Fault.Load fault)
@@ -117,7 +117,7 @@ fn verdict_on<S: Source>(alloc: Global, image: Image, trace: &mut S) -> Result<V
 }
 
 /// The line of a verdict.
-fn push_verdict<K: Sink>(output: &mut K, verdict: Verdict) -> Result<(), Failed>
+pub fn push_verdict<K: Sink>(output: &mut K, verdict: Verdict) -> Result<(), Failed>
     ensures bytes { OnOk result (Appends (K.written output.old) (K.written output.new)
         (verdict_line verdict)) }
     ensures failed { IfErr result (λ _. IsTrue (K.has_failed output.new)) }

@@ -21,6 +21,6 @@ mod play;
 pub mod program_file;
 pub mod run;
 pub mod run_line;
-mod slice_source;
+pub mod slice_source;
 
 pub use program_file::a_file_is_one_program;

@@ -75,8 +75,7 @@ impl Stage {
         requires sound { IsSound program.now most_after (scene_of self.now) }
         requires thread { t < length self.now.threads }
         ensures row { result ≡ row_at program.now.rows (thread_at (scene_of self.now) t).pc }
-        ensures named { IsNamed (counts_in program.now self.now) result }
-        ensures few { length self.now.phasers ≤ 64 }
+        ensures named { IsNamed (counts_in self.now) result }
         ensures waits { HasItsWait (thread_at (scene_of self.now) t).status result t (scene_of self.now) }
     {
         let row = program.rows()[self.threads[t].pc() as usize];
@@ -94,11 +93,11 @@ impl Stage {
         match self.threads[t].status() {
             Status::AwaitsPhase(phase) => {
                 let row = self.waiting_row(program, t);
-                !self.is_phase_wait_over(program, row, phase, t)
+                !self.is_phase_wait_over(row, phase, t)
             }
-            Status::AwaitsBarrier(index) => {
+            Status::AwaitsBarrier(_) => {
                 let row = self.waiting_row(program, t);
-                !self.is_barrier_wait_over(program, row, index, t)
+                !self.is_barrier_wait_over(row, t)
             }
             _ => false,
         }
@@ -137,7 +136,7 @@ impl Stage {
     fn others_asleep(&self, program: &Loaded, before: u64, row: Row, event: Event, t: usize) -> u64
         requires sound { IsSound program.now most_after (scene_of self.now) }
         requires thread { t < length self.now.threads }
-        requires named { IsNamed (counts_in program.now self.now) row }
+        requires named { IsNamed (counts_in self.now) row }
         requires others { may_wake row event ≡ false
             → AreOthersAsleep program.now t row before self.now }
         ensures { (u : ℕ) → u < length self.now.threads → u ≢ t → has result u ≡ true
@@ -164,7 +163,7 @@ impl Stage {
     ) -> u64
         requires sound { IsSound program.now most_after (scene_of self.now) }
         requires thread { t < length self.now.threads }
-        requires named { IsNamed (counts_in program.now self.now) row }
+        requires named { IsNamed (counts_in self.now) row }
         requires others { may_wake row event ≡ false
             → AreOthersAsleep program.now t row before self.now }
         ensures { AreAsleep program.now result self.now }

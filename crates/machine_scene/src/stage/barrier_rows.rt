@@ -4,6 +4,7 @@ ghost use Rattle.cyclic_barrier.specs.Barrier.{number_waiting};
 ghost use Rattle.loader.specs.Program.{IsNamed};
 ghost use Rattle.thread_state.specs.Thread.{is_full, turn_of_answer};
 ghost use Rattle.machine_scene.specs.Scene.{scene_of, counts_in, thread_at, barrier_at, outcome_of_turn};
+ghost use Rattle.machine_scene.specs.Sound.{CanPlay};
 ghost use Rattle.machine_scene.specs.BarrierRows.{is_run_by, unless_busy, unless_runner};
 ghost use Rattle.machine_scene.specs.BarrierRows.{outcome_of_entry, outcome_of_await_at, outcome_of_reset};
 ghost use Rattle.machine_scene.specs.BarrierRows.{outcome_of_barrier_row};
@@ -18,11 +19,10 @@ impl Stage {
     /// The rows at barriers.
     pub(super) fn barrier_row(&mut self, program: &Loaded, row: Row, t: usize) -> Event
         requires ready { is_some (outcome_of_barrier_row row t program.now (scene_of self.old)) ≡ true }
-        requires named { IsNamed (counts_in program.now self.old) row }
+        requires named { IsNamed (counts_in self.old) row }
         requires actions { length program.now.actions ≡ length self.old.barriers }
         requires no_wait { (b : ℕ) → wait_at (barrier_at (scene_of self.old) b).waits t ≡ None }
-        requires thread { t < length self.old.threads }
-        requires place { (thread_at (scene_of self.old) t).pc < 65535 }
+        requires plays { CanPlay t self.old }
         ensures outcome { outcome_of_barrier_row row t program.now (scene_of self.old)
             ≡ Some (record { scene = scene_of self.new; event = result }) }
         ensures phasers { self.new.phasers ≡ self.old.phasers }
@@ -69,8 +69,7 @@ impl Stage {
         requires there { barrier < length self.old.barriers }
         requires actions { length program.now.actions ≡ length self.old.barriers }
         requires no_wait { (b : ℕ) → wait_at (barrier_at (scene_of self.old) b).waits t ≡ None }
-        requires thread { t < length self.old.threads }
-        requires place { (thread_at (scene_of self.old) t).pc < 65535 }
+        requires plays { CanPlay t self.old }
         ensures outcome { unless_busy barrier t (scene_of self.old) (unless_runner barrier t (scene_of self.old)
             (outcome_of_await_at no_wait into barrier t program.now (scene_of self.old)))
             ≡ Some (record { scene = scene_of self.new; event = result }) }
@@ -93,8 +92,7 @@ impl Stage {
             && is_full (thread_at (scene_of self.old) t)) ≡ false }
         requires actions { length program.now.actions ≡ length self.old.barriers }
         requires no_wait { (b : ℕ) → wait_at (barrier_at (scene_of self.old) b).waits t ≡ None }
-        requires thread { t < length self.old.threads }
-        requires place { (thread_at (scene_of self.old) t).pc < 65535 }
+        requires plays { CanPlay t self.old }
         ensures outcome { outcome_of_entry no_wait into barrier t program.now (scene_of self.old)
             ≡ Some (record { scene = scene_of self.new; event = result }) }
         ensures phasers { self.new.phasers ≡ self.old.phasers }
@@ -131,8 +129,7 @@ impl Stage {
         requires ready { is_some (unless_busy barrier t (scene_of self.old) (unless_runner barrier t (scene_of self.old)
             (Some (outcome_of_reset barrier t (scene_of self.old))))) ≡ true }
         requires there { barrier < length self.old.barriers }
-        requires thread { t < length self.old.threads }
-        requires place { (thread_at (scene_of self.old) t).pc < 65535 }
+        requires plays { CanPlay t self.old }
         ensures outcome { unless_busy barrier t (scene_of self.old) (unless_runner barrier t (scene_of self.old)
             (Some (outcome_of_reset barrier t (scene_of self.old))))
             ≡ Some (record { scene = scene_of self.new; event = result }) }
@@ -159,8 +156,7 @@ impl Stage {
             (Some (outcome_of_turn (turn_of_answer into (pos (number_waiting (barrier_at (scene_of self.old) barrier)))
             (thread_at (scene_of self.old) t)) t (scene_of self.old))))) ≡ true }
         requires there { barrier < length self.old.barriers }
-        requires thread { t < length self.old.threads }
-        requires place { (thread_at (scene_of self.old) t).pc < 65535 }
+        requires plays { CanPlay t self.old }
         ensures outcome { unless_busy barrier t (scene_of self.old) (unless_runner barrier t (scene_of self.old)
             (Some (outcome_of_turn (turn_of_answer into (pos (number_waiting (barrier_at (scene_of self.old) barrier)))
             (thread_at (scene_of self.old) t)) t (scene_of self.old))))

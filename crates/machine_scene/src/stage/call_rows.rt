@@ -6,44 +6,24 @@ ghost use Rattle.loader.specs.Program.{row_at};
 ghost use Rattle.thread_state.specs.declared.frame.Frame.TheVariants as frame;
 ghost use Rattle.thread_state.specs.Thread.{top_of};
 ghost use Rattle.machine_scene.specs.Scene.{scene_of, thread_at, barrier_at};
-ghost use Rattle.machine_scene.specs.CallRows.{manner_of, outcome_of_routine_end};
+ghost use Rattle.machine_scene.specs.CallRows.{outcome_of_routine_end};
 ghost use Rattle.machine_scene.specs.CallRows.{outcome_of_ret, outcome_of_call_row};
-ghost use Rattle.machine_scene.specs.Sound.{IsSound, most_after, most_before};
+ghost use Rattle.machine_scene.specs.Sound.{CanPlay, IsSound, most_after, most_before};
 ghost use Rattle.machine_scene.specs.Undo.{PhasersWithin, reach_of_ret, reach_of_row};
 
 use super::{Stage, alone};
-use crate::manner::Manner;
+use crate::manner::{Manner, manner_of};
 use instruction_table::{Reg, Regs, Row};
 use loader::Loaded;
 use thread_state::{Event, Frame, Mark};
 use tier_tree::PhaserId;
-
-/// How the arrival at this row is made; a routine or an action begins at no other row.
-fn manner_of(row: Row) -> Manner
-    ensures { result ≡ manner_of row }
-{
-    let (into, leaves, waits) = match row {
-        Row::Parr { into, .. } => (into, false, false),
-        Row::Pdereg { into, .. } => (into, true, false),
-        Row::Paaa { into, .. } | Row::Cawait { into, .. } | Row::Cawaitt { into, .. } => (
-            into, false, true,
-        ),
-        _ => (Reg::R0, false, false),
-    };
-    Manner {
-        into,
-        leaves,
-        waits,
-    }
-}
 
 impl Stage {
     /// Calls, handlers, thrown exceptions, and the way back.
     pub(super) fn call_row(&mut self, program: &Loaded, row: Row, t: usize) -> Event
         requires ready { is_some (outcome_of_call_row row t program.now (scene_of self.old)) ≡ true }
         requires sound { IsSound program.now most_before (scene_of self.old) }
-        requires thread { t < length self.old.threads }
-        requires place { (thread_at (scene_of self.old) t).pc < 65535 }
+        requires plays { CanPlay t self.old }
         ensures outcome { outcome_of_call_row row t program.now (scene_of self.old)
             ≡ Some (record { scene = scene_of self.new; event = result }) }
         ensures phasers { PhasersWithin (reach_of_row row (top_of (thread_at (scene_of self.old) t).stack))
@@ -90,7 +70,7 @@ impl Stage {
         }
     }
 
-    /// An advance routine has answered: the phase ends, unless the tree was terminated meanwhile.
+    /// An advance routine has answered: its thread goes back to its arrival, with the registers of before.
     fn end_routine(
         &mut self,
         program: &Loaded,
@@ -119,15 +99,14 @@ impl Stage {
         self.routine_ended(manner, root, terminates, t)
     }
 
-    /// The same, with its thread back at the arrival.
+    /// The phase ends, or the tree was terminated while the routine ran; the thread is back at its arrival.
     #[tactic(auto, using(tier_tree::proofs::Changed::changed_nothing))]
     fn routine_ended(&mut self, manner: Manner, root: PhaserId, terminates: bool, t: usize) -> Event
         requires there { root.0 < length self.old.phasers }
         requires root { root_at (phasers_of self.old.phasers) root.0 ≡ root.0 }
         requires pending { is_pending (flat_at (phasers_of self.old.phasers) root.0) ≡ true }
         requires ends { (phaser_at (phasers_of self.old.phasers) root.0).ends < most_after }
-        requires thread { t < length self.old.threads }
-        requires place { (thread_at (scene_of self.old) t).pc < 65535 }
+        requires plays { CanPlay t self.old }
         ensures outcome { record { scene = scene_of self.new; event = result }
             ≡ outcome_of_routine_end (flat_at (phasers_of self.old.phasers) root.0).ended manner root.0
             terminates t (scene_of self.old) }

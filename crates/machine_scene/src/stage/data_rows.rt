@@ -1,28 +1,22 @@
 ghost use Rattle.std.specs.Prelude.{◌≡◌, ◌<◌, length, pos, true, Some, is_some, IsErr, IfOk, OnErr};
 ghost use Rattle.thread_state.specs.Thread.{turn_of_out, turn_of_answer, turn_of_intrd};
 ghost use Rattle.machine_scene.specs.Scene.{scene_of, counts_in, thread_at, cell_at, outcome_of_turn};
+ghost use Rattle.machine_scene.specs.Sound.{CanPlay};
 ghost use Rattle.machine_scene.specs.DataRows.{outcome_of_store, outcome_of_interrupt, outcome_of_data_row};
 ghost use Rattle.machine_scene.specs.DataRows.{runs, may_grow};
 ghost use Rattle.loader.specs.Program.{IsNamed};
 
 use super::{Stage, alone};
 use instruction_table::{Reg, Row};
-use loader::Loaded;
 use std::alloc::AllocError;
 use thread_state::Event;
 
 impl Stage {
     /// The rows on outputs, cells, thread numbers and interrupted statuses.
-    pub(super) fn data_row(
-        &mut self,
-        program: &Loaded,
-        row: Row,
-        t: usize,
-    ) -> Result<Event, AllocError>
+    pub(super) fn data_row(&mut self, row: Row, t: usize) -> Result<Event, AllocError>
         requires ready { is_some (outcome_of_data_row row t (scene_of self.old)) ≡ true }
-        requires named { IsNamed (counts_in program.now self.old) row }
-        requires thread { t < length self.old.threads }
-        requires place { (thread_at (scene_of self.old) t).pc < 65535 }
+        requires named { IsNamed (counts_in self.old) row }
+        requires plays { CanPlay t self.old }
         requires runs { runs (thread_at (scene_of self.old) t).status ≡ true }
         ensures ok { IfOk result (λ event. outcome_of_data_row row t (scene_of self.old)
             ≡ Some (record { scene = scene_of self.new; event = event })) }
@@ -43,8 +37,7 @@ impl Stage {
 
     /// `out`.
     fn out(&mut self, value: Reg, t: usize) -> Result<Event, AllocError>
-        requires thread { t < length self.old.threads }
-        requires place { (thread_at (scene_of self.old) t).pc < 65535 }
+        requires plays { CanPlay t self.old }
         ensures ok { IfOk result (λ event. record { scene = scene_of self.new; event = event }
             ≡ outcome_of_turn (turn_of_out value (thread_at (scene_of self.old) t)) t (scene_of self.old)) }
         ensures err { OnErr result (self.new ≡ self.old) }
@@ -57,8 +50,7 @@ impl Stage {
     /// `lds`.
     fn load(&mut self, into: Reg, cell: u16, t: usize) -> Event
         requires cell { cell < 32 }
-        requires thread { t < length self.old.threads }
-        requires place { (thread_at (scene_of self.old) t).pc < 65535 }
+        requires plays { CanPlay t self.old }
         ensures outcome { record { scene = scene_of self.new; event = result }
             ≡ outcome_of_turn (turn_of_answer into (cell_at (scene_of self.old) cell) (thread_at (scene_of self.old) t)) t (scene_of self.old) }
         ensures phasers { self.new.phasers ≡ self.old.phasers }
@@ -69,8 +61,7 @@ impl Stage {
 
     /// `self`.
     fn own_number(&mut self, into: Reg, t: usize) -> Event
-        requires thread { t < length self.old.threads }
-        requires place { (thread_at (scene_of self.old) t).pc < 65535 }
+        requires plays { CanPlay t self.old }
         ensures outcome { record { scene = scene_of self.new; event = result }
             ≡ outcome_of_turn (turn_of_answer into (pos t) (thread_at (scene_of self.old) t)) t (scene_of self.old) }
         ensures phasers { self.new.phasers ≡ self.old.phasers }
@@ -80,8 +71,7 @@ impl Stage {
 
     /// `intrd`.
     fn take_interrupt(&mut self, into: Reg, t: usize) -> Event
-        requires thread { t < length self.old.threads }
-        requires place { (thread_at (scene_of self.old) t).pc < 65535 }
+        requires plays { CanPlay t self.old }
         ensures outcome { record { scene = scene_of self.new; event = result }
             ≡ outcome_of_turn (turn_of_intrd into (thread_at (scene_of self.old) t)) t (scene_of self.old) }
         ensures phasers { self.new.phasers ≡ self.old.phasers }
@@ -92,8 +82,7 @@ impl Stage {
     /// `sts`.
     fn store(&mut self, from: Reg, cell: u16, t: usize) -> Event
         requires cell { cell < 32 }
-        requires thread { t < length self.old.threads }
-        requires place { (thread_at (scene_of self.old) t).pc < 65535 }
+        requires plays { CanPlay t self.old }
         ensures outcome { record { scene = scene_of self.new; event = result } ≡ outcome_of_store from cell t (scene_of self.old) }
         ensures phasers { self.new.phasers ≡ self.old.phasers }
     {
@@ -104,8 +93,7 @@ impl Stage {
     /// `intr`.
     fn interrupt(&mut self, other: usize, t: usize) -> Event
         requires other { other < length self.old.threads }
-        requires thread { t < length self.old.threads }
-        requires place { (thread_at (scene_of self.old) t).pc < 65535 }
+        requires plays { CanPlay t self.old }
         ensures outcome { record { scene = scene_of self.new; event = result } ≡ outcome_of_interrupt other t (scene_of self.old) }
         ensures phasers { self.new.phasers ≡ self.old.phasers }
     {

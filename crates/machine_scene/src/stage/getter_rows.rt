@@ -3,20 +3,19 @@ ghost use Rattle.tier_tree.specs.Forest.{phaser_at};
 ghost use Rattle.tier_tree.specs.Stored.{phasers_of};
 ghost use Rattle.loader.specs.Program.{IsNamed};
 ghost use Rattle.machine_scene.specs.Scene.{scene_of, counts_in, thread_at};
+ghost use Rattle.machine_scene.specs.Sound.{CanPlay};
 ghost use Rattle.machine_scene.specs.GetterRows.{number_or_none, outcome_of_getter_row};
 
 use super::{Stage, alone};
 use instruction_table::Row;
-use loader::Loaded;
 use thread_state::Event;
 
 impl Stage {
     /// The rows that read a phaser.
-    pub(super) fn getter_row(&mut self, program: &Loaded, row: Row, t: usize) -> Event
+    pub(super) fn getter_row(&mut self, row: Row, t: usize) -> Event
         requires ready { is_some (outcome_of_getter_row row t (scene_of self.old)) ≡ true }
-        requires named { IsNamed (counts_in program.now self.old) row }
-        requires thread { t < length self.old.threads }
-        requires place { (thread_at (scene_of self.old) t).pc < 65535 }
+        requires named { IsNamed (counts_in self.old) row }
+        requires plays { CanPlay t self.old }
         ensures outcome { outcome_of_getter_row row t (scene_of self.old)
             ≡ Some (record { scene = scene_of self.new; event = result }) }
         ensures phasers { self.new.phasers ≡ self.old.phasers }

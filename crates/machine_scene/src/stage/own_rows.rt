@@ -1,6 +1,7 @@
 ghost use Rattle.std.specs.Prelude.{◌≡◌, ◌<◌, length, true, false, Some, is_some};
 ghost use Rattle.instruction_table.specs.LocalRows.{is_local_row};
 ghost use Rattle.machine_scene.specs.Scene.{scene_of, thread_at};
+ghost use Rattle.machine_scene.specs.Sound.{CanPlay};
 ghost use Rattle.machine_scene.specs.OwnRows.{outcome_of_own_row};
 
 use super::{Stage, alone};
@@ -13,8 +14,7 @@ impl Stage {
     #[tactic(auto, using(crate::proofs::LocalTurns::own_outcome))]
     pub(super) fn local_row(&mut self, row: Row, t: usize) -> Event
         requires local { is_local_row row ≡ true }
-        requires thread { t < length self.old.threads }
-        requires place { (thread_at (scene_of self.old) t).pc < 65535 }
+        requires plays { CanPlay t self.old }
         ensures outcome { outcome_of_own_row row t (scene_of self.old)
             ≡ Some (record { scene = scene_of self.new; event = result }) }
         ensures phasers { self.new.phasers ≡ self.old.phasers }

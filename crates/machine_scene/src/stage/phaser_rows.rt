@@ -7,14 +7,14 @@ ghost use Rattle.thread_state.specs.Thread.{is_full, top_of};
 ghost use Rattle.machine_scene.specs.Scene.{scene_of, counts_in, thread_at};
 ghost use Rattle.machine_scene.specs.PhaserRows.{turn_of_patience, turn_of_await, turn_of_arrival};
 ghost use Rattle.machine_scene.specs.PhaserRows.{is_own_tree, unless_own, has_routine, answer_of_policy};
-ghost use Rattle.machine_scene.specs.PhaserRows.{outcome_of_ended_phase, outcome_of_phase_end, outcome_of_turning, outcome_with_room};
+ghost use Rattle.machine_scene.specs.PhaserRows.{outcome_of_ended_phase, outcome_of_phase_end, outcome_of_pending_end, outcome_with_room};
 ghost use Rattle.machine_scene.specs.PhaserRows.{outcome_of_arrival, outcome_of_registration, outcome_of_bulk};
 ghost use Rattle.machine_scene.specs.PhaserRows.{outcome_of_await, outcome_of_force, outcome_of_phaser_row};
 ghost use Rattle.machine_scene.specs.Undo.{PhasersWithin, reach_of_row};
-ghost use Rattle.machine_scene.specs.Sound.{most_after};
+ghost use Rattle.machine_scene.specs.Sound.{CanPlay, most_after};
 
 use super::{Stage, alone};
-use crate::manner::Manner;
+use crate::manner::{Manner, manner_of};
 use crate::patience::Patience;
 use instruction_table::{Reg, Row};
 use loader::Loaded;
@@ -78,11 +78,10 @@ impl Stage {
     /// The rows that register at a phaser, arrive, wait or terminate.
     pub(super) fn phaser_row(&mut self, program: &Loaded, row: Row, t: usize) -> Event
         requires ready { is_some (outcome_of_phaser_row row t program.now (scene_of self.old)) ≡ true }
-        requires named { IsNamed (counts_in program.now self.old) row }
+        requires named { IsNamed (counts_in self.old) row }
         requires routines { length program.now.routines ≡ length self.old.phasers }
         requires ends { (p : ℕ) → (phaser_at (phasers_of self.old.phasers) p).ends < most_after }
-        requires thread { t < length self.old.threads }
-        requires place { (thread_at (scene_of self.old) t).pc < 65535 }
+        requires plays { CanPlay t self.old }
         ensures outcome { outcome_of_phaser_row row t program.now (scene_of self.old)
             ≡ Some (record { scene = scene_of self.new; event = result }) }
         ensures phasers { PhasersWithin (reach_of_row row (top_of (thread_at (scene_of self.old) t).stack))
@@ -95,30 +94,14 @@ impl Stage {
                 phaser,
                 count,
             } => self.register_many(into, phaser, count, t),
-            Row::Parr { into, phaser } => {
-                let manner = Manner {
-                    into,
-                    leaves: false,
-                    waits: false,
-                };
-                self.arrival_unless_own(program, manner, phaser, t)
-            }
-            Row::Pdereg { into, phaser } => {
-                let manner = Manner {
-                    into,
-                    leaves: true,
-                    waits: false,
-                };
-                self.arrival_unless_own(program, manner, phaser, t)
-            }
-            Row::Paaa { into, phaser } => {
-                let manner = Manner {
-                    into,
-                    leaves: false,
-                    waits: true,
-                };
-                self.arrival_unless_own(program, manner, phaser, t)
-            }
+            Row::Parr { phaser, .. } => self.arrival_unless_own(program, manner_of(row), phaser, t),
+            Row::Pdereg { phaser, .. } => self.arrival_unless_own(
+                program,
+                manner_of(row),
+                phaser,
+                t,
+            ),
+            Row::Paaa { phaser, .. } => self.arrival_unless_own(program, manner_of(row), phaser, t),
             Row::Pawait {
                 into,
                 phaser,
@@ -159,8 +142,7 @@ impl Stage {
         requires ready { is_some (unless_own phaser t (scene_of self.old)
             (outcome_of_registration into phaser 1 t (scene_of self.old))) ≡ true }
         requires phaser { phaser < length self.old.phasers }
-        requires thread { t < length self.old.threads }
-        requires place { (thread_at (scene_of self.old) t).pc < 65535 }
+        requires plays { CanPlay t self.old }
         ensures outcome { unless_own phaser t (scene_of self.old)
             (outcome_of_registration into phaser 1 t (scene_of self.old))
             ≡ Some (record { scene = scene_of self.new; event = result }) }
@@ -179,8 +161,7 @@ impl Stage {
             (outcome_of_bulk into phaser (value_in (thread_at (scene_of self.old) t).registers count) t (scene_of self.old)))
             ≡ true }
         requires phaser { phaser < length self.old.phasers }
-        requires thread { t < length self.old.threads }
-        requires place { (thread_at (scene_of self.old) t).pc < 65535 }
+        requires plays { CanPlay t self.old }
         ensures outcome { unless_own phaser t (scene_of self.old)
             (outcome_of_bulk into phaser (value_in (thread_at (scene_of self.old) t).registers count) t (scene_of self.old))
             ≡ Some (record { scene = scene_of self.new; event = result }) }
@@ -200,8 +181,7 @@ impl Stage {
     fn registration(&mut self, into: Reg, phaser: u16, count: u32, t: usize) -> Event
         requires ready { is_some (outcome_of_registration into phaser count t (scene_of self.old)) ≡ true }
         requires phaser { phaser < length self.old.phasers }
-        requires thread { t < length self.old.threads }
-        requires place { (thread_at (scene_of self.old) t).pc < 65535 }
+        requires plays { CanPlay t self.old }
         ensures outcome { outcome_of_registration into phaser count t (scene_of self.old)
             ≡ Some (record { scene = scene_of self.new; event = result }) }
         ensures phasers { ChangedAt phaser self.old.phasers self.new.phasers }
@@ -227,8 +207,7 @@ impl Stage {
         requires phaser { phaser < length self.old.phasers }
         requires routines { length program.now.routines ≡ length self.old.phasers }
         requires ends { (p : ℕ) → (phaser_at (phasers_of self.old.phasers) p).ends < most_after }
-        requires thread { t < length self.old.threads }
-        requires place { (thread_at (scene_of self.old) t).pc < 65535 }
+        requires plays { CanPlay t self.old }
         ensures outcome { unless_own phaser t (scene_of self.old)
             (Some (outcome_of_arrival manner phaser t program.now (scene_of self.old)))
             ≡ Some (record { scene = scene_of self.new; event = result }) }
@@ -246,8 +225,7 @@ impl Stage {
         requires phaser { phaser < length self.old.phasers }
         requires routines { length program.now.routines ≡ length self.old.phasers }
         requires ends { (p : ℕ) → (phaser_at (phasers_of self.old.phasers) p).ends < most_after }
-        requires thread { t < length self.old.threads }
-        requires place { (thread_at (scene_of self.old) t).pc < 65535 }
+        requires plays { CanPlay t self.old }
         ensures outcome { record { scene = scene_of self.new; event = result }
             ≡ outcome_of_arrival manner phaser t program.now (scene_of self.old) }
         ensures phasers { ChangedAt phaser self.old.phasers self.new.phasers }
@@ -279,8 +257,7 @@ impl Stage {
         requires room { (has_routine phaser (scene_of self.old) && is_full (thread_at (scene_of self.old) t)) ≡ false }
         requires routines { length program.now.routines ≡ length self.old.phasers }
         requires ends { (p : ℕ) → (phaser_at (phasers_of self.old.phasers) p).ends < most_after }
-        requires thread { t < length self.old.threads }
-        requires place { (thread_at (scene_of self.old) t).pc < 65535 }
+        requires plays { CanPlay t self.old }
         ensures outcome { record { scene = scene_of self.new; event = result }
             ≡ outcome_with_room manner phaser t program.now (scene_of self.old) }
         ensures phasers { ChangedAt phaser self.old.phasers self.new.phasers }
@@ -290,16 +267,16 @@ impl Stage {
             Arrived::At(phase) => alone(arrive_at(&mut self.threads[t], manner, phase)),
             Arrived::Turning { root, phase, .. } => {
                 self.phasers.is_forest();
-                self.turning(program, manner, root, phase, t)
+                self.pending_end(program, manner, root, phase, t)
             }
             Arrived::Dead(view) => alone(self.threads[t].answer(manner.into, view)),
             Arrived::NotThere => alone(self.threads[t].throw(1)),
         }
     }
 
-    /// An arrival has turned a root: its policy answers, or its routine is entered.
+    /// The phase end of a root is pending: its policy answers, or its routine is entered.
     #[tactic(auto, using(tier_tree::proofs::Changed::changed_nothing))]
-    fn turning(
+    fn pending_end(
         &mut self,
         program: &Loaded,
         manner: Manner,
@@ -315,10 +292,9 @@ impl Stage {
         requires room { answer_of_policy root.0 (scene_of self.old) ≡ None
             → is_full (thread_at (scene_of self.old) t) ≡ false }
         requires routines { root.0 < length program.now.routines }
-        requires thread { t < length self.old.threads }
-        requires place { (thread_at (scene_of self.old) t).pc < 65535 }
+        requires plays { CanPlay t self.old }
         ensures outcome { record { scene = scene_of self.new; event = result }
-            ≡ outcome_of_turning (answer_of_policy root.0 (scene_of self.old)) manner root.0 phase t
+            ≡ outcome_of_pending_end (answer_of_policy root.0 (scene_of self.old)) manner root.0 phase t
             program.now (scene_of self.old) }
         ensures phasers { ChangedAt root.0 self.old.phasers self.new.phasers }
     {
@@ -336,7 +312,7 @@ impl Stage {
         }
     }
 
-    /// The phase of a turned root ends, and the arrival that turned it has its answer.
+    /// The pending phase end of a root comes, and the arrival that was the last has its answer.
     pub(super) fn end_phase(
         &mut self,
         manner: Manner,
@@ -350,8 +326,7 @@ impl Stage {
         requires turned { (flat_at (phasers_of self.old.phasers) root.0).turned ≡ true }
         requires live { (flat_at (phasers_of self.old.phasers) root.0).ended ≡ false }
         requires ends { (phaser_at (phasers_of self.old.phasers) root.0).ends < most_after }
-        requires thread { t < length self.old.threads }
-        requires place { (thread_at (scene_of self.old) t).pc < 65535 }
+        requires plays { CanPlay t self.old }
         ensures outcome { record { scene = scene_of self.new; event = result }
             ≡ outcome_of_phase_end manner root.0 phase terminates t (scene_of self.old) }
         ensures phasers { ChangedAt root.0 self.old.phasers self.new.phasers }
@@ -360,11 +335,10 @@ impl Stage {
         self.phase_ended(manner, root, phase, t)
     }
 
-    /// The same, once the phase has ended.
+    /// The arrival's answer and the step's mark, behind the phase end.
     fn phase_ended(&mut self, manner: Manner, root: PhaserId, phase: i32, t: usize) -> Event
         requires there { root.0 < length self.old.phasers }
-        requires thread { t < length self.old.threads }
-        requires place { (thread_at (scene_of self.old) t).pc < 65535 }
+        requires plays { CanPlay t self.old }
         ensures outcome { record { scene = scene_of self.new; event = result }
             ≡ outcome_of_ended_phase manner root.0 phase t (scene_of self.old) }
         ensures phasers { self.new.phasers ≡ self.old.phasers }
@@ -387,8 +361,7 @@ impl Stage {
         t: usize,
     ) -> Event
         requires phaser { phaser < length self.old.phasers }
-        requires thread { t < length self.old.threads }
-        requires place { (thread_at (scene_of self.old) t).pc < 65535 }
+        requires plays { CanPlay t self.old }
         ensures outcome { unless_own phaser t (scene_of self.old)
             (Some (outcome_of_await patience into phaser
             (value_in (thread_at (scene_of self.old) t).registers phase) t (scene_of self.old)))
@@ -406,8 +379,7 @@ impl Stage {
     /// `pforce`.
     fn force(&mut self, phaser: u16, t: usize) -> Event
         requires phaser { phaser < length self.old.phasers }
-        requires thread { t < length self.old.threads }
-        requires place { (thread_at (scene_of self.old) t).pc < 65535 }
+        requires plays { CanPlay t self.old }
         ensures outcome { record { scene = scene_of self.new; event = result }
             ≡ outcome_of_force phaser t (scene_of self.old) }
         ensures phasers { ChangedAt phaser self.old.phasers self.new.phasers }

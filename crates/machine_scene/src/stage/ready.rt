@@ -12,7 +12,6 @@ ghost use Rattle.machine_scene.specs.Sound.{is_wait_row};
 use super::Stage;
 use cyclic_barrier::WaitState;
 use instruction_table::Row;
-use loader::Loaded;
 use thread_state::Status;
 use tier_tree::Registered;
 
@@ -37,8 +36,8 @@ pub(super) fn may_be_blocked(row: Row) -> bool
 impl Stage {
     /// Whether a running thread has to wait before it plays the row.
     #[inline(never)]
-    pub(super) fn is_blocked(&self, program: &Loaded, row: Row, t: usize) -> bool
-        requires named { IsNamed (counts_in program.now self.now) row }
+    pub(super) fn is_blocked(&self, row: Row, t: usize) -> bool
+        requires named { IsNamed (counts_in self.now) row }
         requires thread { t < length self.now.threads }
         ensures { result ≡ is_blocked row t (scene_of self.now) }
     {
@@ -85,14 +84,8 @@ impl Stage {
     }
 
     /// Whether a wait for a phase can end.
-    pub(super) fn is_phase_wait_over(
-        &self,
-        program: &Loaded,
-        row: Row,
-        phase: i32,
-        t: usize,
-    ) -> bool
-        requires named { IsNamed (counts_in program.now self.now) row }
+    pub(super) fn is_phase_wait_over(&self, row: Row, phase: i32, t: usize) -> bool
+        requires named { IsNamed (counts_in self.now) row }
         requires thread { t < length self.now.threads }
         ensures { result ≡ is_some (outcome_of_phase_wait row phase t (scene_of self.now)) }
     {
@@ -105,18 +98,12 @@ impl Stage {
     }
 
     /// Whether a wait at a barrier can end.
-    pub(super) fn is_barrier_wait_over(
-        &self,
-        program: &Loaded,
-        row: Row,
-        index: i32,
-        t: usize,
-    ) -> bool
-        requires named { IsNamed (counts_in program.now self.now) row }
+    pub(super) fn is_barrier_wait_over(&self, row: Row, t: usize) -> bool
+        requires named { IsNamed (counts_in self.now) row }
         requires waits { (b : ℕ) → is_wait_row b row ≡ true
             → wait_at (barrier_at (scene_of self.now) b).waits t ≢ None }
         requires thread { t < length self.now.threads }
-        ensures { result ≡ is_some (outcome_of_barrier_wait row index t (scene_of self.now)) }
+        ensures { (index : ℤ) → result ≡ is_some (outcome_of_barrier_wait row index t (scene_of self.now)) }
     {
         match row {
             Row::Cawait { barrier, .. } => self.is_released(barrier, t),
@@ -142,8 +129,8 @@ impl Stage {
     }
 
     /// Whether the time of the thread's wait may run out, its turn aside.
-    pub(super) fn has_time(&self, program: &Loaded, row: Row, t: usize) -> bool
-        requires named { IsNamed (counts_in program.now self.now) row }
+    pub(super) fn has_time(&self, row: Row, t: usize) -> bool
+        requires named { IsNamed (counts_in self.now) row }
         requires thread { t < length self.now.threads }
         ensures { result ≡ is_some (timeout_in (thread_at (scene_of self.now) t).status row t
             (scene_of self.now)) }

@@ -34,7 +34,7 @@ impl Stage {
         requires sound { IsSound program.now most_after (scene_of self.now) }
         requires thread { t < length self.now.threads }
         requires row { row ≡ row_at program.now.rows (thread_at (scene_of self.now) t).pc }
-        ensures { SeesWait program.now row t self.now }
+        ensures { SeesWait row t self.now }
     {
         let _ = &self.threads;
     }

@@ -7,12 +7,11 @@ ghost use Rattle.machine_scene.specs.Scene.{scene_of, counts_in, thread_at, barr
 ghost use Rattle.machine_scene.specs.PhaserRows.{is_past};
 ghost use Rattle.machine_scene.specs.Waits.{outcome_of_awaited, outcome_of_phase_wait, outcome_of_release};
 ghost use Rattle.machine_scene.specs.Waits.{outcome_of_barrier_wait, outcome_of_phase_timeout, outcome_of_barrier_timeout};
-ghost use Rattle.machine_scene.specs.Sound.{is_wait_row};
+ghost use Rattle.machine_scene.specs.Sound.{CanPlay, is_wait_row};
 
 use super::{Stage, alone};
 use cyclic_barrier::WaitState;
 use instruction_table::{Reg, Row};
-use loader::Loaded;
 use thread_state::{Event, Mark};
 
 impl Stage {
@@ -25,17 +24,10 @@ impl Stage {
     }
 
     /// Finishes a thread's wait for a phase.
-    pub(super) fn finish_phase_wait(
-        &mut self,
-        program: &Loaded,
-        row: Row,
-        phase: i32,
-        t: usize,
-    ) -> Event
+    pub(super) fn finish_phase_wait(&mut self, row: Row, phase: i32, t: usize) -> Event
         requires ready { is_some (outcome_of_phase_wait row phase t (scene_of self.old)) ≡ true }
-        requires named { IsNamed (counts_in program.now self.old) row }
-        requires thread { t < length self.old.threads }
-        requires place { (thread_at (scene_of self.old) t).pc < 65535 }
+        requires named { IsNamed (counts_in self.old) row }
+        requires plays { CanPlay t self.old }
         ensures outcome { outcome_of_phase_wait row phase t (scene_of self.old)
             ≡ Some (record { scene = scene_of self.new; event = result }) }
         ensures phasers { self.new.phasers ≡ self.old.phasers }
@@ -53,8 +45,7 @@ impl Stage {
     fn finish_awaited(&mut self, looks: bool, into: Reg, phaser: u16, phase: i32, t: usize) -> Event
         requires ready { is_some (outcome_of_awaited looks into phaser phase t (scene_of self.old)) ≡ true }
         requires phaser { phaser < length self.old.phasers }
-        requires thread { t < length self.old.threads }
-        requires place { (thread_at (scene_of self.old) t).pc < 65535 }
+        requires plays { CanPlay t self.old }
         ensures outcome { outcome_of_awaited looks into phaser phase t (scene_of self.old)
             ≡ Some (record { scene = scene_of self.new; event = result }) }
         ensures phasers { self.new.phasers ≡ self.old.phasers }
@@ -77,17 +68,10 @@ impl Stage {
     }
 
     /// Finishes a thread's wait at a barrier.
-    pub(super) fn finish_barrier_wait(
-        &mut self,
-        program: &Loaded,
-        row: Row,
-        index: i32,
-        t: usize,
-    ) -> Event
+    pub(super) fn finish_barrier_wait(&mut self, row: Row, index: i32, t: usize) -> Event
         requires ready { is_some (outcome_of_barrier_wait row index t (scene_of self.old)) ≡ true }
-        requires named { IsNamed (counts_in program.now self.old) row }
-        requires thread { t < length self.old.threads }
-        requires place { (thread_at (scene_of self.old) t).pc < 65535 }
+        requires named { IsNamed (counts_in self.old) row }
+        requires plays { CanPlay t self.old }
         ensures outcome { outcome_of_barrier_wait row index t (scene_of self.old)
             ≡ Some (record { scene = scene_of self.new; event = result }) }
         ensures phasers { self.new.phasers ≡ self.old.phasers }
@@ -104,8 +88,7 @@ impl Stage {
         requires ready { is_some (outcome_of_release (wait_at (barrier_at (scene_of self.old) barrier).waits t)
             into index barrier t (scene_of self.old)) ≡ true }
         requires there { barrier < length self.old.barriers }
-        requires thread { t < length self.old.threads }
-        requires place { (thread_at (scene_of self.old) t).pc < 65535 }
+        requires plays { CanPlay t self.old }
         ensures outcome { outcome_of_release (wait_at (barrier_at (scene_of self.old) barrier).waits t) into index
             barrier t (scene_of self.old) ≡ Some (record { scene = scene_of self.new; event = result }) }
         ensures phasers { self.new.phasers ≡ self.old.phasers }
@@ -144,35 +127,27 @@ impl Stage {
     }
 
     /// The time of a thread's wait at a barrier runs out: the barrier breaks.
-    pub(super) fn expire_barrier_wait(
-        &mut self,
-        program: &Loaded,
-        row: Row,
-        index: i32,
-        t: usize,
-    ) -> Event
+    #[tactic(auto, using(crate::proofs::Readiness::unreleased))]
+    pub(super) fn expire_barrier_wait(&mut self, row: Row, index: i32, t: usize) -> Event
         requires ready { is_some (outcome_of_barrier_timeout row t (scene_of self.old)) ≡ true }
         requires not_ready { is_some (outcome_of_barrier_wait row index t (scene_of self.old)) ≡ false }
         requires waits { (b : ℕ) → is_wait_row b row ≡ true
             → wait_at (barrier_at (scene_of self.old) b).waits t ≢ None }
-        requires named { IsNamed (counts_in program.now self.old) row }
+        requires named { IsNamed (counts_in self.old) row }
         requires thread { t < length self.old.threads }
         ensures outcome { outcome_of_barrier_timeout row t (scene_of self.old)
             ≡ Some (record { scene = scene_of self.new; event = result }) }
         ensures phasers { self.new.phasers ≡ self.old.phasers }
     {
         match row {
-            Row::Cawaitt { into, barrier, .. } => self.expire_at_barrier(into, index, barrier, t),
+            Row::Cawaitt { barrier, .. } => self.expire_at_barrier(barrier, t),
             _ => unreachable!(),
         }
     }
 
     /// At the row's barrier, where the thread's wait is unreleased.
-    #[tactic(auto, using(crate::proofs::Readiness::unreleased))]
-    fn expire_at_barrier(&mut self, into: Reg, index: i32, barrier: u16, t: usize) -> Event
-        requires not_ready { is_some (outcome_of_release (wait_at (barrier_at (scene_of self.old) barrier).waits t)
-            into index barrier t (scene_of self.old)) ≡ false }
-        requires waits { wait_at (barrier_at (scene_of self.old) barrier).waits t ≢ None }
+    fn expire_at_barrier(&mut self, barrier: u16, t: usize) -> Event
+        requires unreleased { wait_at (barrier_at (scene_of self.old) barrier).waits t ≡ Some WaitState.Waiting }
         requires no_runner { (barrier_at (scene_of self.old) barrier).runner ≡ None }
         requires there { barrier < length self.old.barriers }
         requires thread { t < length self.old.threads }

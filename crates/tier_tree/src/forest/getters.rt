@@ -67,6 +67,22 @@ impl Forest {
         word_at(self.nodes.as_slice(), id.0 as usize).is_terminated()
     }
 
+    /// Whether the phaser is turned: nobody is waited for any more, until the phase of its tree ends.
+    pub fn is_turned(&self, id: PhaserId) -> bool
+        requires { id.0 < length self.now }
+        ensures { result ≡ (flat_at (phasers_of self.now) id.0).turned }
+    {
+        word_at(self.nodes.as_slice(), id.0 as usize).is_turned()
+    }
+
+    /// How many phases of a root's tree have ended by `finish_turn`.
+    pub fn ended_phases(&self, id: PhaserId) -> u32
+        requires { id.0 < length self.now }
+        ensures { result ≡ (phaser_at (phasers_of self.now) id.0).ends }
+    {
+        self.nodes[id.0 as usize].ended_phases()
+    }
+
     /// `getParent`.
     pub fn parent(&self, id: PhaserId) -> Option<PhaserId>
         requires { id.0 < length self.now }

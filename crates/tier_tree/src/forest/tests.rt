@@ -1,10 +1,11 @@
 ghost use Rattle.std.specs.Prelude.{◌≡◌, ◌<◌, length, IfOk, IfSome};
 ghost use Rattle.tier_tree.specs.Declaration.{AreAllFresh};
 ghost use Rattle.tier_tree.specs.Forest.{phaser_at, flat_at, root_at};
+ghost use Rattle.tier_tree.specs.PhaseEnd.{most_ends};
 ghost use Rattle.tier_tree.specs.Stored.{phasers_of};
 
 use super::*;
-use crate::callers::{arrive_through, undo_two};
+use crate::callers::{arrive_through, end_turned_phase, undo_two};
 use crate::fault::DeclareFault;
 use crate::present::word_at;
 use packed_phaser::Policy;
@@ -54,22 +55,6 @@ impl Step {
     }
 }
 
-impl Forest {
-    fn is_turned(&self, id: PhaserId) -> bool
-        requires { id.0 < length self.now }
-        ensures { result ≡ (flat_at (phasers_of self.now) id.0).turned }
-    {
-        word_at(self.nodes.as_slice(), id.0 as usize).is_turned()
-    }
-
-    fn ended_phases(&self, id: PhaserId) -> u32
-        requires { id.0 < length self.now }
-        ensures { result ≡ (phaser_at (phasers_of self.now) id.0).ends }
-    {
-        self.nodes[id.0 as usize].ended_phases()
-    }
-}
-
 fn known(forest: &Forest, id: u8) -> Option<PhaserId>
     ensures { IfSome result (λ known. known.0 < length forest.now) }
 {
@@ -107,19 +92,6 @@ fn planted(alloc: Global, plans: &[Plan]) -> Result<Forest, Fail>
     Ok(forest)
 }
 
-fn finishes(forest: &mut Forest, root: PhaserId, ends: bool) -> bool
-    requires { root.0 < length forest.old }
-{
-    if forest.root(root).0 != root.0 || !forest.is_turned(root) {
-        return false;
-    }
-    if forest.is_terminated(root) || forest.ended_phases(root) >= 2147483647 {
-        return false;
-    }
-    forest.finish_turn(root, ends);
-    true
-}
-
 /// The answer of an arrival that is the last of the tree of phaser 0.
 fn turns(phase: i32, parties: u16) -> Arrived {
     Arrived::Turning {
@@ -145,7 +117,7 @@ fn ends(forest: &mut Forest, root: u8, parties: u16, phase: i32) -> bool {
     }
     let all = arrives(forest, root, turns(phase, parties));
     match known(forest, root) {
-        Some(root) => all && finishes(forest, root, false),
+        Some(root) => all && end_turned_phase(forest, root, false),
         None => false,
     }
 }
@@ -217,7 +189,7 @@ fn comes_true_at(forest: &mut Forest, id: PhaserId, step: Step) -> bool
         Step::Arrives(_, _) | Step::ArrivesLast(_, _, _) => is_answered(forest, id, step),
         Step::Leaves(_, _) | Step::LeavesLast(_, _, _) => is_answered(forest, id, step),
         Step::Registers(_, count, answer) => forest.register(id, count) == answer,
-        Step::Finishes(_, ends) => finishes(forest, id, ends),
+        Step::Finishes(_, ends) => end_turned_phase(forest, id, ends),
         Step::EndsEach(_, parties, from, to) => ends_each(forest, id.0, parties, from, to),
         Step::Forces(_) => {
             forest.force(id);
@@ -543,7 +515,7 @@ fn has_words(forest: &Forest, words: &[(u8, u64)]) -> bool {
 fn undo_phase_end(forest: &mut Forest, id: PhaserId, words: &[(u8, u64)]) -> (Arrived, bool)
     requires there { id.0 < length forest.old }
     requires few { (phaser_at (phasers_of forest.old) (root_at (phasers_of forest.old) id.0)).ends
-        < 2147483647 }
+        < most_ends }
     ensures { forest.new ≡ forest.old }
 {
     forest.is_forest();

@@ -1,14 +1,9 @@
-use Rattle.std.proofs.Common.{rules, ◌≡◌, ◌∙◌, [], ap}
-use Rattle.std.specs.Prelude.{true, codes}
+use Rattle.std.proofs.Common.{◌∙◌, ap, refl}
 use Rattle.std.proofs.lemmas.Result.{IfOk-weaker}
-use Rattle.clap.specs.Words.{App, app_of, new_app, with_subcommand}
+use Rattle.clap.specs.Words.{App, with_subcommand}
 use Rattle.command_help.specs.Commands.{asm_shape, choices_shape, compare_shape, debug_shape, draw_shape, explain_shape, list_shape, live_shape, race_shape, run_shape, show_shape}
-use Rattle.std.proofs.Common.{refl}
 use Rattle.command_help.proofs.Growing.{grown}
 use Rattle.command_help.proofs.commands.program.Goals as goal
-
-abbrev top : App
-top = record { top = record (new_app (codes "vuthgal")).top { has_version = true }; subs = [] }
 
 abbrev forms : App → App
 forms app = with_subcommand (with_subcommand app asm_shape) list_shape
@@ -24,8 +19,7 @@ threads app = with_subcommand (with_subcommand app live_shape) race_shape
 
 pub returns : goal.returns
 returns c =
-    let is_top : app_of c.after_help-program.result ≡ top = search rules in
-    let before = c.in_ok-program-4.ensures ∙ ap threads (c.in_ok-program-3.ensures ∙ ap pictures
-    (c.in_ok-program-2.ensures ∙ ap plays (c.in_ok-program.ensures ∙ ap forms is_top))) in
-    let choices = grown c.choices.result _ _ _ choices_shape c.in_ok-program-5.ensures c.choices.ensures refl before in
+    let before = c.in_ok-program-5.ensures ∙ ap threads (c.in_ok-program-4.ensures ∙ ap pictures
+    (c.in_ok-program-3.ensures ∙ ap plays (c.in_ok-program-2.ensures ∙ ap forms c.in_ok-program.ensures))) in
+    let choices = grown c.choices.result _ _ _ choices_shape c.in_ok-program-6.ensures c.choices.ensures refl before in
     IfOk-weaker c.with-2.result _ _ (λ program adds. grown c.explain.result _ program _ explain_shape adds c.explain.ensures refl choices) c.with-2.ensures

@@ -1,11 +1,15 @@
-use Rattle.std.proofs.Common.{◌≡◌, ◌+◌, ◌≤◌, ◌++◌, ℕ, List, drop}
+use Rattle.std.proofs.Common.{◌≡◌, ◌+◌, ◌-◌, ◌≤◌, ◌++◌, ℕ, List, drop, length}
 use Rattle.trace_compare.specs.Comparing.{IsReading, bytes_left}
 use Rattle.trace_compare.proofs.compare.take_piece.Given as goal
 
-abbrev pub invariant-loop-byte : goal.invariant-loop-byte
-invariant-loop-byte l = record {
+abbrev pub invariant-loop-done : goal.invariant-loop-done
+invariant-loop-done l = record {
+  within : l.done ≤ length l.piece;
   reading : IsReading l.now l.line.items;
-  number : l.now.number ≤ l.initial.now.number + l.byte-index;
+  number : l.now.number ≤ l.initial.now.number + l.done;
   left : (rest : List ℕ) → bytes_left l.initial.now l.initial.line.items (l.piece ++ rest)
-      ≡ bytes_left l.now l.line.items (drop l.byte-index l.piece ++ rest);
+      ≡ bytes_left l.now l.line.items (drop l.done l.piece ++ rest);
 }
+
+abbrev pub decreases-loop-done : goal.decreases-loop-done
+decreases-loop-done l = length l.piece - l.done

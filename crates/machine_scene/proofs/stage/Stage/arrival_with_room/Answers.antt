@@ -10,8 +10,8 @@ use Rattle.machine_scene.specs.PhaserRows.{has_routine}
 use Rattle.machine_scene.proofs.Room.{room_left}
 use Rattle.machine_scene.proofs.stage.Stage.arrival_with_room.Goals as goal
 
-pub turning-requires-clause-room : goal.turning-requires-clause-room
-turning-requires-clause-room c none =
+pub pending_end-requires-clause-room : goal.pending_end-requires-clause-room
+pending_end-requires-clause-room c none =
     let inside = c.self.inside in
     let seen : List PhaserState → Scene =
     λ phasers. record { cells = inside.cells; threads = inside.threads.items; phasers = phasers; barriers = inside.barriers.items } in
@@ -23,9 +23,9 @@ turning-requires-clause-room c none =
 pub returns-in-Turning-clause-phasers : goal.returns-in-Turning-clause-phasers
 returns-in-Turning-clause-phasers c =
     let before = c.self.inside.phasers in
-    let after = c.turning.new.self.phasers in
+    let after = c.pending_end.new.self.phasers in
     let there : c.args.phaser < length before =
     subst (λ (s : StoredScene). c.args.phaser < length s.phasers) (sym c.self.view_is) c.requires.phaser in
     subst (λ (phasers : List Stored). ChangedAt c.args.phaser phasers after) (ap (λ (s : StoredScene). s.phasers) c.self.view_is)
     (changed_then_root before c.arrive.new.self after c.args.phaser c.in-Turning.root.0 c.is_forest.ensures c.is_forest-in-Turning.ensures there
-    (c.in-Turning.ensures.turning.1 ∙ root_shown before c.args.phaser there) c.in-Turning.ensures.only c.turning.ensures.phasers)
+    (c.in-Turning.ensures.turning.1 ∙ root_shown before c.args.phaser there) c.in-Turning.ensures.only c.pending_end.ensures.phasers)

@@ -2,8 +2,8 @@ use Rattle.std.proofs.Common.{◌≡◌, List}
 use Rattle.tier_tree.specs.Stored.{Stored, phasers_of}
 use Rattle.std.proofs.Common.{◌<◌, length}
 use Rattle.tier_tree.specs.Forest.{root_at}
-use Rattle.tier_tree.specs.Answer.{DoesntArrive, IfTurning, Turns, KeepsPlaces, KeepsEnds}
-use Rattle.tier_tree.specs.Origin.{Carries, after_arrival}
+use Rattle.tier_tree.specs.Answer.{DoesntArrive, IfTurning, MakesPending, KeepsPlaces, KeepsEnds}
+use Rattle.tier_tree.specs.Origin.{Carries, origin_after_arrival}
 use Rattle.tier_tree.proofs.Calls.{written_back, arrived, arrived_turning}
 use Rattle.tier_tree.proofs.forest.Forest.arrive.Goals as goal
 
@@ -15,7 +15,7 @@ returns-clause-refused c =
 
 pub returns-clause-turning : goal.returns-clause-turning
 returns-clause-turning c =
-    written_back (λ (before after : List Stored). IfTurning c.arrive.result (λ root. (root.0 < length after) × (root.0 ≡ root_at (phasers_of before) c.args.id.0) × Turns root.0 (phasers_of before) (phasers_of after))) c.self.inside.nodes.items c.as_mut_slice.result.now
+    written_back (λ (before after : List Stored). IfTurning c.arrive.result (λ root. (root.0 < length after) × (root.0 ≡ root_at (phasers_of before) c.args.id.0) × MakesPending root.0 (phasers_of before) (phasers_of after))) c.self.inside.nodes.items c.as_mut_slice.result.now
     c.args.self.now c.arrive.new.nodes c.self.inside.nodes.len c.as_mut_slice.ensures.value c.self.view_is c.as_mut_slice.ensures.len c.arrive.ensures.only.many
     (arrived_turning c.self.inside.nodes.items c.as_mut_slice.result.now c.args.self.now c.arrive.new.nodes c.args.id.0 c.args.leave c.arrive.result c.as_mut_slice.ensures.value c.self.view_is c.self.invariant c.requires c.arrive.ensures.only.many
     c.arrive.ensures.arrival)
@@ -34,6 +34,6 @@ returns-clause-ends c =
 
 pub returns-clause-origin : goal.returns-clause-origin
 returns-clause-origin c =
-    written_back (λ (before after : List Stored). Carries (after_arrival c.arrive.result c.args.id.0 (root_at (phasers_of before) c.args.id.0) c.args.leave) (phasers_of before) (phasers_of after)) c.self.inside.nodes.items c.as_mut_slice.result.now
+    written_back (λ (before after : List Stored). Carries (origin_after_arrival c.arrive.result c.args.id.0 (root_at (phasers_of before) c.args.id.0) c.args.leave) (phasers_of before) (phasers_of after)) c.self.inside.nodes.items c.as_mut_slice.result.now
     c.args.self.now c.arrive.new.nodes c.self.inside.nodes.len c.as_mut_slice.ensures.value c.self.view_is c.as_mut_slice.ensures.len c.arrive.ensures.only.many
     (arrived c.self.inside.nodes.items c.as_mut_slice.result.now c.args.self.now c.arrive.new.nodes c.args.id.0 c.args.leave c.arrive.result c.as_mut_slice.ensures.value c.self.view_is c.self.invariant c.requires c.arrive.ensures.arrival).origin

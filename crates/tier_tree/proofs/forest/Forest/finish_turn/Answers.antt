@@ -7,7 +7,7 @@ use Rattle.tier_tree.proofs.Shown.{root_shown}
 use Rattle.tier_tree.proofs.Changed.{only_root}
 use Rattle.tier_tree.specs.Stored.{IsStored}
 use Rattle.tier_tree.specs.Answer.{KeepsPlaces}
-use Rattle.tier_tree.specs.Origin.{Carries, after_phase_end}
+use Rattle.tier_tree.specs.Origin.{Carries, origin_after_phase_end}
 use Rattle.tier_tree.proofs.Safe.{all_arrived}
 use Rattle.tier_tree.proofs.Calls.{written_back, turned_places, turned_origin}
 use Rattle.tier_tree.proofs.forest.Forest.finish_turn.Goals as goal
@@ -20,7 +20,7 @@ returns-clause-places c =
 
 pub returns-clause-origin : goal.returns-clause-origin
 returns-clause-origin c =
-    written_back (λ (before after : List Stored). Carries (after_phase_end c.args.root.0 (phasers_of before)) (phasers_of before) (phasers_of after)) c.self.inside.nodes.items c.as_mut_slice.result.now
+    written_back (λ (before after : List Stored). Carries (origin_after_phase_end c.args.root.0 (phasers_of before)) (phasers_of before) (phasers_of after)) c.self.inside.nodes.items c.as_mut_slice.result.now
     c.args.self.now c.end_phase.new.nodes c.self.inside.nodes.len c.as_mut_slice.ensures.value c.self.view_is c.as_mut_slice.ensures.len c.end_phase.ensures.only.many
     (turned_origin c.self.inside.nodes.items c.as_mut_slice.result.now c.args.self.now c.end_phase.new.nodes c.args.root.0 c.args.ends c.as_mut_slice.ensures.value c.self.view_is c.self.invariant c.requires.there
     c.requires.root c.requires.live c.end_phase.ensures.present)

@@ -1,6 +1,6 @@
-use Rattle.std.proofs.Common.{◌≡◌, List}
+use Rattle.std.proofs.Common.{◌≡◌, ◌∙◌, List, subst, sym}
 use Rattle.tier_tree.specs.Answer.{KeepsPlaces}
-use Rattle.tier_tree.specs.Stored.{Stored, ChangedAt, phasers_of}
+use Rattle.tier_tree.specs.Stored.{Stored, IsStored, ChangedAt, phasers_of}
 use Rattle.tier_tree.proofs.Changed.{restored_call}
 use Rattle.tier_tree.proofs.Calls.{written_back, written_many, written_places}
 use Rattle.tier_tree.proofs.forest.Forest.restore.Goals as goal
@@ -19,3 +19,14 @@ returns-clause-places c =
     c.args.self.now c.put_back_all.new.nodes c.self.inside.nodes.len c.as_mut_slice.ensures.value c.self.view_is c.as_mut_slice.ensures.len
     (written_many c.args.saved.now c.as_mut_slice.result.now c.put_back_all.new.nodes c.put_back_all.ensures)
     (written_places c.args.saved.now c.as_mut_slice.result.now c.put_back_all.new.nodes c.put_back_all.ensures)
+
+pub invariant_of-self : goal.invariant_of-self
+invariant_of-self c =
+    let given = c.as_mut_slice.result.now in
+    let moved = subst (λ (now : List Stored). ChangedAt c.requires.id c.requires.before now) (sym (c.as_mut_slice.ensures.value ∙ c.self.view_is)) c.requires.changed in
+    let back : c.put_back_all.new.nodes ≡ c.requires.before =
+    restored_call c.requires.id c.requires.before given c.put_back_all.new.nodes c.args.saved.now c.put_back_all.ensures c.requires.kept moved in
+    written_back (λ (before after : List Stored). IsStored after) c.self.inside.nodes.items given
+    c.args.self.now c.put_back_all.new.nodes c.self.inside.nodes.len c.as_mut_slice.ensures.value c.self.view_is c.as_mut_slice.ensures.len
+    (written_many c.args.saved.now given c.put_back_all.new.nodes c.put_back_all.ensures)
+    (subst IsStored (sym back) c.requires.forest)

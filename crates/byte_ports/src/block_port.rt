@@ -1,0 +1,130 @@
+ghost use Rattle.std.specs.Prelude.{◌≡◌, ◌+◌, ◌≤◌, [], ◌++◌, length, false, IfOk, OnOk};
+ghost use Rattle.std.specs.Io.KnownBytes.{Appends, Keeps, append_known};
+ghost use Rattle.byte_ports.specs.Port.{FailsForGood};
+
+use crate::failed::Failed;
+use crate::sink::Sink;
+use std::alloc::{AllocError, Global};
+use std::marker::Model;
+
+/// How many bytes a block has.
+const BLOCK: usize = 65_536;
+
+/// A sink that hands another one whole blocks, for long output in short pieces: most of its calls
+/// copy their bytes and do nothing else. What it holds is handed on by `into_inner` alone, and is
+/// lost where it is dropped.
+#[derive(Drop)]
+pub struct BlockPort<K> {
+    port: K,
+    block: Vec<u8>,
+    held: usize,
+    failed: bool,
+}
+
+impl<K> Model for BlockPort<K> {
+    ghost use Rattle.std.specs.Prelude.{◌≡◌, ◌≤◌, length, take};
+    ghost use Rattle.byte_ports.specs.BlockPort.{Blocks};
+
+    ghost Value = { Blocks K };
+
+    ghost view = { λ p. record {
+      inner = p.port;
+      held = take p.held p.block.items;
+      failed = p.failed;
+    } };
+
+    ghost invariant = { λ p. (length p.block.items ≡ 65536) × (p.held ≤ 65536) };
+}
+
+impl<K: Sink + Drop> BlockPort<K> {
+    /// Round a sink. This alone takes memory.
+    pub fn new(alloc: Global, port: K) -> Result<BlockPort<K>, AllocError>
+        ensures { IfOk result (λ p. p ≡ record { inner = port; held = []; failed = false }) }
+    {
+        Ok(BlockPort {
+            port,
+            block: Vec::from_elem(alloc, 0u8, BLOCK)?,
+            held: 0,
+            failed: false,
+        })
+    }
+
+    /// The sink, which has got all by then. It fails where a call has failed, or the last one does.
+    pub fn into_inner(mut self) -> Result<K, Failed>
+        ensures bytes { IfOk result
+            (λ port. Keeps (append_known (K.written self.inner) self.held) (K.written port)) }
+        ensures failed { IfOk result (λ _. self.failed ≡ false) }
+    {
+        if self.failed {
+            return Err(Failed);
+        }
+        self.hand_on()?;
+        let BlockPort { port, .. } = self;
+        Ok(port)
+    }
+
+    /// Hands on what is held.
+    fn hand_on(&mut self) -> Result<(), Failed>
+        requires { self.old.failed ≡ false }
+        ensures bytes { OnOk result
+            (Keeps (append_known (K.written self.old.inner) self.old.held) (K.written self.new.inner)) }
+        ensures held { OnOk result (self.new.held ≡ []) }
+        ensures failed { FailsForGood false self.new.failed result }
+    {
+        if self.port.push(&self.block.as_slice()[..self.held]).is_err() {
+            self.failed = true;
+            return Err(Failed);
+        }
+        self.held = 0;
+        Ok(())
+    }
+
+    /// The same call where a block is full, or a call has failed. It stands apart, so that `push`
+    /// is short where it is inlined.
+    #[inline(never)]
+    fn push_far(&mut self, bytes: &[u8]) -> Result<(), Failed>
+        ensures failed { FailsForGood self.old.failed self.new.failed result }
+        ensures bytes { OnOk result (Appends (append_known (K.written self.old.inner) self.old.held)
+            (append_known (K.written self.new.inner) self.new.held) bytes.now) }
+    {
+        if self.failed {
+            return Err(Failed);
+        }
+        self.hand_on()?;
+        if bytes.len() <= BLOCK {
+            self.hold(bytes);
+            return Ok(());
+        }
+        if self.port.push(bytes).is_err() {
+            self.failed = true;
+            return Err(Failed);
+        }
+        Ok(())
+    }
+
+    /// Holds bytes for which there is room.
+    #[inline(always)]
+    fn hold(&mut self, bytes: &[u8])
+        requires { length self.old.held + length bytes.now ≤ 65536 }
+        ensures { self.new ≡ record self.old { held = self.old.held ++ bytes.now } }
+    {
+        let end = self.held + bytes.len();
+        self.block.as_mut_slice()[self.held..end].copy_from_slice(bytes);
+        self.held = end;
+    }
+}
+
+impl<K: Sink + Drop> Sink for BlockPort<K> {
+    ghost written = { λ p. append_known (K.written p.inner) p.held };
+
+    ghost has_failed = { λ p. p.failed };
+
+    #[inline(always)]
+    fn push(&mut self, bytes: &[u8]) -> Result<(), Failed> {
+        if self.failed || BLOCK - self.held < bytes.len() {
+            return self.push_far(bytes);
+        }
+        self.hold(bytes);
+        Ok(())
+    }
+}

@@ -1,0 +1,125 @@
+ghost use Rattle.std.specs.Prelude.{◌≡◌, ◌≢◌, ◌≤◌, [], ◌++◌, false, min, length, take, IfOk, OnOk, OnErr};
+ghost use Rattle.std.specs.Io.KnownBytes.{IsAtEnd, Keeps, ReadConsumes, prepend_known};
+ghost use Rattle.byte_ports.specs.Port.{FailsForGood};
+
+use crate::failed::Failed;
+use crate::source::Source;
+use std::alloc::{AllocError, Global};
+use std::marker::Model;
+
+/// How many bytes a block has.
+const BLOCK: usize = 4096;
+
+/// A source over another one, from which it takes what is there, up to a block at a time, and only
+/// where it holds nothing: it never waits for a byte while it has one to give. So whoever takes a
+/// dialogue's lines from it a byte at a time can answer each before the next one is there.
+#[derive(Drop)]
+pub struct BlockSource<S> {
+    source: S,
+    block: Vec<u8>,
+    next: usize,
+    end: usize,
+    failed: bool,
+}
+
+impl<S> Model for BlockSource<S> {
+    ghost use Rattle.std.specs.Prelude.{◌≡◌, ◌≤◌, length, take, drop};
+    ghost use Rattle.byte_ports.specs.BlockPort.{Blocks};
+
+    ghost Value = { Blocks S };
+
+    ghost view = { λ s. record {
+      inner = s.source;
+      held = drop s.next (take s.end s.block.items);
+      failed = s.failed;
+    } };
+
+    ghost invariant = { λ s. (length s.block.items ≡ 4096) × (s.next ≤ s.end) × (s.end ≤ 4096) };
+}
+
+impl<S: Source + Drop> BlockSource<S> {
+    /// Over a source. This alone takes memory.
+    pub fn new(alloc: Global, source: S) -> Result<BlockSource<S>, AllocError>
+        ensures { IfOk result (λ s. s ≡ record { inner = source; held = []; failed = false }) }
+    {
+        Ok(BlockSource {
+            source,
+            block: Vec::from_elem(alloc, 0u8, BLOCK)?,
+            next: 0,
+            end: 0,
+            failed: false,
+        })
+    }
+
+    /// Takes what is there, where nothing is held.
+    #[inline(never)]
+    fn refill(&mut self) -> Result<(), Failed>
+        requires held { self.old.held ≡ [] }
+        requires failed { self.old.failed ≡ false }
+        ensures failed { FailsForGood false self.new.failed result }
+        ensures bytes { Keeps (S.left self.old.inner)
+            (prepend_known self.new.held (S.left self.new.inner)) }
+        ensures end { OnOk result (self.new.held ≡ [] → IsAtEnd (S.left self.new.inner)) }
+        ensures err { OnErr result (self.new.held ≡ []) }
+    {
+        self.next = 0;
+        self.end = 0;
+        match self.source.pull(self.block.as_mut_slice()) {
+            Ok(count) => {
+                self.end = count;
+                Ok(())
+            }
+            Err(_) => {
+                self.failed = true;
+                Err(Failed)
+            }
+        }
+    }
+
+    /// Gives of what is held as much as there is room for.
+    #[inline(always)]
+    fn give(&mut self, buffer: &mut [u8]) -> usize
+        ensures count { result ≡ min (length buffer.old) (length self.old.held) }
+        ensures length { length buffer.new ≡ length buffer.old }
+        ensures given { self.old.held ≡ take result buffer.new ++ self.new.held }
+        ensures inner { self.new.inner ≡ self.old.inner }
+        ensures failed { self.new.failed ≡ self.old.failed }
+    {
+        let held = self.held();
+        let count = buffer.len().min(held.len());
+        buffer[..count].copy_from_slice(&held[..count]);
+        self.next += count;
+        count
+    }
+
+    /// What is held.
+    #[inline(always)]
+    fn held(&self) -> &[u8]
+        ensures { result.now ≡ self.now.held }
+    {
+        &self.block.as_slice()[..self.end][self.next..]
+    }
+}
+
+impl<S: Source + Drop> Source for BlockSource<S> {
+    ghost left = { λ s. prepend_known s.held (S.left s.inner) };
+
+    ghost has_failed = { λ s. s.failed };
+
+    #[inline(always)]
+    fn pull(&mut self, buffer: &mut [u8]) -> Result<usize, Failed>
+        ensures failed { FailsForGood self.old.failed self.new.failed result }
+        ensures bound { IfOk result (λ n. n ≤ length buffer.new) }
+        ensures bytes { ReadConsumes (prepend_known self.old.held (S.left self.old.inner))
+            (prepend_known self.new.held (S.left self.new.inner)) result buffer.new }
+        ensures waits { self.old.held ≢ [] → (self.new.inner ≡ self.old.inner) }
+    {
+        if self.failed {
+            return Err(Failed);
+        }
+        if self.next == self.end {
+            self.refill()?;
+        }
+        Ok(self.give(buffer))
+    }
+}

@@ -1,0 +1,184 @@
+//! The command that plays a program several times.
+ghost use Rattle.std.specs.Prelude.{◌≡◌, ◌⊎◌, ◌≤◌, Err, IsTrue, IfErr, IfOk, OnOk};
+ghost use Rattle.std.specs.Io.KnownBytes.{Appends};
+ghost use Rattle.loader.specs.declared.load_fault.LoadFault.{LoadFault};
+ghost use Rattle.trace_compare.specs.Start.{IsRefused};
+ghost use Rattle.workbench.specs.declared.fault.Fault.{Fault};
+ghost use Rattle.workbench.specs.Fault.{HasTold, status_of};
+ghost use Rattle.workbench.specs.Input.{GivesTooMuch};
+ghost use Rattle.workbench.specs.Run.{HasNoRun};
+ghost use Rattle.live_runs.specs.Outcomes.{IsMostFrequentFirst, report, status_by};
+ghost use Rattle.live_runs.specs.Runs.{AreOutcomesOf, HasReported, HasReportedFile};
+
+use crate::outcomes::{Outcomes, sort};
+use crate::pauses::Pauses;
+use crate::report::{report, status_by};
+use crate::runs::add_runs;
+use byte_ports::{Sink, Source};
+use expected_state::Expected;
+use loader::{LoadFault, Loaded, load};
+use row_code::Image;
+use std::alloc::Global;
+use std::sync::Wait;
+use std::thread::Threads;
+use workbench::fault::Fault;
+use workbench::program_file::read_program;
+
+/// Which runs are asked for.
+#[derive(Clone, Copy)]
+pub struct Asked {
+    /// How many, 1 to 100,000.
+    pub runs: u32,
+    /// How many steps each takes at most, 1 to 1,000,000,000.
+    pub limit: u32,
+    pub pauses: Pauses,
+    /// How each is expected to end, if that is said.
+    pub expected: Option<Expected>,
+}
+
+/// Plays the program in `file`, an image or a text, on real threads as often as it is asked for, and writes to `output` a line
+/// for each state that a run ended in, the most frequent first: how often one did, `all`, `stuck` or `live`, and the schedule
+/// of the first that did. Answers the exit status, 0 where all went well, and 1 where a run ended otherwise than is expected.
+/// For any other status one line stands on `errors`: `refused asm LINE KIND`, `refused image KIND [PLACE]` or `refused load
+/// KIND [PLACE]` (3), `memory` or `spawn` (4), or `read` or `write` (5). What `errors` makes of that line changes no status.
+/// Nothing is written before all runs are over.
+pub fn runs_cmd<R: Threads + Wait + Sync, F: Source, K: Sink, E: Sink>(
+    threads: &R,
+    alloc: Global,
+    asked: &Asked,
+    file: &mut F,
+    output: &mut K,
+    errors: &mut E,
+) -> u8
+    requires limit { asked.now.limit ≤ 1000000000 }
+    requires count { asked.now.runs ≤ 100000 }
+    ensures statuses { (result ≡ 0) ⊎ ((result ≡ 1) ⊎ ((result ≡ 3) ⊎ ((result ≡ 4) ⊎ (result ≡ 5)))) }
+    ensures done { (result ≡ 0) ⊎ (result ≡ 1) → HasReportedFile asked.now result (F.left file.old) (F.left file.new)
+        (K.written output.old) (K.written output.new) }
+    ensures told { (((result ≡ 0) ⊎ (result ≡ 1)) × (E.written errors.new ≡ E.written errors.old))
+        ⊎ ((fault : Fault) × ((result ≡ status_of fault)
+        × (HasTold fault (E.has_failed errors.new) (E.written errors.old) (E.written errors.new)
+        × (result ≡ 3 → HasNoRun fault (F.left file.old) (F.left file.new)
+        (K.written output.old) (K.written output.new))
+        × (fault ≡ Fault.Read → K.written output.new ≡ K.written output.old)))) }
+    ensures unchanged { result ≡ 4 → K.written output.new ≡ K.written output.old }
+    ensures port { result ≡ 5 → (IsTrue (F.has_failed file.new)
+        ⊎ GivesTooMuch (F.left file.old) (F.left file.new))
+        ⊎ IsTrue (K.has_failed output.new) }
+{
+    match reported(threads, alloc, asked, file, output) {
+        Ok(status) => status,
+        Err(fault) => {
+            let _ = fault.tell(errors);
+            fault.status()
+        }
+    }
+}
+
+/// The same with the fault that decides the status.
+fn reported<R: Threads + Wait + Sync, F: Source, K: Sink>(
+    rt: &R,
+    alloc: Global,
+    asked: &Asked,
+    file: &mut F,
+    output: &mut K,
+) -> Result<u8, Fault>
+    requires limit { asked.now.limit ≤ 1000000000 }
+    requires count { asked.now.runs ≤ 100000 }
+    ensures statuses { IfOk result (λ status. (status ≡ 0) ⊎ (status ≡ 1)) }
+    ensures done { IfOk result (λ status. HasReportedFile asked.now status (F.left file.old) (F.left file.new)
+        (K.written output.old) (K.written output.new)) }
+    ensures refused { IfErr result (λ fault. status_of fault ≡ 3
+        → HasNoRun fault (F.left file.old) (F.left file.new) (K.written output.old) (K.written output.new)) }
+    ensures unchanged { IfErr result (λ fault. (fault ≡ Fault.Write)
+        ⊎ (K.written output.new ≡ K.written output.old)) }
+    ensures read { result ≡ Err Fault.Read → IsTrue (F.has_failed file.new)
+        ⊎ GivesTooMuch (F.left file.old) (F.left file.new) }
+    ensures write { result ≡ Err Fault.Write → IsTrue (K.has_failed output.new) }
+{
+    let image = match read_program(alloc, file) {
+        Ok(image) => image,
+        Err(fault) => return Err(fault),
+    };
+    report_image(rt, alloc, asked, image, output)
+}
+
+/// The same of an image.
+fn report_image<R: Threads + Wait + Sync, K: Sink>(
+    rt: &R,
+    alloc: Global,
+    asked: &Asked,
+    image: Image,
+    output: &mut K,
+) -> Result<u8, Fault>
+    requires limit { asked.now.limit ≤ 1000000000 }
+    requires count { asked.now.runs ≤ 100000 }
+    ensures statuses { IfOk result (λ status. (status ≡ 0) ⊎ (status ≡ 1)) }
+    ensures done { IfOk result (λ status. HasReported image asked.now status
+        (K.written output.old) (K.written output.new)) }
+    ensures load { (fault : LoadFault) → result ≡ Err (Fault.Load fault) → IsRefused fault image }
+    ensures fault { IfErr result (λ fault. ((other : LoadFault) × (fault ≡ Fault.Load other))
+        ⊎ ((fault ≡ Fault.Memory) ⊎ ((fault ≡ Fault.Spawn) ⊎ (fault ≡ Fault.Write)))) }
+    ensures unchanged { IfErr result (λ fault. (fault ≡ Fault.Write)
+        ⊎ (K.written output.new ≡ K.written output.old)) }
+    ensures write { result ≡ Err Fault.Write → IsTrue (K.has_failed output.new) }
+{
+    let program = match load(alloc, image) {
+        Ok(program) => program,
+        Err(LoadFault::Memory) => return Err(Fault::Memory),
+        Err(fault) => return Err(Fault::Load(fault)),
+    };
+    let outcomes = outcomes_of(rt, alloc, asked, &program)?;
+    push_report(alloc, asked.expected, &outcomes, output)
+}
+
+/// What the runs of a program came to, the most frequent first.
+fn outcomes_of<R: Threads + Wait + Sync>(
+    rt: &R,
+    alloc: Global,
+    asked: &Asked,
+    program: &Loaded,
+) -> Result<Outcomes, Fault>
+    requires limit { asked.now.limit ≤ 1000000000 }
+    requires count { asked.now.runs ≤ 100000 }
+    ensures outcomes { IfOk result (λ outcomes. AreOutcomesOf program.now asked.now outcomes.entries) }
+    ensures sorted { IfOk result (λ outcomes. IsMostFrequentFirst outcomes.entries) }
+    ensures fault { IfErr result (λ fault. (fault ≡ Fault.Memory) ⊎ (fault ≡ Fault.Spawn)) }
+{
+    let mut outcomes = Outcomes::new(alloc);
+    add_runs(
+        rt,
+        alloc,
+        program,
+        asked.limit,
+        asked.pauses,
+        asked.runs,
+        &mut outcomes,
+    )?;
+    match sort(&mut outcomes) {
+        Ok(()) => Ok(outcomes),
+        Err(_) => Err(Fault::Memory),
+    }
+}
+
+/// Writes what the runs came to, in one piece, and answers the exit status.
+fn push_report<K: Sink>(
+    alloc: Global,
+    expected: Option<Expected>,
+    outcomes: &Outcomes,
+    output: &mut K,
+) -> Result<u8, Fault>
+    ensures status { IfOk result (λ status. status ≡ status_by expected outcomes.now.entries) }
+    ensures report { OnOk result (Appends (K.written output.old) (K.written output.new) (report outcomes.now.entries)) }
+    ensures fault { IfErr result (λ fault. (fault ≡ Fault.Memory) ⊎ (fault ≡ Fault.Write)) }
+    ensures unchanged { result ≡ Err Fault.Memory → K.written output.new ≡ K.written output.old }
+    ensures write { result ≡ Err Fault.Write → IsTrue (K.has_failed output.new) }
+{
+    let Ok(text) = report(alloc, outcomes) else {
+        return Err(Fault::Memory);
+    };
+    match output.push(text.as_slice()) {
+        Ok(()) => Ok(status_by(expected, outcomes)),
+        Err(_) => Err(Fault::Write),
+    }
+}

@@ -1,0 +1,36 @@
+//! The pauses of several runs.
+
+use stirred_gate::Stirred;
+use thread_runner::Gate;
+
+/// Whether threads pause before some of their turns, and by which seed.
+#[derive(Clone, Copy, Debug, PartialEq, Eq)]
+pub struct Pauses {
+    pub seed: Option<u32>,
+}
+
+/// The gate of one run.
+#[derive(Clone, Copy, Debug, PartialEq, Eq)]
+pub struct RunGate {
+    stirred: Option<Stirred>,
+}
+
+impl Pauses {
+    /// The gate of the run of this number: each run has other pauses.
+    pub fn of_run(self, run: u32) -> RunGate {
+        RunGate {
+            stirred: self.seed.map(|seed| Stirred {
+                seed: u64::from(seed),
+                run,
+            }),
+        }
+    }
+}
+
+impl Gate for RunGate {
+    fn pass(&self, thread: u8, step: u32) {
+        if let Some(stirred) = self.stirred {
+            stirred.pass(thread, step);
+        }
+    }
+}

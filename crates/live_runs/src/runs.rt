@@ -1,0 +1,85 @@
+//! Several runs of one program.
+ghost use Rattle.std.specs.Prelude.{◌≡◌, ◌⊎◌, ◌<◌, ◌≤◌, ◌++◌, ◌∷◌, [], All, List, Some, IfErr, IfOk, IfSome, OnOk, length};
+ghost use Rattle.std.specs.String.{string_bytes};
+ghost use Rattle.indexmap.specs.IndexMap.{get};
+ghost use Rattle.thread_machine.specs.World.{World, first_world, world_of};
+ghost use Rattle.thread_runner.specs.Endings.{ending_of};
+ghost use Rattle.thread_runner.specs.Replay.{IsReplayOfText};
+ghost use Rattle.workbench.specs.declared.fault.Fault.{Fault};
+ghost use Rattle.live_runs.specs.Outcomes.{AreOutcomes, Ended, IsEndedFrom, is_state};
+
+use crate::end_state::EndState;
+use crate::outcomes::{Outcomes, add};
+use crate::pauses::{Pauses, RunGate};
+use loader::Loaded;
+use std::alloc::Global;
+use std::sync::Wait;
+use std::thread::Threads;
+use thread_runner::{LiveFault, LiveRun, run_live};
+use workbench::fault::Fault;
+
+/// One run of a program.
+fn run_once<R: Threads + Wait + Sync>(
+    rt: &R,
+    alloc: Global,
+    program: &Loaded,
+    limit: u32,
+    gate: &RunGate,
+) -> Result<LiveRun, Fault>
+    requires { limit ≤ 1000000000 }
+    ensures replay { IfOk result (λ run.
+        IsReplayOfText (first_world program.now limit) (string_bytes run.schedule) (world_of run.machine)) }
+    ensures ending { IfOk result (λ run. ending_of (world_of run.machine) ≡ Some run.ending) }
+    ensures fault { IfErr result (λ fault. (fault ≡ Fault.Memory) ⊎ (fault ≡ Fault.Spawn)) }
+{
+    let Ok(program) = program.copy(alloc) else {
+        return Err(Fault::Memory);
+    };
+    match run_live(rt, alloc, program, limit, gate) {
+        Ok(run) => Ok(run),
+        Err(LiveFault::Memory(_) | LiveFault::NoMachine) => Err(Fault::Memory),
+        Err(LiveFault::Spawn) => Err(Fault::Spawn),
+    }
+}
+
+/// Adds what a run came to.
+fn add_run(alloc: Global, run: LiveRun, outcomes: &mut Outcomes) -> Result<(), Fault>
+    requires { (other : EndState) → IfSome (get is_state outcomes.old other) (λ outcome. outcome.times < 4294967295) }
+    ensures added { (first : World) → (runs : List Ended)
+        → IsReplayOfText first (string_bytes run.schedule) (world_of run.machine)
+        → ending_of (world_of run.machine) ≡ Some run.ending → AreOutcomes runs outcomes.old.entries
+        → OnOk result ((ended : Ended) × (IsEndedFrom first ended × AreOutcomes (runs ++ ended ∷ []) outcomes.new.entries)) }
+    ensures fault { IfErr result (λ fault. fault ≡ Fault.Memory) }
+{
+    let Ok(state) = EndState::of(alloc, run.ending, &run.machine) else {
+        return Err(Fault::Memory);
+    };
+    match add(outcomes, state, run.ending, run.schedule) {
+        Ok(()) => Ok(()),
+        Err(_) => Err(Fault::Memory),
+    }
+}
+
+/// Plays a program so often, each run with the pauses of its number, and adds what the runs came to.
+pub fn add_runs<R: Threads + Wait + Sync>(
+    rt: &R,
+    alloc: Global,
+    program: &Loaded,
+    limit: u32,
+    pauses: Pauses,
+    count: u32,
+    outcomes: &mut Outcomes,
+) -> Result<(), Fault>
+    requires limit { limit ≤ 1000000000 }
+    requires count { count ≤ 100000 }
+    requires none { outcomes.old.entries ≡ [] }
+    ensures outcomes { OnOk result ((runs : List Ended) × ((length runs ≡ count)
+        × All (IsEndedFrom (first_world program.now limit)) runs × AreOutcomes runs outcomes.new.entries)) }
+    ensures fault { IfErr result (λ fault. (fault ≡ Fault.Memory) ⊎ (fault ≡ Fault.Spawn)) }
+{
+    for number in 0..count {
+        let run = run_once(rt, alloc, program, limit, &pauses.of_run(number))?;
+        add_run(alloc, run, outcomes)?;
+    }
+    Ok(())
+}

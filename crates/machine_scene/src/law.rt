@@ -1,0 +1,16 @@
+ghost use Rattle.std.specs.Prelude.{◌≡◌, ℕ, ◌&&◌, not, is_some};
+ghost use Rattle.loader.specs.Program.{Program, row_at};
+ghost use Rattle.machine_scene.specs.Scene.{Scene, thread_at};
+ghost use Rattle.machine_scene.specs.Outcomes.{is_ready, outcome_of_expiry};
+ghost use Rattle.machine_scene.specs.Ready.{is_listed, can_run_out};
+
+/// A turn is ready just where the list of statuses and rows names it, and a wait can run out just where the thread's turn isn't
+/// ready and the list of timed waits names it. Nothing runs.
+#[tactic(auto, using(crate::proofs::ReadyThreads::ready_as_listed, crate::proofs::ReadyThreads::expiry_as_listed))]
+pub fn who_is_ready()
+    ensures turns { (t : ℕ) (program : Program) (scene : Scene) → is_ready t program scene
+        ≡ is_listed (thread_at scene t).status (row_at program.rows (thread_at scene t).pc) t scene }
+    ensures expiries { (t : ℕ) (program : Program) (scene : Scene) → is_some (outcome_of_expiry t program scene)
+        ≡ (not (is_ready t program scene)
+        && can_run_out (thread_at scene t).status (row_at program.rows (thread_at scene t).pc) scene) }
+{}

@@ -1,0 +1,196 @@
+-- A turn that is named once, read whole.
+use Rattle.std.proofs.Common.{◌≡◌, ◌∙◌, ◌+◌, ◌-◌, ◌*◌, ◌<◌, ◌≤◌, if◌then◌else◌, ℕ, Bool, true, false, List, [], ◌∷◌, ◌++◌, length, drop, refl, ap, sym, arith, lit≤, append_assoc, drop-drop}
+use Rattle.std.specs.Prelude.{Ok, Err, get_or}
+use Rattle.std.specs.List.{slice_split}
+use Rattle.std.specs.Char.{is_ascii_digit, digit_value}
+use Rattle.std.specs.Str.Parse.{AllDigits, digits_value_after}
+use Rattle.std.proofs.lemmas.List.{append-nil, drop_all}
+use Rattle.std.proofs.lemmas.List.Splits.{slice_split_at, length-slice_split}
+use Rattle.std.proofs.lemmas.Bool.Decides.{nat_tests}
+use Rattle.schedule_reader.specs.declared.run.Run.{Run}
+use Rattle.schedule_reader.specs.declared.fault.ScheduleFault.{ScheduleFault}
+use Rattle.schedule_reader.specs.declared.fault.ScheduleFault.TheVariants as fault
+use Rattle.schedule_reader.specs.declared.place.Place.{Place}
+use Rattle.schedule_reader.specs.declared.place.Place.TheVariants as place
+use Rattle.schedule_reader.specs.Schedule.{Token, Unfinished, is_blank, whole, schedule_with, schedule_in, choice_of, run_of, digits_of, reading_of, reading_of_thread, reading_by_thread}
+use Rattle.schedule_reader.specs.Places.{BeginsWithTurn, Takes, thread_by, pieces_from, schedule_from, with_runs}
+use Rattle.schedule_reader.proofs.Numbers.{digit_value-digit, number_by-some}
+use Rattle.schedule_reader.proofs.Streams.{between-pieces, with_runs-append}
+use Rattle.schedule_reader.proofs.Tokens.{above-blanks, above-digits, digits-then, not_zero}
+
+-- the letter and one or two digits are a token
+digits-read : (at thread : ℕ) (ds : List ℕ) → AllDigits 10 ds → 1 ≤ length ds → length ds ≤ 2 → digits_value_after 10 0 ds ≡ thread → thread ≤ 63
+    → reading_of at (116 ∷ ds) ≡ Token (run_of (choice_of false thread) 1)
+digits-read at thread ds all some few value small =
+    let count = length ds in
+    let start = at + 1 in
+    let read : digits_of ds ≡ ds = ap digits_of (sym (append-nil ds)) ∙ digits-then ds [] all refl in
+    let none_left : drop count ds ≡ [] = drop_all count ds (omega arith) in
+    ap (λ ms. thread_by start false (length ms) (digits_value_after 10 0 ms) (drop (length ms) ds)) read
+    ∙ ap (λ v. thread_by start false count v (drop count ds)) value
+    ∙ ap (λ n. reading_of_thread start false count (drop count ds) n) (number_by-some count thread 2 63 few small)
+    ∙ ap (reading_by_thread start (choice_of false thread) count) none_left
+    ∙ ap (λ t. if t then Unfinished (fault.Byte start) else Token (run_of (choice_of false thread) 1)) (not_zero count some)
+
+-- pieces of which the first is whole
+first-piece : (finished : Bool) (at : ℕ) (piece : List ℕ) (run : Run) (pieces : List (List ℕ)) → 1 ≤ length piece → 0 < length pieces
+    → reading_of at piece ≡ Token run
+    → pieces_from finished place.Between at (piece ∷ pieces)
+    ≡ schedule_with (Ok run) (pieces_from finished place.Between (at + length piece + 1) pieces)
+first-piece finished at [] run pieces some more read = absurd (omega arith)
+first-piece finished at (b ∷ part) run [] some more read = absurd (omega arith)
+first-piece finished at (b ∷ part) run (next ∷ pieces) some more read =
+    ap (λ r. schedule_with (whole r) (schedule_in finished (at + length (b ∷ part) + 1) (next ∷ pieces))) read
+    ∙ ap (schedule_with (Ok run)) (sym (between-pieces finished (at + length (b ∷ part) + 1) (next ∷ pieces)))
+
+-- what a test of three or four bytes finds
+digit_below : (b : ℕ) → is_ascii_digit b ≡ true → digit_value b < 10
+digit_below b digit = grind (arith, nat_tests)
+
+two_values : (n m a b : ℕ) → n ≡ a → m ≡ b → n * 10 + m ≡ a * 10 + b
+two_values n m a b first second = ap (λ k. k * 10 + m) first ∙ ap (λ k. a * 10 + k) second
+
+pub begins-3 : (bytes : List ℕ) → 4 ≤ length bytes → get_or bytes 0 0 ≡ 116 → is_ascii_digit (get_or bytes 1 0) ≡ true → get_or bytes 2 0 ≡ 32
+    → BeginsWithTurn bytes (get_or bytes 1 0 - 48) 3
+begins-3 [] long t digit space = absurd (omega arith)
+begins-3 (b ∷ []) long t digit space = absurd (omega arith)
+begins-3 (b ∷ d ∷ []) long t digit space = absurd (omega arith)
+begins-3 (b ∷ d ∷ e ∷ rest) long t digit space =
+    let value = digit_value-digit d digit in
+    record {
+      digits = d ∷ [];
+      counted = refl;
+      some = omega arith;
+      few = omega arith;
+      all = (digit_below d digit, tt);
+      value = omega (arith, value);
+      small = omega (arith, value, digit_below d digit);
+      begins = ap (λ n. n ∷ d ∷ e ∷ rest) t ∙ ap (λ n. 116 ∷ d ∷ n ∷ rest) space;
+      within = omega (arith, long);
+    }
+
+pub begins-4 : (bytes : List ℕ) → 4 ≤ length bytes → get_or bytes 0 0 ≡ 116 → is_ascii_digit (get_or bytes 1 0) ≡ true
+    → is_ascii_digit (get_or bytes 2 0) ≡ true → get_or bytes 3 0 ≡ 32 → (get_or bytes 1 0 - 48) * 10 + (get_or bytes 2 0 - 48) ≤ 63
+    → BeginsWithTurn bytes ((get_or bytes 1 0 - 48) * 10 + (get_or bytes 2 0 - 48)) 4
+begins-4 [] long t ten digit space small = absurd (omega arith)
+begins-4 (b ∷ []) long t ten digit space small = absurd (omega arith)
+begins-4 (b ∷ d ∷ []) long t ten digit space small = absurd (omega arith)
+begins-4 (b ∷ d ∷ e ∷ []) long t ten digit space small = absurd (omega arith)
+begins-4 (b ∷ d ∷ e ∷ f ∷ rest) long t ten digit space small = record {
+  digits = d ∷ e ∷ [];
+  counted = refl;
+  some = omega arith;
+  few = omega arith;
+  all = (digit_below d ten, (digit_below e digit, tt));
+  value = two_values (0 + digit_value d) (digit_value e) (d - 48) (e - 48) (omega (arith, digit_value-digit d ten)) (digit_value-digit e digit);
+  small = small;
+  begins = ap (λ n. n ∷ d ∷ e ∷ f ∷ rest) t ∙ ap (λ n. 116 ∷ d ∷ e ∷ n ∷ rest) space;
+  within = omega (arith, long);
+}
+
+-- a turn and the space behind it add one run
+turn-schedule : (finished : Bool) (at thread count : ℕ) (bytes rest : List ℕ) → BeginsWithTurn bytes thread count
+    → schedule_from finished place.Between at (bytes ++ rest)
+    ≡ with_runs (run_of (choice_of false thread) 1 ∷ []) (schedule_from finished place.Between (at + count) (drop count bytes ++ rest))
+turn-schedule finished at thread count bytes rest begins =
+    let piece = 116 ∷ begins.digits in
+    let after = drop count bytes ++ rest in
+    let run = run_of (choice_of false thread) 1 in
+    let end : at + length piece + 1 ≡ at + count = omega (arith, begins.counted) in
+    let some : 0 < length (slice_split is_blank after) = omega (arith, length-slice_split is_blank after) in
+    let read = digits-read at thread begins.digits begins.all begins.some begins.few begins.value begins.small in
+    let blanks = above-blanks piece (lit≤ tt, above-digits begins.digits begins.all) in
+    ap (λ bs. schedule_from finished place.Between at (bs ++ rest)) begins.begins
+    ∙ ap (schedule_from finished place.Between at) (append_assoc piece (32 ∷ drop count bytes) rest)
+    ∙ ap (pieces_from finished place.Between at) (slice_split_at is_blank piece 32 after blanks refl)
+    ∙ first-piece finished at piece run (slice_split is_blank after) (omega arith) some read
+    ∙ ap (λ n. schedule_with (Ok run) (pieces_from finished place.Between n (slice_split is_blank after))) end
+
+pub takes-turn : (p : Place) (at thread count : ℕ) (bytes : List ℕ) (before after : List Run) (run : Run) → p ≡ place.Between
+    → BeginsWithTurn bytes thread count → run ≡ run_of (choice_of false thread) 1 → after ≡ before ++ (run ∷ [])
+    → Takes (Ok (place.Between, count)) before after (λ (stream : Bool × List ℕ). schedule_from stream.0 p at (bytes ++ stream.1))
+    (λ stream (next : Place × ℕ). schedule_from stream.0 next.0 (at + next.1) (drop next.1 bytes ++ stream.1))
+takes-turn p at thread count bytes before after run between begins is list = record {
+  added = run ∷ [];
+  list = list;
+  schedules = λ (stream : Bool × List ℕ). let rest = schedule_from stream.0 place.Between (at + count) (drop count bytes ++ stream.1) in (
+    rest,
+    (
+      ap (λ q. schedule_from stream.0 q at (bytes ++ stream.1)) between
+          ∙ turn-schedule stream.0 at thread count bytes stream.1 begins ∙ ap (λ r. with_runs (r ∷ []) rest) (sym is),
+      refl,
+    ),
+  );
+}
+
+-- and after what was read before it, in a piece
+pub takes-some : (p next q : Place) (at offset done count : ℕ) (piece rest : List ℕ) (before between after : List Run) → rest ≡ drop done piece
+    → Takes (Ok next) before between (λ (stream : Bool × List ℕ). schedule_from stream.0 p at (piece ++ stream.1))
+    (λ stream n. schedule_from stream.0 n offset (drop done piece ++ stream.1))
+    → Takes (Ok (q, count)) between after (λ (stream : Bool × List ℕ). schedule_from stream.0 next offset (rest ++ stream.1))
+    (λ stream (r : Place × ℕ). schedule_from stream.0 r.0 (offset + r.1) (drop r.1 rest ++ stream.1))
+    → Takes (Ok q) before after (λ (stream : Bool × List ℕ). schedule_from stream.0 p at (piece ++ stream.1))
+    (λ stream n. schedule_from stream.0 n (offset + count) (drop (done + count) piece ++ stream.1))
+takes-some p next q at offset done count piece rest before between after same so_far one = record {
+  added = so_far.added ++ one.added;
+  list = one.list ∙ ap (λ rs. rs ++ one.added) so_far.list ∙ append_assoc before so_far.added one.added;
+  schedules = λ (stream : Bool × List ℕ). let first = so_far.schedules stream in let second = one.schedules stream in (
+    second.0,
+    (
+      first.1.0
+          ∙ ap (with_runs so_far.added)
+          (first.1.1 ∙ ap (λ bs. schedule_from stream.0 next offset (bs ++ stream.1)) (sym same) ∙ second.1.0)
+          ∙ with_runs-append so_far.added one.added second.0,
+      second.1.1 ∙ ap (λ bs. schedule_from stream.0 q (offset + count) (drop count bs ++ stream.1)) same
+          ∙ ap (λ bs. schedule_from stream.0 q (offset + count) (bs ++ stream.1)) (drop-drop count done piece),
+    ),
+  );
+}
+
+pub takes-some_fault : (p next : Place) (f : ScheduleFault) (at offset done : ℕ) (piece rest : List ℕ) (before between after : List Run)
+    → rest ≡ drop done piece
+    → Takes (Ok next) before between (λ (stream : Bool × List ℕ). schedule_from stream.0 p at (piece ++ stream.1))
+    (λ stream n. schedule_from stream.0 n offset (drop done piece ++ stream.1))
+    → Takes (Err f) between after (λ (stream : Bool × List ℕ). schedule_from stream.0 next offset (rest ++ stream.1))
+    (λ stream (r : Place × ℕ). schedule_from stream.0 r.0 (offset + r.1) (drop r.1 rest ++ stream.1))
+    → Takes (Err f) before after (λ (stream : Bool × List ℕ). schedule_from stream.0 p at (piece ++ stream.1))
+    (λ stream (n : Place). schedule_from stream.0 n (at + length piece) stream.1)
+takes-some_fault p next f at offset done piece rest before between after same so_far one = record {
+  added = so_far.added ++ one.added;
+  list = one.list ∙ ap (λ rs. rs ++ one.added) so_far.list ∙ append_assoc before so_far.added one.added;
+  schedules = λ (stream : Bool × List ℕ). let first = so_far.schedules stream in let second = one.schedules stream in (
+    second.0,
+    (
+      first.1.0
+          ∙ ap (with_runs so_far.added)
+          (first.1.1 ∙ ap (λ bs. schedule_from stream.0 next offset (bs ++ stream.1)) (sym same) ∙ second.1.0)
+          ∙ with_runs-append so_far.added one.added second.0,
+      second.1.1,
+    ),
+  );
+}
+
+-- one byte alone
+pub takes-one : (p q : Place) (at : ℕ) (rest : List ℕ) (before after : List Run) → 0 < length rest
+    → Takes (Ok q) before after (λ (stream : Bool × List ℕ). schedule_from stream.0 p at (get_or rest 0 0 ∷ stream.1))
+    (λ stream n. schedule_from stream.0 n (at + 1) stream.1)
+    → Takes (Ok (q, 1)) before after (λ (stream : Bool × List ℕ). schedule_from stream.0 p at (rest ++ stream.1))
+    (λ stream (r : Place × ℕ). schedule_from stream.0 r.0 (at + r.1) (drop r.1 rest ++ stream.1))
+takes-one p q at [] before after some one = absurd (omega arith)
+takes-one p q at (b ∷ bs) before after some one = record {
+  added = one.added;
+  list = one.list;
+  schedules = λ (stream : Bool × List ℕ). let t = one.schedules (stream.0, bs ++ stream.1) in (t.0, (t.1.0, t.1.1));
+}
+
+pub takes-one_fault : (p : Place) (f : ScheduleFault) (at : ℕ) (rest : List ℕ) (before after : List Run) → 0 < length rest
+    → Takes (Err f) before after (λ (stream : Bool × List ℕ). schedule_from stream.0 p at (get_or rest 0 0 ∷ stream.1))
+    (λ stream (n : Place). schedule_from stream.0 n (at + 1) stream.1)
+    → Takes (Err f) before after (λ (stream : Bool × List ℕ). schedule_from stream.0 p at (rest ++ stream.1))
+    (λ stream (r : Place × ℕ). schedule_from stream.0 r.0 (at + r.1) (drop r.1 rest ++ stream.1))
+takes-one_fault p f at [] before after some one = absurd (omega arith)
+takes-one_fault p f at (b ∷ bs) before after some one = record {
+  added = one.added;
+  list = one.list;
+  schedules = λ (stream : Bool × List ℕ). let t = one.schedules (stream.0, bs ++ stream.1) in (t.0, (t.1.0, t.1.1));
+}

@@ -1,0 +1,13 @@
+use Rattle.std.proofs.Common.{◌∙◌, ◌++◌, ◌∷◌, [], ap, sym}
+use Rattle.trace_compare.proofs.PieceLines.{line-taken, line-with_lf}
+use Rattle.trace_compare.proofs.compare.take_whole_line.Goals as goal
+
+pub take_line-requires-clause-whole : goal.take_line-requires-clause-whole
+take_line-requires-clause-whole c =
+    c.first_bytes-whole.ensures ∙ line-with_lf c.args.bytes.now c.args.end c.requires.end c.requires.there
+    ∙ ap (λ line. line ++ (10 ∷ [])) (sym c.first_bytes.ensures)
+
+pub returns-clause-verdict : goal.returns-clause-verdict
+returns-clause-verdict c = λ more.
+    line-taken c.take_line.result c.args.now.now c.take_line.new.self c.args.bytes.now c.first_bytes.result.now more c.args.end
+    c.requires.end c.requires.there c.first_bytes.ensures c.take_line.ensures.verdict
