@@ -73,10 +73,10 @@ byte; or `not a trace LINE`, the first line that is no trace's. FILE is an image
 where its first four bytes are `PBW1` or `PBW2`, else a program text. TRACE is a
 file, or `-` for standard input; it may be as long as you like.
 
-With `--show` two lines follow a verdict that isn't `same`: behind `differs LINE`
-`trace ..` and `run ..`, that line of each; behind `not a trace LINE` the line of
-the trace, and what a line has to be. TRACE is read again for that, or is held in
-memory where it is `-`.
+With `--show` two lines follow a verdict that isn't `same`: behind `differs
+LINE` that line of each, `trace ..` and `run ..`; behind `not a trace LINE` that
+line, `trace ..`, and what a line has to be, `wanted ..`. TRACE is read again
+for that, or is held in memory where it is `-`.
 
 It may tell `refused asm`, `refused image`, `refused load`, `memory`, `read` or
 `write`.

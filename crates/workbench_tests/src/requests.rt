@@ -4,8 +4,8 @@ use expected_state::Expected;
 use std::alloc::Global;
 use std::test::Fail;
 
-/// Command lines that ask for nothing, and the status of each.
-static REFUSED: [(&str, i32); 39] = [
+/// Command lines whose words ask for nothing, and the status of each.
+static WRONG_WORDS: [(&str, i32); 21] = [
     ("asm", 2),
     ("asm a", 2),
     ("asm a b c", 2),
@@ -15,36 +15,49 @@ static REFUSED: [(&str, i32); 39] = [
     ("run a b c", 2),
     ("compare a", 2),
     ("compare a b c", 2),
+    ("compare a b --show c", 2),
     ("debug", 2),
     ("debug a b", 2),
     ("show", 2),
     ("show a b c", 2),
     ("draw", 2),
     ("draw a b c", 2),
-    ("draw a --width 59", 2),
-    ("draw a --width 1001", 2),
     ("live", 2),
     ("live a b", 2),
-    ("live a --limit 0", 2),
-    ("live a --limit 1000000001", 2),
-    ("live a --limit 99999999999", 2),
-    ("live a --stir 4294967296", 2),
-    ("live a --stir -1", 2),
-    ("live a --expect ALL", 2),
-    ("run a b --expect", 2),
-    ("run a b --expect ended", 2),
     ("examples/stuck.txt", 2),
-    ("--nonsense", 2),
-    ("race --parties 2", 2),
-    ("race --parties 0 --rounds 1", 2),
-    ("race --parties 17 --rounds 1", 2),
-    ("race --parties 1 --rounds 0", 2),
-    ("race --parties 1 --rounds 1000001", 2),
-    ("race --parties +1 --rounds 1", 2),
-    ("race --parties 1 --rounds 00000000001", 2),
-    ("race --parties 1x --rounds 1", 2),
     ("--help", 0),
     ("--version", 0),
+];
+
+/// Command lines with an option that isn't there, or with a value that it can't have.
+static WRONG_OPTIONS: [&str; 27] = [
+    "--nonsense",
+    "--expect",
+    "--expect ended",
+    "--expect all run a b",
+    "--expect all run a b --expect all",
+    "run a b --expect",
+    "run a b --expect ended",
+    "compare a b --show=yes",
+    "draw a --width 59",
+    "draw a --width 1001",
+    "live a --limit 0",
+    "live a --limit 1000000001",
+    "live a --limit 99999999999",
+    "live a --stir 4294967296",
+    "live a --stir -1",
+    "live a --expect ALL",
+    "live a --runs",
+    "live a --runs 0",
+    "live a --runs 100001",
+    "live a --runs +1",
+    "race --parties 2",
+    "race --parties 0 --rounds 1",
+    "race --parties 17 --rounds 1",
+    "race --parties 1 --rounds 0",
+    "race --parties 1 --rounds 1000001",
+    "race --parties +1 --rounds 1",
+    "race --parties 1x --rounds 1",
 ];
 
 fn words_of(alloc: Global, line: &str) -> Result<Vec<String>, Fail> {
@@ -70,7 +83,7 @@ fn asks(alloc: Global, line: &str, wanted: &Request) -> Result<bool, Fail> {
 #[test]
 fn command_lines_ask_for_programs(rt: HostRuntime) -> Result<(), Fail> {
     let alloc = rt.alloc();
-    assert!(rt; asks(alloc, "", &Request::Both)?);
+    assert!(rt; asks(alloc, "", &Request::Both { expected: None })?);
     assert!(rt;
         asks(
             alloc,
@@ -119,6 +132,18 @@ fn command_lines_ask_for_programs(rt: HostRuntime) -> Result<(), Fail> {
             &Request::Compare {
                 file: "a.txt",
                 trace: "b.trace",
+                is_shown: false,
+            }
+        )?
+    );
+    assert!(rt;
+        asks(
+            alloc,
+            "compare --show a.txt -",
+            &Request::Compare {
+                file: "a.txt",
+                trace: "-",
+                is_shown: true,
             }
         )?
     );
@@ -206,6 +231,7 @@ fn command_lines_ask_for_threads(rt: HostRuntime) -> Result<(), Fail> {
                 file: "a.txt",
                 limit: 1_000_000,
                 seed: None,
+                runs: None,
                 expected: None,
             }
         )?
@@ -218,6 +244,7 @@ fn command_lines_ask_for_threads(rt: HostRuntime) -> Result<(), Fail> {
                 file: "a.txt",
                 limit: 1,
                 seed: None,
+                runs: None,
                 expected: None,
             }
         )?
@@ -230,6 +257,7 @@ fn command_lines_ask_for_threads(rt: HostRuntime) -> Result<(), Fail> {
                 file: "a.txt",
                 limit: 1_000_000_000,
                 seed: None,
+                runs: None,
                 expected: None,
             }
         )?
@@ -258,8 +286,49 @@ fn command_lines_ask_for_threads(rt: HostRuntime) -> Result<(), Fail> {
 }
 
 #[test]
+fn command_lines_ask_for_many_runs(rt: HostRuntime) -> Result<(), Fail> {
+    let alloc = rt.alloc();
+    assert!(rt;
+        asks(
+            alloc,
+            "live a.txt --runs 1",
+            &Request::Live {
+                file: "a.txt",
+                limit: 1_000_000,
+                seed: None,
+                runs: Some(1),
+                expected: None,
+            }
+        )?
+    );
+    assert!(rt;
+        asks(
+            alloc,
+            "live --runs=100000 --limit 7 --stir 0 --expect live a.txt",
+            &Request::Live {
+                file: "a.txt",
+                limit: 7,
+                seed: Some(0),
+                runs: Some(100_000),
+                expected: Some(Expected::Live),
+            }
+        )?
+    );
+    Ok(())
+}
+
+#[test]
 fn command_lines_ask_for_ends_and_pauses(rt: HostRuntime) -> Result<(), Fail> {
     let alloc = rt.alloc();
+    assert!(rt;
+        asks(
+            alloc,
+            "--expect live",
+            &Request::Both {
+                expected: Some(Expected::Live),
+            }
+        )?
+    );
     assert!(rt;
         asks(
             alloc,
@@ -279,6 +348,7 @@ fn command_lines_ask_for_ends_and_pauses(rt: HostRuntime) -> Result<(), Fail> {
                 file: "a.txt",
                 limit: 1_000_000,
                 seed: Some(4_294_967_295),
+                runs: None,
                 expected: Some(Expected::All),
             }
         )?
@@ -296,15 +366,27 @@ fn command_lines_ask_for_ends_and_pauses(rt: HostRuntime) -> Result<(), Fail> {
     Ok(())
 }
 
+/// The exit status of a command line that asks for nothing.
+fn status_of(alloc: Global, line: &str) -> Result<Option<i32>, Fail> {
+    let words = words_of(alloc, line)?;
+    Ok(match parse(alloc, words.as_slice(), "1") {
+        Ok(_) => None,
+        Err(error) => Some(error.exit_code()),
+    })
+}
+
 #[test]
 fn command_lines_that_ask_for_nothing(rt: HostRuntime) -> Result<(), Fail> {
-    for (line, status) in &REFUSED {
-        let words = words_of(rt.alloc(), *line)?;
-        let is_expected = match parse(rt.alloc(), words.as_slice(), "1") {
-            Ok(_) => false,
-            Err(error) => error.exit_code() == *status,
-        };
-        assert!(rt; is_expected, "{line}");
+    for (line, status) in &WRONG_WORDS {
+        assert!(rt; status_of(rt.alloc(), *line)? == Some(*status), "{line}");
+    }
+    Ok(())
+}
+
+#[test]
+fn options_that_ask_for_nothing(rt: HostRuntime) -> Result<(), Fail> {
+    for line in &WRONG_OPTIONS {
+        assert!(rt; status_of(rt.alloc(), *line)? == Some(2), "{line}");
     }
     Ok(())
 }
