@@ -21,6 +21,7 @@ use row_code::Image;
 use std::alloc::Global;
 use std::sync::Wait;
 use std::thread::Threads;
+use thread_runner::Gate;
 use workbench::fault::Fault;
 use workbench::program_file::read_program;
 
@@ -41,11 +42,13 @@ pub struct Asked {
 /// of the first that did. Answers the exit status, 0 where all went well, and 1 where a run ended otherwise than is expected.
 /// For any other status one line stands on `errors`: `refused asm LINE KIND`, `refused image KIND [PLACE]` or `refused load
 /// KIND [PLACE]` (3), `memory` or `spawn` (4), or `read` or `write` (5). What `errors` makes of that line changes no status.
-/// Nothing is written before all runs are over.
-pub fn runs_cmd<R: Threads + Wait + Sync, F: Source, K: Sink, E: Sink>(
+/// Nothing is written before all runs are over. The threads of each run pass `gate` behind their pauses, as in
+/// `live_through_cmd`.
+pub fn runs_cmd<R: Threads + Wait + Sync, G: Gate + Sync, F: Source, K: Sink, E: Sink>(
     threads: &R,
     alloc: Global,
     asked: &Asked,
+    gate: &G,
     file: &mut F,
     output: &mut K,
     errors: &mut E,
@@ -66,7 +69,7 @@ pub fn runs_cmd<R: Threads + Wait + Sync, F: Source, K: Sink, E: Sink>(
         ⊎ GivesTooMuch (F.left file.old) (F.left file.new))
         ⊎ IsTrue (K.has_failed output.new) }
 {
-    match reported(threads, alloc, asked, file, output) {
+    match reported(threads, alloc, asked, gate, file, output) {
         Ok(status) => status,
         Err(fault) => {
             let _ = fault.tell(errors);
@@ -76,10 +79,11 @@ pub fn runs_cmd<R: Threads + Wait + Sync, F: Source, K: Sink, E: Sink>(
 }
 
 /// The same with the fault that decides the status.
-fn reported<R: Threads + Wait + Sync, F: Source, K: Sink>(
+fn reported<R: Threads + Wait + Sync, G: Gate + Sync, F: Source, K: Sink>(
     rt: &R,
     alloc: Global,
     asked: &Asked,
+    gate: &G,
     file: &mut F,
     output: &mut K,
 ) -> Result<u8, Fault>
@@ -100,14 +104,15 @@ fn reported<R: Threads + Wait + Sync, F: Source, K: Sink>(
         Ok(image) => image,
         Err(fault) => return Err(fault),
     };
-    report_image(rt, alloc, asked, image, output)
+    report_image(rt, alloc, asked, gate, image, output)
 }
 
 /// The same of an image.
-fn report_image<R: Threads + Wait + Sync, K: Sink>(
+fn report_image<R: Threads + Wait + Sync, G: Gate + Sync, K: Sink>(
     rt: &R,
     alloc: Global,
     asked: &Asked,
+    gate: &G,
     image: Image,
     output: &mut K,
 ) -> Result<u8, Fault>
@@ -128,15 +133,16 @@ fn report_image<R: Threads + Wait + Sync, K: Sink>(
         Err(LoadFault::Memory) => return Err(Fault::Memory),
         Err(fault) => return Err(Fault::Load(fault)),
     };
-    let outcomes = outcomes_of(rt, alloc, asked, &program)?;
+    let outcomes = outcomes_of(rt, alloc, asked, gate, &program)?;
     push_report(alloc, asked.expected, &outcomes, output)
 }
 
 /// What the runs of a program came to, the most frequent first.
-fn outcomes_of<R: Threads + Wait + Sync>(
+fn outcomes_of<R: Threads + Wait + Sync, G: Gate + Sync>(
     rt: &R,
     alloc: Global,
     asked: &Asked,
+    gate: &G,
     program: &Loaded,
 ) -> Result<Outcomes, Fault>
     requires limit { asked.now.limit ≤ 1000000000 }
@@ -152,6 +158,7 @@ fn outcomes_of<R: Threads + Wait + Sync>(
         program,
         asked.limit,
         asked.pauses,
+        gate,
         asked.runs,
         &mut outcomes,
     )?;

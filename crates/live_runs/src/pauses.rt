@@ -9,28 +9,31 @@ pub struct Pauses {
     pub seed: Option<u32>,
 }
 
-/// The gate of one run.
-#[derive(Clone, Copy, Debug, PartialEq, Eq)]
-pub struct RunGate {
+/// The gate of one run, and a gate behind it.
+#[derive(Drop)]
+pub struct RunGate<'a, G> {
     stirred: Option<Stirred>,
+    behind: &'a G,
 }
 
 impl Pauses {
     /// The gate of the run of this number: each run has other pauses.
-    pub fn of_run(self, run: u32) -> RunGate {
+    pub fn of_run<'a, G>(self, run: u32, behind: &'a G) -> RunGate<'a, G> {
         RunGate {
             stirred: self.seed.map(|seed| Stirred {
                 seed: u64::from(seed),
                 run,
             }),
+            behind,
         }
     }
 }
 
-impl Gate for RunGate {
+impl<'a, G: Gate> Gate for RunGate<'a, G> {
     fn pass(&self, thread: u8, step: u32) {
         if let Some(stirred) = self.stirred {
             stirred.pass(thread, step);
         }
+        self.behind.pass(thread, step);
     }
 }

@@ -10,21 +10,21 @@ ghost use Rattle.live_runs.specs.Outcomes.{AreOutcomes, Ended, IsEndedFrom, is_s
 
 use crate::end_state::EndState;
 use crate::outcomes::{Outcomes, add};
-use crate::pauses::{Pauses, RunGate};
+use crate::pauses::Pauses;
 use loader::Loaded;
 use std::alloc::Global;
 use std::sync::Wait;
 use std::thread::Threads;
-use thread_runner::{LiveFault, LiveRun, run_live};
+use thread_runner::{Gate, LiveFault, LiveRun, run_live};
 use workbench::fault::Fault;
 
 /// One run of a program.
-fn run_once<R: Threads + Wait + Sync>(
+fn run_once<R: Threads + Wait + Sync, G: Gate + Sync>(
     rt: &R,
     alloc: Global,
     program: &Loaded,
     limit: u32,
-    gate: &RunGate,
+    gate: &G,
 ) -> Result<LiveRun, Fault>
     requires { limit ≤ 1000000000 }
     ensures replay { IfOk result (λ run.
@@ -60,13 +60,15 @@ fn add_run(alloc: Global, run: LiveRun, outcomes: &mut Outcomes) -> Result<(), F
     }
 }
 
-/// Plays a program so often, each run with the pauses of its number, and adds what the runs came to.
-pub fn add_runs<R: Threads + Wait + Sync>(
+/// Plays a program so often, each run with the pauses of its number, and adds what the runs came to. Behind these pauses the threads
+/// pass `gate`.
+pub fn add_runs<R: Threads + Wait + Sync, G: Gate + Sync>(
     rt: &R,
     alloc: Global,
     program: &Loaded,
     limit: u32,
     pauses: Pauses,
+    gate: &G,
     count: u32,
     outcomes: &mut Outcomes,
 ) -> Result<(), Fault>
@@ -78,7 +80,7 @@ pub fn add_runs<R: Threads + Wait + Sync>(
     ensures fault { IfErr result (λ fault. (fault ≡ Fault.Memory) ⊎ (fault ≡ Fault.Spawn)) }
 {
     for number in 0..count {
-        let run = run_once(rt, alloc, program, limit, &pauses.of_run(number))?;
+        let run = run_once(rt, alloc, program, limit, &pauses.of_run(number, gate))?;
         add_run(alloc, run, outcomes)?;
     }
     Ok(())

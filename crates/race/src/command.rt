@@ -8,6 +8,7 @@ ghost use Rattle.race.specs.Race.{IsFinal, line_of, status_of, HasTold};
 use crate::fault::RaceFault;
 use crate::line::push_line;
 use crate::meeting::race;
+use crate::pace::{NoPace, Pace};
 use byte_ports::Sink;
 use std::alloc::Global;
 use std::sync::Wait;
@@ -34,7 +35,29 @@ pub fn race_cmd<R: Threads + Wait + Sync, K: Sink, E: Sink>(
     ensures unchanged { result ≡ 4 → K.written output.new ≡ K.written output.old }
     ensures port { result ≡ 5 → IsTrue (K.has_failed output.new) }
 {
-    match race(rt, alloc, parties, rounds) {
+    race_paced_cmd(rt, alloc, parties, rounds, &NoPace, output, errors)
+}
+
+/// The same, where each thread tells `pace` of each meeting.
+pub fn race_paced_cmd<R: Threads + Wait + Sync, P: Pace + Sync, K: Sink, E: Sink>(
+    rt: &R,
+    alloc: Global,
+    parties: u16,
+    rounds: u32,
+    pace: &P,
+    output: &mut K,
+    errors: &mut E,
+) -> u8
+    ensures statuses { (result ≡ 0) ⊎ ((result ≡ 4) ⊎ (result ≡ 5)) }
+    ensures done { result ≡ 0 → (word : ℕ) × (IsFinal parties rounds word
+        × Appends (K.written output.old) (K.written output.new) (line_of (record_of word))) }
+    ensures told { ((result ≡ 0) × (E.written errors.new ≡ E.written errors.old))
+        ⊎ ((fault : RaceFault) × ((result ≡ status_of fault)
+        × HasTold fault (E.has_failed errors.new) (E.written errors.old) (E.written errors.new))) }
+    ensures unchanged { result ≡ 4 → K.written output.new ≡ K.written output.old }
+    ensures port { result ≡ 5 → IsTrue (K.has_failed output.new) }
+{
+    match race(rt, alloc, parties, rounds, pace) {
         Ok(word) => match push_line(output, word) {
             Ok(()) => 0,
             Err(_) => {

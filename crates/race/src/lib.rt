@@ -5,7 +5,9 @@ mod command;
 pub mod fault;
 mod line;
 mod meeting;
+mod pace;
 
-pub use command::race_cmd;
+pub use command::{race_cmd, race_paced_cmd};
 pub use fault::RaceFault;
 pub use meeting::race;
+pub use pace::{NoPace, Pace};

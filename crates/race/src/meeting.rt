@@ -6,6 +6,7 @@ ghost use Rattle.shared_phaser.specs.Known.{phaser_of};
 ghost use Rattle.race.specs.Race.{AreMeetings, HasMet, IsFinal, IsFresh, number_of};
 
 use crate::fault::RaceFault;
+use crate::pace::Pace;
 use packed_phaser::{Policy, Word};
 use phase_number::Phase;
 use shared_phaser::{NewFault, Party, SharedPhaser};
@@ -33,12 +34,19 @@ impl Promise<Party> for Home {
 type Running = PromisedHandle<Party, Home>;
 
 /// What one thread does: it arrives and awaits the phase's end, so many times.
-fn work<R: Wait>(rt: &R, phaser: &SharedPhaser, mut party: Party, rounds: u32) -> Party
+fn work<R: Wait, P: Pace>(
+    rt: &R,
+    phaser: &SharedPhaser,
+    mut party: Party,
+    rounds: u32,
+    pace: &P,
+) -> Party
     requires { IsFresh phaser.now party }
     ensures { HasMet party rounds result }
 {
     for _ in 0..rounds {
         let _ = phaser.arrive_and_await_advance(rt, &mut party);
+        pace.met();
     }
     party
 }
@@ -68,13 +76,14 @@ fn callers(
 
 /// Starts a thread for each caller, and waits until all have ended. Where one can't be started, the phaser is
 /// terminated, so that those that run come back.
-fn run<R: Threads + Wait + Sync>(
+fn run<R: Threads + Wait + Sync, P: Pace + Sync>(
     rt: &R,
     alloc: Global,
     phaser: &SharedPhaser,
     first: Party,
     callers: Vec<Party>,
     rounds: u32,
+    pace: &P,
 ) -> (Party, Vec<Running>, Option<RaceFault>)
     requires first { first.known.number ≡ 0 }
     requires phaser { phaser_of first ≡ phaser.now }
@@ -116,7 +125,7 @@ fn run<R: Threads + Wait + Sync>(
                     move || -> Party
                         requires { IsFresh phaser.now caller }
                         ensures { HasMet caller rounds result }
-                    { work(rt, phaser, caller, rounds) },
+                    { work(rt, phaser, caller, rounds, pace) },
                 ) else {
                     phaser.force(rt, &mut first);
                     return (first, running, Some(RaceFault::Spawn));
@@ -153,12 +162,14 @@ fn gather<R: Threads>(rt: &R, phaser: &SharedPhaser, first: &mut Party, running:
     }
 }
 
-/// So many threads meet so often at a phaser of as many parties; its last word, once every caller has come back.
-pub fn race<R: Threads + Wait + Sync>(
+/// So many threads meet so often at a phaser of as many parties; its last word, once every caller has come back. Each tells `pace`
+/// of each meeting.
+pub fn race<R: Threads + Wait + Sync, P: Pace + Sync>(
     rt: &R,
     alloc: Global,
     parties: u16,
     rounds: u32,
+    pace: &P,
 ) -> Result<Word, RaceFault>
     ensures word { IfOk result (λ word. IsFinal parties rounds word) }
     ensures fault { IfErr result (λ fault. fault ≢ RaceFault.Write) }
@@ -172,7 +183,7 @@ pub fn race<R: Threads + Wait + Sync>(
     let Ok(callers) = callers(alloc, &phaser, &mut first, parties) else {
         return Err(RaceFault::Memory);
     };
-    let (mut first, running, fault) = run(rt, alloc, &phaser, first, callers, rounds);
+    let (mut first, running, fault) = run(rt, alloc, &phaser, first, callers, rounds, pace);
     gather(rt, &phaser, &mut first, running);
     if let Some(fault) = fault {
         return Err(fault);

@@ -1,6 +1,6 @@
 //! Races of real threads, and what is written of them.
 use byte_ports::MemorySink;
-use race::{RaceFault, race, race_cmd};
+use race::{NoPace, RaceFault, race, race_cmd};
 use std::alloc::{AllocError, Global};
 use std::sync::Wait;
 use std::test::Fail;
@@ -91,7 +91,7 @@ fn an_output_fails_at_each_call_in_turn(rt: HostRuntime) -> Result<(), Fail> {
 
 #[test]
 fn four_threads_meet_exactly(rt: HostRuntime) -> Result<(), Fail> {
-    let word = race(&rt, rt.alloc(), 4, 10_000).ok();
+    let word = race(&rt, rt.alloc(), 4, 10_000, &NoPace).ok();
     let bits = word.map(|word| word.raw());
     assert_eq!(rt; bits, Some(0x2710_0004_0004));
     Ok(())

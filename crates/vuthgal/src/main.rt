@@ -30,8 +30,8 @@ use picture_commands::command::{picture_both_cmd, picture_cmd};
 use picture_commands::drawing::Drawing;
 use picture_commands::page::Page;
 use picture_commands::picture::Picture;
-use progress::{ShownGate, ShownSource};
-use race::race_cmd;
+use progress::{ShownGate, ShownPace, ShownSource};
+use race::race_paced_cmd;
 use refusal_words::explain_cmd;
 use refusal_words::told_line::ToldLine;
 use row_listing::rows_cmd;
@@ -393,7 +393,8 @@ fn live<'a, R: Threads + Wait + Sync, E: Sink>(
         return Err(NoCommand::Memory);
     };
     let alloc = rt.alloc();
-    let gate = ShownGate::new(rt, pauses.of_run(0));
+    let shown = ShownGate::new(rt);
+    let gate = pauses.of_run(0, &shown);
     let mut program = ReadPort::new(program);
     let Some(expected) = expected else {
         let status = live_through_cmd(
@@ -405,7 +406,7 @@ fn live<'a, R: Threads + Wait + Sync, E: Sink>(
             &mut output,
             &mut line,
         );
-        gate.end();
+        shown.end();
         return Ok(ended(errors, status, output, &line));
     };
     let mut watch = StateWatch::new(output);
@@ -418,7 +419,7 @@ fn live<'a, R: Threads + Wait + Sync, E: Sink>(
         &mut watch,
         &mut line,
     );
-    gate.end();
+    shown.end();
     let status = as_expected(status, expected, watch.word());
     Ok(ended(errors, status, watch.into_inner(), &line))
 }
@@ -435,14 +436,17 @@ fn live_often<'a, R: Threads + Wait + Sync, E: Sink>(
     requires count { asked.now.runs ≤ 100000 }
 {
     let mut output = WritePort::new(rt.stdout());
+    let shown = ShownGate::new(rt);
     let status = runs_cmd(
         threads,
         rt.alloc(),
         asked,
+        &shown,
         &mut ReadPort::new(program),
         &mut output,
         errors,
     );
+    shown.end();
     Ok(flushed(errors, status, &mut output))
 }
 
@@ -482,7 +486,17 @@ fn meet<'a, R: Threads + Wait + Sync, E: Sink>(
     rounds: u32,
 ) -> Result<u8, NoCommand<'a>> {
     let mut output = WritePort::new(rt.stdout());
-    let status = race_cmd(threads, rt.alloc(), parties, rounds, &mut output, errors);
+    let pace = ShownPace::new(rt);
+    let status = race_paced_cmd(
+        threads,
+        rt.alloc(),
+        parties,
+        rounds,
+        &pace,
+        &mut output,
+        errors,
+    );
+    pace.end();
     Ok(flushed(errors, status, &mut output))
 }
 

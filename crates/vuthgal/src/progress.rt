@@ -9,6 +9,7 @@ ghost use Rattle.std.specs.Io.KnownBytes.{ReadConsumes};
 ghost use Rattle.byte_ports.specs.Port.{FailsForGood};
 
 use byte_ports::{Failed, Source};
+use race::Pace;
 use std::io;
 use std::io::{IsTerminal, Write};
 use std::sync::atomic::{AtomicU64, Ordering};
@@ -182,41 +183,46 @@ impl<'a, S: Source> Source for ShownSource<'a, S> {
     }
 }
 
-/// How often the workers of a live run pass before the clock is looked at.
-const PASSES: u64 = 4096;
+/// How much several threads do before the clock is looked at.
+const DONE_BETWEEN: u64 = 4096;
 
-/// A gate that shows how often the workers of a live run have passed it, which is a little more than the choices that they made.
+/// A line on standard error that says how much several threads have done, and how much a second.
 #[derive(Drop)]
-pub struct ShownGate<'a, G> {
-    gate: G,
+struct SharedMeter<'a> {
     rt: &'a HostRuntime,
     /// Where somebody looks.
     began: Option<Instant>,
-    passes: AtomicU64,
-    /// How many seconds had gone by when it was shown last.
+    /// What is counted.
+    unit: &'static str,
+    done: AtomicU64,
+    /// How many seconds had gone by when it was shown last, 0 where it wasn't.
     shown: AtomicU64,
 }
 
-impl<'a, G> ShownGate<'a, G> {
-    pub fn new(rt: &'a HostRuntime, gate: G) -> ShownGate<'a, G> {
-        ShownGate {
-            gate,
+impl<'a> SharedMeter<'a> {
+    fn new(rt: &'a HostRuntime, unit: &'static str) -> SharedMeter<'a> {
+        SharedMeter {
             rt,
             began: Meter::of(rt).map(|meter| meter.began),
-            passes: AtomicU64::new(0),
+            unit,
+            done: AtomicU64::new(0),
             shown: AtomicU64::new(0),
         }
     }
 
-    /// Ends the line, if there is one.
-    pub fn end(&self) {
-        if self.shown.load(Ordering::SeqCst) > 0 {
-            let _ = eprintln!(self.rt; "");
+    /// Counts one more.
+    fn count(&self) {
+        let Some(began) = self.began else {
+            return;
+        };
+        let before = self.done.fetch_add(1, Ordering::SeqCst);
+        if before % DONE_BETWEEN == DONE_BETWEEN - 1 {
+            self.show(began, before.saturating_add(1));
         }
     }
 
-    /// Shows so many passes, unless somebody did in this second.
-    fn show(&self, began: Instant, passes: u64) {
+    /// Shows so many, unless somebody did in this second.
+    fn show(&self, began: Instant, done: u64) {
         let Ok(time) = began.elapsed(self.rt) else {
             return;
         };
@@ -224,19 +230,65 @@ impl<'a, G> ShownGate<'a, G> {
         if seconds == 0 || self.shown.swap(seconds, Ordering::SeqCst) >= seconds {
             return;
         }
-        let rate = passes / seconds;
-        let _ = eprint!(self.rt; "\rabout {passes} choices, {rate} a second  ");
+        let rate = done / seconds;
+        let unit = self.unit;
+        let _ = eprint!(self.rt; "\rabout {done} {unit}, {rate} a second  ");
+    }
+
+    /// Ends the line, if there is one.
+    fn end(&self) {
+        if self.shown.load(Ordering::SeqCst) > 0 {
+            let _ = eprintln!(self.rt; "");
+        }
     }
 }
 
-impl<'a, G: Gate> Gate for ShownGate<'a, G> {
-    fn pass(&self, thread: u8, step: u32) {
-        self.gate.pass(thread, step);
-        if let Some(began) = self.began {
-            let before = self.passes.fetch_add(1, Ordering::SeqCst);
-            if before % PASSES == PASSES - 1 {
-                self.show(began, before.saturating_add(1));
-            }
+/// A gate that shows how often the workers of a live run have passed it, which is a little more than the choices that they made.
+#[derive(Drop)]
+pub struct ShownGate<'a> {
+    meter: SharedMeter<'a>,
+}
+
+impl<'a> ShownGate<'a> {
+    pub fn new(rt: &'a HostRuntime) -> ShownGate<'a> {
+        ShownGate {
+            meter: SharedMeter::new(rt, "choices"),
         }
+    }
+
+    /// Ends the line, if there is one.
+    pub fn end(&self) {
+        self.meter.end();
+    }
+}
+
+impl<'a> Gate for ShownGate<'a> {
+    fn pass(&self, _thread: u8, _step: u32) {
+        self.meter.count();
+    }
+}
+
+/// Shows how often the threads of a race have met, each counted by itself.
+#[derive(Drop)]
+pub struct ShownPace<'a> {
+    meter: SharedMeter<'a>,
+}
+
+impl<'a> ShownPace<'a> {
+    pub fn new(rt: &'a HostRuntime) -> ShownPace<'a> {
+        ShownPace {
+            meter: SharedMeter::new(rt, "arrivals"),
+        }
+    }
+
+    /// Ends the line, if there is one.
+    pub fn end(&self) {
+        self.meter.end();
+    }
+}
+
+impl<'a> Pace for ShownPace<'a> {
+    fn met(&self) {
+        self.meter.count();
     }
 }
