@@ -13,12 +13,6 @@ use Rattle.debugger.specs.Reply.{Replies}
 use Rattle.workbench.specs.Debug.{Cut, Ending, Ends, Exchange, Finished, GivesFew, HasConversed, HasNoEnd, HasReadLines, IsDialogue, Unanswered, bytes_of}
 use Rattle.workbench.specs.Input.{GivesInEach, IsCounted}
 
-abbrev read_in : Exchange → List ℕ
-read_in exchange = bytes_of exchange.line true
-
-abbrev written_in : Exchange → List ℕ
-written_in exchange = exchange.reply
-
 -- what is read in some exchanges
 abbrev pub lines_of : List Exchange → List ℕ
 lines_of exchanges = flat_map (λ e. bytes_of e.line true) exchanges
@@ -85,25 +79,22 @@ gone_on before now after a b c x y z exchange n m on counted held given written 
 -- what comes after a dialogue
 pub conversed_after : (ending : Ending) (before now : Session) (a b c x y z : Option (List ℕ)) → HasGoneOn before now a b x y
     → HasConversed ending now b c y z → HasConversed ending before a c x z
-conversed_after ending before now a b c x y z on (exchanges, (after, (line, (is_ended, (text, all))))) = (
+conversed_after ending before now a b c x y z on (exchanges, (after, (last, (is_ended, all)))) = (
   on.exchanges ++ exchanges,
   (
     after,
     (
-      line,
+      last,
       (
         is_ended,
         (
-          text,
-          (
-            dialogue_after on.exchanges exchanges before now after on.held all.0,
-            all.1,
-            all.2,
-            subst (Consumes a c) (in_a_row (λ e. bytes_of e.line true) on.exchanges exchanges (bytes_of line is_ended))
-                (Consumes-trans a b c (lines_of on.exchanges) (lines_of exchanges ++ bytes_of line is_ended) on.given all.3),
-            subst (Appends x z) (in_a_row (λ e. e.reply) on.exchanges exchanges text)
-                (Appends-trans x y z (replies_of on.exchanges) (replies_of exchanges ++ text) on.written all.4),
-          ),
+          dialogue_after on.exchanges exchanges before now after on.held all.0,
+          all.1,
+          all.2,
+          subst (Consumes a c) (in_a_row (λ e. bytes_of e.line true) on.exchanges exchanges (bytes_of last.line is_ended))
+              (Consumes-trans a b c (lines_of on.exchanges) (lines_of exchanges ++ bytes_of last.line is_ended) on.given all.3),
+          subst (Appends x z) (in_a_row (λ e. e.reply) on.exchanges exchanges last.reply)
+              (Appends-trans x y z (replies_of on.exchanges) (replies_of exchanges ++ last.reply) on.written all.4),
         ),
       ),
     ),
@@ -115,7 +106,7 @@ ends_here : (ending : Ending) (session : Session) (a b x y : Option (List ℕ)) 
     → HasNoEnd line → Ends ending session line is_ended text b → Consumes a b (bytes_of line is_ended) → Appends x y text
     → HasConversed ending session a b x y
 ends_here ending session a b x y line is_ended text no_end ends given written =
-    ([], (session, (line, (is_ended, (text, (refl, no_end, ends, given, written))))))
+    ([], (session, (record { line = line; reply = text }, (is_ended, (refl, no_end, ends, given, written)))))
 
 -- nothing is written
 unchanged : (x y : Option (List ℕ)) → y ≡ x → Appends x y []
@@ -188,7 +179,7 @@ pub none_given : (a b : Option (List ℕ)) → b ≡ a → GivesFew a b
 none_given a b same = ([], (subst (λ c. Consumes a c []) (sym same) (Consumes-nil a), omega arith))
 
 -- only `q` ends the session
-pub is_quit : (order : Order) → goes_on order ≡ false → order ≡ Quit
+is_quit : (order : Order) → goes_on order ≡ false → order ≡ Quit
 is_quit (Step choice) ends = absurd (cc ends)
 is_quit (Go runs) ends = absurd (cc ends)
 is_quit Back ends = absurd (cc ends)
@@ -198,11 +189,8 @@ is_quit Print ends = absurd (cc ends)
 is_quit Quit ends = refl
 is_quit Unknown ends = absurd (cc ends)
 
-quit_ends : (order : Order) → order ≡ Quit → goes_on order ≡ false
-quit_ends order is = ap (λ o. goes_on o) is
-
 pub is_no_quit : (order : Order) → goes_on order ≡ true → order ≢ Quit
-is_no_quit order goes = λ is. let ends : goes_on order ≡ false = quit_ends order is in absurd (cc (goes, ends))
+is_no_quit order goes = λ is. let ends : goes_on order ≡ false = ap (λ o. goes_on o) is in absurd (cc (goes, ends))
 
 -- `q` has no reply
 no_reply : (session after : Session) (order : Order) (text : List ℕ) → order ≡ Quit → Replies session order after text → text ≡ []

@@ -38,33 +38,33 @@ IsDialogue session (exchange ∷ exchanges) after =
 
 -- how a session ends
 pub data Ending : Type 0 where
-  -- all is answered, up to the end of the commands, or to `q` and its LF
+  -- all lines are answered, up to the end of the commands, or to `q` and its LF
   Finished : Ending
-  -- all lines are answered but the one that is being read
+  -- all lines are answered but the last, which is cut before its LF
   Cut : Ending
-  -- all lines are answered but the last, of which all may be read
+  -- all lines are answered but the last, of which all may have been read, its LF too
   Unanswered : Ending
 
--- it ends so with what follows a dialogue: with this line, read with its LF or without (but what stands at the end of the
--- commands is no line if it is nothing), with this text in reply, and with these commands left
-abbrev pub Ends : Ending → Session → List ℕ → (is_ended : Bool) → List ℕ → Option (List ℕ) → Type 0
-Ends Finished session [] false text left = (text ≡ []) × IsAtEnd left
-Ends Finished session line false text left = ((after : Session) × Replies session (line_order line) after text) × IsAtEnd left
-Ends Finished session line true text left = (text ≡ []) × (line_order line ≡ Quit)
-Ends Cut session line is_ended text left = (text ≡ []) × (is_ended ≡ false)
-Ends Unanswered session line is_ended text left = text ≡ []
+-- the last line, read with its LF or without, ends the session so, with this reply, and with these commands left; at the
+-- end of the commands nothing is no line
+abbrev pub Ends : Ending → Session → (line : List ℕ) (is_ended : Bool) (reply : List ℕ) (left : Option (List ℕ)) → Type 0
+Ends Finished session [] false reply left = (reply ≡ []) × IsAtEnd left
+Ends Finished session line false reply left = ((after : Session) × Replies session (line_order line) after reply) × IsAtEnd left
+Ends Finished session line true reply left = (reply ≡ []) × (line_order line ≡ Quit)
+Ends Cut session line is_ended reply left = (reply ≡ []) × (is_ended ≡ false)
+Ends Unanswered session line is_ended reply left = reply ≡ []
 
--- a dialogue was held, and the session ended so with a line: the lines of the dialogue, each with its LF, and that line
--- were read, and no byte more; their replies were written
+-- a dialogue was held, and a last line ended the session so: the lines of the dialogue, each with its LF, and the last one
+-- were read, and no byte more; the replies were written in their order
 abbrev pub HasConversed : Ending → Session → (commands_before commands_after output_before output_after : Option (List ℕ)) → Type 0
 HasConversed ending session commands_before commands_after output_before output_after =
-    (exchanges : List Exchange) × ((now : Session) × ((line : List ℕ) × ((is_ended : Bool) × ((text : List ℕ)
-    × (IsDialogue session exchanges now × HasNoEnd line × Ends ending now line is_ended text commands_after
-    × Consumes commands_before commands_after (flat_map (λ e. bytes_of e.line true) exchanges ++ bytes_of line is_ended)
-    × Appends output_before output_after (flat_map (λ e. e.reply) exchanges ++ text))))))
+    (exchanges : List Exchange) × ((now : Session) × ((last : Exchange) × ((is_ended : Bool)
+    × (IsDialogue session exchanges now × HasNoEnd last.line × Ends ending now last.line is_ended last.reply commands_after
+    × Consumes commands_before commands_after (flat_map (λ e. bytes_of e.line true) exchanges ++ bytes_of last.line is_ended)
+    × Appends output_before output_after (flat_map (λ e. e.reply) exchanges ++ last.reply)))))
 
--- the file was read to its end, and a session of its program ended so; or, if that isn't finished, no command was read and
--- nothing was written
+-- the file was read to its end, and the session of its program ended so; where it isn't finished, perhaps there was none:
+-- no command was read, and nothing was written
 abbrev pub HasDebugged : Ending → (file_before file_after commands_before commands_after output_before output_after : Option (List ℕ)) → Type 0
 HasDebugged ending file_before file_after commands_before commands_after output_before output_after =
     ((ending ≢ Finished) × IsUntouched commands_before commands_after output_before output_after)
