@@ -1,244 +1,173 @@
--- Lines that are answered after other lines.
-use Rattle.std.proofs.Common.{◌≡◌, ◌≢◌, ◌≤◌, ◌+◌, ◌∙◌, ◌⊎◌, inl, inr, ℕ, Bool, true, false, List, [], ◌∷◌, ◌++◌, Option, refl, ap, sym, subst, length, append_assoc, append-nil, length-append, arith}
+-- Exchanges that are held after other exchanges.
+use Rattle.std.proofs.Common.{◌≡◌, ◌≢◌, ◌≤◌, ◌+◌, ◌∙◌, ◌⊎◌, inl, inr, ℕ, Bool, true, false, List, [], ◌∷◌, ◌++◌, Option, refl, ap, sym, subst, length, append_assoc, length-append, arith}
 use Rattle.std.proofs.KnownBytes.{Appends-nil, Appends-trans, Consumes-nil, Consumes-trans}
+use Rattle.std.proofs.lemmas.Grind.{flat_map-append}
+use Rattle.std.proofs.lemmas.List.{flat_map_more}
 use Rattle.std.proofs.lemmas.List.Elements.{All-nil, All-cons, All-append}
-use Rattle.std.specs.Io.KnownBytes.{Consumes, IsAtEnd}
+use Rattle.std.specs.List.{flat_map}
+use Rattle.std.specs.Io.KnownBytes.{Appends, Consumes, IsAtEnd}
 use Rattle.trace_compare.specs.RunText.{GivesOnAndOn}
 use Rattle.debugger.specs.Session.{Session}
-use Rattle.debugger.specs.Command.{goes_on, line_order}
-use Rattle.workbench.specs.Debug.{AreReplies, GivesFew, GivesLines, GoOn, HasAnswered, HasConversed, HasConversedAtMost, HasConversedSoFar, HasNoEnd, HasReadLines, last_line, most_reads, with_ends}
+use Rattle.debugger.specs.Command.{Order, Step, Go, Back, Break, Clear, Print, Quit, Unknown, goes_on, line_order}
+use Rattle.debugger.specs.Reply.{Replies}
+use Rattle.workbench.specs.Debug.{Cut, Ending, Ends, Exchange, Finished, GivesFew, HasConversed, HasNoEnd, HasReadLines, IsDialogue, Unanswered, bytes_of}
 use Rattle.workbench.specs.Input.{GivesInEach, IsCounted}
 
-abbrev goes-on : List ℕ → Type 0
-goes-on line = goes_on (line_order line) ≡ true
+-- what is read in some exchanges
+abbrev pub lines_of : List Exchange → List ℕ
+lines_of exchanges = flat_map (λ e. bytes_of e.line true) exchanges
 
-with_ends-append : (xs ys : List (List ℕ)) → with_ends (xs ++ ys) ≡ with_ends xs ++ with_ends ys
-with_ends-append [] ys = refl
-with_ends-append (x ∷ xs) ys =
-    ap (λ l. x ++ (10 ∷ l)) (with_ends-append xs ys) ∙ sym (append_assoc x (10 ∷ with_ends xs) (with_ends ys))
+-- what is written in them
+abbrev pub replies_of : List Exchange → List ℕ
+replies_of exchanges = flat_map (λ e. e.reply) exchanges
 
-with_ends-push : (xs : List (List ℕ)) (x : List ℕ) → length (with_ends (xs ++ x ∷ [])) ≡ length (with_ends xs) + (length x + 1)
-with_ends-push xs x =
-    ap (λ (l : List ℕ). length l) (with_ends-append xs (x ∷ []))
-    ∙ length-append (with_ends xs) (with_ends (x ∷ []))
-    ∙ ap (λ n. length (with_ends xs) + n) (length-append x (10 ∷ []))
+lines-push : (xs : List Exchange) (x : Exchange) → length (lines_of (xs ++ x ∷ [])) ≡ length (lines_of xs) + (length x.line + 1)
+lines-push xs x =
+    ap (λ (l : List ℕ). length l) (sym (flat_map_more (λ (e : Exchange). bytes_of e.line true) [] xs x))
+    ∙ length-append (lines_of xs) (x.line ++ 10 ∷ [])
+    ∙ ap (λ n. length (lines_of xs) + n) (length-append x.line (10 ∷ []))
 
--- the bytes of lines after lines
-in_a_row : (xs ys : List (List ℕ)) (part : List ℕ) → (with_ends xs ++ []) ++ (with_ends ys ++ part) ≡ with_ends (xs ++ ys) ++ part
-in_a_row xs ys part =
-    ap (λ l. l ++ (with_ends ys ++ part)) (append-nil (with_ends xs))
-    ∙ sym (append_assoc (with_ends xs) (with_ends ys) part)
-    ∙ ap (λ l. l ++ part) (sym (with_ends-append xs ys))
+-- the texts of exchanges after exchanges
+in_a_row : (text : Exchange → List ℕ) (xs ys : List Exchange) (more : List ℕ)
+    → flat_map text xs ++ (flat_map text ys ++ more) ≡ flat_map text (xs ++ ys) ++ more
+in_a_row text xs ys more =
+    sym (append_assoc (flat_map text xs) (flat_map text ys) more)
+    ∙ ap (λ l. l ++ more) (sym (flat_map-append text xs ys))
 
-pub lines_after : (a b c : Option (List ℕ)) (xs ys : List (List ℕ)) (part : List ℕ) → GivesLines a b xs [] → GivesLines b c ys part
-    → GivesLines a c (xs ++ ys) part
-lines_after a b c xs ys part first second = (
-  subst (Consumes a c) (in_a_row xs ys part) (Consumes-trans a b c (with_ends xs ++ []) (with_ends ys ++ part) first.0 second.0),
-  All-append HasNoEnd xs ys first.1 second.1,
-  second.2,
+dialogue_after : (xs ys : List Exchange) (before middle after : Session) → IsDialogue before xs middle → IsDialogue middle ys after
+    → IsDialogue before (xs ++ ys) after
+dialogue_after [] ys before middle after same more = subst (λ s. IsDialogue s ys after) same more
+dialogue_after (x ∷ xs) ys before middle after held more = (
+  held.0,
+  held.1,
+  (held.2.0, (held.2.1.0, dialogue_after xs ys held.2.0 middle after held.2.1.1 more)),
 )
 
-pub no_lines : (a : Option (List ℕ)) → GivesLines a a [] []
-no_lines a = (Consumes-nil a, All-nil HasNoEnd, All-nil (λ byte. byte ≢ 10))
-
-replies_after : (xs ys : List (List ℕ)) (before middle after : Session) (first second : List ℕ) → AreReplies before xs middle first
-    → AreReplies middle ys after second → AreReplies before (xs ++ ys) after (first ++ second)
-replies_after [] ys before middle after first second (same, none) more =
-    subst (λ text. AreReplies before ys after (text ++ second)) (sym none) (subst (λ s. AreReplies s ys after second) same more)
-replies_after (x ∷ xs) ys before middle after first second replies more =
-    let rest = replies.1.1.0 in (
-      replies.0,
-      (
-        replies.1.0,
-        (
-          rest ++ second,
-          (
-            replies.1.1.1.0,
-            replies_after xs ys replies.0 middle after rest second replies.1.1.1.1 more,
-            ap (λ l. l ++ second) replies.1.1.1.2 ∙ append_assoc replies.1.0 rest second,
-          ),
-        ),
-      ),
-    )
-
-pub answered_after : (a b c : Option (List ℕ)) (before middle after : Session) (xs ys : List (List ℕ)) → HasAnswered before xs middle a b
-    → HasAnswered middle ys after b c → HasAnswered before (xs ++ ys) after a c
-answered_after a b c before middle after xs ys first second = (
-  first.0 ++ second.0,
-  (
-    replies_after xs ys before middle after first.0 second.0 first.1.0 second.1.0,
-    Appends-trans a b c first.0 second.0 first.1.1 second.1.1,
-  ),
-)
-
-pub no_answers : (a : Option (List ℕ)) (session : Session) → HasAnswered session [] session a a
-no_answers a session = ([], ((refl, refl), Appends-nil a))
-
--- some lines were answered, and the session goes on
+-- a dialogue was held, and the session goes on
 pub record HasGoneOn (before now : Session) (commands_before commands_now output_before output_now : Option (List ℕ))
     : Type 0 where
-  pub lines : List (List ℕ)
-  pub go_on : GoOn lines
-  pub given : GivesLines commands_before commands_now lines []
-  pub answered : HasAnswered before lines now output_before output_now
+  pub exchanges : List Exchange
+  pub held : IsDialogue before exchanges now
+  pub given : Consumes commands_before commands_now (lines_of exchanges)
+  pub written : Appends output_before output_now (replies_of exchanges)
 
 -- nothing was read yet
 pub not_yet : (session : Session) (a x : Option (List ℕ))
-    → (on : HasGoneOn session session a a x x) × (length (with_ends on.lines) + 1000000000 ≡ most_reads)
+    → (on : HasGoneOn session session a a x x) × (length (lines_of on.exchanges) + 1000000000 ≡ 1000000000)
 not_yet session a x = (
-  record { lines = []; go_on = All-nil goes-on; given = no_lines a; answered = no_answers x session },
+  record { exchanges = []; held = refl; given = Consumes-nil a; written = Appends-nil x },
   omega arith,
 )
 
--- a line more, in a read for each of its bytes
-pub gone_on : (before now after : Session) (a b c x y z : Option (List ℕ)) (line : List ℕ) (n m : ℕ) → (on : HasGoneOn before now a b x y)
-    → length (with_ends on.lines) + n ≡ most_reads → GivesLines b c (line ∷ []) [] → goes_on (line_order line) ≡ true
-    → HasAnswered now (line ∷ []) after y z → length line + 1 + m ≡ n
-    → (more : HasGoneOn before after a c x z) × (length (with_ends more.lines) + m ≡ most_reads)
-gone_on before now after a b c x y z line n m on counted given goes answered read = (
+-- an exchange more, in a read for each byte of its line
+pub gone_on : (before now after : Session) (a b c x y z : Option (List ℕ)) (exchange : Exchange) (n m : ℕ) → (on : HasGoneOn before now a b x y)
+    → length (lines_of on.exchanges) + n ≡ 1000000000 → IsDialogue now (exchange ∷ []) after
+    → Consumes b c (bytes_of exchange.line true) → Appends y z exchange.reply → length exchange.line + 1 + m ≡ n
+    → (more : HasGoneOn before after a c x z) × (length (lines_of more.exchanges) + m ≡ 1000000000)
+gone_on before now after a b c x y z exchange n m on counted held given written read = (
   record {
-    lines = on.lines ++ line ∷ [];
-    go_on = All-append goes-on on.lines (line ∷ []) on.go_on (All-cons goes-on line [] goes (All-nil goes-on));
-    given = lines_after a b c on.lines (line ∷ []) [] on.given given;
-    answered = answered_after x y z before now after on.lines (line ∷ []) on.answered answered;
+    exchanges = on.exchanges ++ exchange ∷ [];
+    held = dialogue_after on.exchanges (exchange ∷ []) before now after on.held held;
+    given = subst (Consumes a c) (flat_map_more (λ (e : Exchange). bytes_of e.line true) [] on.exchanges exchange)
+        (Consumes-trans a b c (lines_of on.exchanges) (bytes_of exchange.line true) on.given given);
+    written = subst (Appends x z) (flat_map_more (λ (e : Exchange). e.reply) [] on.exchanges exchange)
+        (Appends-trans x y z (replies_of on.exchanges) exchange.reply on.written written);
   },
-  omega (arith, counted, read, with_ends-push on.lines line),
+  omega (arith, counted, read, lines-push on.exchanges exchange),
 )
 
-pub stands_so_far : (before now : Session) (a b x y : Option (List ℕ)) → HasGoneOn before now a b x y → HasConversedSoFar before a b x y
-stands_so_far before now a b x y on = (on.lines, ([], (now, (on.go_on, (on.given, on.answered)))))
-
--- what comes after such lines
-pub conversed_after : (before now : Session) (a b c x y z : Option (List ℕ)) → HasGoneOn before now a b x y
-    → HasConversed now b c y z → HasConversed before a c x z
-conversed_after before now a b c x y z on (lines, (last, (after, (go_on, inl end)))) = (
-  on.lines ++ lines,
+-- what comes after a dialogue
+pub conversed_after : (ending : Ending) (before now : Session) (a b c x y z : Option (List ℕ)) → HasGoneOn before now a b x y
+    → HasConversed ending now b c y z → HasConversed ending before a c x z
+conversed_after ending before now a b c x y z on (exchanges, (after, (last, (is_ended, all)))) = (
+  on.exchanges ++ exchanges,
   (
-    last,
+    after,
     (
-      after,
+      last,
       (
-        All-append goes-on on.lines lines on.go_on go_on,
-        inl (
-          lines_after a b c on.lines lines last on.given end.0,
-          end.1,
-          subst (λ ls. HasAnswered before ls after x z) (sym (append_assoc on.lines lines (last_line last)))
-              (answered_after x y z before now after on.lines (lines ++ last_line last) on.answered end.2),
-        ),
-      ),
-    ),
-  ),
-)
-conversed_after before now a b c x y z on (lines, (last, (after, (go_on, inr quit)))) =
-    let row = append_assoc on.lines lines (last ∷ []) in (
-      on.lines ++ lines,
-      (
-        last,
+        is_ended,
         (
-          after,
-          (
-            All-append goes-on on.lines lines on.go_on go_on,
-            inr (
-              subst (λ ls. GivesLines a c ls []) (sym row) (lines_after a b c on.lines (lines ++ last ∷ []) [] on.given quit.0),
-              quit.1,
-              subst (λ ls. HasAnswered before ls after x z) (sym row)
-                  (answered_after x y z before now after on.lines (lines ++ last ∷ []) on.answered quit.2),
-            ),
-          ),
-        ),
-      ),
-    )
-
-pub so_far_after : (before now : Session) (a b c x y z : Option (List ℕ)) → HasGoneOn before now a b x y
-    → HasConversedSoFar now b c y z → HasConversedSoFar before a c x z
-so_far_after before now a b c x y z on (lines, (part, (after, (go_on, both)))) = (
-  on.lines ++ lines,
-  (
-    part,
-    (
-      after,
-      (
-        All-append goes-on on.lines lines on.go_on go_on,
-        (
-          lines_after a b c on.lines lines part on.given both.0,
-          answered_after x y z before now after on.lines lines on.answered both.1,
+          dialogue_after on.exchanges exchanges before now after on.held all.0,
+          all.1,
+          all.2,
+          subst (Consumes a c) (in_a_row (λ e. bytes_of e.line true) on.exchanges exchanges (bytes_of last.line is_ended))
+              (Consumes-trans a b c (lines_of on.exchanges) (lines_of exchanges ++ bytes_of last.line is_ended) on.given all.3),
+          subst (Appends x z) (in_a_row (λ e. e.reply) on.exchanges exchanges last.reply)
+              (Appends-trans x y z (replies_of on.exchanges) (replies_of exchanges ++ last.reply) on.written all.4),
         ),
       ),
     ),
   ),
 )
 
-given_after : (a b c : Option (List ℕ)) (xs lines : List (List ℕ)) (part : List ℕ) → GivesLines a b xs []
-    → GivesLines b c lines part ⊎ GivesLines b c (lines ++ part ∷ []) []
-    → GivesLines a c (xs ++ lines) part ⊎ GivesLines a c ((xs ++ lines) ++ part ∷ []) []
-given_after a b c xs lines part first (inl given) = inl (lines_after a b c xs lines part first given)
-given_after a b c xs lines part first (inr given) =
-    inr (subst (λ ls. GivesLines a c ls []) (sym (append_assoc xs lines (part ∷ []))) (lines_after a b c xs (lines ++ part ∷ []) [] first given))
+-- the session ends with its first line
+ends_here : (ending : Ending) (session : Session) (a b x y : Option (List ℕ)) (line : List ℕ) (is_ended : Bool) (text : List ℕ)
+    → HasNoEnd line → Ends ending session line is_ended text b → Consumes a b (bytes_of line is_ended) → Appends x y text
+    → HasConversed ending session a b x y
+ends_here ending session a b x y line is_ended text no_end ends given written =
+    ([], (session, (record { line = line; reply = text }, (is_ended, (refl, no_end, ends, given, written)))))
 
-pub at_most_after : (before now : Session) (a b c x y z : Option (List ℕ)) → HasGoneOn before now a b x y
-    → HasConversedAtMost now b c y z → HasConversedAtMost before a c x z
-at_most_after before now a b c x y z on (lines, (part, (after, (go_on, both)))) = (
-  on.lines ++ lines,
-  (
-    part,
-    (
-      after,
-      (
-        All-append goes-on on.lines lines on.go_on go_on,
-        (
-          given_after a b c on.lines lines part on.given both.0,
-          answered_after x y z before now after on.lines lines on.answered both.1,
-        ),
-      ),
-    ),
-  ),
-)
+-- nothing is written
+unchanged : (x y : Option (List ℕ)) → y ≡ x → Appends x y []
+unchanged x y same = subst (λ z. Appends x z []) (sym same) (Appends-nil x)
+
+pub stands_so_far : (before now : Session) (a b x y : Option (List ℕ)) → HasGoneOn before now a b x y → HasConversed Cut before a b x y
+stands_so_far before now a b x y on =
+    conversed_after Cut before now a b b x y y on
+    (ends_here Cut now b b y y [] false [] (All-nil (λ byte. byte ≢ 10)) (refl, refl) (Consumes-nil b) (Appends-nil y))
 
 pub read_after : (before now : Session) (a b c x y : Option (List ℕ)) → HasGoneOn before now a b x y → HasReadLines b c
     → HasReadLines a c
-read_after before now a b c x y on (lines, (last, both)) =
-    (on.lines ++ lines, (last, (lines_after a b c on.lines lines last on.given both.0, both.1)))
+read_after before now a b c x y on (bytes, (given, inl end)) =
+    (lines_of on.exchanges ++ bytes, (Consumes-trans a b c (lines_of on.exchanges) bytes on.given given, inl end))
+read_after before now a b c x y on (bytes, (given, inr (front, is))) = (
+  lines_of on.exchanges ++ bytes,
+  (
+    Consumes-trans a b c (lines_of on.exchanges) bytes on.given given,
+    inr (
+      lines_of on.exchanges ++ front,
+      ap (λ l. lines_of on.exchanges ++ l) is ∙ sym (append_assoc (lines_of on.exchanges) front (10 ∷ [])),
+    ),
+  ),
+)
 
 on_and_on_after : (before now : Session) (a b c x y : Option (List ℕ)) (n : ℕ) → (on : HasGoneOn before now a b x y)
-    → length (with_ends on.lines) + n ≡ most_reads → GivesInEach n b c → GivesOnAndOn a c
+    → length (lines_of on.exchanges) + n ≡ 1000000000 → GivesInEach n b c → GivesOnAndOn a c
 on_and_on_after before now a b c x y n on counted more =
-    let bytes = with_ends on.lines ++ [] in (
+    let bytes = lines_of on.exchanges in (
       bytes ++ more.0,
       (
-        Consumes-trans a b c bytes more.0 on.given.0 more.1.0,
-        omega (arith, counted, more.1.1, length-append bytes more.0, length-append (with_ends on.lines) []),
+        Consumes-trans a b c bytes more.0 on.given more.1.0,
+        omega (arith, counted, more.1.1, length-append bytes more.0),
       ),
     )
 
 pub failed_after : (before now : Session) (a b c x y : Option (List ℕ)) (F : Type 0) (n : ℕ) → (on : HasGoneOn before now a b x y)
-    → length (with_ends on.lines) + n ≡ most_reads → F ⊎ GivesInEach n b c → F ⊎ GivesOnAndOn a c
+    → length (lines_of on.exchanges) + n ≡ 1000000000 → F ⊎ GivesInEach n b c → F ⊎ GivesOnAndOn a c
 failed_after before now a b c x y F n on counted (inl failed) = inl failed
 failed_after before now a b c x y F n on counted (inr more) = inr (on_and_on_after before now a b c x y n on counted more)
 
 -- a byte for each of the reads
 pub on_and_on : (before now : Session) (a b x y : Option (List ℕ)) (n : ℕ) → n ≤ 0 → (on : HasGoneOn before now a b x y)
-    → length (with_ends on.lines) + n ≡ most_reads → GivesOnAndOn a b
-on_and_on before now a b x y n none on counted =
-    let bytes = with_ends on.lines ++ [] in
-    (bytes, (on.given.0, omega (arith, none, counted, length-append (with_ends on.lines) [])))
+    → length (lines_of on.exchanges) + n ≡ 1000000000 → GivesOnAndOn a b
+on_and_on before now a b x y n none on counted = (lines_of on.exchanges, (on.given, omega (arith, none, counted)))
 
 -- no more than the reads
 pub few_after : (before now : Session) (a b c x y : Option (List ℕ)) (n m : ℕ) → (on : HasGoneOn before now a b x y)
-    → length (with_ends on.lines) + n ≡ most_reads → IsCounted n m b c → GivesFew a c
+    → length (lines_of on.exchanges) + n ≡ 1000000000 → IsCounted n m b c → GivesFew a c
 few_after before now a b c x y n m on counted more =
-    let bytes = with_ends on.lines ++ [] in (
+    let bytes = lines_of on.exchanges in (
       bytes ++ more.0,
       (
-        Consumes-trans a b c bytes more.0 on.given.0 more.1.0,
-        omega (arith, counted, more.1.1, length-append bytes more.0, length-append (with_ends on.lines) []),
+        Consumes-trans a b c bytes more.0 on.given more.1.0,
+        omega (arith, counted, more.1.1, length-append bytes more.0),
       ),
     )
 
 pub few_so_far : (before now : Session) (a b x y : Option (List ℕ)) (n : ℕ) → (on : HasGoneOn before now a b x y)
-    → length (with_ends on.lines) + n ≡ most_reads → GivesFew a b
-few_so_far before now a b x y n on counted =
-    let bytes = with_ends on.lines ++ [] in
-    (bytes, (on.given.0, omega (arith, counted, length-append (with_ends on.lines) [])))
+    → length (lines_of on.exchanges) + n ≡ 1000000000 → GivesFew a b
+few_so_far before now a b x y n on counted = (lines_of on.exchanges, (on.given, omega (arith, counted)))
 
 -- a line that all the reads were used for
 pub each_given : (F : Type 0) (n : ℕ) (a b : Option (List ℕ)) (line : List ℕ) → F ⊎ (n ≤ length line) → Consumes a b line
@@ -249,94 +178,63 @@ each_given F n a b line (inr many) given = inr (line, (given, many))
 pub none_given : (a b : Option (List ℕ)) → b ≡ a → GivesFew a b
 none_given a b same = ([], (subst (λ c. Consumes a c []) (sym same) (Consumes-nil a), omega arith))
 
--- one line
-pub line_given : (a b : Option (List ℕ)) (line : List ℕ) → Consumes a b (line ++ 10 ∷ []) → HasNoEnd line → GivesLines a b (line ∷ []) []
-line_given a b line given no_end = (
-  subst (Consumes a b) (sym (append-nil (line ++ 10 ∷ []))) given,
-  All-cons HasNoEnd line [] no_end (All-nil HasNoEnd),
-  All-nil (λ byte. byte ≢ 10),
-)
+-- only `q` ends the session
+is_quit : (order : Order) → goes_on order ≡ false → order ≡ Quit
+is_quit (Step choice) ends = absurd (cc ends)
+is_quit (Go runs) ends = absurd (cc ends)
+is_quit Back ends = absurd (cc ends)
+is_quit (Break row) ends = absurd (cc ends)
+is_quit (Clear row) ends = absurd (cc ends)
+is_quit Print ends = absurd (cc ends)
+is_quit Quit ends = refl
+is_quit Unknown ends = absurd (cc ends)
 
-pub part_given : (a b : Option (List ℕ)) (part : List ℕ) → Consumes a b part → HasNoEnd part → GivesLines a b [] part
-part_given a b part given no_end = (given, All-nil HasNoEnd, no_end)
+pub is_no_quit : (order : Order) → goes_on order ≡ true → order ≢ Quit
+is_no_quit order goes = λ is. let ends : goes_on order ≡ false = ap (λ o. goes_on o) is in absurd (cc (goes, ends))
+
+-- `q` has no reply
+no_reply : (session after : Session) (order : Order) (text : List ℕ) → order ≡ Quit → Replies session order after text → text ≡ []
+no_reply session after order text is replies = (subst (λ o. Replies session o after text) is replies).1
 
 pub ends_without_a_line : (session : Session) (a b x y : Option (List ℕ)) (line : List ℕ) → line ≡ [] → Consumes a b line → IsAtEnd b
-    → HasNoEnd line → y ≡ x → HasConversed session a b x y
-ends_without_a_line session a b x y line none given end no_end same = (
-  [],
-  (
-    [],
-    (
-      session,
-      (
-        All-nil goes-on,
-        inl (
-          part_given a b [] (subst (Consumes a b) none given) (All-nil (λ byte. byte ≢ 10)),
-          end,
-          subst (HasAnswered session [] session x) (sym same) (no_answers x session),
-        ),
-      ),
-    ),
-  ),
-)
+    → y ≡ x → HasConversed Finished session a b x y
+ends_without_a_line session a b x y line none given end same =
+    ends_here Finished session a b x y [] false [] (All-nil (λ byte. byte ≢ 10)) (refl, end) (subst (Consumes a b) none given)
+    (unchanged x y same)
 
-some_last : (line : List ℕ) → line ≢ [] → last_line line ≡ line ∷ []
-some_last [] some = absurd (some refl)
-some_last (byte ∷ bytes) some = refl
+last_ends : (before after : Session) (left : Option (List ℕ)) (line text : List ℕ) → line ≢ [] → IsAtEnd left
+    → Replies before (line_order line) after text → Ends Finished before line false text left
+last_ends before after left [] text some end replies = absurd (some refl)
+last_ends before after left (byte ∷ bytes) text some end replies = ((after, replies), end)
 
-pub ends_with_a_line : (before after : Session) (a b x y : Option (List ℕ)) (line : List ℕ) → line ≢ [] → Consumes a b line → IsAtEnd b
-    → HasNoEnd line → HasAnswered before (line ∷ []) after x y → HasConversed before a b x y
-ends_with_a_line before after a b x y line some given end no_end answered = (
-  [],
-  (
-    line,
-    (
-      after,
-      (
-        All-nil goes-on,
-        inl (
-          part_given a b line given no_end,
-          end,
-          subst (λ ls. HasAnswered before ls after x y) (sym (some_last line some)) answered,
-        ),
-      ),
-    ),
-  ),
-)
+pub ends_with_a_line : (before after : Session) (a b x y : Option (List ℕ)) (line text : List ℕ) → line ≢ [] → Consumes a b line
+    → IsAtEnd b → HasNoEnd line → Replies before (line_order line) after text → Appends x y text
+    → HasConversed Finished before a b x y
+ends_with_a_line before after a b x y line text some given end no_end replies written =
+    ends_here Finished before a b x y line false text no_end (last_ends before after b line text some end replies) given written
 
-pub quits : (before after : Session) (a b x y : Option (List ℕ)) (line : List ℕ) → Consumes a b (line ++ 10 ∷ [])
-    → HasNoEnd line → goes_on (line_order line) ≡ false → HasAnswered before (line ∷ []) after x y → HasConversed before a b x y
-quits before after a b x y line given no_end quit answered =
-    ([], (line, (after, (All-nil goes-on, inr (line_given a b line given no_end, quit, answered)))))
+quit_line_ends : (session : Session) (left : Option (List ℕ)) (line text : List ℕ) → text ≡ [] → line_order line ≡ Quit
+    → Ends Finished session line true text left
+quit_line_ends session left [] text none quit = (none, quit)
+quit_line_ends session left (byte ∷ bytes) text none quit = (none, quit)
+
+pub quits : (before after : Session) (a b x y : Option (List ℕ)) (line text : List ℕ) → Consumes a b (line ++ 10 ∷ [])
+    → HasNoEnd line → goes_on (line_order line) ≡ false → Replies before (line_order line) after text → Appends x y text
+    → HasConversed Finished before a b x y
+quits before after a b x y line text given no_end ends replies written =
+    let quit = is_quit (line_order line) ends in
+    ends_here Finished before a b x y line true text no_end
+    (quit_line_ends before b line text (no_reply before after (line_order line) text quit replies) quit) given written
 
 pub is_cut : (session : Session) (a b x y : Option (List ℕ)) (part : List ℕ) → Consumes a b part → HasNoEnd part → y ≡ x
-    → HasConversedSoFar session a b x y
-is_cut session a b x y part given no_end same = (
-  [],
-  (
-    part,
-    (
-      session,
-      (
-        All-nil goes-on,
-        (part_given a b part given no_end, subst (HasAnswered session [] session x) (sym same) (no_answers x session)),
-      ),
-    ),
-  ),
-)
+    → HasConversed Cut session a b x y
+is_cut session a b x y part given no_end same =
+    ends_here Cut session a b x y part false [] no_end (refl, refl) given (unchanged x y same)
 
-pub is_left : (session : Session) (a b x y : Option (List ℕ)) (part : List ℕ)
-    → GivesLines a b [] part ⊎ GivesLines a b (part ∷ []) [] → y ≡ x → HasConversedAtMost session a b x y
-is_left session a b x y part given same = (
-  [],
-  (
-    part,
-    (
-      session,
-      (All-nil goes-on, (given, subst (HasAnswered session [] session x) (sym same) (no_answers x session))),
-    ),
-  ),
-)
+pub is_left : (session : Session) (a b x y : Option (List ℕ)) (part : List ℕ) → Consumes a b part → HasNoEnd part → y ≡ x
+    → HasConversed Unanswered session a b x y
+is_left session a b x y part given no_end same =
+    ends_here Unanswered session a b x y part false [] no_end refl given (unchanged x y same)
 
 -- one byte more
 pub given_on : (a b c : Option (List ℕ)) (bytes : List ℕ) (byte : ℕ) → Consumes a b bytes → Consumes b c (byte ∷ [])
@@ -349,14 +247,13 @@ one_more bytes byte none other =
 
 pub left_unanswered : (session : Session) (a b x y : Option (List ℕ)) (line : List ℕ) (is_ended : Bool)
     → (is_ended ≡ true → Consumes a b (line ++ 10 ∷ [])) → (is_ended ≡ false → Consumes a b line × IsAtEnd b) → HasNoEnd line → y ≡ x
-    → HasConversedAtMost session a b x y
+    → HasConversed Unanswered session a b x y
 left_unanswered session a b x y line true whole last no_end same =
-    is_left session a b x y line (inr (line_given a b line (whole refl) no_end)) same
+    ends_here Unanswered session a b x y line true [] no_end refl (whole refl) (unchanged x y same)
 left_unanswered session a b x y line false whole last no_end same =
-    is_left session a b x y line (inl (part_given a b line (last refl).0 no_end)) same
+    ends_here Unanswered session a b x y line false [] no_end refl (last refl).0 (unchanged x y same)
 
 pub was_read : (a b : Option (List ℕ)) (line : List ℕ) (is_ended : Bool)
-    → (is_ended ≡ true → Consumes a b (line ++ 10 ∷ [])) → (is_ended ≡ false → Consumes a b line × IsAtEnd b) → HasNoEnd line
-    → HasReadLines a b
-was_read a b line true whole last no_end = (line ∷ [], ([], (line_given a b line (whole refl) no_end, inl refl)))
-was_read a b line false whole last no_end = ([], (line, (part_given a b line (last refl).0 no_end, inr (last refl).1)))
+    → (is_ended ≡ true → Consumes a b (line ++ 10 ∷ [])) → (is_ended ≡ false → Consumes a b line × IsAtEnd b) → HasReadLines a b
+was_read a b line true whole last = (line ++ 10 ∷ [], (whole refl, inr (line, refl)))
+was_read a b line false whole last = (line, ((last refl).0, inl (last refl).1))

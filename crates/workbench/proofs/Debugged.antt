@@ -9,27 +9,23 @@ use Rattle.workbench.specs.declared.fault.Fault.{Fault}
 use Rattle.workbench.specs.declared.fault.Fault.TheVariants as fault
 use Rattle.workbench.specs.Fault.{status_of}
 use Rattle.workbench.specs.Run.{GivesProgram}
-use Rattle.workbench.specs.Debug.{HasConversed, HasConversedAtMost, HasConversedSoFar, HasDebugged, HasDebuggedAtMost, HasDebuggedSoFar, first_session}
+use Rattle.workbench.specs.Debug.{Ending, Finished, HasConversed, HasDebugged, Unanswered, first_session}
 
 -- the session is that of an image's program
 abbrev pub IsFirst : Image → Session → Type 0
 IsFirst image session = (world : StoredWorld) × (Begins image (world_of world) × (session ≡ first_session world))
 
+pub debugged_so : (ending : Ending) (image : Image) (session : Session) (f0 f1 c0 c1 o0 o1 : Option (List ℕ)) → IsFirst image session
+    → GivesProgram f0 f1 image → HasConversed ending session c0 c1 o0 o1 → HasDebugged ending f0 f1 c0 c1 o0 o1
+debugged_so ending image session f0 f1 c0 c1 o0 o1 first program conversed =
+    inr (image, (first.0, (program, first.1.0, subst (λ s. HasConversed ending s c0 c1 o0 o1) first.1.1 conversed)))
+
 pub debugged : (result : Result (Unit {0}) Fault) (image : Image) (session : Session) (f0 f1 c0 c1 o0 o1 : Option (List ℕ)) → IsFirst image session
-    → GivesProgram f0 f1 image → OnOk result (HasConversed session c0 c1 o0 o1) → OnOk result (HasDebugged f0 f1 c0 c1 o0 o1)
+    → GivesProgram f0 f1 image → OnOk result (HasConversed Finished session c0 c1 o0 o1)
+    → OnOk result (HasDebugged Finished f0 f1 c0 c1 o0 o1)
 debugged (Ok done) image session f0 f1 c0 c1 o0 o1 first program conversed =
-    (image, (first.0, (program, first.1.0, subst (λ s. HasConversed s c0 c1 o0 o1) first.1.1 conversed)))
+    debugged_so Finished image session f0 f1 c0 c1 o0 o1 first program conversed
 debugged (Err e) image session f0 f1 c0 c1 o0 o1 first program conversed = conversed
-
-pub so_far : (image : Image) (session : Session) (f0 f1 c0 c1 o0 o1 : Option (List ℕ)) → IsFirst image session
-    → GivesProgram f0 f1 image → HasConversedSoFar session c0 c1 o0 o1 → HasDebuggedSoFar f0 f1 c0 c1 o0 o1
-so_far image session f0 f1 c0 c1 o0 o1 first program conversed =
-    inr (image, (first.0, (program, first.1.0, subst (λ s. HasConversedSoFar s c0 c1 o0 o1) first.1.1 conversed)))
-
-at_most : (image : Image) (session : Session) (f0 f1 c0 c1 o0 o1 : Option (List ℕ)) → IsFirst image session
-    → GivesProgram f0 f1 image → HasConversedAtMost session c0 c1 o0 o1 → HasDebuggedAtMost f0 f1 c0 c1 o0 o1
-at_most image session f0 f1 c0 c1 o0 o1 first program conversed =
-    inr (image, (first.0, (program, first.1.0, subst (λ s. HasConversedAtMost s c0 c1 o0 o1) first.1.1 conversed)))
 
 -- status 4 is told for want of memory alone
 four : (f : Fault) (five : Fault) → f ≡ five → status_of five ≡ 5 → status_of f ≡ 4 → ⊥
@@ -38,11 +34,11 @@ four f five is port memory = let same = ap status_of is in absurd (omega (arith,
 pub without_memory : (result : Result (Unit {0}) Fault) (image : Image) (session : Session) (f0 f1 c0 c1 o0 o1 : Option (List ℕ))
     → IsFirst image session → GivesProgram f0 f1 image
     → IfErr result (λ f. (f ≡ fault.Memory) ⊎ ((f ≡ fault.Read) ⊎ (f ≡ fault.Write)))
-    → (result ≡ Err fault.Memory → HasConversedAtMost session c0 c1 o0 o1)
-    → IfErr result (λ f. status_of f ≡ 4 → HasDebuggedAtMost f0 f1 c0 c1 o0 o1)
+    → (result ≡ Err fault.Memory → HasConversed Unanswered session c0 c1 o0 o1)
+    → IfErr result (λ f. status_of f ≡ 4 → HasDebugged Unanswered f0 f1 c0 c1 o0 o1)
 without_memory (Ok done) image session f0 f1 c0 c1 o0 o1 first program which memory = tt
 without_memory (Err f) image session f0 f1 c0 c1 o0 o1 first program (inl is) memory =
-    λ _. at_most image session f0 f1 c0 c1 o0 o1 first program (memory (ap Err is))
+    λ _. debugged_so Unanswered image session f0 f1 c0 c1 o0 o1 first program (memory (ap Err is))
 without_memory (Err f) image session f0 f1 c0 c1 o0 o1 first program (inr (inl is)) memory =
     λ status. absurd (four f fault.Read is refl status)
 without_memory (Err f) image session f0 f1 c0 c1 o0 o1 first program (inr (inr is)) memory =

@@ -1,11 +1,12 @@
 -- What `debug` makes of a program's file and of lines of commands.
-use Rattle.std.specs.Prelude.{◌≡◌, ◌≢◌, ◌≤◌, ◌⊎◌, ℕ, true, false, All, List, [], ◌∷◌, ◌++◌, length, replicate, Option}
+use Rattle.std.specs.Prelude.{◌≡◌, ◌≢◌, ◌≤◌, ◌⊎◌, ℕ, Bool, true, false, All, List, [], ◌∷◌, ◌++◌, length, replicate, Option}
+use Rattle.std.specs.List.{flat_map}
 use Rattle.std.specs.Io.KnownBytes.{Appends, Consumes, IsAtEnd}
 use Rattle.row_code.specs.declared.image.Image.{Image}
 use Rattle.thread_machine.specs.World.{StoredWorld, world_of}
 use Rattle.trace_compare.specs.Start.{Begins}
 use Rattle.debugger.specs.Session.{Session}
-use Rattle.debugger.specs.Command.{goes_on, line_order}
+use Rattle.debugger.specs.Command.{Quit, line_order}
 use Rattle.debugger.specs.Reply.{Replies}
 use Rattle.workbench.specs.Run.{GivesProgram, IsUntouched}
 
@@ -14,98 +15,68 @@ abbrev pub first_session : StoredWorld → Session
 first_session world =
     record { machine = world; past = []; kept = 4096; breaks = replicate (length world.program.rows) false }
 
--- the bytes of some lines, each with its LF
-abbrev pub with_ends : List (List ℕ) → List ℕ
-with_ends [] = []
-with_ends (line ∷ lines) = line ++ (10 ∷ with_ends lines)
-
--- how often a session's commands are read at most, a byte at a time, over all its lines
-abbrev pub most_reads : ℕ
-most_reads = 1000000000
-
--- no more bytes were given than there are reads
-abbrev pub GivesFew : Option (List ℕ) → Option (List ℕ) → Type 0
-GivesFew before after = (bytes : List ℕ) × (Consumes before after bytes × (length bytes ≤ most_reads))
-
+-- no byte of a line is an LF
 abbrev pub HasNoEnd : List ℕ → Type 0
 HasNoEnd line = All (λ byte. byte ≢ 10) line
 
--- a source gave these lines, each with its LF, and then this part of the next one, perhaps nothing
-abbrev pub GivesLines : Option (List ℕ) → Option (List ℕ) → List (List ℕ) → List ℕ → Type 0
-GivesLines before after lines part =
-    Consumes before after (with_ends lines ++ part) × All HasNoEnd lines × HasNoEnd part
+-- the bytes of a line, with its LF or without
+abbrev pub bytes_of : List ℕ → (is_ended : Bool) → List ℕ
+bytes_of line true = line ++ 10 ∷ []
+bytes_of line false = line
 
--- what stands behind the last LF is a line too, unless it is nothing
-abbrev pub last_line : List ℕ → List (List ℕ)
-last_line [] = []
-last_line (byte ∷ bytes) = (byte ∷ bytes) ∷ []
+-- a line of commands, and what is written in reply
+pub record Exchange : Type 0 where
+  pub line : List ℕ
+  pub reply : List ℕ
 
--- none of the lines is `q`
-abbrev pub GoOn : List (List ℕ) → Type 0
-GoOn lines = All (λ line. goes_on (line_order line) ≡ true) lines
+-- each line is carried out in the session that the one before it left, and none is `q`
+abbrev pub IsDialogue : Session → List Exchange → Session → Type 0
+IsDialogue session [] after = after ≡ session
+IsDialogue session (exchange ∷ exchanges) after =
+    HasNoEnd exchange.line × (line_order exchange.line ≢ Quit)
+    × ((next : Session) × (Replies session (line_order exchange.line) next exchange.reply × IsDialogue next exchanges after))
 
--- the lines were carried out one after another, and this text is their replies
-abbrev pub AreReplies : Session → List (List ℕ) → Session → List ℕ → Type 0
-AreReplies session [] after text = (after ≡ session) × (text ≡ [])
-AreReplies session (line ∷ lines) after text =
-    (next : Session) × ((reply : List ℕ) × ((replies : List ℕ)
-    × (Replies session (line_order line) next reply × AreReplies next lines after replies × (text ≡ reply ++ replies))))
+-- how a session ends
+pub data Ending : Type 0 where
+  -- all lines are answered, up to the end of the commands, or to `q` and its LF
+  Finished : Ending
+  -- all lines are answered but the last, which is cut before its LF
+  Cut : Ending
+  -- all lines are answered but the last, of which all may have been read, its LF too
+  Unanswered : Ending
 
--- the lines were carried out, and their replies were written
-abbrev pub HasAnswered : Session → List (List ℕ) → Session → Option (List ℕ) → Option (List ℕ) → Type 0
-HasAnswered session lines after output_before output_after =
-    (text : List ℕ) × (AreReplies session lines after text × Appends output_before output_after text)
+-- the last line, read with its LF or without, ends the session so, with this reply, and with these commands left; at the
+-- end of the commands nothing is no line
+abbrev pub Ends : Ending → Session → (line : List ℕ) (is_ended : Bool) (reply : List ℕ) (left : Option (List ℕ)) → Type 0
+Ends Finished session [] false reply left = (reply ≡ []) × IsAtEnd left
+Ends Finished session line false reply left = ((after : Session) × Replies session (line_order line) after reply) × IsAtEnd left
+Ends Finished session line true reply left = (reply ≡ []) × (line_order line ≡ Quit)
+Ends Cut session line is_ended reply left = (reply ≡ []) × (is_ended ≡ false)
+Ends Unanswered session line is_ended reply left = reply ≡ []
 
--- all lines up to the end were answered, and none but the last may be `q`; or those up to `q` and its LF, and no byte
--- after it was read
-abbrev pub HasConversed : Session → (commands_before commands_after output_before output_after : Option (List ℕ)) → Type 0
-HasConversed session commands_before commands_after output_before output_after =
-    (lines : List (List ℕ)) × ((last : List ℕ) × ((after : Session) × (GoOn lines
-    × ((GivesLines commands_before commands_after lines last × IsAtEnd commands_after
-    × HasAnswered session (lines ++ last_line last) after output_before output_after)
-    ⊎ (GivesLines commands_before commands_after (lines ++ last ∷ []) [] × (goes_on (line_order last) ≡ false)
-    × HasAnswered session (lines ++ last ∷ []) after output_before output_after)))))
+-- a dialogue was held, and a last line ended the session so: the lines of the dialogue, each with its LF, and the last one
+-- were read, and no byte more; the replies were written in their order
+abbrev pub HasConversed : Ending → Session → (commands_before commands_after output_before output_after : Option (List ℕ)) → Type 0
+HasConversed ending session commands_before commands_after output_before output_after =
+    (exchanges : List Exchange) × ((now : Session) × ((last : Exchange) × ((is_ended : Bool)
+    × (IsDialogue session exchanges now × HasNoEnd last.line × Ends ending now last.line is_ended last.reply commands_after
+    × Consumes commands_before commands_after (flat_map (λ e. bytes_of e.line true) exchanges ++ bytes_of last.line is_ended)
+    × Appends output_before output_after (flat_map (λ e. e.reply) exchanges ++ last.reply)))))
 
--- the lines that were read were answered, each before a byte of the next one was asked for; of that one this part was read
-abbrev pub HasConversedSoFar : Session → (commands_before commands_after output_before output_after : Option (List ℕ)) → Type 0
-HasConversedSoFar session commands_before commands_after output_before output_after =
-    (lines : List (List ℕ)) × ((part : List ℕ) × ((after : Session) × (GoOn lines
-    × (GivesLines commands_before commands_after lines part
-    × HasAnswered session lines after output_before output_after))))
+-- the file was read to its end, and the session of its program ended so; where it isn't finished, perhaps there was none:
+-- no command was read, and nothing was written
+abbrev pub HasDebugged : Ending → (file_before file_after commands_before commands_after output_before output_after : Option (List ℕ)) → Type 0
+HasDebugged ending file_before file_after commands_before commands_after output_before output_after =
+    ((ending ≢ Finished) × IsUntouched commands_before commands_after output_before output_after)
+    ⊎ ((image : Image) × ((world : StoredWorld) × (GivesProgram file_before file_after image × Begins image (world_of world)
+    × HasConversed ending (first_session world) commands_before commands_after output_before output_after)))
 
--- the same, where all of the next line may have been read, its LF too: it was not carried out
-abbrev pub HasConversedAtMost : Session → (commands_before commands_after output_before output_after : Option (List ℕ)) → Type 0
-HasConversedAtMost session commands_before commands_after output_before output_after =
-    (lines : List (List ℕ)) × ((part : List ℕ) × ((after : Session) × (GoOn lines
-    × ((GivesLines commands_before commands_after lines part
-    ⊎ GivesLines commands_before commands_after (lines ++ part ∷ []) [])
-    × HasAnswered session lines after output_before output_after))))
-
--- whole lines were read, the last up to its LF or to the end
+-- what was read of the commands ends with an LF, or with the commands
 abbrev pub HasReadLines : (commands_before commands_after : Option (List ℕ)) → Type 0
 HasReadLines commands_before commands_after =
-    (lines : List (List ℕ)) × ((last : List ℕ) × (GivesLines commands_before commands_after lines last
-    × ((last ≡ []) ⊎ IsAtEnd commands_after)))
+    (bytes : List ℕ) × (Consumes commands_before commands_after bytes
+    × (IsAtEnd commands_after ⊎ ((front : List ℕ) × (bytes ≡ front ++ 10 ∷ []))))
 
--- the file was read to its end, and then the commands were read and answered
-abbrev pub HasDebugged : (file_before file_after commands_before commands_after output_before output_after : Option (List ℕ)) → Type 0
-HasDebugged file_before file_after commands_before commands_after output_before output_after =
-    (image : Image) × ((world : StoredWorld) × (GivesProgram file_before file_after image × Begins image (world_of world)
-    × HasConversed (first_session world) commands_before commands_after output_before output_after))
-
--- no command was read, and nothing was written; or the file was read to its end, and the lines that were read were
--- answered
-abbrev pub HasDebuggedSoFar : (file_before file_after commands_before commands_after output_before output_after : Option (List ℕ)) → Type 0
-HasDebuggedSoFar file_before file_after commands_before commands_after output_before output_after =
-    IsUntouched commands_before commands_after output_before output_after
-    ⊎ ((image : Image) × ((world : StoredWorld)
-    × (GivesProgram file_before file_after image × Begins image (world_of world)
-    × HasConversedSoFar (first_session world) commands_before commands_after output_before output_after)))
-
--- the same, but for the last of the lines that were read, which may be unanswered
-abbrev pub HasDebuggedAtMost : (file_before file_after commands_before commands_after output_before output_after : Option (List ℕ)) → Type 0
-HasDebuggedAtMost file_before file_after commands_before commands_after output_before output_after =
-    IsUntouched commands_before commands_after output_before output_after
-    ⊎ ((image : Image) × ((world : StoredWorld)
-    × (GivesProgram file_before file_after image × Begins image (world_of world)
-    × HasConversedAtMost (first_session world) commands_before commands_after output_before output_after)))
+-- no more bytes were given than the commands are read at most, a byte at a time, over all lines
+abbrev pub GivesFew : Option (List ℕ) → Option (List ℕ) → Type 0
+GivesFew before after = (bytes : List ℕ) × (Consumes before after bytes × (length bytes ≤ 1000000000))

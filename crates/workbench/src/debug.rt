@@ -1,4 +1,5 @@
 ghost use Rattle.std.specs.Prelude.{◌≡◌, ◌≢◌, ◌⊎◌, ◌+◌, ◌∷◌, [], true, false, List, ℕ, length, Ok, Err, IsTrue, IfOk, IfErr, OnOk};
+ghost use Rattle.std.specs.Io.KnownBytes.{Appends, Consumes};
 ghost use Rattle.line_reader.specs.declared.asm_fault.AsmFault.{AsmFault};
 ghost use Rattle.row_code.specs.declared.image_fault.ImageFault.{ImageFault};
 ghost use Rattle.loader.specs.declared.load_fault.LoadFault.{LoadFault};
@@ -7,8 +8,9 @@ ghost use Rattle.thread_machine.specs.World.{StoredWorld, world_of};
 ghost use Rattle.trace_compare.specs.RunText.{GivesOnAndOn};
 ghost use Rattle.trace_compare.specs.Start.{Begins, IsRefused};
 ghost use Rattle.debugger.specs.Command.{goes_on, line_order};
+ghost use Rattle.debugger.specs.Reply.{Replies};
 ghost use Rattle.workbench.specs.declared.fault.Fault.{Fault};
-ghost use Rattle.workbench.specs.Debug.{GivesFew, GivesLines, HasAnswered, HasConversed, HasConversedAtMost, HasConversedSoFar, HasDebugged, HasDebuggedAtMost, HasDebuggedSoFar, HasReadLines, first_session};
+ghost use Rattle.workbench.specs.Debug.{Cut, Exchange, Finished, GivesFew, HasConversed, HasDebugged, HasReadLines, IsDialogue, Unanswered, bytes_of, first_session};
 ghost use Rattle.workbench.specs.Fault.{HasTold, status_of};
 ghost use Rattle.workbench.specs.Input.{GivesInEach, GivesTooMuch, IsCounted};
 ghost use Rattle.workbench.specs.Run.{HasNoRun};
@@ -43,19 +45,19 @@ pub fn debug_cmd<F: Source, S: Source, K: Sink, E: Sink>(
     errors: &mut E,
 ) -> u8
     ensures statuses { (result ≡ 0) ⊎ ((result ≡ 3) ⊎ ((result ≡ 4) ⊎ (result ≡ 5))) }
-    ensures done { result ≡ 0 → HasDebugged (F.left file.old) (F.left file.new)
+    ensures done { result ≡ 0 → HasDebugged Finished (F.left file.old) (F.left file.new)
         (S.left commands.old) (S.left commands.new) (K.written output.old) (K.written output.new) }
     ensures told { ((result ≡ 0) × (E.written errors.new ≡ E.written errors.old))
         ⊎ ((fault : Fault) × ((result ≡ status_of fault)
         × (HasTold fault (E.has_failed errors.new) (E.written errors.old) (E.written errors.new)
         × (result ≡ 3 → HasNoRun fault (F.left file.old) (F.left file.new) (S.left commands.old) (S.left commands.new))
-        × (fault ≡ Fault.Read → HasDebuggedSoFar (F.left file.old) (F.left file.new)
+        × (fault ≡ Fault.Read → HasDebugged Cut (F.left file.old) (F.left file.new)
         (S.left commands.old) (S.left commands.new) (K.written output.old) (K.written output.new))
         × (fault ≡ Fault.Write → HasReadLines (S.left commands.old) (S.left commands.new))
         × (fault ≢ Fault.Spawn)))) }
     ensures few { GivesFew (S.left commands.old) (S.left commands.new) }
     ensures unchanged { result ≡ 3 → K.written output.new ≡ K.written output.old }
-    ensures memory { result ≡ 4 → HasDebuggedAtMost (F.left file.old) (F.left file.new)
+    ensures memory { result ≡ 4 → HasDebugged Unanswered (F.left file.old) (F.left file.new)
         (S.left commands.old) (S.left commands.new) (K.written output.old) (K.written output.new) }
     ensures port { result ≡ 5 → (IsTrue (F.has_failed file.new)
         ⊎ GivesTooMuch (F.left file.old) (F.left file.new))
@@ -79,15 +81,15 @@ fn debug<F: Source, S: Source, K: Sink>(
     commands: &mut S,
     output: &mut K,
 ) -> Result<(), Fault>
-    ensures done { OnOk result (HasDebugged (F.left file.old) (F.left file.new)
+    ensures done { OnOk result (HasDebugged Finished (F.left file.old) (F.left file.new)
         (S.left commands.old) (S.left commands.new) (K.written output.old) (K.written output.new)) }
     ensures refused { IfErr result (λ fault. status_of fault ≡ 3
         → HasNoRun fault (F.left file.old) (F.left file.new) (S.left commands.old) (S.left commands.new)
         × (K.written output.new ≡ K.written output.old)) }
     ensures memory { IfErr result (λ fault. status_of fault ≡ 4
-        → HasDebuggedAtMost (F.left file.old) (F.left file.new)
+        → HasDebugged Unanswered (F.left file.old) (F.left file.new)
         (S.left commands.old) (S.left commands.new) (K.written output.old) (K.written output.new)) }
-    ensures unread { result ≡ Err Fault.Read → HasDebuggedSoFar (F.left file.old) (F.left file.new)
+    ensures unread { result ≡ Err Fault.Read → HasDebugged Cut (F.left file.old) (F.left file.new)
         (S.left commands.old) (S.left commands.new) (K.written output.old) (K.written output.new) }
     ensures read { result ≡ Err Fault.Read → (IsTrue (F.has_failed file.new)
         ⊎ GivesTooMuch (F.left file.old) (F.left file.new))
@@ -137,13 +139,13 @@ fn converse<S: Source, K: Sink>(
     commands: &mut S,
     output: &mut K,
 ) -> Result<(), Fault>
-    ensures done { OnOk result (HasConversed debugger.old
+    ensures done { OnOk result (HasConversed Finished debugger.old
         (S.left commands.old) (S.left commands.new) (K.written output.old) (K.written output.new)) }
-    ensures memory { result ≡ Err Fault.Memory → HasConversedAtMost debugger.old
+    ensures memory { result ≡ Err Fault.Memory → HasConversed Unanswered debugger.old
         (S.left commands.old) (S.left commands.new) (K.written output.old) (K.written output.new) }
     ensures read { result ≡ Err Fault.Read
         → (IsTrue (S.has_failed commands.new) ⊎ GivesOnAndOn (S.left commands.old) (S.left commands.new))
-        × HasConversedSoFar debugger.old
+        × HasConversed Cut debugger.old
         (S.left commands.old) (S.left commands.new) (K.written output.old) (K.written output.new) }
     ensures write { result ≡ Err Fault.Write
         → IsTrue (K.has_failed output.new) × HasReadLines (S.left commands.old) (S.left commands.new) }
@@ -171,19 +173,19 @@ fn take_turn<S: Source, K: Sink>(
     commands: &mut S,
     output: &mut K,
 ) -> Result<bool, Fault>
-    ensures next { result ≡ Ok true → (text : List ℕ)
-        × (GivesLines (S.left commands.old) (S.left commands.new) (text ∷ []) []
-        × (goes_on (line_order text) ≡ true)
-        × HasAnswered debugger.old (text ∷ []) debugger.new (K.written output.old) (K.written output.new)
-        × (length text + 1 + reads.new ≡ reads.old)) }
-    ensures last { result ≡ Ok false → HasConversed debugger.old
+    ensures next { result ≡ Ok true → (exchange : Exchange)
+        × (IsDialogue debugger.old (exchange ∷ []) debugger.new
+        × Consumes (S.left commands.old) (S.left commands.new) (bytes_of exchange.line true)
+        × Appends (K.written output.old) (K.written output.new) exchange.reply
+        × (length exchange.line + 1 + reads.new ≡ reads.old)) }
+    ensures last { result ≡ Ok false → HasConversed Finished debugger.old
         (S.left commands.old) (S.left commands.new) (K.written output.old) (K.written output.new) }
-    ensures memory { result ≡ Err Fault.Memory → HasConversedAtMost debugger.old
+    ensures memory { result ≡ Err Fault.Memory → HasConversed Unanswered debugger.old
         (S.left commands.old) (S.left commands.new) (K.written output.old) (K.written output.new) }
     ensures read { result ≡ Err Fault.Read
         → (IsTrue (S.has_failed commands.new)
         ⊎ GivesInEach reads.old (S.left commands.old) (S.left commands.new))
-        × HasConversedSoFar debugger.old
+        × HasConversed Cut debugger.old
         (S.left commands.old) (S.left commands.new) (K.written output.old) (K.written output.new) }
     ensures write { result ≡ Err Fault.Write
         → IsTrue (K.has_failed output.new) × HasReadLines (S.left commands.old) (S.left commands.new) }
@@ -210,8 +212,9 @@ fn answer<K: Sink>(
     line: &[u8],
     output: &mut K,
 ) -> Result<bool, Fault>
-    ensures answered { OnOk result (HasAnswered debugger.old (line.now ∷ []) debugger.new
-        (K.written output.old) (K.written output.new)) }
+    ensures answered { OnOk result ((text : List ℕ)
+        × (Replies debugger.old (line_order line.now) debugger.new text
+        × Appends (K.written output.old) (K.written output.new) text)) }
     ensures goes_on { IfOk result (λ more. more ≡ goes_on (line_order line.now)) }
     ensures memory { result ≡ Err Fault.Memory
         → (debugger.new ≡ debugger.old) × (K.written output.new ≡ K.written output.old) }

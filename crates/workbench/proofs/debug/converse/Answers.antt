@@ -1,6 +1,7 @@
 use Rattle.std.proofs.Common.{◌≡◌, ◌≤◌, inr, true, false, Ok, Err, ap, IsTrue, rules}
 use Rattle.workbench.specs.declared.fault.Fault.TheVariants.{Memory, Read, Write}
-use Rattle.workbench.proofs.Conversations.{at_most_after, conversed_after, failed_after, few_after, few_so_far, gone_on, not_yet, on_and_on, read_after, so_far_after, stands_so_far}
+use Rattle.workbench.specs.Debug.{Cut, Finished, Unanswered}
+use Rattle.workbench.proofs.Conversations.{conversed_after, failed_after, few_after, few_so_far, gone_on, not_yet, on_and_on, read_after, stands_so_far}
 use Rattle.workbench.proofs.debug.converse.Goals as goal
 
 pub returns-in-Ok-false-clause-done : goal.returns-in-Ok-false-clause-done
@@ -14,7 +15,7 @@ returns-in-Ok-false-clause-done g c =
     let d = g.S.Source.left c.take_turn.new.commands in
     let z = g.K.Sink.written c.take_turn.new.output in
     let is : c.in-Ok-false.field-0 ≡ false = cc in
-    conversed_after before c.loop-reads.debugger a b d x y z on (c.in-Ok-false.ensures.last (ap Ok is))
+    conversed_after Finished before c.loop-reads.debugger a b d x y z on (c.in-Ok-false.ensures.last (ap Ok is))
 
 pub returns-in-Err-clause-memory : goal.returns-in-Err-clause-memory
 returns-in-Err-clause-memory g c = λ is.
@@ -27,7 +28,7 @@ returns-in-Err-clause-memory g c = λ is.
     let d = g.S.Source.left c.take_turn.new.commands in
     let z = g.K.Sink.written c.take_turn.new.output in
     let same : c.in-Err.fault ≡ Memory = cc in
-    at_most_after before c.loop-reads.debugger a b d x y z on (c.in-Err.ensures.memory (ap Err same))
+    conversed_after Unanswered before c.loop-reads.debugger a b d x y z on (c.in-Err.ensures.memory (ap Err same))
 
 pub returns-in-Err-clause-read : goal.returns-in-Err-clause-read
 returns-in-Err-clause-read g c = λ is.
@@ -43,7 +44,7 @@ returns-in-Err-clause-read g c = λ is.
     let e = c.in-Err.ensures.read (ap Err same) in (
       failed_after before c.loop-reads.debugger a b d x y (IsTrue (g.S.Source.has_failed c.take_turn.new.commands)) c.loop-reads.reads on
           c.loop-reads.invariant.1 e.0,
-      so_far_after before c.loop-reads.debugger a b d x y z on e.1,
+      conversed_after Cut before c.loop-reads.debugger a b d x y z on e.1,
     )
 
 pub returns-in-Err-clause-write : goal.returns-in-Err-clause-write

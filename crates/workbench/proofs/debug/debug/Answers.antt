@@ -1,6 +1,7 @@
 use Rattle.std.proofs.Common.{refl}
+use Rattle.workbench.specs.Debug.{Cut}
 use Rattle.workbench.proofs.Conversations.{none_given}
-use Rattle.workbench.proofs.Debugged.{debugged, so_far, without_memory}
+use Rattle.workbench.proofs.Debugged.{debugged, debugged_so, without_memory}
 use Rattle.workbench.proofs.debug.debug.Goals as goal
 
 pub returns-clause-done : goal.returns-clause-done
@@ -15,7 +16,7 @@ returns-clause-memory g c =
 
 pub returns-clause-unread : goal.returns-clause-unread
 returns-clause-unread g c = λ is.
-    so_far c.in-Ok.image c.in-Ok-first_debugger.debugger _ _ _ _ _ _ c.in-Ok-first_debugger.ensures.first
+    debugged_so Cut c.in-Ok.image c.in-Ok-first_debugger.debugger _ _ _ _ _ _ c.in-Ok-first_debugger.ensures.first
     c.in-Ok.ensures.program (c.converse.ensures.read is).1
 
 pub returns-in-Err-clause-few : goal.returns-in-Err-clause-few

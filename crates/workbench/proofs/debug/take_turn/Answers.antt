@@ -1,15 +1,15 @@
-use Rattle.std.proofs.Common.{◌≡◌, ◌≢◌, ◌∙◌, ◌++◌, inl, [], ◌∷◌, false, length, Ok, ap, refl, sym, subst, rules}
+use Rattle.std.proofs.Common.{◌≡◌, ◌≢◌, ◌∙◌, ◌+◌, ◌++◌, [], ◌∷◌, true, false, length, Ok, ap, refl, sym, subst, rules}
 use Rattle.std.proofs.lemmas.List.{nil_from_length}
 use Rattle.std.specs.Io.KnownBytes.{Consumes}
 use Rattle.workbench.specs.Debug.{HasNoEnd}
-use Rattle.workbench.proofs.Conversations.{each_given, ends_with_a_line, ends_without_a_line, is_cut, is_left, left_unanswered, part_given, quits, was_read}
+use Rattle.workbench.proofs.Conversations.{each_given, ends_with_a_line, ends_without_a_line, is_cut, is_left, is_no_quit, left_unanswered, quits, was_read}
 use Rattle.workbench.proofs.debug.take_turn.Goals as goal
 use Rattle.workbench.proofs.debug.take_turn.Goals.{else-not-is_ended-via-then-not-is_ended+else-is_empty, else-not-is_ended-via-else-not-is_ended}
 
 pub returns-in-Err-clause-memory : goal.returns-in-Err-clause-memory
 returns-in-Err-clause-memory g c = λ is.
     let e = c.in-Err.ensures.memory is in
-    is_left c.args.debugger.now _ _ _ _ e.0 (inl (part_given _ _ e.0 e.1.1 e.1.0)) refl
+    is_left c.args.debugger.now _ _ _ _ e.0 e.1.1 e.1.0 refl
 
 pub returns-in-Err-clause-read : goal.returns-in-Err-clause-read
 returns-in-Err-clause-read g c = λ is.
@@ -20,17 +20,17 @@ pub returns-then-is_empty-clause-last : goal.returns-then-is_empty-clause-last
 returns-then-is_empty-clause-last g c = λ _.
     let none : length c.read_line.new.line.items ≡ 0 = search rules in
     let e = c.in-Ok.ensures.last (ap Ok c.if-not-is_ended.true) in
-    ends_without_a_line c.args.debugger.now _ _ _ _ c.read_line.new.line.items (nil_from_length c.read_line.new.line.items none) e.0 e.1 c.in-Ok.ensures.line refl
+    ends_without_a_line c.args.debugger.now _ _ _ _ c.read_line.new.line.items (nil_from_length c.read_line.new.line.items none) e.0 e.1 refl
 
 pub returns-then-is_ended-clause-last : goal.returns-then-is_ended-clause-last
 returns-then-is_ended-clause-last g c = λ is.
     let off : c.in-Ok-answer.goes_on ≡ false = cc in
     let line = c.as_slice.ensures.value in
-    quits c.args.debugger.now c.answer.new.debugger _ _ _ _ c.as_slice.result.now
+    quits c.args.debugger.now c.answer.new.debugger _ _ _ _ c.as_slice.result.now c.in-Ok-answer.ensures.answered.0
     (subst (λ l. Consumes (g.S.Source.left c.args.commands.now) (g.S.Source.left c.read_line.new.source) (l ++ 10 ∷ [])) (sym line) (c.in-Ok.ensures.ended (ap Ok c.if-is_ended.true)).0)
     (subst HasNoEnd (sym line) c.in-Ok.ensures.line)
     (sym c.in-Ok-answer.ensures.goes_on ∙ off)
-    c.in-Ok-answer.ensures.answered
+    c.in-Ok-answer.ensures.answered.1.0 c.in-Ok-answer.ensures.answered.1.1
 
 pub returns-else-is_ended-clause-last : goal.returns-else-is_ended-clause-last
 returns-else-is_ended-clause-last g c = λ _.
@@ -40,11 +40,30 @@ returns-else-is_ended-clause-last g c = λ _.
     ] in
     let line = c.as_slice.ensures.value in
     let e = c.in-Ok.ensures.last (ap Ok c.if-is_ended.false) in
-    ends_with_a_line c.args.debugger.now c.answer.new.debugger _ _ _ _ c.as_slice.result.now
+    ends_with_a_line c.args.debugger.now c.answer.new.debugger _ _ _ _ c.as_slice.result.now c.in-Ok-answer.ensures.answered.0
     (subst (λ l. l ≢ []) (sym line) some)
     (subst (Consumes (g.S.Source.left c.args.commands.now) (g.S.Source.left c.read_line.new.source)) (sym line) e.0) e.1
     (subst HasNoEnd (sym line) c.in-Ok.ensures.line)
-    c.in-Ok-answer.ensures.answered
+    c.in-Ok-answer.ensures.answered.1.0 c.in-Ok-answer.ensures.answered.1.1
+
+pub returns-then-is_ended-clause-next : goal.returns-then-is_ended-clause-next
+returns-then-is_ended-clause-next g c = λ is.
+    let on : c.in-Ok-answer.goes_on ≡ true = cc in
+    let line = c.as_slice.ensures.value in
+    let ended = c.in-Ok.ensures.ended (ap Ok c.if-is_ended.true) in
+    let answered = c.in-Ok-answer.ensures.answered in (
+      record { line = c.as_slice.result.now; reply = answered.0 },
+      (
+        (
+          subst HasNoEnd (sym line) c.in-Ok.ensures.line,
+          is_no_quit _ (sym c.in-Ok-answer.ensures.goes_on ∙ on),
+          (c.answer.new.debugger, (answered.1.0, refl)),
+        ),
+        subst (λ l. Consumes (g.S.Source.left c.args.commands.now) (g.S.Source.left c.read_line.new.source) (l ++ 10 ∷ [])) (sym line) ended.0,
+        answered.1.1,
+        subst (λ l. length l + 1 + c.read_line.new.reads ≡ c.args.reads.now) (sym line) ended.1,
+      ),
+    )
 
 pub returns-in-Err-answer-clause-memory : goal.returns-in-Err-answer-clause-memory
 returns-in-Err-answer-clause-memory g c = λ is.
@@ -56,5 +75,5 @@ pub returns-in-Err-answer-clause-write : goal.returns-in-Err-answer-clause-write
 returns-in-Err-answer-clause-write g c = λ is. (
   c.in-Err-answer.ensures.write is,
   was_read _ _ c.read_line.new.line.items c.in-Ok.is_ended
-      (λ e. (c.in-Ok.ensures.ended (ap Ok e)).0) (λ e. c.in-Ok.ensures.last (ap Ok e)) c.in-Ok.ensures.line,
+      (λ e. (c.in-Ok.ensures.ended (ap Ok e)).0) (λ e. c.in-Ok.ensures.last (ap Ok e)),
 )
