@@ -2,7 +2,8 @@ ghost use Rattle.std.specs.Prelude.{◌≡◌, ◌+◌, ◌<◌, ◌^◌, true};
 ghost use Rattle.thread_machine.specs.Idle.{idle_event};
 ghost use Rattle.trace_compare.specs.Playing.{text_of};
 
-use crate::line::put_event;
+use crate::digits::Digits;
+use crate::line::{put_event, put_played};
 use crate::line_end::LineEnd;
 use std::marker::Model;
 use thread_machine::{Choice, Event, Mark, What};
@@ -29,6 +30,8 @@ fn is_idle(event: &Event) -> bool
 pub struct KeptLine {
     text: LineEnd,
     digits: usize,
+    /// The digits of some number: that of the last line which wasn't counted up.
+    number: Digits,
     step: u64,
     choice: Choice,
     pc: u16,
@@ -66,6 +69,7 @@ impl KeptLine {
         KeptLine {
             text,
             digits,
+            number: Digits::new(),
             step: 0,
             choice,
             pc: 0,
@@ -102,7 +106,9 @@ impl KeptLine {
             self.count_up();
             return;
         }
-        self.digits = put_event(&mut self.text, step, choice, pc, event);
+        put_played(&mut self.text, choice, pc, event);
+        self.number.move_to(step);
+        self.digits = self.text.put_digits(&self.number);
         self.step = step;
         self.choice = choice;
         self.pc = pc;
