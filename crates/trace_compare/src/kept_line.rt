@@ -93,15 +93,16 @@ impl KeptLine {
     }
 
     /// Makes it the line of a choice that was played by a thread at this row.
+    #[inline(always)]
     pub fn put(&mut self, step: u64, choice: Choice, pc: u16, event: &Event)
         ensures { self.new ≡ record { step = step; choice = choice; pc = pc; event = event.now } }
     {
-        if 0 < step
+        if is_idle(event)
+            && 0 < step
             && step - 1 == self.step
             && self.pc == pc
             && are_same(self.choice, choice)
             && is_idle(&self.event)
-            && is_idle(event)
         {
             self.count_up();
             return;

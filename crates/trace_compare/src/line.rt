@@ -77,8 +77,8 @@ fn put_mark(line: &mut LineEnd, mark: Mark)
     }
 }
 
-/// What a choice did, from the space before it to the end of a line of which nothing else is there. The most usual answer
-/// is one word.
+/// What a choice did, from the space before it to the end of a line of which nothing else is there. The most usual answers
+/// are put in fewer words.
 #[inline(always)]
 fn put_answer(line: &mut LineEnd, event: &Event)
     requires { line.old ≡ [] }
@@ -86,14 +86,19 @@ fn put_answer(line: &mut LineEnd, event: &Event)
         ≡ codes " " ++ (what_text event.now.what ++ (mark_text event.now.mark ++ codes "\n")) }
     ensures length { length line.new ≤ 54 }
 {
-    if let (What::Done, Mark::Nothing) = (event.what, event.mark) {
-        line.put_word(b" ok\n");
-        return;
+    match (event.what, event.mark) {
+        (What::Done, Mark::Nothing) => line.put_word(b" ok\n"),
+        (What::Value(value), Mark::Nothing) => {
+            line.put_word(b"\n");
+            put_with_value(line, b" = ", value);
+        }
+        (what, mark) => {
+            line.put_word(b"\n");
+            put_mark(line, mark);
+            put_what(line, what);
+            line.put_word(b" ");
+        }
     }
-    line.put_word(b"\n");
-    put_mark(line, event.mark);
-    put_what(line, event.what);
-    line.put_word(b" ");
 }
 
 /// Whose turn or expiry a choice is, between its spaces. Where the thread's number has one digit or two, that is one word.
