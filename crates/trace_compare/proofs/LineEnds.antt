@@ -121,23 +121,23 @@ behind_number old step number pc digits choice event is same size =
     ∙ ap (λ xs. decimal number ++ xs) (sym (ap (drop digits) split ∙ drop_at (decimal step) (letter ++ end) digits (sym size)))
 
 -- how many digits a block ends with
-pub kept_digits : (block : List ℕ) (start n : ℕ) → length block ≡ 20 → start ≤ 20 → drop start block ≡ decimal n
-    → 20 - start ≡ length (decimal n)
-kept_digits block start n long within is = omega (arith, ap length is, length-drop start block, long, within)
+pub kept_digits : (block : List ℕ) (count n : ℕ) → length block ≡ 20 → count ≤ 20 → drop (20 - count) block ≡ decimal n
+    → count ≡ length (decimal n)
+kept_digits block count n long few is = omega (arith, ap length is, length-drop (20 - count) block, long, few)
 
 -- a block's number, counted up by one in its last place
-pub counted_up_alone : (block : List ℕ) (start n next last : ℕ) → length block ≡ 20 → start ≤ 20 → drop start block ≡ decimal n
-    → last ≡ get_or block 19 0 → last < 57 → next ≡ n + 1 → next < 2 ^ 64
-    → drop start (set block 19 (last + 1)) ≡ decimal next
-counted_up_alone block start n next last long within is last_is low one_more fits =
-    let size = kept_digits block start n long within is in
+pub counted_up_alone : (block : List ℕ) (count n next last : ℕ) → length block ≡ 20 → count ≤ 20
+    → drop (20 - count) block ≡ decimal n → last ≡ get_or block 19 0 → last < 57 → next ≡ n + 1 → next < 2 ^ 64
+    → drop (20 - count) (set block 19 (last + 1)) ≡ decimal next
+counted_up_alone block count n next last long few is last_is low one_more fits =
+    let size = kept_digits block count n long few is in
     let fits' : n + 1 < 2 ^ 64 = omega (arith, one_more, fits) in
     let split = last_digit n fits' in
-    let some : start ≤ 19 = omega (arith, size, ap length split.1, length-append split.0 ((48 + n % 10) ∷ [])) in
-    let place : start + (20 - start) - 1 ≡ 19 = omega (arith, some) in
-    let up = counted_up_in block [] start (20 - start) n last size
+    let some : 1 ≤ count = omega (arith, size, ap length split.1, length-append split.0 ((48 + n % 10) ∷ [])) in
+    let place : (20 - count) + count - 1 ≡ 19 = omega (arith, some, few) in
+    let up = counted_up_in block [] (20 - count) count n last size
     (is ∙ sym (append-nil (decimal n))) (last_is ∙ ap (λ i. get_or block i 0) (sym place)) low fits' in
-    ap (λ i. drop start (set block i (last + 1))) (sym place) ∙ up.1 ∙ append-nil (decimal (n + 1)) ∙ ap decimal (sym one_more)
+    ap (λ i. drop (20 - count) (set block i (last + 1))) (sym place) ∙ up.1 ∙ append-nil (decimal (n + 1)) ∙ ap decimal (sym one_more)
 
 -- a block that ends with a number's digits, copied whole before a line that is begun with those digits alone
 pub copied_block : (bytes block copied line : List ℕ) (start n count : ℕ) → length bytes ≡ 192 → start ≤ 192

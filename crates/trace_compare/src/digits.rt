@@ -1,5 +1,5 @@
 // A number's digits, which are kept from line to line.
-ghost use Rattle.std.specs.Prelude.{◌≡◌, ◌-◌, ◌≤◌, drop, length};
+ghost use Rattle.std.specs.Prelude.{◌≡◌, ◌+◌, ◌-◌, ◌<◌, ◌≤◌, ◌^◌, drop, length};
 ghost use Rattle.std.specs.Fmt.{decimal};
 
 use itoa::write_digits;
@@ -13,19 +13,20 @@ pub const MOST_DIGITS: usize = 20;
 #[derive(Drop)]
 pub struct Digits {
     block: [u8; MOST_DIGITS],
-    start: usize,
+    count: usize,
     number: u64,
 }
 
 impl Model for Digits {
-    ghost use Rattle.std.specs.Prelude.{◌≡◌, ◌≤◌, ℕ, drop};
+    ghost use Rattle.std.specs.Prelude.{◌≡◌, ◌+◌, ◌-◌, ◌<◌, ◌≤◌, ◌^◌, ℕ, drop};
     ghost use Rattle.std.specs.Fmt.{decimal};
 
     ghost Value = { ℕ };
 
     ghost view = { λ digits. digits.number };
 
-    ghost invariant = { λ digits. (digits.start ≤ 20) × (drop digits.start digits.block ≡ decimal digits.number) };
+    ghost invariant = { λ digits. (digits.count ≤ 20)
+        × (drop (20 - digits.count) digits.block ≡ decimal digits.number) × (digits.number + 1 < 2 ^ 64) };
 }
 
 impl Digits {
@@ -35,7 +36,7 @@ impl Digits {
     {
         Digits {
             block: [b'0'; MOST_DIGITS],
-            start: MOST_DIGITS - 1,
+            count: 1,
             number: 0,
         }
     }
@@ -43,15 +44,17 @@ impl Digits {
     /// Makes them those of this number. Where it is the next one and the last digit isn't a 9, that is all that changes.
     #[inline(always)]
     pub fn move_to(&mut self, number: u64)
+        requires { number + 1 < 2 ^ 64 }
         ensures { self.new ≡ number }
     {
         let last = self.block[MOST_DIGITS - 1];
-        if last < b'9' && 0 < number && number - 1 == self.number {
+        if last < b'9' && number == self.number + 1 {
             self.block[MOST_DIGITS - 1] = last + 1;
             self.number = number;
             return;
         }
-        self.start = write_digits(number, &mut self.block, MOST_DIGITS);
+        let start = write_digits(number, &mut self.block, MOST_DIGITS);
+        self.count = MOST_DIGITS - start;
         self.number = number;
     }
 
@@ -61,15 +64,15 @@ impl Digits {
         ensures digits { result ≡ length (decimal self.now) }
         ensures few { result ≤ 20 }
     {
-        MOST_DIGITS - self.start
+        self.count
     }
 
     /// Their block, which ends with them.
     #[inline(always)]
-    pub fn as_block(&self) -> &[u8]
-        ensures digits { drop (20 - length (decimal self.now)) result.now ≡ decimal self.now }
-        ensures length { length result.now ≡ 20 }
+    pub fn block(&self) -> [u8; MOST_DIGITS]
+        ensures digits { drop (20 - length (decimal self.now)) result ≡ decimal self.now }
+        ensures length { length result ≡ 20 }
     {
-        &self.block
+        self.block
     }
 }

@@ -89,7 +89,7 @@ impl LineEnd {
         ensures few { result ≤ 20 }
     {
         let room = self.start - MOST_DIGITS;
-        self.bytes[room..self.start].copy_from_slice(digits.as_block());
+        self.bytes[room..self.start].copy_from_slice(&digits.block());
         self.start -= digits.count();
         digits.count()
     }
