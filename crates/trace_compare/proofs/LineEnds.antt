@@ -1,15 +1,16 @@
 -- Lines that are put together from their ends, and numbers that are counted up.
-use Rattle.std.proofs.Common.{◌≡◌, ◌∙◌, ◌+◌, ◌-◌, ◌<◌, ◌≤◌, ◌/◌, ◌%◌, ◌^◌, ℕ, List, [], ◌∷◌, ◌++◌, length, get_or, set, drop, refl, ap, sym, arith, length-append, append_assoc, ℤ, pos, int_le, false, unsigned_abs}
-use Rattle.std.proofs.Common.{inl, inr}
+use Rattle.std.proofs.Common.{◌≡◌, ◌∙◌, ◌+◌, ◌-◌, ◌<◌, ◌≤◌, ◌/◌, ◌%◌, ◌^◌, ℕ, List, [], ◌∷◌, ◌++◌, length, append-nil, get_or, set, drop, refl, ap, sym, arith, length-append, append_assoc, ℤ, pos, int_le, false, unsigned_abs}
+use Rattle.std.proofs.Common.{inl, inr, take}
+use borrow.Rule.Slice.PartMut.{put_mid}
 use Rattle.std.proofs.lemmas.Bool.{cases_lt}
-use Rattle.std.proofs.lemmas.List.{length-drop, drop_at, set_at, get_or_at, get_or-drop, drop-set-add, drop-set}
+use Rattle.std.proofs.lemmas.List.{length-drop, drop_at, set_at, get_or_at, get_or-drop, drop-set-add, drop-set, drop-append-le, drop-drop, length-take-le}
 use Rattle.std.proofs.lemmas.Fmt.{decimal_digit, decimal_step, length-decimal-le}
 use Rattle.std.specs.Fmt.{decimal, signed_decimal}
 use Rattle.itoa.proofs.Decimal.{minus_first}
 use Rattle.std.specs.Prelude.{codes, if◌then◌else◌}
 use Rattle.thread_machine.specs.declared.choice.Choice.{Choice}
 use Rattle.thread_state.specs.declared.event.Event.{Event}
-use Rattle.trace_compare.specs.Lines.{what_text, mark_text, event_text}
+use Rattle.trace_compare.specs.Lines.{what_text, mark_text, choice_text, event_text}
 
 -- where a line isn't long, there is room before it for a number of at most 20 digits
 pub room_for_count : (bytes line : List ℕ) (start n : ℕ) → length bytes ≡ 192 → start ≤ 192 → drop start bytes ≡ line
@@ -118,3 +119,56 @@ behind_number old step number pc digits choice event is same size =
     split
     ∙ ap (λ n. decimal n ++ (letter ++ end)) (sym same)
     ∙ ap (λ xs. decimal number ++ xs) (sym (ap (drop digits) split ∙ drop_at (decimal step) (letter ++ end) digits (sym size)))
+
+-- how many digits a block ends with
+pub kept_digits : (block : List ℕ) (count n : ℕ) → length block ≡ 20 → count ≤ 20 → drop (20 - count) block ≡ decimal n
+    → count ≡ length (decimal n)
+kept_digits block count n long few is = omega (arith, ap length is, length-drop (20 - count) block, long, few)
+
+-- a block's number, counted up by one in its last place
+pub counted_up_alone : (block : List ℕ) (count n next last : ℕ) → length block ≡ 20 → count ≤ 20
+    → drop (20 - count) block ≡ decimal n → last ≡ get_or block 19 0 → last < 57 → next ≡ n + 1 → next < 2 ^ 64
+    → drop (20 - count) (set block 19 (last + 1)) ≡ decimal next
+counted_up_alone block count n next last long few is last_is low one_more fits =
+    let size = kept_digits block count n long few is in
+    let fits' : n + 1 < 2 ^ 64 = omega (arith, one_more, fits) in
+    let split = last_digit n fits' in
+    let some : 1 ≤ count = omega (arith, size, ap length split.1, length-append split.0 ((48 + n % 10) ∷ [])) in
+    let place : (20 - count) + count - 1 ≡ 19 = omega (arith, some, few) in
+    let up = counted_up_in block [] (20 - count) count n last size
+    (is ∙ sym (append-nil (decimal n))) (last_is ∙ ap (λ i. get_or block i 0) (sym place)) low fits' in
+    ap (λ i. drop (20 - count) (set block i (last + 1))) (sym place) ∙ up.1 ∙ append-nil (decimal (n + 1)) ∙ ap decimal (sym one_more)
+
+-- a block that ends with a number's digits, copied whole before a line that is begun with those digits alone
+pub copied_block : (bytes block copied line : List ℕ) (start n count : ℕ) → length bytes ≡ 192 → start ≤ 192
+    → drop start bytes ≡ line → length line + 20 ≤ 192 → copied ≡ block → length block ≡ 20
+    → drop (20 - length (decimal n)) block ≡ decimal n → count ≡ length (decimal n) → count ≤ 20
+    → drop (start - count) (put_mid (start - 20) (start - (start - 20)) bytes copied) ≡ decimal n ++ line
+copied_block bytes block copied line start n count long within is room same size ends count_is few =
+    let some : 20 ≤ start = omega (arith, ap length is, length-drop start bytes, long, room, within) in
+    let whole : drop (start - 20) (put_mid (start - 20) (start - (start - 20)) bytes copied) ≡ copied ++ drop start bytes =
+    drop_at (take (start - 20) bytes) _ (start - 20) (length-take-le (start - 20) bytes (omega (arith, long, within)))
+    ∙ ap (λ xs. copied ++ xs) (drop-drop (start - (start - 20)) (start - 20) bytes ∙ ap (λ i. drop i bytes) (omega (arith, some))) in
+    let place : start - count ≡ (start - 20) + (20 - count) = omega (arith, some, few) in
+    ap (λ i. drop i (put_mid (start - 20) (start - (start - 20)) bytes copied)) place
+    ∙ sym (drop-drop (20 - count) (start - 20) (put_mid (start - 20) (start - (start - 20)) bytes copied))
+    ∙ ap (drop (20 - count)) (whole ∙ ap (λ xs. copied ++ xs) is ∙ ap (λ xs. xs ++ line) same)
+    ∙ drop-append-le (20 - count) block line (omega (arith, size))
+    ∙ ap (λ k. drop (20 - k) block ++ line) count_is
+    ∙ ap (λ xs. xs ++ line) ends
+
+-- whose turn or expiry a choice is, as one word before a line
+pub named_line : (new rest digits : List ℕ) (letter : ℕ) (choice : Choice) → decimal choice.thread ≡ digits
+    → (if choice.expiry then codes " x" else codes " t") ≡ 32 ∷ letter ∷ []
+    → new ≡ (32 ∷ letter ∷ (digits ++ 32 ∷ [])) ++ rest
+    → (step : ℕ) → decimal step ++ new ≡ choice_text step choice ++ rest
+named_line new rest digits letter choice spelt named is step =
+    let word = (if choice.expiry then codes " x" else codes " t") ++ (decimal choice.thread ++ codes " ") in
+    let word_is : word ≡ 32 ∷ letter ∷ (digits ++ 32 ∷ []) =
+    ap (λ xs. xs ++ (decimal choice.thread ++ codes " ")) named ∙ ap (λ xs. 32 ∷ letter ∷ (xs ++ 32 ∷ [])) spelt in
+    ap (λ xs. decimal step ++ xs) (is ∙ ap (λ xs. xs ++ rest) (sym word_is)) ∙ sym (append_assoc (decimal step) word rest)
+
+-- a number of two digits
+pub two_digits : (n : ℕ) → 10 ≤ n → n < 100 → decimal n ≡ (48 + n / 10) ∷ (48 + n % 10) ∷ []
+two_digits n large small =
+    decimal_step n large (omega (arith, small)) ∙ ap (λ xs. xs ++ (48 + n % 10) ∷ []) (decimal_digit (n / 10) (omega (arith, small)))

@@ -19,7 +19,7 @@ use Rattle.schedule_reader.specs.declared.run.Run.{Run}
 use Rattle.schedule_reader.specs.Schedule.{choices_of}
 use Rattle.trace_compare.proofs.Traces.{flat_map-drop}
 use Rattle.trace_compare.specs.Lines.{event_text}
-use Rattle.trace_compare.specs.Playing.{ChoiceLine, text_of, idle_lines}
+use Rattle.trace_compare.specs.Playing.{NumberedLine, IsBehindNumber, text_of, idle_lines}
 use Rattle.trace_compare.specs.Trace.{AppendsPartOf, Plays, lines_of, lines_by}
 
 -- after a first choice, where the others go on from the world that it leaves
@@ -302,14 +302,14 @@ idle_lines-more n before choice pc =
     let next : n + 1 ≡ suc n = omega arith in
     ap (λ k. idle_lines k before choice pc) next ∙ more_idle_lines n before choice pc
 
-pub idle_lines-next : (n before : ℕ) (choice : Choice) (pc : ℕ) (line : ChoiceLine) (old now new : Option (List ℕ))
-    → line ≡ record { step = before + (n + 1); choice = choice; pc = pc; event = idle_event }
+pub idle_lines-next : (n before : ℕ) (choice : Choice) (pc : ℕ) (line : NumberedLine) (old now new : Option (List ℕ))
+    → line.step ≡ before + (n + 1) → IsBehindNumber line.behind choice pc idle_event
     → Appends old now (idle_lines n before choice pc) → Appends now new (text_of line)
     → Appends old new (idle_lines (n + 1) before choice pc)
-idle_lines-next n before choice pc line old now new is lines next =
+idle_lines-next n before choice pc line old now new is behind lines next =
     let counted : before + (n + 1) ≡ before + n + 1 = omega arith in
     let text : text_of line ≡ event_text (before + n + 1) choice pc idle_event =
-    ap text_of is ∙ ap (λ step. event_text step choice pc idle_event) counted in
+    behind line.step ∙ ap (λ step. event_text step choice pc idle_event) (is ∙ counted) in
     subst (λ bytes. Appends old new bytes) (sym (idle_lines-more n before choice pc))
     (Appends-trans old now new _ _ lines (subst (λ bytes. Appends now new bytes) text next))
 

@@ -1,5 +1,5 @@
 -- How one part of a schedule after another is played. Nobody has to believe this: it is what proofs go by, from call to call.
-use Rattle.std.specs.Prelude.{◌≡◌, ◌⊎◌, ◌+◌, ℕ, zero, suc, Bool, List, [], ◌++◌, Option, None}
+use Rattle.std.specs.Prelude.{◌≡◌, ◌⊎◌, ◌+◌, ℕ, zero, suc, Bool, List, [], ◌++◌, decimal, Option, None}
 use Rattle.std.specs.Io.KnownBytes.{Appends, Consumes, IsAtEnd}
 use Rattle.thread_state.specs.declared.event.Event.{Event}
 use Rattle.schedule_reader.specs.declared.fault.ScheduleFault.{ScheduleFault}
@@ -16,15 +16,17 @@ use Rattle.trace_compare.specs.RunText.{HasFault}
 use Rattle.trace_compare.specs.State.{state_text}
 use Rattle.trace_compare.specs.Trace.{AppendsPartOf, Plays, lines_of, trace_of}
 
--- what the line of a choice tells: its number, the choice, the row of its thread and what it did
-pub record ChoiceLine : Type 0 where
+-- a line as it is kept: the number of its choice, and what stands behind that
+pub record NumberedLine : Type 0 where
   pub step : ℕ
-  pub choice : Choice
-  pub pc : ℕ
-  pub event : Event
+  pub behind : List ℕ
 
-abbrev pub text_of : ChoiceLine → List ℕ
-text_of line = event_text line.step line.choice line.pc line.event
+abbrev pub text_of : NumberedLine → List ℕ
+text_of line = decimal line.step ++ line.behind
+
+-- this stands behind the number, whatever that is, in the line of a choice that was played by a thread at this row
+abbrev pub IsBehindNumber : List ℕ → Choice → ℕ → Event → Type 0
+IsBehindNumber behind choice pc event = (step : ℕ) → decimal step ++ behind ≡ event_text step choice pc event
 
 -- the lines of so many idle choices of a thread at this row, behind that many choices
 abbrev pub idle_lines : ℕ → ℕ → Choice → ℕ → List ℕ

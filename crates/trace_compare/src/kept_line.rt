@@ -1,8 +1,10 @@
-ghost use Rattle.std.specs.Prelude.{◌≡◌, ◌+◌, ◌<◌, ◌^◌, true};
+ghost use Rattle.std.specs.Prelude.{◌≡◌, ◌+◌, ◌<◌, ◌^◌, ℕ, true};
+ghost use Rattle.thread_machine.specs.declared.choice.Choice.{Choice};
 ghost use Rattle.thread_machine.specs.Idle.{idle_event};
-ghost use Rattle.trace_compare.specs.Playing.{text_of};
+ghost use Rattle.trace_compare.specs.Playing.{IsBehindNumber, text_of};
 
-use crate::line::put_event;
+use crate::digits::Digits;
+use crate::line::put_played;
 use crate::line_end::LineEnd;
 use std::marker::Model;
 use thread_machine::{Choice, Event, Mark, What};
@@ -30,46 +32,46 @@ pub struct KeptLine {
     text: LineEnd,
     digits: usize,
     step: u64,
+    /// The digits of the last number that was put, and not counted up in the line.
+    number: Digits,
+    /// Whether the choice was idle, and then which one it was, of a thread at which row.
+    is_idle: bool,
     choice: Choice,
     pc: u16,
-    event: Event,
 }
 
 impl Model for KeptLine {
-    ghost use Rattle.std.specs.Prelude.{◌≡◌, ◌+◌, ◌≤◌, length};
+    ghost use Rattle.std.specs.Prelude.{◌≡◌, ◌+◌, ◌≤◌, ◌++◌, drop, length, true};
     ghost use Rattle.std.specs.Fmt.{decimal};
-    ghost use Rattle.trace_compare.specs.Lines.{event_text};
-    ghost use Rattle.trace_compare.specs.Playing.{ChoiceLine};
+    ghost use Rattle.thread_machine.specs.Idle.{idle_event};
+    ghost use Rattle.trace_compare.specs.Playing.{IsBehindNumber, NumberedLine};
 
-    ghost Value = { ChoiceLine };
+    ghost Value = { NumberedLine };
 
-    ghost view = { λ line. record { step = line.step; choice = line.choice; pc = line.pc; event = line.event } };
+    ghost view = { λ line. record { step = line.step; behind = drop line.digits line.text } };
 
-    ghost invariant = { λ line. (line.text ≡ event_text line.step line.choice line.pc line.event)
+    ghost invariant = { λ line. (line.text ≡ decimal line.step ++ drop line.digits line.text)
         × (line.digits ≡ length (decimal line.step)) × (line.digits ≤ 20)
-        × (length line.text ≤ line.digits + 100) };
+        × (length line.text ≤ line.digits + 100)
+        × (line.is_idle ≡ true → IsBehindNumber (drop line.digits line.text) line.choice line.pc idle_event) };
 }
 
 impl KeptLine {
     /// Some line, of no choice.
     pub fn new() -> KeptLine {
-        let choice = Choice {
-            thread: 0,
-            expiry: false,
-        };
-        let event = Event {
-            what: What::Idle,
-            mark: Mark::Nothing,
-        };
         let mut text = LineEnd::new();
-        let digits = put_event(&mut text, 0, choice, 0, &event);
+        let digits = text.put_count(0);
         KeptLine {
             text,
             digits,
             step: 0,
-            choice,
+            number: Digits::new(),
+            is_idle: false,
+            choice: Choice {
+                thread: 0,
+                expiry: false,
+            },
             pc: 0,
-            event,
         }
     }
 
@@ -83,30 +85,57 @@ impl KeptLine {
     /// Whether the choice was idle.
     #[inline(always)]
     pub fn is_idle(&self) -> bool
-        ensures { result ≡ true → self.now.event ≡ idle_event }
+        ensures { result ≡ true
+            → (choice : Choice) × ((pc : ℕ) × IsBehindNumber self.now.behind choice pc idle_event) }
     {
-        is_idle(&self.event)
+        self.is_idle
     }
 
     /// Makes it the line of a choice that was played by a thread at this row.
+    #[inline(always)]
     pub fn put(&mut self, step: u64, choice: Choice, pc: u16, event: &Event)
-        ensures { self.new ≡ record { step = step; choice = choice; pc = pc; event = event.now } }
+        requires { step + 1 < 2 ^ 64 }
+        ensures step { self.new.step ≡ step }
+        ensures behind { IsBehindNumber self.new.behind choice pc event.now }
     {
-        if 0 < step
+        if is_idle(event) {
+            self.put_idle(step, choice, pc);
+            return;
+        }
+        put_played(&mut self.text, choice, pc, event);
+        self.number.move_to(step);
+        self.digits = self.text.put_digits(&self.number);
+        self.step = step;
+        self.is_idle = false;
+    }
+
+    /// Makes it the line of a choice that was idle, of a thread at this row.
+    #[inline(never)]
+    pub fn put_idle(&mut self, step: u64, choice: Choice, pc: u16)
+        requires { step + 1 < 2 ^ 64 }
+        ensures step { self.new.step ≡ step }
+        ensures behind { IsBehindNumber self.new.behind choice pc idle_event }
+    {
+        if self.is_idle
+            && 0 < step
             && step - 1 == self.step
             && self.pc == pc
             && are_same(self.choice, choice)
-            && is_idle(&self.event)
-            && is_idle(event)
         {
             self.count_up();
             return;
         }
-        self.digits = put_event(&mut self.text, step, choice, pc, event);
+        let event = Event {
+            what: What::Idle,
+            mark: Mark::Nothing,
+        };
+        put_played(&mut self.text, choice, pc, &event);
+        self.number.move_to(step);
+        self.digits = self.text.put_digits(&self.number);
         self.step = step;
+        self.is_idle = true;
         self.choice = choice;
         self.pc = pc;
-        self.event = *event;
     }
 
     /// Makes it the line of the next choice, which is the same and did the same.

@@ -11,6 +11,7 @@
 #![tactic(auto)]
 
 pub mod compare;
+mod digits;
 mod kept_line;
 mod law;
 pub mod line;

@@ -1,4 +1,4 @@
-ghost use Rattle.std.specs.Prelude.{◌≡◌, ◌++◌, ◌+◌, ◌≤◌, [], OnOk, OnErr, codes, length};
+ghost use Rattle.std.specs.Prelude.{◌≡◌, ◌++◌, ◌+◌, ◌≤◌, ℕ, [], OnOk, OnErr, codes, length};
 ghost use Rattle.std.specs.Fmt.{signed_decimal, decimal};
 ghost use Rattle.trace_compare.specs.Lines.{what_text, mark_text, choice_text, event_text, refusal_text};
 
@@ -77,8 +77,8 @@ fn put_mark(line: &mut LineEnd, mark: Mark)
     }
 }
 
-/// What a choice did, from the space before it to the end of a line of which nothing else is there. The most usual answer
-/// is one word.
+/// What a choice did, from the space before it to the end of a line of which nothing else is there. The most usual answers
+/// are put in fewer words.
 #[inline(always)]
 fn put_answer(line: &mut LineEnd, event: &Event)
     requires { line.old ≡ [] }
@@ -86,34 +86,53 @@ fn put_answer(line: &mut LineEnd, event: &Event)
         ≡ codes " " ++ (what_text event.now.what ++ (mark_text event.now.mark ++ codes "\n")) }
     ensures length { length line.new ≤ 54 }
 {
-    if let (What::Done, Mark::Nothing) = (event.what, event.mark) {
-        line.put_word(b" ok\n");
-        return;
+    match (event.what, event.mark) {
+        (What::Done, Mark::Nothing) => line.put_word(b" ok\n"),
+        (What::Value(value), Mark::Nothing) => {
+            line.put_word(b"\n");
+            put_with_value(line, b" = ", value);
+        }
+        (what, mark) => {
+            line.put_word(b"\n");
+            put_mark(line, mark);
+            put_what(line, what);
+            line.put_word(b" ");
+        }
     }
-    line.put_word(b"\n");
-    put_mark(line, event.mark);
-    put_what(line, event.what);
-    line.put_word(b" ");
 }
 
-/// The beginning of a choice's line: its number, from 1, and whose turn or expiry it is. Answers how many digits
-/// the number has.
+/// Whose turn or expiry a choice is, between its spaces. Where the thread's number has one digit or two, that is one word.
 #[inline(always)]
-fn put_choice(line: &mut LineEnd, step: u64, choice: Choice) -> usize
-    requires { length line.old + 43 ≤ 192 }
-    ensures digits { result ≡ length (decimal step) }
-    ensures text { line.new ≡ choice_text step choice ++ line.old }
-    ensures length { length line.new ≤ length line.old + result + 23 }
-    ensures few { result ≤ 20 }
+fn put_thread(line: &mut LineEnd, choice: Choice)
+    requires { length line.old + 23 ≤ 192 }
+    ensures text { (step : ℕ) → decimal step ++ line.new ≡ choice_text step choice ++ line.old }
+    ensures length { length line.new ≤ length line.old + 23 }
 {
-    line.put_word(b" ");
-    line.put_count(u64::from(choice.thread));
-    if choice.expiry {
-        line.put_word(b" x");
-    } else {
-        line.put_word(b" t");
+    let thread = choice.thread;
+    let letter = if choice.expiry { b'x' } else { b't' };
+    if thread < 10 {
+        line.put_word(&[b' ', letter, b'0' + thread, b' ']);
+        return;
     }
-    line.put_count(step)
+    if thread < 100 {
+        line.put_word(&[b' ', letter, b'0' + thread / 10, b'0' + thread % 10, b' ']);
+        return;
+    }
+    line.put_word(b" ");
+    line.put_count(u64::from(thread));
+    line.put_word(&[b' ', letter]);
+}
+
+/// The line of a choice that was played by a thread at this row, from what stands behind its number.
+#[inline(always)]
+pub(super) fn put_played(line: &mut LineEnd, choice: Choice, pc: u16, event: &Event)
+    ensures text { (step : ℕ) → decimal step ++ line.new ≡ event_text step choice pc event.now }
+    ensures length { length line.new ≤ 100 }
+{
+    line.clear();
+    put_answer(line, event);
+    line.put_count(u64::from(pc));
+    put_thread(line, choice);
 }
 
 /// The line of a choice that was played by a thread at this row. Answers how many digits its number has.
@@ -123,10 +142,8 @@ pub fn put_event(line: &mut LineEnd, step: u64, choice: Choice, pc: u16, event: 
     ensures length { length line.new ≤ result + 100 }
     ensures few { result ≤ 20 }
 {
-    line.clear();
-    put_answer(line, event);
-    line.put_count(u64::from(pc));
-    put_choice(line, step, choice)
+    put_played(line, choice, pc, event);
+    line.put_count(step)
 }
 
 /// The line of a choice that was refused, by the row of its thread, or `None` where there is no such thread.
@@ -141,7 +158,8 @@ pub fn put_refusal(line: &mut LineEnd, step: u64, choice: Choice, pc: Option<u16
         }
         None => line.put_word(b"- none\n"),
     }
-    put_choice(line, step, choice);
+    put_thread(line, choice);
+    line.put_count(step);
 }
 
 /// Appends the line of a choice that was played by a thread at this row.

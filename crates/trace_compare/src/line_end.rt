@@ -2,6 +2,7 @@
 ghost use Rattle.std.specs.Prelude.{◌≡◌, ◌+◌, ◌<◌, ◌≤◌, ◌^◌, List, ℕ, [], ◌++◌, length, drop};
 ghost use Rattle.std.specs.Fmt.{decimal, signed_decimal};
 
+use crate::digits::{Digits, MOST_DIGITS};
 use itoa::write_digits;
 use std::marker::Model;
 
@@ -75,6 +76,22 @@ impl LineEnd {
         let end = self.start;
         self.start = write_digits(count, &mut self.bytes, end);
         end - self.start
+    }
+
+    /// Puts a number before it of which the digits are kept: their block is copied whole, and what of it stands before the
+    /// digits is no part of the line. Answers how many digits the number has.
+    #[inline(always)]
+    pub fn put_digits(&mut self, digits: &Digits) -> usize
+        requires { length self.old + 20 ≤ 192 }
+        ensures text { self.new ≡ decimal digits.now ++ self.old }
+        ensures length { length self.new ≡ result + length self.old }
+        ensures digits { result ≡ length (decimal digits.now) }
+        ensures few { result ≤ 20 }
+    {
+        let room = self.start - MOST_DIGITS;
+        self.bytes[room..self.start].copy_from_slice(&digits.block());
+        self.start -= digits.count();
+        digits.count()
     }
 
     /// Puts a number before it.

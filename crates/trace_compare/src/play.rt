@@ -13,7 +13,7 @@ use crate::line_end::LineEnd;
 use byte_ports::Sink;
 use schedule_reader::Run;
 use std::alloc::AllocError;
-use thread_machine::{Choice, Event, Machine, Mark, StepFault, What};
+use thread_machine::{Choice, Event, Machine, StepFault};
 
 /// Why a trace is cut short.
 #[derive(Clone, Copy, Debug, PartialEq, Eq)]
@@ -45,6 +45,7 @@ fn push_event<W: Sink>(
     line: &mut KeptLine,
     output: &mut W,
 ) -> Result<(), PlayFault>
+    requires { step ≤ 1000000000000 }
     ensures line { OnOk result (Appends (W.written output.old) (W.written output.new)
         (event_text step choice pc event.now)) }
     ensures write { result ≡ Err PlayFault.Write → IsTrue (W.has_failed output.new) }
@@ -163,11 +164,7 @@ fn push_idle_lines<W: Sink>(
     ensures write { result ≡ Err PlayFault.Write → IsTrue (W.has_failed output.new) }
     ensures memory { result ≢ Err PlayFault.Memory }
 {
-    let event = Event {
-        what: What::Idle,
-        mark: Mark::Nothing,
-    };
-    line.put(before, choice, pc, &event);
+    line.put_idle(before, choice, pc);
     let mut done = 0;
     while done < times {
         line.count_up();

@@ -1,13 +1,14 @@
 use Rattle.std.proofs.Common.{◌≡◌, ◌+◌, ◌-◌, ◌≤◌}
 use Rattle.std.specs.Io.KnownBytes.{Appends}
 use Rattle.thread_machine.specs.Idle.{idle_event}
-use Rattle.trace_compare.specs.Playing.{idle_lines}
+use Rattle.trace_compare.specs.Playing.{IsBehindNumber, idle_lines}
 use Rattle.trace_compare.proofs.play.push_idle_lines.Given as goal
 
 abbrev pub invariant-loop-done : goal.invariant-loop-done
 invariant-loop-done g l =
     (l.done ≤ l.times)
-    × (l.line ≡ record { step = l.before + l.done; choice = l.fn.choice; pc = l.pc; event = idle_event })
+    × (l.line.step ≡ l.before + l.done)
+    × IsBehindNumber l.line.behind l.fn.choice l.pc idle_event
     × Appends (g.W.Sink.written l.initial.output) (g.W.Sink.written l.output) (idle_lines l.done l.before l.fn.choice l.pc)
 
 abbrev pub decreases-loop-done : goal.decreases-loop-done

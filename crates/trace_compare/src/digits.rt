@@ -1,0 +1,78 @@
+// A number's digits, which are kept from line to line.
+ghost use Rattle.std.specs.Prelude.{◌≡◌, ◌+◌, ◌-◌, ◌<◌, ◌≤◌, ◌^◌, drop, length};
+ghost use Rattle.std.specs.Fmt.{decimal};
+
+use itoa::write_digits;
+use std::marker::Model;
+
+/// How many digits a number has at most.
+pub const MOST_DIGITS: usize = 20;
+
+/// The digits of a number, at the end of a block of their own. The number of one line is mostly one more than that of the
+/// line before: then its last digit is counted up in place, and the block is copied whole into the line.
+#[derive(Drop)]
+pub struct Digits {
+    block: [u8; MOST_DIGITS],
+    count: usize,
+    number: u64,
+}
+
+impl Model for Digits {
+    ghost use Rattle.std.specs.Prelude.{◌≡◌, ◌+◌, ◌-◌, ◌<◌, ◌≤◌, ◌^◌, ℕ, drop};
+    ghost use Rattle.std.specs.Fmt.{decimal};
+
+    ghost Value = { ℕ };
+
+    ghost view = { λ digits. digits.number };
+
+    ghost invariant = { λ digits. (digits.count ≤ 20)
+        × (drop (20 - digits.count) digits.block ≡ decimal digits.number) × (digits.number + 1 < 2 ^ 64) };
+}
+
+impl Digits {
+    /// The digit of 0.
+    pub fn new() -> Digits
+        ensures { result ≡ 0 }
+    {
+        Digits {
+            block: [b'0'; MOST_DIGITS],
+            count: 1,
+            number: 0,
+        }
+    }
+
+    /// Makes them those of this number. Where it is the next one and the last digit isn't a 9, that is all that changes.
+    #[inline(always)]
+    pub fn move_to(&mut self, number: u64)
+        requires { number + 1 < 2 ^ 64 }
+        ensures { self.new ≡ number }
+    {
+        let last = self.block[MOST_DIGITS - 1];
+        if last < b'9' && number == self.number + 1 {
+            self.block[MOST_DIGITS - 1] = last + 1;
+            self.number = number;
+            return;
+        }
+        let start = write_digits(number, &mut self.block, MOST_DIGITS);
+        self.count = MOST_DIGITS - start;
+        self.number = number;
+    }
+
+    /// How many there are.
+    #[inline(always)]
+    pub fn count(&self) -> usize
+        ensures digits { result ≡ length (decimal self.now) }
+        ensures few { result ≤ 20 }
+    {
+        self.count
+    }
+
+    /// Their block, which ends with them.
+    #[inline(always)]
+    pub fn block(&self) -> [u8; MOST_DIGITS]
+        ensures digits { drop (20 - length (decimal self.now)) result ≡ decimal self.now }
+        ensures length { length result ≡ 20 }
+    {
+        self.block
+    }
+}
