@@ -2,4 +2,4 @@
 
 /// The version, the kit whose logic proves it, and the sum of the sources but for this file.
 pub const VERSION: &str =
-    "0.1.0\nkit rattle-kit-13b logic dac8208d650f15bf\nsources d328f61362ac8aa61421ae2de07d0e565c1fc5da34d66ceceecbdcc1be4d5fe7";
+    "0.1.0\nkit rattle-kit-13b logic dac8208d650f15bf\nsources da195291063465d7eca1c622e7db0b060e02ce7a81ba18b9987bbe345f849b9a";
