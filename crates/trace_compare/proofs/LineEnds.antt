@@ -139,6 +139,40 @@ counted_up_alone block count n next last long few is last_is low one_more fits =
     (is ∙ sym (append-nil (decimal n))) (last_is ∙ ap (λ i. get_or block i 0) (sym place)) low fits' in
     ap (λ i. drop (20 - count) (set block i (last + 1))) (sym place) ∙ up.1 ∙ append-nil (decimal (n + 1)) ∙ ap decimal (sym one_more)
 
+-- the same where the last digit is a 9, and the one before it isn't
+pub carried : (block : List ℕ) (count n next ten : ℕ) → length block ≡ 20 → count ≤ 20
+    → drop (20 - count) block ≡ decimal n → get_or block 19 0 ≡ 57 → ten ≡ get_or block 18 0 → ten < 57
+    → next ≡ n + 1 → 10 < next → next < 2 ^ 64
+    → drop (20 - count) (set (set block 18 (ten + 1)) 19 48) ≡ decimal next
+carried block count n next ten long few is nine ten_is low one_more large fits =
+    let start = 20 - count in
+    let front = decimal (n / 10) in
+    let digit = 48 + n % 10 in
+    let fits' : n + 1 < 2 ^ 64 = omega (arith, one_more, fits) in
+    let is' : drop start block ≡ front ++ digit ∷ [] = is ∙ decimal_step n (omega (arith, one_more, large)) (omega (arith, fits')) in
+    let size : count ≡ length front + 1 =
+    kept_digits block count n long few is ∙ ap length (decimal_step n (omega (arith, one_more, large)) (omega (arith, fits')))
+    ∙ length-append front (digit ∷ []) in
+    let split = last_digit (n / 10) (omega (arith, fits')) in
+    let some : 1 ≤ length front = omega (arith, ap length split.1, length-append split.0 ((48 + n / 10 % 10) ∷ [])) in
+    let last_place : 19 ≡ start + length front = omega (arith, size, few) in
+    let ten_place : start + length front - 1 ≡ 18 = omega (arith, size, few, some) in
+    let digit_is : 57 ≡ digit =
+    sym nine ∙ ap (λ i. get_or block i 0) last_place ∙ sym (get_or-drop start block (length front) 0)
+    ∙ ap (λ xs. get_or xs (length front) 0) is' ∙ get_or_at front digit [] 0 (length front) refl in
+    let up = counted_up_in block (digit ∷ []) start (length front) (n / 10) ten refl is'
+    (ten_is ∙ ap (λ i. get_or block i 0) (sym ten_place)) low (omega (arith, fits')) in
+    let first : drop start (set block 18 (ten + 1)) ≡ decimal (n / 10 + 1) ++ digit ∷ [] =
+    ap (λ i. drop start (set block i (ten + 1))) (sym ten_place) ∙ up.1 in
+    ap (λ i. drop start (set (set block 18 (ten + 1)) i 48)) last_place
+    ∙ drop-set-add start (set block 18 (ten + 1)) (length front) 48
+    ∙ ap (λ xs. set xs (length front) 48) first
+    ∙ set_at (decimal (n / 10 + 1)) digit [] 48 (length front) (sym up.0)
+    ∙ ap (λ k. decimal k ++ 48 ∷ []) (omega (arith, digit_is))
+    ∙ ap (λ d. decimal ((n + 1) / 10) ++ d ∷ []) (omega (arith, digit_is))
+    ∙ sym (decimal_step (n + 1) (omega (arith, one_more, large)) fits')
+    ∙ ap decimal (sym one_more)
+
 -- a block that ends with a number's digits, copied whole before a line that is begun with those digits alone
 pub copied_block : (bytes block copied line : List ℕ) (start n count : ℕ) → length bytes ≡ 192 → start ≤ 192
     → drop start bytes ≡ line → length line + 20 ≤ 192 → copied ≡ block → length block ≡ 20

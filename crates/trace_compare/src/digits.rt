@@ -53,6 +53,23 @@ impl Digits {
             self.number = number;
             return;
         }
+        self.move_far(number);
+    }
+
+    /// The same where more than the last digit changes. Where the number is the next one, the last two are mostly all.
+    #[inline(never)]
+    fn move_far(&mut self, number: u64)
+        requires { number + 1 < 2 ^ 64 }
+        ensures { self.new ≡ number }
+    {
+        let ten = self.block[MOST_DIGITS - 2];
+        let last = self.block[MOST_DIGITS - 1];
+        if number == self.number + 1 && number > 10 && last == b'9' && ten < b'9' {
+            self.block[MOST_DIGITS - 2] = ten + 1;
+            self.block[MOST_DIGITS - 1] = b'0';
+            self.number = number;
+            return;
+        }
         let start = write_digits(number, &mut self.block, MOST_DIGITS);
         self.count = MOST_DIGITS - start;
         self.number = number;

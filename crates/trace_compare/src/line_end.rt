@@ -88,9 +88,9 @@ impl LineEnd {
         ensures digits { result ≡ length (decimal digits.now) }
         ensures few { result ≤ 20 }
     {
-        let room = self.start - MOST_DIGITS;
-        self.bytes[room..self.start].copy_from_slice(&digits.block());
-        self.start -= digits.count();
+        let end = self.start;
+        self.bytes[end - MOST_DIGITS..end].copy_from_slice(&digits.block());
+        self.start = end - digits.count();
         digits.count()
     }
 

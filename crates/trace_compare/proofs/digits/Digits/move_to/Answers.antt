@@ -1,5 +1,4 @@
-use Rattle.std.proofs.Common.{refl, arith}
-use Rattle.std.proofs.lemmas.Fmt.{length-decimal-le}
+use Rattle.std.proofs.Common.{refl}
 use Rattle.trace_compare.proofs.LineEnds.{counted_up_alone}
 use Rattle.trace_compare.proofs.digits.Digits.move_to.Goals as goal
 
@@ -11,9 +10,3 @@ invariant_of-self c =
           refl c.if-last-lt57.true c.if-number-self.true c.ranges.number.fits,
       c.requires,
     )
-
-pub write_digits-start-requires : goal.write_digits-start-requires
-write_digits-start-requires c = (
-  length-decimal-le 20 c.args.number (omega arith) (omega (arith, c.ranges.number.fits)) c.ranges.number.fits,
-  omega (arith, c.self.told),
-)
