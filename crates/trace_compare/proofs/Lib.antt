@@ -9,7 +9,8 @@ pub mod SameTrace
 pub mod WholeLines
 pub mod Naming
 pub mod StateLines
-pub mod OwnTrace
+pub mod OwnLines
+mod OwnTrace
 pub mod PieceLines
 pub mod NamedThreads
 pub mod StoredOtherwise

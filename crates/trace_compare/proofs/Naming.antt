@@ -166,7 +166,7 @@ line-no_state step choice rest =
     ∙ not_state (decimal step) (decimal-digits step)
 
 -- the beginning of a choice's line
-choice-part : (step : ℕ) (choice : Choice) → IsPart 131 (choice_text step choice)
+pub choice-part : (step : ℕ) (choice : Choice) → IsPart 131 (choice_text step choice)
 choice-part step choice =
     Part-append 64 67 (decimal step) _ (decimal-part step)
     (Part-append 2 65 (letter_text choice.expiry) _ (letter-part choice.expiry)

@@ -103,7 +103,7 @@ own-line world choice few there =
     line_by (nat_le (length world.scene.threads) choice.thread) (is_used_up world choice) world choice few there
 
 -- the line of a choice before the others
-choice-same : (world : World) (choice : Choice) (rest : List ℕ) (n : ℕ) → IsOwnLine choice (lines_of world (choice ∷ []))
+pub choice-same : (world : World) (choice : Choice) (rest : List ℕ) (n : ℕ) → IsOwnLine choice (lines_of world (choice ∷ []))
     → lines_verdict true world n (slice_split is_line_end (lines_of world (choice ∷ []) ++ rest))
     ≡ lines_verdict (is_none (execution world (choice ∷ [])).refusal) (execution world (choice ∷ [])).world (n + 1)
     (slice_split is_line_end rest)

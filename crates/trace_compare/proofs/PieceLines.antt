@@ -19,7 +19,7 @@ lf-there bytes n is there =
     is_lf (get_or bytes n 0) (ap (λ k. is_line_end (get_or bytes k 0)) is ∙ passes_at_first is_line_end bytes 0 (omega (arith, is, there)))
 
 -- none before it
-none-before : (bytes : List ℕ) (n : ℕ) → n ≡ position_or_len is_line_end bytes → n < length bytes → All (λ b. is_line_end b ≡ false) (take n bytes)
+pub none-before : (bytes : List ℕ) (n : ℕ) → n ≡ position_or_len is_line_end bytes → n < length bytes → All (λ b. is_line_end b ≡ false) (take n bytes)
 none-before bytes n is there = λ k d within.
     let before : k < n = omega (arith, within, length-take-le n bytes (omega (arith, there))) in
     ap is_line_end (get_or-take n bytes k d before) ∙ fails_before_first is_line_end bytes k d (omega (arith, before, is))
@@ -31,7 +31,7 @@ line-with_lf bytes n is there =
     let next : n + 1 ≡ suc n = omega arith in
     ap (λ k. take k bytes) next ∙ take-suc bytes n 0 there ∙ ap (λ b. take n bytes ++ (b ∷ [])) (lf-there bytes n is there)
 
-line-and_rest : (bytes more : List ℕ) (n : ℕ) → n ≡ position_or_len is_line_end bytes → n < length bytes
+pub line-and_rest : (bytes more : List ℕ) (n : ℕ) → n ≡ position_or_len is_line_end bytes → n < length bytes
     → bytes ++ more ≡ take n bytes ++ (10 ∷ (drop (n + 1) bytes ++ more))
 line-and_rest bytes more n is there =
     let next : suc n ≡ n + 1 = omega arith in

@@ -40,7 +40,7 @@ same_bytes xs ys same = (bytes_eq-Decides xs ys).1 same
 pub found_same : (xs ys : List ℕ) (differ : Bool) → differ ≡ not (bytes_eq xs ys) → differ ≡ false → xs ≡ ys
 found_same xs ys differ is none = (bytes_eq-Decides xs ys).0 (of_not (bytes_eq xs ys) (sym is ∙ none))
 
-short_line : (line : List ℕ) → length line ≤ 65536 → is_too_long line ≡ false
+pub short_line : (line : List ℕ) → length line ≤ 65536 → is_too_long line ≡ false
 short_line line few = le-ltb 65536 (length line) few
 
 -- a line of the state text
@@ -104,12 +104,12 @@ not_empty zero empty is isnt = let wrong : true ≡ false = sym is ∙ isnt in l
 not_empty (suc n) empty is isnt = omega arith
 
 -- before the state line
-left-lines : (now : Comparison) (lines : List (List ℕ)) → now.is_state ≡ false
+pub left-lines : (now : Comparison) (lines : List (List ℕ)) → now.is_state ≡ false
     → lines_left now lines ≡ lines_verdict now.accepted (world_of now.machine) now.number lines
 left-lines now lines is =
     ap (λ b. cond b (state_verdict (drop now.at now.text.items) now.number lines) (lines_verdict now.accepted (world_of now.machine) now.number lines)) is
 
-lines-choice : (accepted : Bool) (world : World) (n : ℕ) (line : List ℕ) (lines : List (List ℕ)) (long state : Bool)
+pub lines-choice : (accepted : Bool) (world : World) (n : ℕ) (line : List ℕ) (lines : List (List ℕ)) (long state : Bool)
     → is_too_long line ≡ long → is_state_line line ≡ state → long ≡ false → state ≡ false
     → lines_verdict accepted world n (line ∷ lines)
     ≡ choice_verdict (choice_in line) accepted world n line (λ accepted after. lines_verdict accepted after (n + 1) lines)
@@ -171,7 +171,7 @@ split_some ys = first_of_some (slice_split is_line_end ys) (omega (arith, length
     first_of_some [] some = absurd (omega (arith, some))
     first_of_some (h ∷ t) some = (h, (t, refl))
 
-line_and_more : (xs ys : List ℕ) → All (λ b. is_line_end b ≡ false) xs
+pub line_and_more : (xs ys : List ℕ) → All (λ b. is_line_end b ≡ false) xs
     → (h : List ℕ) × ((t : List (List ℕ)) × (slice_split is_line_end (xs ++ ys) ≡ (xs ++ h) ∷ t))
 line_and_more [] ys one = split_some ys
 line_and_more (x ∷ xs) ys one =
@@ -191,7 +191,7 @@ long_state [] n [] lines is = let no : ⊥ = cc in absurd no
 long_state [] n (x ∷ line) lines is = rw is refl
 long_state (byte ∷ text) n line lines is = rw is refl
 
-long_line : (accepted : Bool) (world : World) (n : ℕ) (line : List ℕ) (lines : List (List ℕ)) → is_too_long line ≡ true
+pub long_line : (accepted : Bool) (world : World) (n : ℕ) (line : List ℕ) (lines : List (List ℕ)) → is_too_long line ≡ true
     → lines_verdict accepted world n (line ∷ lines) ≡ verdict.NotATrace n
 long_line accepted world n line lines is = rw is refl
 

@@ -70,7 +70,7 @@ abbrev pub AllWithin : List (List ℕ) → Type 0
 AllWithin [] = Unit {0}
 AllWithin (line ∷ lines) = (list_all is_within line ≡ true) × AllWithin lines
 
-no_end : (line : List ℕ) → list_all is_within line ≡ true → All (λ b. is_line_end b ≡ false) line
+pub no_end : (line : List ℕ) → list_all is_within line ≡ true → All (λ b. is_line_end b ≡ false) line
 no_end line within = λ k d there. not-true _ (AllPass-from_list_all is_within line within k d there)
 
 pub first-is : (line rest : List ℕ) → list_all is_within line ≡ true

@@ -1,12 +1,14 @@
 -- What the lines that are left make of a comparison. Nobody has to believe this: it is what proofs go by, from line to line.
-use Rattle.std.specs.Prelude.{◌≡◌, ◌⊎◌, [], ◌+◌, ◌<◌, ◌≤◌, ◌++◌, ℕ, All, false, true, List, drop, length, if◌then◌else◌, Option, Some, None}
+use Rattle.std.specs.Prelude.{◌≡◌, ◌⊎◌, [], ◌+◌, ◌<◌, ◌≤◌, ◌++◌, ℕ, All, false, true, List, codes, decimal, drop, length, if◌then◌else◌, Option, Some, None}
 use Rattle.std.specs.Io.KnownBytes.{IsAtEnd}
 use Rattle.std.specs.List.{slice_split}
 use Rattle.line_reader.specs.Words.{is_line_end}
 use Rattle.thread_machine.specs.World.{world_of}
+use Rattle.thread_machine.specs.declared.choice.Choice.{Choice}
 use Rattle.trace_compare.specs.declared.compare.Comparison.{Comparison}
 use Rattle.trace_compare.specs.declared.compare.Verdict.{Verdict}
 use Rattle.trace_compare.specs.Compare.{lines_verdict, state_verdict}
+use Rattle.trace_compare.specs.Lines.{choice_text}
 
 -- a verdict that was reached, else what the rest makes of it
 abbrev pub decided : Option Verdict → Verdict → Verdict
@@ -26,6 +28,16 @@ IsOpen now line lines =
 -- what the bytes that are left make of it, where these bytes of a line have come
 abbrev pub bytes_left : Comparison → List ℕ → List ℕ → Verdict
 bytes_left now line rest = lines_left now (slice_split is_line_end (line ++ rest))
+
+-- bytes begin with the name of a choice between two spaces, as they stand behind the number in its line
+abbrev pub BeginsWithName : List ℕ → Choice → Type 0
+BeginsWithName bytes choice =
+    (choice.thread ≤ 63) × ((rest : List ℕ)
+    × (bytes ≡ ((if choice.expiry then codes " x" else codes " t") ++ (decimal choice.thread ++ codes " ")) ++ rest))
+
+-- bytes begin as the line of a choice with this number does
+abbrev pub BeginsAsLine : List ℕ → ℕ → Choice → Type 0
+BeginsAsLine bytes step choice = (choice.thread ≤ 63) × ((rest : List ℕ) × (bytes ≡ choice_text step choice ++ rest))
 
 -- these bytes are those of one line, and not too many
 pub record IsReading (now : Comparison) (line : List ℕ) : Type 0 where

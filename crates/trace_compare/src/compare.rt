@@ -1,15 +1,19 @@
-ghost use Rattle.std.specs.Prelude.{◌≡◌, ◌≢◌, ◌⊎◌, IsTrue, Err, false, true, ◌==◌, ◌&&◌, ◌<◌, ◌≤◌, ◌+◌, ◌++◌, ◌∷◌, [], List, ℕ, IfOk, OnOk, drop, length, take};
+ghost use Rattle.std.specs.Prelude.{◌≡◌, ◌≢◌, ◌⊎◌, IsTrue, Err, OnErr, false, true, ◌==◌, ◌&&◌, ◌<◌, ◌≤◌, ◌+◌, ◌++◌, ◌∷◌, [], List, ℕ, IfOk, OnOk, drop, length, take};
 ghost use Rattle.std.specs.Io.KnownBytes.{Consumes};
 ghost use Rattle.std.specs.List.{position_or_len};
 ghost use Rattle.line_reader.specs.Words.{is_line_end};
 ghost use Rattle.thread_machine.specs.World.{world_of};
 ghost use Rattle.trace_compare.specs.RunText.{GivesOnAndOn};
+ghost use Rattle.trace_compare.specs.Playing.{text_of};
 ghost use Rattle.trace_compare.specs.Start.{IsRefused, is_want_of_memory};
 ghost use Rattle.trace_compare.specs.Compare.{HasCompared, choice_in, choice_verdict, is_state_line, lines_verdict, state_verdict};
 ghost use Rattle.trace_compare.specs.Comparing.{HasLeft, IsOpen, IsReading, bytes_left, decided, lines_left};
 
+use crate::digits::Digits;
+use crate::kept_line::KeptLine;
 use crate::line_end::LineEnd;
-use crate::play::line_of_choice;
+use crate::next_choice::{first_bytes, next_choice, rest_of};
+use crate::play::{kept_line_of_choice, line_of_choice};
 use crate::start::{StartFault, first_machine};
 use crate::state::state_text;
 use crate::trace_line::{choice_in, is_state_line};
@@ -28,6 +32,9 @@ const MOST_READS: u64 = 1_000_000_000;
 
 /// How many bytes a line of a trace has at most, without its LF.
 const MOST_BYTES: usize = 65_536;
+
+/// How many bytes the line of a choice that was played has at most.
+const MOST_OWN: usize = 120;
 
 /// What a comparison of a trace says.
 #[derive(Clone, Copy, Debug, PartialEq, Eq)]
@@ -51,29 +58,15 @@ pub enum CompareFault {
     Read,
 }
 
-/// What follows these bytes.
-fn rest_of(text: &[u8], at: usize) -> &[u8]
-    requires { at ≤ length text.now }
-    ensures rest { result.now ≡ drop at text.now }
-    ensures length { at + length result.now ≡ length text.now }
-{
-    &text[at..]
-}
-
-/// The first of these bytes.
-fn first_bytes(text: &[u8], count: usize) -> &[u8]
-    requires { count ≤ length text.now }
-    ensures { result.now ≡ take count text.now }
-{
-    &text[..count]
-}
-
 /// A run, as far as the lines of a trace name it.
 #[derive(Drop)]
 struct Comparison {
     machine: Machine,
-    /// The run's line of the last choice.
+    /// The run's line of the last choice whose line was read whole.
     expected: LineEnd,
+    /// The run's line of the last choice whose line was met where it lies, and the number of the next one.
+    kept: KeptLine,
+    next: Digits,
     /// Whether all choices so far were accepted.
     accepted: bool,
     /// Whether the state line has come.
@@ -96,6 +89,8 @@ impl Comparison {
         Comparison {
             machine,
             expected: LineEnd::new(),
+            kept: KeptLine::new(),
+            next: Digits::new(),
             accepted: true,
             is_state: false,
             text: Vec::new(alloc),
@@ -189,6 +184,80 @@ impl Comparison {
         self.at = 0;
         self.is_state = true;
         Ok(self.take_state_line(line, whole))
+    }
+
+    /// Goes on over the run's line of the choice that was just played, where these bytes begin with it. Answers how many
+    /// bytes it has. Where they don't, no choice counts as accepted any more, and the answer is 0.
+    #[inline(always)]
+    fn meet(&mut self, bytes: &[u8]) -> usize
+        requires room { 120 ≤ length bytes.now }
+        requires number { self.old.number < 9223372036854775807 }
+        ensures met { result ≢ 0 → (take (length (text_of self.old.kept)) bytes.now ≡ text_of self.old.kept)
+            × (result ≡ length (text_of self.old.kept))
+            × (self.new ≡ record self.old { number = self.old.number + 1 }) }
+        ensures missed { result ≡ 0 → (take (length (text_of self.old.kept)) bytes.now ≢ text_of self.old.kept)
+            × (self.new ≡ record self.old { accepted = false }) }
+        ensures few { length (text_of self.old.kept) ≤ length bytes.now }
+    {
+        let line = self.kept.as_slice();
+        let length = line.len();
+        if first_bytes(bytes, length) == line {
+            self.number += 1;
+            return length;
+        }
+        self.accepted = false;
+        0
+    }
+
+    /// Goes on over the line that these bytes begin with, where it begins as the next choice's does and is the run's own.
+    /// Answers how many bytes it has, 0 where it is left to be read whole. Then, if a choice was played for it, none counts as
+    /// accepted any more, since the line names that choice and isn't its line.
+    fn take_own_line(&mut self, bytes: &[u8]) -> Result<usize, AllocError>
+        requires room { 120 ≤ length bytes.now }
+        requires number { self.old.number < 9223372036854775807 }
+        ensures verdict { (more : List ℕ) → IfOk result (λ count. bytes_left self.old [] (bytes.now ++ more)
+            ≡ bytes_left self.new [] (drop count bytes.now ++ more)) }
+        ensures text { (self.new.text ≡ self.old.text) × (self.new.at ≡ self.old.at) }
+        ensures within { IfOk result (λ count. count ≤ length bytes.now) }
+        ensures number { IfOk result (λ count. self.new.number ≤ self.old.number + count) }
+        ensures err { OnErr result (self.new.number ≡ self.old.number) }
+    {
+        if self.is_state || !self.accepted {
+            return Ok(0);
+        }
+        self.next.move_to(self.machine.choices() + 1);
+        let Some(choice) = next_choice(&self.next, bytes) else {
+            return Ok(0);
+        };
+        if usize::from(choice.thread) >= self.machine.thread_count() {
+            return Ok(0);
+        }
+        match kept_line_of_choice(&mut self.machine, choice, &mut self.kept) {
+            Ok(true) => Ok(self.meet(bytes)),
+            Ok(false) => Ok(0),
+            Err(error) => Err(error),
+        }
+    }
+
+    /// The same over as many lines as there are. The last bytes, in which a line may not lie whole, are left.
+    fn take_own_lines(&mut self, bytes: &[u8]) -> Result<usize, AllocError>
+        requires number { self.old.number + length bytes.now < 9223372036854775807 }
+        ensures verdict { (more : List ℕ) → IfOk result (λ count. bytes_left self.old [] (bytes.now ++ more)
+            ≡ bytes_left self.new [] (drop count bytes.now ++ more)) }
+        ensures text { (self.new.text ≡ self.old.text) × (self.new.at ≡ self.old.at) }
+        ensures within { IfOk result (λ count. count ≤ length bytes.now) }
+        ensures number { IfOk result (λ count. self.new.number ≤ self.old.number + count) }
+        ensures err { OnErr result (self.new.number ≤ self.old.number + length bytes.now) }
+    {
+        let mut done = 0;
+        while bytes.len() - done >= MOST_OWN {
+            match self.take_own_line(rest_of(bytes, done)) {
+                Ok(0) => return Ok(done),
+                Ok(count) => done += count,
+                Err(error) => return Err(error),
+            }
+        }
+        Ok(done)
     }
 
     /// The verdict where no more lines come.
@@ -335,6 +404,35 @@ fn take_some(
     }
 }
 
+/// The same, of as many lines as lie whole in them and are the run's own, where there are some.
+fn take_more(
+    now: &mut Comparison,
+    alloc: Global,
+    line: &mut Vec<u8>,
+    rest: &[u8],
+) -> Result<(Option<Verdict>, usize), AllocError>
+    requires some { 0 < length rest.now }
+    requires reading { IsReading now.old line.old.items }
+    requires number { now.old.number + length rest.now < 9223372036854775807 }
+    ensures verdict { (more : List ℕ) → IfOk result (λ taken.
+        bytes_left now.old line.old.items (rest.now ++ more)
+        ≡ decided taken.0 (bytes_left now.new line.new.items (drop taken.1 rest.now ++ more))) }
+    ensures reading { OnOk result (IsReading now.new line.new.items) }
+    ensures some { IfOk result (λ taken. 0 < taken.1) }
+    ensures within { IfOk result (λ taken. taken.1 ≤ length rest.now) }
+    ensures number { IfOk result (λ taken. now.new.number ≤ now.old.number + taken.1) }
+    ensures err { OnErr result (now.new.number ≤ now.old.number + length rest.now) }
+{
+    if !line.is_empty() {
+        return take_some(now, alloc, line, rest);
+    }
+    match now.take_own_lines(rest) {
+        Ok(0) => take_some(now, alloc, line, rest),
+        Ok(count) => Ok((None, count)),
+        Err(error) => Err(error),
+    }
+}
+
 /// Goes on over a piece of the trace.
 fn take_piece(
     now: &mut Comparison,
@@ -352,7 +450,7 @@ fn take_piece(
 {
     let mut done = 0;
     while done < piece.len() {
-        match take_some(now, alloc, line, rest_of(piece, done)) {
+        match take_more(now, alloc, line, rest_of(piece, done)) {
             Ok((None, count)) => done += count,
             Ok((Some(verdict), _)) => return Ok(Some(verdict)),
             Err(error) => return Err(error),

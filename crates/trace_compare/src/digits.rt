@@ -84,6 +84,14 @@ impl Digits {
         self.count
     }
 
+    /// They themselves.
+    #[inline(always)]
+    pub fn as_slice(&self) -> &[u8]
+        ensures { result.now ≡ decimal self.now }
+    {
+        &self.block[MOST_DIGITS - self.count..]
+    }
+
     /// Their block, which ends with them.
     #[inline(always)]
     pub fn block(&self) -> [u8; MOST_DIGITS]

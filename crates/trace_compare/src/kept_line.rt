@@ -1,4 +1,4 @@
-ghost use Rattle.std.specs.Prelude.{◌≡◌, ◌+◌, ◌<◌, ◌^◌, ℕ, true};
+ghost use Rattle.std.specs.Prelude.{◌≡◌, ◌+◌, ◌<◌, ◌≤◌, ◌^◌, ℕ, length, true};
 ghost use Rattle.thread_machine.specs.declared.choice.Choice.{Choice};
 ghost use Rattle.thread_machine.specs.Idle.{idle_event};
 ghost use Rattle.trace_compare.specs.Playing.{IsBehindNumber, text_of};
@@ -77,7 +77,8 @@ impl KeptLine {
 
     /// The line.
     pub fn as_slice(&self) -> &[u8]
-        ensures { result.now ≡ text_of self.now }
+        ensures text { result.now ≡ text_of self.now }
+        ensures few { length result.now ≤ 120 }
     {
         self.text.as_slice()
     }

@@ -16,6 +16,7 @@ mod kept_line;
 mod law;
 pub mod line;
 mod line_end;
+mod next_choice;
 mod pieces;
 mod play;
 pub mod run;

@@ -1,10 +1,10 @@
-ghost use Rattle.std.specs.Prelude.{◌≡◌, ◌≢◌, ◌+◌, ◌<◌, ◌≤◌, ◌∷◌, length, [], Some, None, replicate, IsTrue, true, IfOk, OnOk};
+ghost use Rattle.std.specs.Prelude.{◌≡◌, ◌≢◌, ◌+◌, ◌<◌, ◌≤◌, ◌∷◌, length, [], Some, None, Ok, false, replicate, IsTrue, true, IfOk, OnOk};
 ghost use Rattle.std.specs.Io.KnownBytes.{Appends};
 ghost use Rattle.thread_machine.specs.Idle.{idle_times};
 ghost use Rattle.thread_machine.specs.World.{world_of};
 ghost use Rattle.schedule_reader.specs.Schedule.{choices_of};
 ghost use Rattle.trace_compare.specs.Lines.{event_text, refusal_text};
-ghost use Rattle.trace_compare.specs.Playing.{idle_lines};
+ghost use Rattle.trace_compare.specs.Playing.{idle_lines, text_of};
 ghost use Rattle.trace_compare.specs.Trace.{AppendsPartOf, Plays, lines_of};
 
 use crate::kept_line::KeptLine;
@@ -146,6 +146,29 @@ pub fn line_of_choice(
             put_refusal(line, step, choice, Some(pc));
             Ok(false)
         }
+    }
+}
+
+/// Plays one choice of a thread that is there, and makes its line where it is accepted; whether it was.
+#[inline(always)]
+pub fn kept_line_of_choice(
+    machine: &mut Machine,
+    choice: Choice,
+    line: &mut KeptLine,
+) -> Result<bool, AllocError>
+    requires there { choice.thread < length machine.old.scene.threads }
+    ensures played { result ≡ Ok true
+        → Plays (world_of machine.old) (world_of machine.new) (choice ∷ []) true (Some []) (Some (text_of line.new)) }
+    ensures refused { result ≡ Ok false → machine.new ≡ machine.old }
+{
+    let pc = machine.pc(choice.thread);
+    match machine.step(choice) {
+        Ok(event) => {
+            line.put(machine.choices(), choice, pc, &event);
+            Ok(true)
+        }
+        Err(StepFault::Memory) => Err(AllocError),
+        Err(_) => Ok(false),
     }
 }
 

@@ -17,5 +17,5 @@ loop-done-preserved g c =
       behind,
       idle_lines-next loop.done c.args.before c.args.choice c.args.pc c.count_up.new.self _ _ _ step behind loop.invariant.3
           (subst (λ text. Appends (g.W.Sink.written loop.output) (g.W.Sink.written c.push_line.new.output) text)
-          c.as_slice.ensures c.in-Ok.ensures.line),
+          c.as_slice.ensures.text c.in-Ok.ensures.line),
     )

@@ -1,0 +1,284 @@
+-- The run's own line at the beginning of bytes of a trace, and another line there that names the same choice.
+use Rattle.std.proofs.Common.{◌≡◌, ◌≢◌, ◌∙◌, ◌+◌, ◌<◌, ◌≤◌, ◌==◌, ◌-◌, ◌*◌, ◌/◌, ◌%◌, ◌&&◌, ℕ, Bool, true, false, zero, suc, List, [], ◌∷◌, ◌++◌, length, drop, take, cond, Option, Some, None, is_none, refl, ap, sym, subst, arith, append_assoc, append-nil, length-append, take-append-drop, inl, inr, decimal, codes, get_or}
+use Rattle.std.specs.Prelude.{Err, IfOk, IfSome, Ok, Result, if◌then◌else◌}
+use Rattle.std.specs.Fmt.{digits, digits_onto, digit_glyph}
+use Rattle.std.specs.Char.{is_ascii_digit}
+use Rattle.std.specs.List.{position_or_len, slice_split}
+use Rattle.std.specs.Str.{bytes_eq}
+use Rattle.std.proofs.lemmas.Bool.{cases_lt, eq-eqb, eqb-true, false_from_ne_true}
+use Rattle.std.proofs.lemmas.Bool.Decides.{nat_tests}
+use Rattle.std.proofs.lemmas.Fmt.{decimal_digit}
+use Rattle.std.proofs.lemmas.List.{length-take-le, take-append-le}
+use Rattle.std.proofs.lemmas.List.Splits.{slice_split_at, slice_split_none}
+use Rattle.std.proofs.lemmas.List.Sums.{fails_before_first}
+use Rattle.std.proofs.lemmas.Slice.Eq.{bytes_eq-Decides}
+use Rattle.line_reader.specs.Words.{is_line_end}
+use Rattle.thread_machine.specs.declared.choice.Choice.{Choice}
+use Rattle.thread_machine.specs.World.{World, world_of}
+use Rattle.thread_machine.specs.Execution.{execution}
+use Rattle.trace_compare.specs.declared.compare.Comparison.{Comparison}
+use Rattle.trace_compare.specs.declared.compare.Verdict.{Verdict}
+use Rattle.trace_compare.specs.declared.compare.Verdict.TheVariants as verdict
+use Rattle.trace_compare.specs.Compare.{choice_in, choice_verdict, is_state_line, is_too_long, lines_verdict}
+use Rattle.trace_compare.specs.Comparing.{BeginsAsLine, BeginsWithName, bytes_left, lines_left}
+use Rattle.trace_compare.specs.Lines.{choice_text}
+use Rattle.trace_compare.specs.Playing.{NumberedLine, text_of}
+use Rattle.trace_compare.specs.Trace.{Plays, lines_of}
+use Rattle.trace_compare.proofs.LineEnds.{two_digits}
+use Rattle.trace_compare.proofs.Naming.{choice-part, line_names, line-no_state}
+use Rattle.trace_compare.proofs.OwnTrace.{choice-same, own-line}
+use Rattle.trace_compare.proofs.PieceLines.{line-and_rest, line-with_lf, none-before}
+use Rattle.trace_compare.proofs.Verdicts.{left-lines, line_and_more, lines-choice, long_line}
+use Rattle.trace_compare.proofs.WholeLines.{no_end}
+
+-- the bytes begin with the run's line of the choice
+pub met : (before after : Comparison) (choice : Choice) (text bytes more : List ℕ)
+    → before.is_state ≡ false → before.accepted ≡ true → after.is_state ≡ false → after.accepted ≡ true
+    → after.number ≡ before.number + 1 → (world_of before.machine).choices ≤ 1000000000000 → choice.thread ≤ 63
+    → Plays (world_of before.machine) (world_of after.machine) (choice ∷ []) true (Some []) (Some text)
+    → take (length text) bytes ≡ text
+    → bytes_left before [] (bytes ++ more) ≡ bytes_left after [] (drop (length text) bytes ++ more)
+met before after choice text bytes more state accepted still more_accepted next few there p same =
+    let world = world_of before.machine in
+    let rest = drop (length text) bytes ++ more in
+    let own = own-line world choice few there in
+    let whole : bytes ++ more ≡ lines_of world (choice ∷ []) ++ rest =
+    ap (λ bs. bs ++ more)
+    (sym (take-append-drop (length text) bytes) ∙ ap (λ t. t ++ drop (length text) bytes) (same ∙ p.lines))
+    ∙ append_assoc (lines_of world (choice ∷ [])) (drop (length text) bytes) more in
+    left-lines before (slice_split is_line_end (bytes ++ more)) state
+    ∙ ap (λ a. lines_verdict a world before.number (slice_split is_line_end (bytes ++ more))) accepted
+    ∙ ap (λ bs. lines_verdict true world before.number (slice_split is_line_end bs)) whole
+    ∙ choice-same world choice rest before.number own
+    ∙ ap (λ refusal. lines_verdict (is_none refusal) (execution world (choice ∷ [])).world (before.number + 1) (slice_split is_line_end rest))
+    (p.answer.0 refl)
+    ∙ ap (λ w. lines_verdict true w (before.number + 1) (slice_split is_line_end rest)) (sym p.world)
+    ∙ ap (λ n. lines_verdict true (world_of after.machine) n (slice_split is_line_end rest)) (sym next)
+    ∙ ap (λ a. lines_verdict a (world_of after.machine) after.number (slice_split is_line_end rest)) (sym more_accepted)
+    ∙ sym (left-lines after (slice_split is_line_end rest) still)
+
+-- a line that is the first of the bytes and has an LF in them stands at their beginning
+first_of : (bytes more line : List ℕ) (lines : List (List ℕ)) → slice_split is_line_end (bytes ++ more) ≡ line ∷ lines
+    → length line + 1 ≤ length bytes → take (length line + 1) bytes ≡ line ++ (10 ∷ [])
+first_of bytes more line lines is few =
+    let all = bytes ++ more in
+    let end = position_or_len is_line_end all in
+    let size = length-append bytes more in
+    elim (cases_lt end (length all)) as (λ _. take (length line + 1) bytes ≡ line ++ (10 ∷ [])) [
+      | inl there ↦
+          let split : slice_split is_line_end all ≡ take end all ∷ slice_split is_line_end (drop (end + 1) all ++ []) =
+          ap (slice_split is_line_end) (sym (append-nil all) ∙ line-and_rest all [] end refl there)
+          ∙ slice_split_at is_line_end (take end all) 10 (drop (end + 1) all ++ []) (none-before all end refl there) refl in
+          let first : line ≡ take end all = cons_head _ _ _ _ (sym is ∙ split) in
+          let count : length line ≡ end = ap length first ∙ length-take-le end all (omega (arith, there)) in
+          sym (take-append-le (length line + 1) bytes more few)
+          ∙ ap (λ n. take (n + 1) all) count
+          ∙ line-with_lf all end refl there
+          ∙ ap (λ l. l ++ (10 ∷ [])) (sym first)
+      | inr none ↦
+          let whole : slice_split is_line_end all ≡ all ∷ [] =
+          slice_split_none is_line_end all (λ k d within. fails_before_first is_line_end all k d (omega (arith, within, none))) in
+          let first : line ≡ all = cons_head _ _ _ _ (sym is ∙ whole) in
+          absurd (omega (arith, few, ap length first, size))
+    ]
+  where
+    cons_head : (x y : List ℕ) (xs ys : List (List ℕ)) → x ∷ xs ≡ y ∷ ys → x ≡ y
+    cons_head x y xs ys same = let head : x ≡ y = cc in head
+
+-- it isn't the run's, where the bytes don't begin with that
+other_line : (bytes more line text : List ℕ) (lines : List (List ℕ)) → slice_split is_line_end (bytes ++ more) ≡ line ∷ lines
+    → length text ≤ length bytes → (take (length text) bytes ≡ text → ⊥) → bytes_eq (line ++ (10 ∷ [])) text ≡ false
+other_line bytes more line text lines is few other =
+    false_from_ne_true _ (λ same.
+    let text_is : line ++ (10 ∷ []) ≡ text = (bytes_eq-Decides (line ++ (10 ∷ [])) text).0 same in
+    let count : length line + 1 ≡ length text = sym (length-append line (10 ∷ [])) ∙ ap length text_is in
+    other (ap (λ n. take n bytes) (sym count) ∙ first_of bytes more line lines is (omega (arith, count, few)) ∙ text_is))
+
+-- a line that names a choice and isn't the run's
+named_otherwise : (accepted : Bool) (world : World) (n : ℕ) (line : List ℕ) (lines : List (List ℕ)) (choice : Choice) (long : Bool)
+    → is_too_long line ≡ long → is_state_line line ≡ false → choice_in line ≡ Some choice
+    → (accepted && bytes_eq (line ++ (10 ∷ [])) (lines_of world (choice ∷ []))) ≡ false
+    → lines_verdict accepted world n (line ∷ lines) ≡ cond long (verdict.NotATrace n) (verdict.Differs n)
+named_otherwise accepted world n line lines choice true long state named other = long_line accepted world n line lines long
+named_otherwise accepted world n line lines choice false long state named other =
+    let rest = λ (a : Bool) (after : World). lines_verdict a after (n + 1) lines in
+    lines-choice accepted world n line lines _ _ refl refl long state
+    ∙ ap (λ c. choice_verdict c accepted world n line rest) named
+    ∙ ap (λ b. cond b (rest (is_none (execution world (choice ∷ [])).refusal) (execution world (choice ∷ [])).world) (verdict.Differs n)) other
+
+-- the bytes begin with a line of the choice that isn't the run's
+pub missed : (before after : Comparison) (choice : Choice) (text bytes more : List ℕ)
+    → before.is_state ≡ false → before.accepted ≡ true → after.is_state ≡ false → after.accepted ≡ false
+    → after.number ≡ before.number → (world_of before.machine).choices ≤ 1000000000000
+    → BeginsAsLine bytes ((world_of before.machine).choices + 1) choice
+    → lines_of (world_of before.machine) (choice ∷ []) ≡ text
+    → length text ≤ length bytes → (take (length text) bytes ≡ text → ⊥)
+    → bytes_left before [] (bytes ++ more) ≡ bytes_left after [] (bytes ++ more)
+missed before after choice text bytes more state accepted still none same few (there, (rest, begins)) is size other =
+    let world = world_of before.machine in
+    let step = world.choices + 1 in
+    let name = choice_text step choice in
+    let all : bytes ++ more ≡ name ++ (rest ++ more) = ap (λ bs. bs ++ more) begins ∙ append_assoc name rest more in
+    let (h, (lines, split)) = line_and_more name (rest ++ more) (no_end name (choice-part step choice).within) in
+    let line = name ++ h in
+    let split_is : slice_split is_line_end (bytes ++ more) ≡ line ∷ lines = ap (slice_split is_line_end) all ∙ split in
+    let no_state = line-no_state step choice h in
+    let named = line_names step choice h (omega (arith, few)) there in
+    let differs : (before.accepted && bytes_eq (line ++ (10 ∷ [])) (lines_of world (choice ∷ []))) ≡ false =
+    ap (λ a. a && bytes_eq (line ++ (10 ∷ [])) (lines_of world (choice ∷ []))) accepted
+    ∙ ap (bytes_eq (line ++ (10 ∷ []))) is ∙ other_line bytes more line text lines split_is size other in
+    let refused : (after.accepted && bytes_eq (line ++ (10 ∷ [])) (lines_of (world_of after.machine) (choice ∷ []))) ≡ false =
+    ap (λ a. a && bytes_eq (line ++ (10 ∷ [])) (lines_of (world_of after.machine) (choice ∷ []))) none in
+    ap (lines_left before) split_is
+    ∙ left-lines before (line ∷ lines) state
+    ∙ named_otherwise before.accepted world before.number line lines choice (is_too_long line) refl no_state named differs
+    ∙ ap (λ n. cond (is_too_long line) (verdict.NotATrace n) (verdict.Differs n)) (sym same)
+    ∙ sym (named_otherwise after.accepted (world_of after.machine) after.number line lines choice (is_too_long line) refl no_state named refused)
+    ∙ sym (left-lines after (line ∷ lines) still)
+    ∙ sym (ap (lines_left after) split_is)
+
+-- what a test of four or five bytes finds
+letter_is : (expiry : Bool) (letter : ℕ) (text : List ℕ) → cond expiry 120 116 ≡ letter
+    → 32 ∷ letter ∷ text ≡ (if expiry then codes " x" else codes " t") ++ text
+letter_is true letter text is = ap (λ l. 32 ∷ l ∷ text) (sym is)
+letter_is false letter text is = ap (λ l. 32 ∷ l ∷ text) (sym is)
+
+name_is : (choice : Choice) (letter : ℕ) (digits rest bytes : List ℕ) → cond choice.expiry 120 116 ≡ letter
+    → decimal choice.thread ≡ digits → choice.thread ≤ 63 → bytes ≡ 32 ∷ letter ∷ (digits ++ (32 ∷ rest))
+    → BeginsWithName bytes choice
+name_is choice letter digits rest bytes letter_of spelt few is =
+    let word = if choice.expiry then codes " x" else codes " t" in (
+      few,
+      (
+        rest,
+        is ∙ letter_is choice.expiry letter (digits ++ (32 ∷ rest)) letter_of
+            ∙ ap (λ ds. word ++ (ds ++ (32 ∷ rest))) (sym spelt)
+            ∙ ap (λ t. word ++ t) (sym (append_assoc (decimal choice.thread) (32 ∷ []) rest))
+            ∙ sym (append_assoc word (decimal choice.thread ++ (32 ∷ [])) rest),
+      ),
+    )
+
+digit_under : (b : ℕ) → is_ascii_digit b ≡ true → b - 48 < 10
+digit_under b digit = grind (arith, nat_tests)
+
+digit_from : (b : ℕ) → is_ascii_digit b ≡ true → 48 + (b - 48) ≡ b
+digit_from b digit = grind (arith, nat_tests)
+
+pub named_by_one : (bytes : List ℕ) (expiry : Bool) → 5 ≤ length bytes → get_or bytes 0 0 ≡ 32
+    → cond expiry 120 116 ≡ get_or bytes 1 0 → is_ascii_digit (get_or bytes 2 0) ≡ true → get_or bytes 3 0 ≡ 32
+    → BeginsWithName bytes (record { thread = get_or bytes 2 0 - 48; expiry = expiry })
+named_by_one [] expiry long space letter digit after = absurd (omega arith)
+named_by_one (a ∷ []) expiry long space letter digit after = absurd (omega arith)
+named_by_one (a ∷ b ∷ []) expiry long space letter digit after = absurd (omega arith)
+named_by_one (a ∷ b ∷ c ∷ []) expiry long space letter digit after = absurd (omega arith)
+named_by_one (a ∷ b ∷ c ∷ d ∷ rest) expiry long space letter digit after =
+    let small = digit_under c digit in
+    name_is (record { thread = c - 48; expiry = expiry }) b (c ∷ []) rest (a ∷ b ∷ c ∷ d ∷ rest) letter
+    (decimal_digit (c - 48) small ∙ ap (λ n. n ∷ []) (digit_from c digit)) (omega (arith, small))
+    (ap (λ n. n ∷ b ∷ c ∷ d ∷ rest) space ∙ ap (λ n. 32 ∷ b ∷ c ∷ n ∷ rest) after)
+
+pub named_by_two : (bytes : List ℕ) (expiry : Bool) → 5 ≤ length bytes → get_or bytes 0 0 ≡ 32
+    → cond expiry 120 116 ≡ get_or bytes 1 0 → is_ascii_digit (get_or bytes 2 0) ≡ true → get_or bytes 2 0 - 48 ≢ 0
+    → is_ascii_digit (get_or bytes 3 0) ≡ true → get_or bytes 4 0 ≡ 32
+    → (get_or bytes 2 0 - 48) * 10 + (get_or bytes 3 0 - 48) ≤ 63
+    → BeginsWithName bytes (record { thread = (get_or bytes 2 0 - 48) * 10 + (get_or bytes 3 0 - 48); expiry = expiry })
+named_by_two [] expiry long space letter ten some digit after few = absurd (omega arith)
+named_by_two (a ∷ []) expiry long space letter ten some digit after few = absurd (omega arith)
+named_by_two (a ∷ b ∷ []) expiry long space letter ten some digit after few = absurd (omega arith)
+named_by_two (a ∷ b ∷ c ∷ []) expiry long space letter ten some digit after few = absurd (omega arith)
+named_by_two (a ∷ b ∷ c ∷ d ∷ []) expiry long space letter ten some digit after few = absurd (omega arith)
+named_by_two (a ∷ b ∷ c ∷ d ∷ e ∷ rest) expiry long space letter ten some digit after few =
+    let thread = (c - 48) * 10 + (d - 48) in
+    let small = digit_under d digit in
+    let first : 48 + thread / 10 ≡ c = omega (arith, digit_from c ten, small) in
+    let last : 48 + thread % 10 ≡ d = omega (arith, digit_from d digit, small) in
+    name_is (record { thread = thread; expiry = expiry }) b (c ∷ d ∷ []) rest (a ∷ b ∷ c ∷ d ∷ e ∷ rest) letter
+    (two_digits thread (omega (arith, some)) (omega (arith, few)) ∙ ap (λ n. n ∷ (48 + thread % 10) ∷ []) first ∙ ap (λ n. c ∷ n ∷ []) last) few
+    (ap (λ n. n ∷ b ∷ c ∷ d ∷ e ∷ rest) space ∙ ap (λ n. 32 ∷ b ∷ c ∷ d ∷ n ∷ rest) after)
+
+-- behind a number's digits
+pub behind_digits : (bytes digits : List ℕ) (step : ℕ) (choice : Choice) → digits ≡ decimal step → take (length digits) bytes ≡ digits
+    → BeginsWithName (drop (length digits) bytes) choice → BeginsAsLine bytes step choice
+behind_digits bytes digits step choice is same (there, (rest, begins)) =
+    let name = (if choice.expiry then codes " x" else codes " t") ++ (decimal choice.thread ++ codes " ") in (
+      there,
+      (
+        rest,
+        sym (take-append-drop (length digits) bytes)
+            ∙ ap (λ t. t ++ drop (length digits) bytes) (same ∙ is)
+            ∙ ap (λ t. decimal step ++ t) begins
+            ∙ sym (append_assoc (decimal step) name rest),
+      ),
+    )
+
+-- a choice that was found behind them
+pub choice-behind : (found : Option Choice) (bytes digits : List ℕ) (step : ℕ) → digits ≡ decimal step → take (length digits) bytes ≡ digits
+    → IfSome found (λ choice. BeginsWithName (drop (length digits) bytes) choice)
+    → IfSome found (λ choice. BeginsAsLine bytes step choice)
+choice-behind (Some choice) bytes digits step is same p = behind_digits bytes digits step choice is same p
+choice-behind None bytes digits step is same p = p
+
+-- the letter of an expiry, and of a turn
+pub letter_x : (letter : ℕ) → letter ≡ 120 → cond (letter == 120) 120 116 ≡ letter
+letter_x letter is = ap (λ b. cond b 120 116) (eq-eqb letter 120 is) ∙ sym is
+
+pub letter_t : (letter : ℕ) → letter ≡ 116 → cond (letter == 120) 120 116 ≡ letter
+letter_t letter is = ap (λ l. cond (l == 120) 120 116) is ∙ sym is
+
+-- each number has a digit
+some_by : (last : Bool) (xs ys : List ℕ) → 0 < length xs → 0 < length ys → 0 < length (cond last xs ys)
+some_by true xs ys p q = p
+some_by false xs ys p q = q
+
+digits-some : (k n : ℕ) (acc : List ℕ) → 0 < length acc → 0 < length (digits_onto k 10 false n acc)
+digits-some zero n acc some = some
+digits-some (suc k) n acc some =
+    let glyph : ℕ = digit_glyph false (n % 10) in
+    some_by (n / 10 == 0) (glyph ∷ acc) _ (omega arith) (digits-some k (n / 10) (glyph ∷ acc) (omega arith))
+
+decimal-some : (n : ℕ) → 0 < length (decimal n)
+unfolding digits
+decimal-some n =
+    let glyph : ℕ = digit_glyph false (n % 10) in
+    some_by (n / 10 == 0) (glyph ∷ []) (digits_onto 63 10 false (n / 10) (glyph ∷ [])) (omega arith) (digits-some 63 (n / 10) (glyph ∷ []) (omega arith))
+
+-- no line is empty
+pub no_empty_line : (line : NumberedLine) → length (text_of line) ≡ 0 → ⊥
+no_empty_line line none = omega (arith, none, length-append (decimal line.step) line.behind, decimal-some line.step)
+
+-- a choice was played for the bytes, and its line was met or not
+pub own-by : (before played after : Comparison) (choice : Choice) (bytes more : List ℕ) (count : ℕ)
+    → before.is_state ≡ false → before.accepted ≡ true → (world_of before.machine).choices ≤ 1000000000000
+    → BeginsAsLine bytes ((world_of before.machine).choices + 1) choice
+    → Plays (world_of before.machine) (world_of played.machine) (choice ∷ []) true (Some []) (Some (text_of played.kept))
+    → played.is_state ≡ before.is_state → played.accepted ≡ before.accepted → played.number ≡ before.number
+    → (count ≢ 0 → (take (length (text_of played.kept)) bytes ≡ text_of played.kept) × (count ≡ length (text_of played.kept))
+    × (after ≡ record played { number = played.number + 1 }))
+    → (count ≡ 0 → (take (length (text_of played.kept)) bytes ≢ text_of played.kept) × (after ≡ record played { accepted = false }))
+    → length (text_of played.kept) ≤ length bytes
+    → bytes_left before [] (bytes ++ more) ≡ bytes_left after [] (drop count bytes ++ more)
+own-by before played after choice bytes more zero state accepted few begins p same_state same_accepted same_number was wasnt size =
+    let (other, after_is) = wasnt refl in
+    missed before after choice (text_of played.kept) bytes more state accepted
+    (ap (λ (c : Comparison). c.is_state) after_is ∙ same_state ∙ state) (ap (λ (c : Comparison). c.accepted) after_is)
+    (ap (λ (c : Comparison). c.number) after_is ∙ same_number) few begins (sym p.lines) size other
+own-by before played after choice bytes more (suc n) state accepted few begins p same_state same_accepted same_number was wasnt size =
+    let (same, count_is, after_is) = was (λ none. cc) in
+    met before after choice (text_of played.kept) bytes more state accepted
+    (ap (λ (c : Comparison). c.is_state) after_is ∙ same_state ∙ state)
+    (ap (λ (c : Comparison). c.accepted) after_is ∙ same_accepted ∙ accepted)
+    (ap (λ (c : Comparison). c.number) after_is ∙ ap (λ k. k + 1) same_number) few begins.0
+    (subst (λ (c : Comparison). Plays (world_of before.machine) (world_of c.machine) (choice ∷ []) true (Some []) (Some (text_of played.kept)))
+    (sym after_is) p) same
+    ∙ ap (λ k. bytes_left after [] (drop k bytes ++ more)) (sym count_is)
+
+-- a line of which nothing has come
+pub nothing_yet : (line : List ℕ) (empty : Bool) → empty ≡ (length line == 0) → empty ≡ true → line ≡ []
+nothing_yet [] empty is so = refl
+nothing_yet (x ∷ line) empty is so = absurd (omega (arith, eqb-true (length (x ∷ line)) 0 (sym is ∙ so)))
+
+-- what the bytes that are left make of it, after what was the same before
+pub prepended : {T E : Type 0} (result : Result T E) (first second : Verdict) (last : T → Verdict) → first ≡ second
+    → IfOk result (λ taken. second ≡ last taken) → IfOk result (λ taken. first ≡ last taken)
+prepended (Ok taken) first second last same p = same ∙ p
+prepended (Err error) first second last same p = p

@@ -1,0 +1,12 @@
+use Rattle.std.proofs.Common.{◌∙◌}
+use Rattle.thread_machine.specs.World.{world_of}
+use Rattle.trace_compare.proofs.Plays.{Plays-played, refusal_of-accepted}
+use Rattle.trace_compare.proofs.play.kept_line_of_choice.Goals as goal
+
+pub returns-in-Ok-clause-played : goal.returns-in-Ok-clause-played
+returns-in-Ok-clause-played c = λ _.
+    let accepted = refusal_of-accepted c.in-Ok.event (world_of c.args.machine.now) c.args.choice
+    c.in-Ok.ensures.no_thread c.in-Ok.ensures.limit in
+    Plays-played _ _ _ c.in-Ok.event _ _ _ _ accepted
+    c.in-Ok.ensures.played (c.put.ensures.step ∙ c.choices.ensures.choices) c.pc-pc.ensures.row
+    (c.put.ensures.behind c.put.new.self.step)
