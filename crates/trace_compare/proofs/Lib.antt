@@ -10,7 +10,7 @@ pub mod WholeLines
 pub mod Naming
 pub mod StateLines
 pub mod OwnLines
-mod OwnTrace
+pub mod OwnTrace
 pub mod PieceLines
 pub mod NamedThreads
 pub mod StoredOtherwise
