@@ -29,8 +29,15 @@ def told(words):
     return {"told": first} | {label: text for label, text in (re.fullmatch(r"  (\w+): +(.*)", line).groups() for line in lines)}
 
 
+def cells(line):
+    """The cells of a line; a number and a name that share the first one count as two."""
+    first, *others = [cell.strip() for cell in line.strip("|").split("|")]
+    both = re.fullmatch(r"(\d+) ([`A-Z].*)", first)
+    return [*(both.groups() if both else [first]), *others]
+
+
 def rows(table):
-    return [[cell.strip() for cell in line.strip("|").split("|")] for line in table.split("\n") if line.startswith("|")]
+    return [cells(line) for line in table.split("\n") if line.startswith("|")]
 
 
 def named(document, heading, group, skip=("Memory",)):

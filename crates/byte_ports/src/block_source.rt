@@ -87,6 +87,12 @@ impl<S: Source + Drop> BlockSource<S> {
     {
         let held = self.held();
         let count = buffer.len().min(held.len());
+        // A dialogue is read a byte at a time. Where this is inlined, that is a load and a store.
+        if count == 1 {
+            buffer[0] = held[0];
+            self.next += 1;
+            return 1;
+        }
         buffer[..count].copy_from_slice(&held[..count]);
         self.next += count;
         count

@@ -176,10 +176,10 @@ fn number_given(
 }
 
 /// The run that these matches ask for, where it may end as it is expected to.
-fn run<'a>(matches: &ArgMatches<'a>) -> Result<Request<'a>, WrongOption>
+fn run<'a>(matches: &ArgMatches<'a>) -> Result<Request<'a>, Refusal>
     ensures range { IfOk result (λ request. IsInRange request) }
     ensures asked { IfOk result (IsAskedBy (codes "run") (rows_of (found_of matches.now))) }
-    ensures wrong { IfErr result (λ option. IsWrong option (codes "run") (rows_of (found_of matches.now))) }
+    ensures refused { IfErr result (λ why. IsRefusedBy why (codes "run") (rows_of (found_of matches.now))) }
 {
     let expected = expected(matches)?;
     Ok(Request::Run {
@@ -190,10 +190,10 @@ fn run<'a>(matches: &ArgMatches<'a>) -> Result<Request<'a>, WrongOption>
 }
 
 /// The drawing that these matches ask for, where its width is in range.
-fn draw<'a>(matches: &ArgMatches<'a>) -> Result<Request<'a>, WrongOption>
+fn draw<'a>(matches: &ArgMatches<'a>) -> Result<Request<'a>, Refusal>
     ensures range { IfOk result (λ request. IsInRange request) }
     ensures asked { IfOk result (IsAskedBy (codes "draw") (rows_of (found_of matches.now))) }
-    ensures wrong { IfErr result (λ option. IsWrong option (codes "draw") (rows_of (found_of matches.now))) }
+    ensures refused { IfErr result (λ why. IsRefusedBy why (codes "draw") (rows_of (found_of matches.now))) }
 {
     match number(word(matches, WIDTH), 60, 1000) {
         Some(width) => Ok(Request::Draw {
@@ -201,18 +201,18 @@ fn draw<'a>(matches: &ArgMatches<'a>) -> Result<Request<'a>, WrongOption>
             schedule: given(matches, SCHEDULE),
             width: width as u16,
         }),
-        None => Err(WrongOption::Width),
+        None => Err(Refusal::Wrong(WrongOption::Width)),
     }
 }
 
 /// The live run that these matches ask for, where its numbers are in range, and it may end as it is expected to.
-fn live<'a>(matches: &ArgMatches<'a>) -> Result<Request<'a>, WrongOption>
+fn live<'a>(matches: &ArgMatches<'a>) -> Result<Request<'a>, Refusal>
     ensures range { IfOk result (λ request. IsInRange request) }
     ensures asked { IfOk result (IsAskedBy (codes "live") (rows_of (found_of matches.now))) }
-    ensures wrong { IfErr result (λ option. IsWrong option (codes "live") (rows_of (found_of matches.now))) }
+    ensures refused { IfErr result (λ why. IsRefusedBy why (codes "live") (rows_of (found_of matches.now))) }
 {
     let Some(limit) = number(word(matches, LIMIT), 1, 1_000_000_000) else {
-        return Err(WrongOption::Limit);
+        return Err(Refusal::Wrong(WrongOption::Limit));
     };
     let seed = number_given(matches, STIR, 0, 4_294_967_295, WrongOption::Stir)?;
     let runs = number_given(matches, RUNS, 1, 100_000, WrongOption::Runs)?;
@@ -227,21 +227,92 @@ fn live<'a>(matches: &ArgMatches<'a>) -> Result<Request<'a>, WrongOption>
 }
 
 /// The race that these matches ask for, where both numbers are in range.
-fn race<'a>(matches: &ArgMatches<'a>) -> Result<Request<'a>, WrongOption>
+fn race<'a>(matches: &ArgMatches<'a>) -> Result<Request<'a>, Refusal>
     ensures range { IfOk result (λ request. IsInRange request) }
     ensures asked { IfOk result (IsAskedBy (codes "race") (rows_of (found_of matches.now))) }
-    ensures wrong { IfErr result (λ option. IsWrong option (codes "race") (rows_of (found_of matches.now))) }
+    ensures refused { IfErr result (λ why. IsRefusedBy why (codes "race") (rows_of (found_of matches.now))) }
 {
     let Some(parties) = number(word(matches, PARTIES), 1, 16) else {
-        return Err(WrongOption::Parties);
+        return Err(Refusal::Wrong(WrongOption::Parties));
     };
     match number(word(matches, ROUNDS), 1, 1_000_000) {
         Some(rounds) => Ok(Request::Race {
             parties: parties as u16,
             rounds,
         }),
-        None => Err(WrongOption::Rounds),
+        None => Err(Refusal::Wrong(WrongOption::Rounds)),
     }
+}
+
+/// The image that these matches ask for.
+fn asm<'a>(matches: &ArgMatches<'a>) -> Request<'a>
+    ensures { IsInRange result × IsAskedBy (codes "asm") (rows_of (found_of matches.now)) result }
+{
+    Request::Asm {
+        source: word(matches, SRC),
+        image: word(matches, OUT),
+    }
+}
+
+/// The listing that these matches ask for.
+fn list<'a>(matches: &ArgMatches<'a>) -> Request<'a>
+    ensures { IsInRange result × IsAskedBy (codes "list") (rows_of (found_of matches.now)) result }
+{
+    Request::List {
+        file: word(matches, FILE),
+        has_rows: is_set(matches, ROWS),
+    }
+}
+
+/// The comparison that these matches ask for.
+fn compare<'a>(matches: &ArgMatches<'a>) -> Request<'a>
+    ensures { IsInRange result × IsAskedBy (codes "compare") (rows_of (found_of matches.now)) result }
+{
+    Request::Compare {
+        file: word(matches, FILE),
+        trace: word(matches, TRACE),
+        is_shown: is_set(matches, SHOW),
+    }
+}
+
+/// The session that these matches ask for.
+fn debug<'a>(matches: &ArgMatches<'a>) -> Request<'a>
+    ensures { IsInRange result × IsAskedBy (codes "debug") (rows_of (found_of matches.now)) result }
+{
+    Request::Debug {
+        file: word(matches, FILE),
+        trace: given(matches, AT),
+    }
+}
+
+/// The page that these matches ask for.
+fn show<'a>(matches: &ArgMatches<'a>) -> Request<'a>
+    ensures { IsInRange result × IsAskedBy (codes "show") (rows_of (found_of matches.now)) result }
+{
+    Request::Show {
+        file: word(matches, FILE),
+        schedule: given(matches, SCHEDULE),
+    }
+}
+
+/// The schedule that these matches ask for.
+fn choices<'a>(matches: &ArgMatches<'a>) -> Request<'a>
+    ensures { IsInRange result × IsAskedBy (codes "choices") (rows_of (found_of matches.now)) result }
+{
+    Request::Choices {
+        trace: word(matches, TRACE),
+    }
+}
+
+/// The words that these matches ask about, where there is memory for them.
+fn explain<'a>(alloc: Global, matches: &ArgMatches<'a>) -> Result<Request<'a>, Refusal>
+    ensures range { IfOk result (λ request. IsInRange request) }
+    ensures asked { IfOk result (IsAskedBy (codes "explain") (rows_of (found_of matches.now))) }
+    ensures refused { IfErr result (λ why. IsRefusedBy why (codes "explain") (rows_of (found_of matches.now))) }
+{
+    Ok(Request::Explain {
+        words: several(alloc, matches, WORD)?,
+    })
 }
 
 /// What a subcommand with these matches asks for, if none of its options is wrong.
@@ -254,41 +325,20 @@ fn request_by<'a>(
     ensures asked { IfOk result (IsAskedBy name.now (rows_of (found_of matches.now))) }
     ensures refused { IfErr result (λ why. IsRefusedBy why name.now (rows_of (found_of matches.now))) }
 {
-    let request = match name {
-        ASM => Request::Asm {
-            source: word(matches, SRC),
-            image: word(matches, OUT),
-        },
-        LIST => Request::List {
-            file: word(matches, FILE),
-            has_rows: is_set(matches, ROWS),
-        },
-        RUN => run(matches)?,
-        COMPARE => Request::Compare {
-            file: word(matches, FILE),
-            trace: word(matches, TRACE),
-            is_shown: is_set(matches, SHOW),
-        },
-        DEBUG => Request::Debug {
-            file: word(matches, FILE),
-            trace: given(matches, AT),
-        },
-        SHOW => Request::Show {
-            file: word(matches, FILE),
-            schedule: given(matches, SCHEDULE),
-        },
-        DRAW => draw(matches)?,
-        LIVE => live(matches)?,
-        RACE => race(matches)?,
-        CHOICES => Request::Choices {
-            trace: word(matches, TRACE),
-        },
-        EXPLAIN => Request::Explain {
-            words: several(alloc, matches, WORD)?,
-        },
-        _ => Request::Both { expected: None },
-    };
-    Ok(request)
+    match name {
+        ASM => Ok(asm(matches)),
+        LIST => Ok(list(matches)),
+        RUN => run(matches),
+        COMPARE => Ok(compare(matches)),
+        DEBUG => Ok(debug(matches)),
+        SHOW => Ok(show(matches)),
+        DRAW => draw(matches),
+        LIVE => live(matches),
+        RACE => race(matches),
+        CHOICES => Ok(choices(matches)),
+        EXPLAIN => explain(alloc, matches),
+        _ => Ok(Request::Both { expected: None }),
+    }
 }
 
 /// What matches without a subcommand ask for, if no option is wrong.

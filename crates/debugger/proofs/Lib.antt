@@ -1,3 +1,4 @@
+pub mod Slots
 pub mod Trails
 pub mod Histories
 pub mod Moves

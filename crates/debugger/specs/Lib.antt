@@ -1,3 +1,4 @@
+pub mod Undos
 pub mod Session
 pub mod Moves
 pub mod Go

@@ -7,7 +7,7 @@ ghost use Rattle.schedule_reader.specs.Schedule.{is_blank};
 ghost use Rattle.debugger.specs.Command.{Unknown, Break, Clear, alone, by_row, go_by, goes_on, is_letter, is_row, letter_of, line_order, order_of, rest_of, row_in, runs_in, step_by, word_of};
 
 use schedule_reader::{Reader, Run, ScheduleFault};
-use std::alloc::{AllocError, Global};
+use std::alloc::AllocError;
 use thread_machine::Choice;
 
 /// What a line asks for.
@@ -130,13 +130,14 @@ fn is_refused(told: Result<(), ScheduleFault>) -> bool
     matches!(told, Err(ScheduleFault::Memory))
 }
 
-/// The runs of some tokens, if they are all faultless.
-fn runs_in(alloc: Global, rest: &[u8]) -> Result<Option<Vec<Run>>, AllocError>
+/// The runs of some tokens, if they are all faultless, in a list of which only the room is used.
+fn runs_in(room: Vec<Run>, rest: &[u8]) -> Result<Option<Vec<Run>>, AllocError>
     requires { length rest.now < 9223372036854775807 }
     ensures { IfOk result (λ runs. option_map (λ r. r.items) runs ≡ runs_in rest.now) }
 {
     let mut reader = Reader::new();
-    let mut runs = Vec::new(alloc);
+    let mut runs = room;
+    runs.clear();
     if is_refused(reader.feed(rest, &mut runs)) {
         return Err(AllocError);
     }
@@ -249,14 +250,14 @@ fn clear_of(row: Option<usize>) -> Command
     }
 }
 
-/// Reads a line.
-pub fn command_of(alloc: Global, line: &[u8]) -> Result<Command, AllocError>
+/// Reads a line, its runs into a list of which only the room is used.
+pub fn command_of(room: Vec<Run>, line: &[u8]) -> Result<Command, AllocError>
     ensures { IfOk result (λ command. order_of command ≡ line_order line.now) }
 {
     let (word, rest) = split_word(line);
     match letter_of(word) {
-        b's' => Ok(step_of(runs_in(alloc, rest)?, rest)),
-        b'g' => Ok(go_of(runs_in(alloc, rest)?)),
+        b's' => Ok(step_of(runs_in(room, rest)?, rest)),
+        b'g' => Ok(go_of(runs_in(room, rest)?)),
         b'k' => Ok(break_of(row_in(rest))),
         b'c' => Ok(clear_of(row_in(rest))),
         b'b' => Ok(alone(Command::Back, rest)),

@@ -8,8 +8,10 @@
 
 mod command;
 mod law;
+mod number_line;
 mod session;
 mod stop;
+mod undos;
 
 pub use law::{
     choices_in_a_row_extend_the_history, steps_and_as_many_back_are_nothing,

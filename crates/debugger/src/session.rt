@@ -4,10 +4,11 @@ ghost use Rattle.thread_machine.specs.Step.{played, refusal_of, puts_out};
 ghost use Rattle.debugger.specs.Session.{IsHistory, went_on, went_back};
 
 use crate::stop::NoHistory;
-use circular_buffer::HeapCircularBuffer;
+use crate::undos::Undos;
+use schedule_reader::Run;
 use std::alloc::{AllocError, Global};
 use std::marker::Model;
-use thread_machine::{Choice, Event, Machine, StepFault, Undo};
+use thread_machine::{Choice, Event, Machine, StepFault};
 
 mod go;
 mod reply;
@@ -18,8 +19,10 @@ pub use reply::CommandFault;
 #[derive(Drop)]
 pub struct Debugger {
     played: Machine,
-    undos: HeapCircularBuffer<Undo>,
+    undos: Undos,
     marks: Vec<bool>,
+    /// Room for the runs of a line, so that one `g` after another takes no memory.
+    room: Vec<Run>,
 }
 
 impl Model for Debugger {
@@ -29,26 +32,21 @@ impl Model for Debugger {
 
     ghost view = { λ debugger. record {
       machine = debugger.played;
-      past = past_of debugger.played debugger.undos.items;
-      kept = debugger.undos.capacity;
+      past = past_of debugger.played debugger.undos.notes;
+      kept = debugger.undos.most;
       breaks = debugger.marks.items;
     } };
 
-    ghost invariant = { λ debugger. IsTrail debugger.played debugger.undos.items };
+    ghost invariant = { λ debugger. IsTrail debugger.played debugger.undos.notes };
 }
 
 /// No record of a choice, with room for so many, and no breakpoint at any of the rows.
-fn nothing_yet(
-    alloc: Global,
-    kept: u16,
-    rows: usize,
-) -> Result<(HeapCircularBuffer<Undo>, Vec<bool>), AllocError>
-    requires { 0 < kept }
-    ensures none { IfOk result (λ both. both.0.items ≡ []) }
-    ensures kept { IfOk result (λ both. both.0.capacity ≡ kept) }
+fn nothing_yet(alloc: Global, kept: u16, rows: usize) -> Result<(Undos, Vec<bool>), AllocError>
+    requires { kept ≤ 4096 }
+    ensures kept { IfOk result (λ both. both.0 ≡ record { notes = []; most = kept }) }
     ensures marks { IfOk result (λ both. both.1.items ≡ replicate rows false) }
 {
-    let undos = HeapCircularBuffer::with_capacity(alloc, kept as usize)?;
+    let undos = Undos::new(alloc, kept)?;
     Ok((undos, Vec::from_elem(alloc, false, rows)?))
 }
 
@@ -70,6 +68,7 @@ impl Debugger {
             played: machine,
             undos,
             marks,
+            room: Vec::new(alloc),
         })
     }
 
@@ -95,13 +94,11 @@ impl Debugger {
         ensures memory { result ≡ Err StepFault.Memory → puts_out (world_of self.old.machine) choice ≡ true }
         ensures err { OnErr result (self.new ≡ self.old) }
     {
-        match self.played.step_noting(choice) {
-            Ok((event, undo)) => {
-                self.undos.push_front(undo);
-                Ok(event)
-            }
-            Err(fault) => Err(fault),
-        }
+        let event = match self.undos.step(&mut self.played, choice) {
+            Ok(event) => event,
+            Err(fault) => return Err(fault),
+        };
+        Ok(event)
     }
 
     /// Takes back the last choice: the machine is the one before it, word for word. The breakpoints stay.
@@ -111,9 +108,10 @@ impl Debugger {
         ensures history { OnOk result ((first : World) (choices : List Choice) → IsHistory first choices self.old
             → IsHistory first (take (length choices - 1) choices) self.new) }
     {
-        match self.undos.pop_front() {
+        match self.undos.newest() {
             Some(undo) => {
-                self.played.back(undo);
+                self.played.take_back(undo);
+                self.undos.drop_newest();
                 Ok(())
             }
             None => Err(NoHistory),

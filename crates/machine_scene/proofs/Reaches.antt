@@ -1,8 +1,9 @@
 -- What a turn may change beside its own thread is there; and phasers that it left as they were changed within it.
-use Rattle.std.proofs.Common.{◌≡◌, List}
+use Rattle.std.proofs.Common.{◌≡◌, List, refl, true}
 use Rattle.std.specs.Prelude.{Option, Some, None}
 use Rattle.instruction_table.specs.declared.row.Row.{Row}
-use Rattle.instruction_table.specs.declared.row.Row.TheVariants.{Ret, Sts, Intr, Preg, Pbulk, Parr, Pdereg, Paaa, Pforce, Cawait, Cawaitt, Creset}
+use Rattle.instruction_table.specs.declared.row.Row.TheVariants.{Ldi, Mov, Add, Sub, Jmp, Beq, Bne, Blt, Ret, Sts, Intr, Preg, Pbulk, Parr, Pdereg, Paaa, Pforce, Cawait, Cawaitt, Creset}
+use Rattle.instruction_table.specs.LocalRows.{is_local_row}
 use Rattle.tier_tree.specs.Stored.{Stored}
 use Rattle.tier_tree.proofs.Changed.{changed_nothing}
 use Rattle.loader.specs.Program.{Program, IsNamed}
@@ -14,6 +15,7 @@ use Rattle.machine_scene.specs.declared.reach.Reach.{Reach}
 use Rattle.machine_scene.specs.declared.reach.Reach.TheVariants as reach
 use Rattle.machine_scene.specs.Scene.{StoredScene, counts_in}
 use Rattle.machine_scene.specs.Sound.{IsTop}
+use Rattle.machine_scene.specs.Asleep.{is_local_turn}
 use Rattle.machine_scene.specs.Undo.{IsThere, PhasersWithin, reach_of_entry, reach_of_ret, reach_of_row, reach_of_wait, reach_in}
 
 entry_there : (top : Option Frame) (program : Program) (stored : StoredScene) → IsTop program stored top
@@ -61,6 +63,22 @@ reach_there (status.AwaitsPhase phase) row top program stored named is = tt
 reach_there (status.AwaitsBarrier index) row top program stored named is = wait_there row program stored named
 reach_there status.Ended row top program stored named is = tt
 reach_there (status.Died code) row top program stored named is = tt
+
+-- a turn on registers alone touches nothing beside its thread
+row_reach : (row : Row) (top : Option Frame) → is_local_row row ≡ true → reach_of_row row top ≡ reach.Nothing
+row_reach (Ldi into value) top is = refl
+row_reach (Mov into from) top is = refl
+row_reach (Add into left right) top is = refl
+row_reach (Sub into left right) top is = refl
+row_reach (Jmp target) top is = refl
+row_reach (Beq left right target) top is = refl
+row_reach (Bne left right target) top is = refl
+row_reach (Blt left right target) top is = refl
+row_reach _ top is = absurd (cc is)
+
+pub local_reach : (state : Status) (row : Row) (top : Option Frame) → is_local_turn state row ≡ true → reach_in state row top ≡ reach.Nothing
+local_reach status.Runs row top is = row_reach row top is
+local_reach _ row top is = absurd (cc is)
 
 pub within_same : (reach : Reach) (before after : List Stored) → after ≡ before → PhasersWithin reach before after
 within_same reach.Nothing before after same = same

@@ -16,6 +16,18 @@ pub enum Touched {
     Barrier { barrier: u16, before: Barrier },
 }
 
+impl Touched {
+    /// Nothing is kept. Most turns touch nothing and are noted where another such stood: only another is written over.
+    #[inline(always)]
+    pub(crate) fn clear(&mut self)
+        ensures { self.new ≡ Nothing }
+    {
+        if !matches!(self, Touched::Nothing) {
+            *self = Touched::Nothing;
+        }
+    }
+}
+
 /// What is kept of a stage before a turn, or before the expiry of a wait, so that it can be undone. It has a fixed size.
 #[derive(Drop)]
 pub struct SceneNote {
@@ -39,7 +51,7 @@ impl Model for SceneNote {
 }
 
 impl SceneNote {
-    /// Of no thread, with nothing in it: to be written by `Stage::note`.
+    /// Of no thread, with nothing in it: to be written over by `Stage::note`.
     pub fn new() -> SceneNote
         ensures top { result.before.top ≡ None }
         ensures touched { result.touched ≡ Nothing }

@@ -5,6 +5,6 @@ pub enum Patience {
     Endless,
     /// Until it is interrupted: `awaitAdvanceInterruptibly`.
     Interruptible,
-    /// The same with a time, which is over at 0 and below.
+    /// An interruption ends the wait, and so does this time, which is over at 0 and below.
     Timed(i32),
 }

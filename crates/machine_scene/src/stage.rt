@@ -106,7 +106,7 @@ impl Stage {
         }
     }
 
-    /// The same stage, word for word.
+    /// A copy of the stage: cells, threads, phasers, barriers and who is asleep, word for word.
     pub fn copy(&self, alloc: Global) -> Result<Stage, AllocError>
         ensures { IfOk result (λ copy. copy ≡ self.now) }
     {
@@ -183,7 +183,7 @@ impl Stage {
 
     /// The row that a thread stands at.
     #[inline(always)]
-    pub fn row_of(&self, program: &Loaded, t: usize) -> Row
+    pub(crate) fn row_of(&self, program: &Loaded, t: usize) -> Row
         requires sound { IsSound program.now most_before (scene_of self.now) }
         requires thread { t < length self.now.threads }
         ensures row { result ≡ row_at program.now.rows (thread_at (scene_of self.now) t).pc }
@@ -303,10 +303,10 @@ impl Stage {
         ensures threads { OnOk result (length self.new.threads ≡ length self.old.threads) }
         ensures asleep { OnOk result (KeepsAsleep program.now self.new) }
     {
-        self.turn_is_placed(program, row, t);
         if self.is_local_turn(row, t) {
             return Ok(self.local_turn(program, row, t));
         }
+        self.turn_is_placed(program, row, t);
         let before = self.asleep;
         match self.turn_of_row(program, row, t) {
             Ok(event) => {
@@ -317,14 +317,31 @@ impl Stage {
         }
     }
 
+    /// The row that a thread stands at, where it runs and the row is one on registers alone. Nothing holds it up there.
+    #[inline(always)]
+    #[tactic(auto, using(crate::proofs::LocalTurns::local_turn_is_ready))]
+    pub fn row_of_local_turn(&self, program: &Loaded, t: usize) -> Option<Row>
+        requires sound { IsSound program.now most_before (scene_of self.now) }
+        requires thread { t < length self.now.threads }
+        ensures row { IfSome result (λ row. row ≡ row_at program.now.rows (thread_at (scene_of self.now) t).pc) }
+        ensures local { IfSome result (λ row. is_local_turn (thread_at (scene_of self.now) t).status row ≡ true) }
+        ensures ready { is_some result ≡ true → is_ready t program.now (scene_of self.now) ≡ true }
+    {
+        let row = self.row_of(program, t);
+        if self.is_local_turn(row, t) {
+            Some(row)
+        } else {
+            None
+        }
+    }
+
     /// `turn` at a row on registers alone: nobody is woken, so the set of those asleep stays as it is.
     #[inline(always)]
-    fn local_turn(&mut self, program: &Loaded, row: Row, t: usize) -> Event
+    pub fn local_turn(&mut self, program: &Loaded, row: Row, t: usize) -> Event
         requires sound { IsSound program.now most_before (scene_of self.old) }
         requires asleep { KeepsAsleep program.now self.old }
         requires thread { t < length self.old.threads }
         requires row { row ≡ row_at program.now.rows (thread_at (scene_of self.old) t).pc }
-        requires at { StandsAt program.now row t self.old }
         requires local { is_local_turn (thread_at (scene_of self.old) t).status row ≡ true }
         ensures ok { outcome_of t program.now (scene_of self.old)
             ≡ Some (record { scene = scene_of self.new; event = result }) }
@@ -336,6 +353,7 @@ impl Stage {
         ensures threads { length self.new.threads ≡ length self.old.threads }
         ensures asleep { KeepsAsleep program.now self.new }
     {
+        self.turn_is_placed(program, row, t);
         self.phasers_are_stored();
         self.local_row(row, t)
     }

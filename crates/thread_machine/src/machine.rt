@@ -7,6 +7,7 @@ ghost use Rattle.tier_tree.specs.Stored.{phasers_of};
 ghost use Rattle.thread_state.specs.Frame.{entry_of};
 ghost use Rattle.machine_scene.specs.Scene.{scene_of, first_scene, thread_at, barrier_at, starting};
 ghost use Rattle.machine_scene.specs.Outcomes.{is_ready};
+ghost use Rattle.machine_scene.specs.Asleep.{is_local_turn};
 ghost use Rattle.machine_scene.specs.Undo as scene;
 ghost use Rattle.thread_machine.specs.World.{world_of, first_world};
 ghost use Rattle.thread_machine.specs.Ready.{can_expire, can_go_on, is_choice_ready, has_ended, is_stuck, some_ready};
@@ -23,7 +24,7 @@ use crate::undo::Undo;
 use cyclic_barrier::Barrier;
 use instruction_table::{Reg, Row};
 use loader::Loaded;
-use machine_scene::{SceneNote, Stage};
+use machine_scene::Stage;
 use row_code::DeclaredThread;
 use std::alloc::{AllocError, Global};
 use std::marker::Model;
@@ -145,6 +146,9 @@ impl Machine {
         ensures err { OnErr result (self.new ≡ self.old) }
     {
         self.is_sound();
+        if let Some(row) = self.row_of_local_turn(choice) {
+            return Ok(self.local_turn(choice, row));
+        }
         // The answer goes on as it is: each arm names its case for the proof.
         match self.stepped(choice) {
             Ok(event) => Ok(event),
@@ -152,8 +156,56 @@ impl Machine {
         }
     }
 
-    /// `step`, and what undoes it where it is an effective step, as the count of these tells. All steps are played here,
-    /// so that a step is one function when it runs.
+    /// The row of a choice that is the turn of a running thread at a row on registers alone, and isn't refused. Most steps of
+    /// most programs are such, and are played where they are asked for.
+    #[inline(always)]
+    fn row_of_local_turn(&self, choice: Choice) -> Option<Row>
+        ensures there { is_some result ≡ true → choice.thread < length self.now.scene.threads }
+        ensures row { IfSome result (λ row.
+            row ≡ row_at self.now.program.rows (thread_at (scene_of self.now.scene) choice.thread).pc) }
+        ensures local { IfSome result (λ row.
+            is_local_turn (thread_at (scene_of self.now.scene) choice.thread).status row ≡ true) }
+        ensures ready { is_some result ≡ true
+            → is_choice_ready self.now.program choice (scene_of self.now.scene) ≡ true }
+        ensures choices { is_some result ≡ true → self.now.choices < 1000000000000 }
+        ensures steps { is_some result ≡ true → self.now.steps < self.now.limit }
+        ensures accepted { is_some result ≡ true → refusal_of (world_of self.now) choice ≡ None }
+        ensures turn { is_some result ≡ true → choice.expiry ≡ false }
+    {
+        let t = choice.thread as usize;
+        if choice.expiry
+            || t >= self.stage.thread_count()
+            || self.choices == MOST_CHOICES
+            || self.steps == self.limit
+        {
+            return None;
+        }
+        self.stage.row_of_local_turn(&self.program, t)
+    }
+
+    /// The turn of a running thread at a row on registers alone.
+    #[inline(always)]
+    fn local_turn(&mut self, choice: Choice, row: Row) -> Event
+        requires there { choice.thread < length self.old.scene.threads }
+        requires row { row ≡ row_at self.old.program.rows (thread_at (scene_of self.old.scene) choice.thread).pc }
+        requires local { is_local_turn (thread_at (scene_of self.old.scene) choice.thread).status row ≡ true }
+        requires ready { is_choice_ready self.old.program choice (scene_of self.old.scene) ≡ true }
+        requires steps { self.old.steps < self.old.limit }
+        requires choices { self.old.choices < 1000000000000 }
+        requires turn { choice.expiry ≡ false }
+        ensures played { record { world = world_of self.new; event = result } ≡ played (world_of self.old) choice }
+        ensures threads { length self.new.scene.threads ≡ length self.old.scene.threads }
+    {
+        let event = self
+            .stage
+            .local_turn(&self.program, row, choice.thread as usize);
+        self.choices += 1;
+        self.steps += 1;
+        event
+    }
+
+    /// `step`, and what undoes it where it is an effective step, as the count of these tells. All other steps are played
+    /// here, so that such a step is one function when it runs.
     fn stepped(&mut self, choice: Choice) -> Result<Event, StepFault>
         ensures played { IfOk result (λ event.
             record { world = world_of self.new; event = event } ≡ played (world_of self.old) choice) }
@@ -182,14 +234,15 @@ impl Machine {
         }
     }
 
-    /// `step`, with what `back` needs to undo it.
+    /// `step`, with what `take_back` needs to undo it written over `undo`. After `Err` the machine is as before, and `undo`
+    /// is of no choice.
     #[inline(always)]
     #[tactic(auto, using(crate::proofs::Sound::idle_undone))]
-    pub fn step_noting(&mut self, choice: Choice) -> Result<(Event, Undo), StepFault>
-        ensures played { IfOk result (λ both.
-            record { world = world_of self.new; event = both.0 } ≡ played (world_of self.old) choice) }
-        ensures undo { IfOk result (λ both. undone both.1 self.new ≡ self.old) }
-        ensures can { IfOk result (λ both. CanUndo both.1 self.new) }
+    pub fn step_into(&mut self, choice: Choice, undo: &mut Undo) -> Result<Event, StepFault>
+        ensures played { IfOk result (λ event.
+            record { world = world_of self.new; event = event } ≡ played (world_of self.old) choice) }
+        ensures undo { OnOk result (undone undo.new self.new ≡ self.old) }
+        ensures can { OnOk result (CanUndo undo.new self.new) }
         ensures no_thread { (result ≡ Err StepFault.NoSuchThread)
             ↔ (refusal_of (world_of self.old) choice ≡ Some StepFault.NoSuchThread) }
         ensures limit { (result ≡ Err StepFault.StepLimit)
@@ -212,16 +265,46 @@ impl Machine {
             return Err(StepFault::NoSuchThread);
         }
         let before = self.steps;
-        let mut note = SceneNote::new();
-        self.stage.note(&self.program, thread, &mut note);
+        self.stage.note(&self.program, thread, &mut undo.note);
         let event = match self.stepped(choice) {
             Ok(event) => event,
             Err(fault) => return Err(fault),
         };
         if self.steps == before {
-            return Ok((event, Undo::of_idle()));
+            undo.is_turn = false;
+            return Ok(event);
         }
-        Ok((event, Undo::of_turn(note)))
+        undo.is_turn = true;
+        Ok(event)
+    }
+
+    /// `step_into` a new undo.
+    pub fn step_noting(&mut self, choice: Choice) -> Result<(Event, Undo), StepFault>
+        ensures played { IfOk result (λ both.
+            record { world = world_of self.new; event = both.0 } ≡ played (world_of self.old) choice) }
+        ensures undo { IfOk result (λ both. undone both.1 self.new ≡ self.old) }
+        ensures can { IfOk result (λ both. CanUndo both.1 self.new) }
+        ensures no_thread { (result ≡ Err StepFault.NoSuchThread)
+            ↔ (refusal_of (world_of self.old) choice ≡ Some StepFault.NoSuchThread) }
+        ensures limit { (result ≡ Err StepFault.StepLimit)
+            ↔ (refusal_of (world_of self.old) choice ≡ Some StepFault.StepLimit) }
+        ensures accepted { OnOk result (refusal_of (world_of self.old) choice ≡ None) }
+        ensures memory { result ≡ Err StepFault.Memory → puts_out (world_of self.old) choice ≡ true }
+        ensures threads { length self.new.scene.threads ≡ length self.old.scene.threads }
+        ensures counts { OnOk result ((counts : Origin) → StandsFor (phasers_of self.old.scene.phasers) counts
+            → StandsFor (phasers_of self.new.scene.phasers)
+            (counts_after (world_of self.old) choice (world_of self.new) counts)) }
+        ensures safe { OnOk result ((counts : Origin) → StandsFor (phasers_of self.old.scene.phasers) counts
+            → EndsNoPhaseEarly (world_of self.old) choice (world_of self.new) counts) }
+        ensures numbers { OnOk result (NumbersStay (phasers_of self.old.scene.phasers)
+            (phasers_of self.new.scene.phasers)) }
+        ensures err { OnErr result (self.new ≡ self.old) }
+    {
+        let mut undo = Undo::new();
+        match self.step_into(choice, &mut undo) {
+            Ok(event) => Ok((event, undo)),
+            Err(fault) => Err(fault),
+        }
     }
 
     /// Undoes the last choice, by what was kept of it: the machine is the one of before, word for word.
@@ -229,9 +312,17 @@ impl Machine {
         requires { CanUndo undo self.old }
         ensures { self.new ≡ undone undo self.old }
     {
+        self.take_back(&undo);
+    }
+
+    /// `back`, by an undo that stays where it is.
+    pub fn take_back(&mut self, undo: &Undo)
+        requires { CanUndo undo.now self.old }
+        ensures { self.new ≡ undone undo.now self.old }
+    {
         self.choices -= 1;
-        if let Some(note) = undo.turn() {
-            self.stage.undo(note);
+        if undo.is_turn {
+            self.stage.undo(&undo.note);
             self.steps = self.steps.saturating_sub(1);
         }
     }

@@ -1,42 +1,34 @@
 use machine_scene::SceneNote;
 use std::marker::Model;
 
-/// What `Machine::step_noting` keeps so that `Machine::back` can undo the choice. It has a fixed size.
+/// What is kept of a choice so that it can be undone. It has a fixed size, and a step writes over it where it lies: one that
+/// is moved costs as much as half a step.
 #[derive(Drop)]
 pub struct Undo {
-    turn: Option<SceneNote>,
+    /// Whether it was a turn or an expiry. Of an idle choice nothing is kept, and the note says nothing.
+    pub(crate) is_turn: bool,
+    pub(crate) note: SceneNote,
 }
 
 impl Model for Undo {
-    ghost use Rattle.std.specs.Prelude.{Option};
+    ghost use Rattle.std.specs.Prelude.{Option, Some, None, if◌then◌else◌};
     ghost use Rattle.machine_scene.specs.Undo.{Note};
 
     ghost Value = { Option Note };
 
-    ghost view = { λ undo. undo.turn };
+    ghost view = { λ undo. if undo.is_turn then Some undo.note else None };
 }
 
 impl Undo {
-    ghost use Rattle.std.specs.Prelude.{◌≡◌, Some, None};
+    ghost use Rattle.std.specs.Prelude.{◌≡◌, None};
 
-    /// Of an idle choice.
-    pub(crate) fn of_idle() -> Undo
+    /// Of an idle choice: to be written over by `Machine::step_into`.
+    pub fn new() -> Undo
         ensures { result ≡ None }
     {
-        Undo { turn: None }
-    }
-
-    /// Of a turn or an expiry, by what was kept before it.
-    pub(crate) fn of_turn(note: SceneNote) -> Undo
-        ensures { result ≡ Some note }
-    {
-        Undo { turn: Some(note) }
-    }
-
-    /// What was kept of the scene, `None` for an idle choice.
-    pub(crate) fn turn(&self) -> &Option<SceneNote>
-        ensures { result.now ≡ self.now }
-    {
-        &self.turn
+        Undo {
+            is_turn: false,
+            note: SceneNote::new(),
+        }
     }
 }

@@ -10,6 +10,7 @@ pub mod Added
 pub mod Between
 pub mod Shown
 pub mod Times
+pub mod Ascent
 pub mod Changed
 pub mod Kept
 pub mod Turning

@@ -39,7 +39,7 @@ arrival_is leave f = by_case leave f.ended (f.arrived == f.parties) refl
     by_case false false false is = settled_is f (record f { arrived = f.arrived + 1 }) (refl, refl) is (f.arrived + 1 == f.parties)
 
 -- other counts of the same phase
-with_flat-late : (phasers : List PhaserState) (id n : ℕ) (flat : Flat) → IsAsLate flat (flat_at phasers id)
+pub with_flat-late : (phasers : List PhaserState) (id n : ℕ) (flat : Flat) → IsAsLate flat (flat_at phasers id)
     → IsAsLate (flat_at (with_flat phasers id flat) n) (flat_at phasers n)
 with_flat-late [] id n flat late = (refl, refl)
 with_flat-late (p ∷ phasers) zero zero flat late = late
@@ -47,7 +47,7 @@ with_flat-late (p ∷ phasers) zero (suc n) flat late = (refl, refl)
 with_flat-late (p ∷ phasers) (suc id) zero flat late = (refl, refl)
 with_flat-late (p ∷ phasers) (suc id) (suc n) flat late = with_flat-late phasers id n flat late
 
-passed_on-late : (f : Flat) → IsAsLate (passed_on f) f
+pub passed_on-late : (f : Flat) → IsAsLate (passed_on f) f
 passed_on-late f = by_case (f.parties == 0)
   where
     by_case : (none : Bool) → IsAsLate (if none then record f { turned = false } else f) f

@@ -1,4 +1,4 @@
-ghost use Rattle.std.specs.Prelude.{◌≡◌, ◌<◌, ◌≤◌, [], ◌∷◌, length, false, All};
+ghost use Rattle.std.specs.Prelude.{◌≡◌, ◌<◌, ◌≤◌, [], ◌∷◌, length, false, All, slice_index_or};
 ghost use Rattle.packed_phaser.specs.Word.{record_of};
 ghost use Rattle.tier_tree.specs.Forest.{phaser_at, flat_at, root_at, with_flat};
 ghost use Rattle.tier_tree.specs.Stored.{IsStored, ChangedOnly, present, stored_at, phasers_of};
@@ -36,7 +36,10 @@ pub fn line_at(nodes: &[Node], i: usize) -> Line
     requires there { i < length nodes.now }
     ensures line { result ≡ (phaser_at (phasers_of nodes.now) i).line }
     ensures stored { result ≡ (stored_at nodes.now i).line }
+    ensures own { slice_index_or result 0 0 ≡ i }
     ensures within { All (λ above. above < length nodes.now) result }
+    ensures tree { All (λ above. root_at (phasers_of nodes.now) above
+        ≡ root_at (phasers_of nodes.now) i) result }
 {
     nodes[i].line()
 }
@@ -61,6 +64,16 @@ pub fn word_at(nodes: &[Node], i: usize) -> Word
     let node = &nodes[i];
     let root = &nodes[node.root() as usize];
     brought_up(root.word(), node.word())
+}
+
+/// `word_at` where the word of its root is at hand.
+#[inline(always)]
+pub fn word_below(nodes: &[Node], i: usize, top: Word) -> Word
+    requires there { i < length nodes.now }
+    requires top { top ≡ (stored_at nodes.now (root_at (phasers_of nodes.now) i)).word }
+    ensures { record_of result ≡ flat_at (phasers_of nodes.now) i }
+{
+    brought_up(top, nodes[i].word())
 }
 
 /// Another word of the present phase for one phaser.

@@ -12,6 +12,7 @@ pub mod StateLines
 pub mod OwnLines
 pub mod OwnTrace
 pub mod PieceLines
+pub mod Words
 pub mod NamedThreads
 pub mod StoredOtherwise
 pub mod OneVerdict

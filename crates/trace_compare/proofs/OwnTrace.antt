@@ -7,6 +7,7 @@ use Rattle.std.specs.List.{slice_split}
 use Rattle.std.specs.Str.{bytes_eq}
 use Rattle.line_reader.specs.Words.{is_line_end}
 use Rattle.machine_scene.specs.Scene.{Outcome, thread_at}
+use Rattle.thread_state.specs.declared.event.Event.{Event}
 use Rattle.thread_machine.specs.declared.choice.Choice.{Choice}
 use Rattle.thread_machine.specs.declared.fault.StepFault.{StepFault}
 use Rattle.thread_machine.specs.declared.fault.StepFault.TheVariants.{NoSuchThread, StepLimit}
@@ -124,6 +125,13 @@ choice-same world choice rest n own =
 played-choices : (outcome : Option Outcome) (world : World) → (played_by outcome world).world.choices ≡ world.choices + 1
 played-choices (Some outcome) world = refl
 played-choices None world = refl
+
+pub played-counted : (world after : World) (choice : Choice) (event : Event)
+    → (let both : Played = record { world = after; event = event } in both ≡ played world choice)
+    → after.choices ≡ world.choices + 1
+played-counted world after choice event both =
+    ap (λ (play : Played). play.world.choices) both
+    ∙ played-choices (outcome_of_choice world.program choice world.scene) world
 
 accepted-few_by : (missing all limit : Bool)
     → cond missing (Some NoSuchThread) (cond (all || limit) (Some StepLimit) None) ≡ None → all ≡ false

@@ -359,6 +359,27 @@ Plays-idle world after choice most n before pc old new times played there few be
       answer = (λ yes. ap (λ (done : Execution). done.refusal) played, λ none. refl);
     }
 
+-- one such choice, and its line as it is kept
+one_time : (ready : Bool) (left n : ℕ) → n ≡ (if ready then 0 else min 1 left) → (n ≡ 0 → ⊥) → n ≡ 1
+one_time true left n times some = absurd (some times)
+one_time false left n times some = omega (arith, times, some)
+
+pub Plays-idle_again : (world after : World) (choice : Choice) (n pc : ℕ) (line : NumberedLine)
+    → n ≡ idle_times world choice 1 → (n ≡ 0 → ⊥)
+    → execution world (replicate n choice) ≡ record { world = after; events = replicate n idle_event; refusal = None }
+    → choice.thread < length world.scene.threads → world.choices ≤ 1000000000000
+    → pc ≡ (thread_at world.scene choice.thread).pc
+    → line.step ≡ world.choices + 1 → IsBehindNumber line.behind choice pc idle_event
+    → Plays world after (choice ∷ []) true (Some []) (Some (text_of line))
+Plays-idle_again world after choice n pc line times some played there few row number behind =
+    let one : n ≡ 1 = one_time (is_choice_ready world.program choice world.scene) (1000000000000 - world.choices) n times some in
+    let text : text_of line ≡ event_text (world.choices + 1) choice pc idle_event =
+    behind line.step ∙ ap (λ step. event_text step choice pc idle_event) number in
+    subst (λ k. Plays world after (replicate k choice) true (Some []) (Some (text_of line))) one
+    (Plays-idle world after choice 1 n world.choices pc (Some []) (Some (text_of line)) times played there few refl row
+    (text ∙ sym (append-nil (event_text (world.choices + 1) choice pc idle_event))
+    ∙ ap (λ k. idle_lines k world.choices choice pc) (sym one)))
+
 -- some of the same choices, and the others
 pub replicate-some : (n times : ℕ) (choice : Choice) → times ≤ n
     → replicate n choice ≡ replicate times choice ++ replicate (n - times) choice

@@ -164,7 +164,7 @@ byte-ends (Err e) before after line front next rest byte one is front_is none q 
 onto_first-list : (x : ℕ) (h : List ℕ) (t pieces : List (List ℕ)) → pieces ≡ h ∷ t → onto_first x pieces ≡ (x ∷ h) ∷ t
 onto_first-list x h t pieces is = ap (onto_first x) is
 
-split_some : (ys : List ℕ) → (h : List ℕ) × ((t : List (List ℕ)) × (slice_split is_line_end ys ≡ h ∷ t))
+pub split_some : (ys : List ℕ) → (h : List ℕ) × ((t : List (List ℕ)) × (slice_split is_line_end ys ≡ h ∷ t))
 split_some ys = first_of_some (slice_split is_line_end ys) (omega (arith, length-slice_split is_line_end ys))
   where
     first_of_some : (pieces : List (List ℕ)) → 0 < length pieces → (h : List ℕ) × ((t : List (List ℕ)) × (pieces ≡ h ∷ t))

@@ -1,5 +1,5 @@
 -- What the lines that are left make of a comparison. Nobody has to believe this: it is what proofs go by, from line to line.
-use Rattle.std.specs.Prelude.{◌≡◌, ◌⊎◌, [], ◌+◌, ◌<◌, ◌≤◌, ◌++◌, ℕ, All, false, true, List, codes, decimal, drop, length, if◌then◌else◌, Option, Some, None}
+use Rattle.std.specs.Prelude.{◌≡◌, ◌≢◌, ◌⊎◌, [], ◌+◌, ◌<◌, ◌≤◌, ◌++◌, ℕ, All, false, true, List, codes, decimal, drop, get_or, length, if◌then◌else◌, Option, Some, None}
 use Rattle.std.specs.Io.KnownBytes.{IsAtEnd}
 use Rattle.std.specs.List.{slice_split}
 use Rattle.line_reader.specs.Words.{is_line_end}
@@ -8,7 +8,6 @@ use Rattle.thread_machine.specs.declared.choice.Choice.{Choice}
 use Rattle.trace_compare.specs.declared.compare.Comparison.{Comparison}
 use Rattle.trace_compare.specs.declared.compare.Verdict.{Verdict}
 use Rattle.trace_compare.specs.Compare.{lines_verdict, state_verdict}
-use Rattle.trace_compare.specs.Lines.{choice_text}
 
 -- a verdict that was reached, else what the rest makes of it
 abbrev pub decided : Option Verdict → Verdict → Verdict
@@ -35,9 +34,9 @@ BeginsWithName bytes choice =
     (choice.thread ≤ 63) × ((rest : List ℕ)
     × (bytes ≡ ((if choice.expiry then codes " x" else codes " t") ++ (decimal choice.thread ++ codes " ")) ++ rest))
 
--- bytes begin as the line of a choice with this number does
-abbrev pub BeginsAsLine : List ℕ → ℕ → Choice → Type 0
-BeginsAsLine bytes step choice = (choice.thread ≤ 63) × ((rest : List ℕ) × (bytes ≡ choice_text step choice ++ rest))
+-- bytes don't begin with the `s` of `state`, and behind so many of them stands the name of a choice
+abbrev pub NamesBehind : List ℕ → ℕ → Choice → Type 0
+NamesBehind bytes count choice = (get_or bytes 0 0 ≢ 115) × BeginsWithName (drop count bytes) choice
 
 -- these bytes are those of one line, and not too many
 pub record IsReading (now : Comparison) (line : List ℕ) : Type 0 where

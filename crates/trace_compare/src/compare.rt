@@ -4,16 +4,15 @@ ghost use Rattle.std.specs.List.{position_or_len};
 ghost use Rattle.line_reader.specs.Words.{is_line_end};
 ghost use Rattle.thread_machine.specs.World.{world_of};
 ghost use Rattle.trace_compare.specs.RunText.{GivesOnAndOn};
-ghost use Rattle.trace_compare.specs.Playing.{text_of};
 ghost use Rattle.trace_compare.specs.Start.{IsRefused, is_want_of_memory};
 ghost use Rattle.trace_compare.specs.Compare.{HasCompared, choice_in, choice_verdict, is_state_line, lines_verdict, state_verdict};
 ghost use Rattle.trace_compare.specs.Comparing.{HasLeft, IsOpen, IsReading, bytes_left, decided, lines_left};
 
 use crate::digits::Digits;
-use crate::kept_line::KeptLine;
+use crate::kept_line::{KeptLine, are_same};
 use crate::line_end::LineEnd;
-use crate::next_choice::{first_bytes, next_choice, rest_of};
-use crate::play::{kept_line_of_choice, line_of_choice};
+use crate::next_choice::{begins_with, choice_behind, first_bytes, rest_of};
+use crate::play::{line_of_choice, own_line_of_choice};
 use crate::start::{StartFault, first_machine};
 use crate::state::state_text;
 use crate::trace_line::{choice_in, is_state_line};
@@ -22,10 +21,10 @@ use line_reader::words::length_before;
 use loader::LoadFault;
 use row_code::Image;
 use std::alloc::{AllocError, Global};
-use thread_machine::Machine;
+use thread_machine::{Choice, Machine};
 
 /// How many bytes of a trace are read at a time.
-const PIECE: usize = 4096;
+const PIECE: usize = 16_384;
 
 /// How often a trace is read at most.
 const MOST_READS: u64 = 1_000_000_000;
@@ -62,11 +61,16 @@ pub enum CompareFault {
 #[derive(Drop)]
 struct Comparison {
     machine: Machine,
-    /// The run's line of the last choice whose line was read whole.
+    /// The run's line of the last choice that was played.
     expected: LineEnd,
-    /// The run's line of the last choice whose line was met where it lies, and the number of the next one.
-    kept: KeptLine,
+    /// The number of the next choice, as of the last line that was looked at where it lies.
     next: Digits,
+    /// The last choice that was played for such a line, after how many effective steps, and whether it was idle before: then
+    /// it may be idle again, and `kept` is its line, which is counted up.
+    last: Choice,
+    steps: u32,
+    again: bool,
+    kept: KeptLine,
     /// Whether all choices so far were accepted.
     accepted: bool,
     /// Whether the state line has come.
@@ -89,8 +93,14 @@ impl Comparison {
         Comparison {
             machine,
             expected: LineEnd::new(),
-            kept: KeptLine::new(),
             next: Digits::new(),
+            last: Choice {
+                thread: 0,
+                expiry: false,
+            },
+            steps: 0,
+            again: false,
+            kept: KeptLine::new(),
             accepted: true,
             is_state: false,
             text: Vec::new(alloc),
@@ -191,17 +201,18 @@ impl Comparison {
     #[inline(always)]
     fn meet(&mut self, bytes: &[u8]) -> usize
         requires room { 120 ≤ length bytes.now }
+        requires some { 0 < length self.old.expected }
+        requires few { length self.old.expected ≤ 120 }
         requires number { self.old.number < 9223372036854775807 }
-        ensures met { result ≢ 0 → (take (length (text_of self.old.kept)) bytes.now ≡ text_of self.old.kept)
-            × (result ≡ length (text_of self.old.kept))
+        ensures met { result ≢ 0 → (take (length self.old.expected) bytes.now ≡ self.old.expected)
+            × (result ≡ length self.old.expected)
             × (self.new ≡ record self.old { number = self.old.number + 1 }) }
-        ensures missed { result ≡ 0 → (take (length (text_of self.old.kept)) bytes.now ≢ text_of self.old.kept)
+        ensures missed { result ≡ 0 → (take (length self.old.expected) bytes.now ≢ self.old.expected)
             × (self.new ≡ record self.old { accepted = false }) }
-        ensures few { length (text_of self.old.kept) ≤ length bytes.now }
     {
-        let line = self.kept.as_slice();
+        let line = self.expected.as_slice();
         let length = line.len();
-        if first_bytes(bytes, length) == line {
+        if begins_with(bytes, line) {
             self.number += 1;
             return length;
         }
@@ -209,12 +220,45 @@ impl Comparison {
         0
     }
 
-    /// Goes on over the line that these bytes begin with, where it begins as the next choice's does and is the run's own.
-    /// Answers how many bytes it has, 0 where it is left to be read whole. Then, if a choice was played for it, none counts as
-    /// accepted any more, since the line names that choice and isn't its line.
+    /// Goes on over the line that these bytes begin with, where it is that of the last choice again, which is idle again.
+    /// Answers how many bytes it has, 0 where it is left.
+    #[inline(never)]
+    fn take_idle_line(&mut self, bytes: &[u8]) -> usize
+        requires room { 120 ≤ length bytes.now }
+        requires number { self.old.number < 9223372036854775807 }
+        requires reading { (self.old.is_state ≡ false) × (self.old.accepted ≡ true) }
+        ensures verdict { (more : List ℕ) → bytes_left self.old [] (bytes.now ++ more)
+            ≡ bytes_left self.new [] (drop result bytes.now ++ more) }
+        ensures text { (self.new.text ≡ self.old.text) × (self.new.at ≡ self.old.at) }
+        ensures reading { (self.new.is_state ≡ false) × (self.new.accepted ≡ true) }
+        ensures within { result ≤ length bytes.now }
+        ensures number { self.new.number ≤ self.old.number + result }
+    {
+        let choice = self.last;
+        if usize::from(choice.thread) >= self.machine.thread_count() {
+            return 0;
+        }
+        let pc = self.machine.pc(choice.thread);
+        self.kept.put_idle(self.machine.choices() + 1, choice, pc);
+        let length = self.kept.as_slice().len();
+        if !begins_with(bytes, self.kept.as_slice()) {
+            return 0;
+        }
+        if self.machine.idle(choice, 1) == 0 {
+            return 0;
+        }
+        self.number += 1;
+        length
+    }
+
+    /// Goes on over the line that these bytes begin with, where it is the run's own. Answers how many bytes it has, 0 where
+    /// it is left to be read whole. The choice that stands where the next line names its own is played first, and its line
+    /// held against all these bytes at once: where they differ, none counts as accepted any more, since this isn't the line
+    /// of any choice that could come next.
     fn take_own_line(&mut self, bytes: &[u8]) -> Result<usize, AllocError>
         requires room { 120 ≤ length bytes.now }
         requires number { self.old.number < 9223372036854775807 }
+        requires reading { (self.old.is_state ≡ false) × (self.old.accepted ≡ true) }
         ensures verdict { (more : List ℕ) → IfOk result (λ count. bytes_left self.old [] (bytes.now ++ more)
             ≡ bytes_left self.new [] (drop count bytes.now ++ more)) }
         ensures text { (self.new.text ≡ self.old.text) × (self.new.at ≡ self.old.at) }
@@ -222,21 +266,53 @@ impl Comparison {
         ensures number { IfOk result (λ count. self.new.number ≤ self.old.number + count) }
         ensures err { OnErr result (self.new.number ≡ self.old.number) }
     {
-        if self.is_state || !self.accepted {
-            return Ok(0);
-        }
         self.next.move_to(self.machine.choices() + 1);
-        let Some(choice) = next_choice(&self.next, bytes) else {
+        let Some(choice) = choice_behind(bytes, self.next.count()) else {
             return Ok(0);
         };
         if usize::from(choice.thread) >= self.machine.thread_count() {
             return Ok(0);
         }
-        match kept_line_of_choice(&mut self.machine, choice, &mut self.kept) {
+        self.again = self.is_again(choice);
+        self.steps = self.machine.steps();
+        self.last = choice;
+        match own_line_of_choice(&mut self.machine, choice, &self.next, &mut self.expected) {
             Ok(true) => Ok(self.meet(bytes)),
             Ok(false) => Ok(0),
             Err(error) => Err(error),
         }
+    }
+
+    /// Whether this choice is the last one again, and that was idle.
+    #[inline(always)]
+    fn is_again(&self, choice: Choice) -> bool {
+        self.machine.steps() == self.steps && are_same(choice, self.last)
+    }
+
+    /// Goes on over one line by the shortest way there is.
+    #[inline(always)]
+    fn take_next_line(&mut self, bytes: &[u8]) -> Result<usize, AllocError>
+        requires room { 120 ≤ length bytes.now }
+        requires number { self.old.number < 9223372036854775807 }
+        ensures verdict { (more : List ℕ) → IfOk result (λ count. bytes_left self.old [] (bytes.now ++ more)
+            ≡ bytes_left self.new [] (drop count bytes.now ++ more)) }
+        ensures text { (self.new.text ≡ self.old.text) × (self.new.at ≡ self.old.at) }
+        ensures within { IfOk result (λ count. count ≤ length bytes.now) }
+        ensures number { IfOk result (λ count. self.new.number ≤ self.old.number + count) }
+        ensures err { OnErr result (self.new.number ≤ self.old.number) }
+    {
+        if self.is_state || !self.accepted {
+            return Ok(0);
+        }
+        if !self.again || self.machine.steps() != self.steps {
+            return self.take_own_line(bytes);
+        }
+        let count = self.take_idle_line(bytes);
+        if count > 0 {
+            return Ok(count);
+        }
+        self.again = false;
+        self.take_own_line(bytes)
     }
 
     /// The same over as many lines as there are. The last bytes, in which a line may not lie whole, are left.
@@ -251,7 +327,7 @@ impl Comparison {
     {
         let mut done = 0;
         while bytes.len() - done >= MOST_OWN {
-            match self.take_own_line(rest_of(bytes, done)) {
+            match self.take_next_line(rest_of(bytes, done)) {
                 Ok(0) => return Ok(done),
                 Ok(count) => done += count,
                 Err(error) => return Err(error),

@@ -10,7 +10,7 @@ use std::marker::Model;
 use thread_machine::{Choice, Event, Mark, What};
 
 /// Whether two choices are the same.
-fn are_same(one: Choice, other: Choice) -> bool
+pub fn are_same(one: Choice, other: Choice) -> bool
     ensures { result ≡ true → one ≡ other }
 {
     one.thread == other.thread && one.expiry == other.expiry

@@ -1,7 +1,8 @@
-ghost use Rattle.std.specs.Prelude.{◌≡◌, ◌++◌, ◌+◌, ◌≤◌, ℕ, [], OnOk, OnErr, codes, length};
+ghost use Rattle.std.specs.Prelude.{◌≡◌, ◌++◌, ◌+◌, ◌<◌, ◌≤◌, ℕ, [], OnOk, OnErr, codes, length};
 ghost use Rattle.std.specs.Fmt.{signed_decimal, decimal};
 ghost use Rattle.trace_compare.specs.Lines.{what_text, mark_text, choice_text, event_text, refusal_text};
 
+use crate::digits::Digits;
 use crate::line_end::LineEnd;
 use std::alloc::AllocError;
 use std::marker::Model;
@@ -88,6 +89,7 @@ fn put_answer(line: &mut LineEnd, event: &Event)
 {
     match (event.what, event.mark) {
         (What::Done, Mark::Nothing) => line.put_word(b" ok\n"),
+        (What::Idle, Mark::Nothing) => line.put_word(b" idle\n"),
         (What::Value(value), Mark::Nothing) => {
             line.put_word(b"\n");
             put_with_value(line, b" = ", value);
@@ -144,6 +146,23 @@ pub fn put_event(line: &mut LineEnd, step: u64, choice: Choice, pc: u16, event: 
 {
     put_played(line, choice, pc, event);
     line.put_count(step)
+}
+
+/// The line of a choice that was played by a thread at this row, where the digits of its number are kept.
+#[inline(always)]
+pub(super) fn put_event_behind(
+    line: &mut LineEnd,
+    number: &Digits,
+    choice: Choice,
+    pc: u16,
+    event: &Event,
+)
+    ensures text { line.new ≡ event_text number.now choice pc event.now }
+    ensures some { 0 < length line.new }
+    ensures few { length line.new ≤ 120 }
+{
+    put_played(line, choice, pc, event);
+    line.put_digits(number);
 }
 
 /// The line of a choice that was refused, by the row of its thread, or `None` where there is no such thread.

@@ -1,8 +1,7 @@
 // The choice that the next line of a trace names, where it begins as the line of the next choice does.
-ghost use Rattle.std.specs.Prelude.{◌≡◌, ◌+◌, ◌≤◌, IfSome, drop, length, take};
-ghost use Rattle.trace_compare.specs.Comparing.{BeginsAsLine, BeginsWithName};
+ghost use Rattle.std.specs.Prelude.{◌≡◌, ◌≢◌, ◌+◌, ◌≤◌, IfSome, drop, false, length, take, true};
+ghost use Rattle.trace_compare.specs.Comparing.{BeginsWithName, NamesBehind};
 
-use crate::digits::Digits;
 use thread_machine::Choice;
 
 /// What follows these bytes.
@@ -20,6 +19,40 @@ pub fn first_bytes(text: &[u8], count: usize) -> &[u8]
     ensures { result.now ≡ take count text.now }
 {
     &text[..count]
+}
+
+/// Whether both begin with the same eight bytes: one test, where this is inlined.
+#[inline(always)]
+fn begin_alike(one: &[u8], other: &[u8]) -> bool
+    requires one { 8 ≤ length one.now }
+    requires other { 8 ≤ length other.now }
+    ensures same { result ≡ true → take 8 one.now ≡ take 8 other.now }
+    ensures other { take 8 one.now ≡ take 8 other.now → result ≡ true }
+{
+    one.starts_with(first_bytes(other, 8))
+}
+
+/// Whether bytes begin with a line. One of 8 to 24 bytes, as most are, is held against them as three words of eight bytes,
+/// which may overlap.
+#[inline(always)]
+pub fn begins_with(bytes: &[u8], line: &[u8]) -> bool
+    requires { length line.now ≤ length bytes.now }
+    ensures same { result ≡ true → take (length line.now) bytes.now ≡ line.now }
+    ensures other { result ≡ false → take (length line.now) bytes.now ≢ line.now }
+{
+    let length = line.len();
+    if length < 8 || 24 < length {
+        return first_bytes(bytes, length) == line;
+    }
+    if !begin_alike(bytes, line) {
+        return false;
+    }
+    let last = length - 8;
+    if !begin_alike(rest_of(bytes, last), rest_of(line, last)) {
+        return false;
+    }
+    let middle = last.min(8);
+    begin_alike(rest_of(bytes, middle), rest_of(line, middle))
 }
 
 /// The choice that is named at the beginning of these bytes, between two spaces.
@@ -51,14 +84,13 @@ fn choice_between_spaces(bytes: &[u8]) -> Option<Choice>
     Some(Choice { thread, expiry })
 }
 
-/// The choice that a line names which begins with this number, as its own line does. `None` says nothing of the line.
+/// The choice that is named behind so many bytes, where they don't begin a state line. `None` says nothing of the line.
 #[inline(always)]
-pub fn next_choice(number: &Digits, bytes: &[u8]) -> Option<Choice>
-    ensures { IfSome result (λ choice. BeginsAsLine bytes.now number.now choice) }
+pub fn choice_behind(bytes: &[u8], count: usize) -> Option<Choice>
+    requires { count ≤ length bytes.now }
+    ensures { IfSome result (λ choice. NamesBehind bytes.now count choice) }
 {
-    let digits = number.as_slice();
-    let count = digits.len();
-    if bytes.len() < count || first_bytes(bytes, count) != digits {
+    if bytes.is_empty() || bytes[0] == b's' {
         return None;
     }
     choice_between_spaces(rest_of(bytes, count))

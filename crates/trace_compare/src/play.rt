@@ -7,8 +7,9 @@ ghost use Rattle.trace_compare.specs.Lines.{event_text, refusal_text};
 ghost use Rattle.trace_compare.specs.Playing.{idle_lines, text_of};
 ghost use Rattle.trace_compare.specs.Trace.{AppendsPartOf, Plays, lines_of};
 
+use crate::digits::Digits;
 use crate::kept_line::KeptLine;
-use crate::line::{put_event, put_refusal};
+use crate::line::{put_event, put_event_behind, put_refusal};
 use crate::line_end::LineEnd;
 use byte_ports::Sink;
 use schedule_reader::Run;
@@ -149,22 +150,27 @@ pub fn line_of_choice(
     }
 }
 
-/// Plays one choice of a thread that is there, and makes its line where it is accepted; whether it was.
+/// Plays one choice of a thread that is there, and makes its line where it is accepted; whether it was. The digits of the
+/// choice's number are given.
 #[inline(always)]
-pub fn kept_line_of_choice(
+pub fn own_line_of_choice(
     machine: &mut Machine,
     choice: Choice,
-    line: &mut KeptLine,
+    number: &Digits,
+    line: &mut LineEnd,
 ) -> Result<bool, AllocError>
     requires there { choice.thread < length machine.old.scene.threads }
+    requires number { number.now ≡ machine.old.choices + 1 }
     ensures played { result ≡ Ok true
-        → Plays (world_of machine.old) (world_of machine.new) (choice ∷ []) true (Some []) (Some (text_of line.new)) }
+        → Plays (world_of machine.old) (world_of machine.new) (choice ∷ []) true (Some []) (Some line.new) }
+    ensures some { result ≡ Ok true → 0 < length line.new }
+    ensures few { result ≡ Ok true → length line.new ≤ 120 }
     ensures refused { result ≡ Ok false → machine.new ≡ machine.old }
 {
     let pc = machine.pc(choice.thread);
     match machine.step(choice) {
         Ok(event) => {
-            line.put(machine.choices(), choice, pc, &event);
+            put_event_behind(line, number, choice, pc, &event);
             Ok(true)
         }
         Err(StepFault::Memory) => Err(AllocError),

@@ -109,14 +109,14 @@ fn a_schedule_fails_at_each_call_in_turn(rt: HostRuntime) -> Result<(), Fail> {
     Ok(())
 }
 
-/// The trace of 1,000 choices.
+/// The trace of 3,000 choices.
 fn long_trace(alloc: Global) -> Result<Vec<u8>, AllocError> {
-    let mut trace = rounds(alloc, 1000)?;
-    trace.extend_from_slice(b"state 1000 1000 live\nt0 0 runs 0 regs 0 0 0 0 0 0 0 0 stack out\n")?;
+    let mut trace = rounds(alloc, 3000)?;
+    trace.extend_from_slice(b"state 3000 3000 live\nt0 0 runs 0 regs 0 0 0 0 0 0 0 0 stack out\n")?;
     Ok(trace)
 }
 
-/// What is said of a trace of 1,000 choices that fails at this call.
+/// What is said of a trace of 3,000 choices that fails at this call.
 fn verdict_at(alloc: Global, call: u32) -> Result<Result<Verdict, CompareFault>, Fail> {
     let trace = long_trace(alloc)?;
     let mut source = MemorySource::new(trace.as_slice(), Some(call));
@@ -125,7 +125,7 @@ fn verdict_at(alloc: Global, call: u32) -> Result<Result<Verdict, CompareFault>,
 
 #[test]
 fn a_trace_fails_at_each_call_in_turn(rt: HostRuntime) -> Result<(), Fail> {
-    // three pieces of 4,096 bytes, and the end
+    // three pieces of 16,384 bytes, and the end
     for call in 0..4 {
         assert!(rt;
             verdict_at(rt.alloc(), call)? == Err(CompareFault::Read),

@@ -35,8 +35,8 @@ const MOST_READS: u64 = 1_000_000_000;
 /// line is no command or its choice is refused. For any other status one line stands on `errors`: `refused asm LINE KIND`,
 /// `refused image KIND [PLACE]` or `refused load KIND [PLACE]` (3), `memory` (4), or `read` or `write` (5). What `errors`
 /// makes of that line changes no status. The commands are read a byte at a time, once the program is loaded: no byte behind
-/// a line's LF is asked for before its reply is handed to `output`, and none after `q`. `output` is handed a reply in up to
-/// four pieces, the last with its LF; a port that keeps bytes back has to let them go there.
+/// a line's LF is asked for before its reply is handed to `output`, and none after `q`. `output` is handed each reply in one
+/// piece; a port that keeps bytes back has to let them go there.
 pub fn debug_cmd<F: Source, S: Source, K: Sink, E: Sink>(
     alloc: Global,
     file: &mut F,

@@ -98,8 +98,8 @@ fn lines_are_answered(rt: HostRuntime) -> Result<(), Fail> {
 /// comes of it.
 type Failing = (Option<u32>, Option<u32>, Option<u32>, &'static [u8], usize);
 
-/// A command has five bytes, and so has five calls; its reply is one call, or three.
-static FAILING: [Failing; 11] = [
+/// A command has five bytes, and so has five calls; its reply is one call.
+static FAILING: [Failing; 10] = [
     (Some(0), None, None, b"read\n", 0),
     (None, Some(0), None, b"read\n", 0),
     (None, Some(4), None, b"read\n", 0),
@@ -109,8 +109,7 @@ static FAILING: [Failing; 11] = [
     (None, Some(12), None, b"read\n", 31),
     (None, None, Some(0), b"write\n", 0),
     (None, None, Some(1), b"write\n", 12),
-    (None, None, Some(3), b"write\n", 29),
-    (None, None, Some(4), b"write\n", 30),
+    (None, None, Some(2), b"write\n", 24),
 ];
 
 const REPLIES: &[u8] = b"1 t0 0 wait\n2 t0 0 idle\nback 1\n";

@@ -1,4 +1,4 @@
-ghost use Rattle.std.specs.Prelude.{◌≡◌, ◌≢◌, ◌∷◌, [], ◌++◌, codes, if◌then◌else◌, IsTrue, IfOk, OnOk, OnErr, Err};
+ghost use Rattle.std.specs.Prelude.{◌≡◌, ◌≢◌, ◌+◌, ◌≤◌, ◌∷◌, [], ◌++◌, length, codes, if◌then◌else◌, IsTrue, IfOk, OnOk, OnErr, Err};
 ghost use Rattle.std.specs.Fmt.{decimal};
 ghost use Rattle.std.specs.Io.KnownBytes.{Appends};
 ghost use Rattle.thread_machine.specs.World.{world_of};
@@ -10,12 +10,13 @@ ghost use Rattle.debugger.specs.Command.{Back, Break, Clear, Go, Step, goes_on, 
 ghost use Rattle.debugger.specs.Reply.{IsCarriedOut, IsStepUnless, number_line, stop_text};
 
 use crate::command::{Command, command_of};
+use crate::number_line::{ROOM, put_number_line};
 use crate::session::Debugger;
 use crate::stop::Stop;
 use byte_ports::{Failed, Sink};
-use itoa::Buffer;
 use schedule_reader::Run;
 use std::alloc::{AllocError, Global};
+use std::mem::replace;
 use thread_machine::{Choice, StepFault};
 use trace_compare::line::{event_line, refusal_line};
 use trace_compare::state::state_text;
@@ -51,15 +52,16 @@ impl From<Failed> for CommandFault {
     }
 }
 
-/// Writes a word, a number and the line's end.
+/// Writes a word, a number and the line's end, in one piece.
 fn say<W: Sink>(output: &mut W, word: &[u8], number: u64, end: &[u8]) -> Result<(), Failed>
+    requires { length word.now + length end.now ≤ 20 }
     ensures line { OnOk result (Appends (W.written output.old) (W.written output.new)
         (word.now ++ (decimal number ++ end.now))) }
     ensures failed { OnErr result (IsTrue (W.has_failed output.new)) }
 {
-    output.push(word)?;
-    output.push(Buffer::new().format(number).as_bytes())?;
-    output.push(end)
+    let mut bytes = [0; ROOM];
+    let start = put_number_line(&mut bytes, word, number, end);
+    output.push(&bytes[start..])
 }
 
 /// Writes why `go` was refused a choice after so many.
@@ -89,6 +91,7 @@ fn say_stop<W: Sink>(output: &mut W, stop: Stop) -> Result<(), Failed>
 
 /// Writes a word and the row that was marked, or `?` where there is no such row.
 fn say_row<W: Sink>(output: &mut W, is_there: bool, word: &[u8], row: usize) -> Result<(), Failed>
+    requires { length word.now ≤ 19 }
     ensures line { OnOk result (Appends (W.written output.old) (W.written output.new)
         (if is_there then number_line word.now row else codes "?\n")) }
     ensures failed { OnErr result (IsTrue (W.has_failed output.new)) }
@@ -127,7 +130,7 @@ impl Debugger {
         match self.played.step_noting(choice) {
             Ok((event, undo)) => match event_line(line, number, choice, pc, &event) {
                 Ok(()) => {
-                    self.undos.push_front(undo);
+                    self.undos.push(undo);
                     Ok(())
                 }
                 Err(error) => {
@@ -231,7 +234,11 @@ impl Debugger {
     {
         match command {
             Command::Step(choice) => self.step_command(alloc, choice, output),
-            Command::Go(runs) => self.go_command(runs.as_slice(), output),
+            Command::Go(runs) => {
+                let done = self.go_command(runs.as_slice(), output);
+                self.room = runs;
+                done
+            }
             Command::Back => self.back_command(output),
             Command::Break(row) => self.break_command(row, output),
             Command::Clear(row) => self.clear_command(row, output),
@@ -239,6 +246,13 @@ impl Debugger {
             Command::Quit => Ok(()),
             Command::Unknown => say_unknown(output),
         }
+    }
+
+    /// The room for the runs of a line. `go` puts it back.
+    fn take_room(&mut self, alloc: Global) -> Vec<Run>
+        ensures { self.new ≡ self.old }
+    {
+        replace(&mut self.room, Vec::new(alloc))
     }
 
     /// Carries out the command of a line and writes its reply; false after `q`. The line is read whole before anything is
@@ -257,9 +271,12 @@ impl Debugger {
             → (self.new ≡ self.old) × (W.written output.new ≡ W.written output.old) }
         ensures write { result ≡ Err CommandFault.Write → IsTrue (W.has_failed output.new) }
     {
-        let command = command_of(alloc, line)?;
+        let room = self.take_room(alloc);
+        let command = command_of(room, line)?;
         let goes_on = command.goes_on();
-        self.carry_out(alloc, command, output)?;
-        Ok(goes_on)
+        match self.carry_out(alloc, command, output) {
+            Ok(()) => Ok(goes_on),
+            Err(fault) => Err(fault),
+        }
     }
 }

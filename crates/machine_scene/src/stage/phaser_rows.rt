@@ -94,14 +94,9 @@ impl Stage {
                 phaser,
                 count,
             } => self.register_many(into, phaser, count, t),
-            Row::Parr { phaser, .. } => self.arrival_unless_own(program, manner_of(row), phaser, t),
-            Row::Pdereg { phaser, .. } => self.arrival_unless_own(
-                program,
-                manner_of(row),
-                phaser,
-                t,
-            ),
-            Row::Paaa { phaser, .. } => self.arrival_unless_own(program, manner_of(row), phaser, t),
+            Row::Parr { phaser, .. } | Row::Pdereg { phaser, .. } | Row::Paaa { phaser, .. } => {
+                self.arrival_unless_own(program, manner_of(row), phaser, t)
+            }
             Row::Pawait {
                 into,
                 phaser,

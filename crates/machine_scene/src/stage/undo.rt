@@ -1,50 +1,60 @@
-ghost use Rattle.std.specs.Prelude.{◌≡◌, ◌<◌, ◌≤◌, length, None};
-ghost use Rattle.machine_scene.specs.declared.note.Touched.TheVariants.{Nothing};
-ghost use Rattle.machine_scene.specs.Scene.{scene_of};
-ghost use Rattle.machine_scene.specs.Sound.{IsSound, most_before};
-ghost use Rattle.machine_scene.specs.Undo.{IsThere, CanPutBack, CanUndo};
+ghost use Rattle.std.specs.Prelude.{◌≡◌, ◌<◌, length};
+ghost use Rattle.thread_state.specs.Thread.{top_of};
+ghost use Rattle.machine_scene.specs.Scene.{scene_of, thread_at};
+ghost use Rattle.machine_scene.specs.Sound.{IsSound, StandsAt, most_before};
+ghost use Rattle.machine_scene.specs.Undo.{IsThere, CanPutBack, CanUndo, reach_in};
 ghost use Rattle.machine_scene.specs.Undo.{touched_by, with_touched, note_of, undone};
 
 use super::Stage;
 use crate::note::{SceneNote, Touched};
 use crate::reach::{Reach, reach_in};
+use instruction_table::Row;
 use loader::Loaded;
 use thread_state::ThreadNote;
 
 impl Stage {
     /// What is kept before a thread's turn, or before the expiry of its wait, so that either can be undone: it is written
-    /// into a new note.
-    #[inline(never)]
-    #[tactic(auto, using(crate::proofs::Reaches::reach_there))]
+    /// over a note.
+    #[inline(always)]
+    #[tactic(auto, using(crate::proofs::Reaches::local_reach))]
     pub fn note(&self, program: &Loaded, t: usize, note: &mut SceneNote)
         requires sound { IsSound program.now most_before (scene_of self.now) }
         requires thread { t < length self.now.threads }
-        requires top { (note.old).before.top ≡ None }
-        requires touched { (note.old).touched ≡ Nothing }
         ensures { note.new ≡ note_of t program.now self.now }
     {
-        let thread = &self.threads[t];
         let row = self.row_of(program, t);
-        let top = thread.top();
-        self.top_is_placed(program, &top, t);
-        let reach = reach_in(thread.status(), row, &top);
         note.number = t as u8;
-        thread.note(&mut note.own);
-        if !matches!(reach, Reach::Nothing) {
-            self.touched(reach, &mut note.beside);
+        self.threads[t].note(&mut note.own);
+        if self.is_local_turn(row, t) {
+            note.beside.clear();
+        } else {
+            self.note_beside(program, row, t, &mut note.beside);
         }
         note.asleep = self.asleep;
     }
 
-    /// What is kept of what a turn may change beside its own thread.
+    /// What is kept of what the turn of a thread at this row may change beside it.
     #[inline(never)]
+    #[tactic(auto, using(crate::proofs::Reaches::reach_there))]
+    fn note_beside(&self, program: &Loaded, row: Row, t: usize, touched: &mut Touched)
+        requires sound { IsSound program.now most_before (scene_of self.now) }
+        requires thread { t < length self.now.threads }
+        requires at { StandsAt program.now row t self.now }
+        ensures { touched.new ≡ touched_by (reach_in (thread_at (scene_of self.now) t).status row
+            (top_of (thread_at (scene_of self.now) t).stack)) self.now }
+    {
+        let top = self.threads[t].top();
+        self.top_is_placed(program, &top, t);
+        self.touched(reach_in(self.threads[t].status(), row, &top), touched);
+    }
+
+    /// What is kept of what a turn may change beside its own thread.
     fn touched(&self, reach: Reach, touched: &mut Touched)
-        requires there { IsThere reach self.now }
-        requires nothing { touched.old ≡ Nothing }
+        requires { IsThere reach self.now }
         ensures { touched.new ≡ touched_by reach self.now }
     {
         match reach {
-            Reach::Nothing => {}
+            Reach::Nothing => touched.clear(),
             Reach::Cell(cell) => {
                 *touched = Touched::Cell {
                     cell,

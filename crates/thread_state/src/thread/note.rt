@@ -40,7 +40,7 @@ impl Model for ThreadNote {
 }
 
 impl ThreadNote {
-    /// With no entry in it: to be written by `Thread::note`.
+    /// With no entry in it: to be written over by `Thread::note`.
     pub fn new() -> ThreadNote
         ensures { result.top ≡ None }
     {
@@ -57,9 +57,8 @@ impl ThreadNote {
 }
 
 impl Thread {
-    /// What one turn can change of it, written into a new note in its place: a note that is moved costs more than a step.
+    /// What one turn can change of it, written over a note in its place: a note that is moved costs more than a step.
     pub fn note(&self, note: &mut ThreadNote)
-        requires { (note.old).top ≡ None }
         ensures { note.new ≡ note_of self.now }
     {
         note.pc = self.pc;
@@ -67,8 +66,14 @@ impl Thread {
         note.status = self.status;
         note.interrupted = self.interrupted;
         note.depth = self.stack.len() as u8;
-        if let Some(top) = self.stack.last() {
-            note.top = Some(*top);
+        match self.stack.last() {
+            Some(top) => note.top = Some(*top),
+            // Most notes have no entry and are written over one that has none: only another is worth the writing.
+            None => {
+                if note.top.is_some() {
+                    note.top = None;
+                }
+            }
         }
         note.outputs = self.output.len() as u16;
     }

@@ -8,7 +8,7 @@ returns-in-Ok c =
     let told = not_refused _ c.finish-told.result c.is_refused-2.ensures c.if-is_refused-2.false in
     let start = c.new-reader.ensures.stream in
     let read = answered c.feed.result fed (c.feed.ensures.stream [] start) in
-    runs_read c.args.rest.now c.feed.result c.finish-told.result _ _ _ c.new-runs.ensures.items (c.feed.ensures.runs [] start) fed
+    runs_read c.args.rest.now c.feed.result c.finish-told.result _ _ _ c.clear.ensures.items (c.feed.ensures.runs [] start) fed
     (c.finish-told.ensures.runs c.args.rest.now read) c.in-Ok.is told (c.finish-told.ensures.answer c.args.rest.now read)
 
 pub returns-in-Err : goal.returns-in-Err

@@ -25,7 +25,7 @@ loop-preserved g c =
     let bytes = stream.0 in
     let piece = take c.in-Ok.count c.pull.new.buffer in
     let some : 0 < c.in-Ok.count = omega (arith, c.if-count-eq0.false) in
-    let size : length c.pull.new.buffer ≡ 4096 = search rules in
+    let size : length c.pull.new.buffer ≡ 16384 = search rules in
     record {
       reading = c.in-Ok-None.ensures.reading;
       number = omega (arith, c.take_piece.ensures.number, c.loop.invariant.number, size, length-take c.in-Ok.count c.pull.new.buffer, c.in-Ok.ensures.bound);

@@ -6,21 +6,21 @@ use Rattle.debugger.proofs.Trails.{trail_on, session_on}
 use Rattle.debugger.proofs.Histories.{history_on}
 use Rattle.debugger.proofs.session.Debugger.step.Goals as goal
 
-pub invariant_of-self : goal.invariant_of-self
-invariant_of-self c =
-    trail_on c.self.inside.played c.step_noting.new.self c.in-Ok.undo c.self.inside.undos c.push_front.new.self
-    c.push_front.ensures.items c.in-Ok.ensures.undo c.in-Ok.ensures.can c.self.invariant
+pub invariant_of-self-2 : goal.invariant_of-self-2
+invariant_of-self-2 c =
+    trail_on c.self.inside.played c.step.new.machine c.in-Ok.ensures.kept.0 c.self.inside.undos c.step.new.self
+    c.in-Ok.ensures.kept.1 c.in-Ok.ensures.kept.2 c.in-Ok.ensures.kept.3 c.self.invariant
 
-pub returns-in-Ok-clause-session : goal.returns-in-Ok-clause-session
-returns-in-Ok-clause-session c =
-    session_on c.self.inside.played c.step_noting.new.self c.in-Ok.undo c.self.inside.undos c.push_front.new.self
-    c.self.inside.marks.items c.args.self.now c.push_front.ensures.items c.in-Ok.ensures.undo c.self.view_is
+pub returns-clause-session : goal.returns-clause-session
+returns-clause-session c =
+    session_on c.self.inside.played c.step.new.machine c.in-Ok.ensures.kept.0 c.self.inside.undos c.step.new.self
+    c.self.inside.marks.items c.args.self.now c.in-Ok.ensures.kept.1 c.in-Ok.ensures.kept.2 c.self.view_is
 
-pub returns-in-Ok-clause-history : goal.returns-in-Ok-clause-history
-returns-in-Ok-clause-history c = λ first choices history.
+pub returns-clause-history : goal.returns-clause-history
+returns-clause-history c = λ first choices history.
     let seen : c.self.inside.played ≡ c.args.self.now.machine = ap (λ (s : Session). s.machine) c.self.view_is in
     history_on first choices c.args.choice c.args.self.now _ history (record {
       world = ap (λ (play : Played). play.world) c.in-Ok.ensures.played
           ∙ ap (λ (w : StoredWorld). (played (world_of w) c.args.choice).world) seen;
-      session = returns-in-Ok-clause-session c;
+      session = returns-clause-session c;
     })

@@ -1,0 +1,31 @@
+ghost use Rattle.std.specs.Prelude.{◌≡◌, ◌+◌, ◌≤◌, ◌++◌, [], length, drop};
+ghost use Rattle.std.specs.Fmt.{decimal};
+
+use itoa::write_digits;
+
+/// How long such a line can be.
+pub const ROOM: usize = 40;
+
+/// Puts a word before what stands from a place on, and answers where it begins.
+fn put_before(bytes: &mut [u8; ROOM], from: usize, word: &[u8]) -> usize
+    requires from { from ≤ 40 }
+    requires room { length word.now ≤ from }
+    ensures text { drop result bytes.new ≡ word.now ++ drop from bytes.old }
+    ensures place { result + length word.now ≡ from }
+{
+    let start = from - word.len();
+    bytes[start..from].copy_from_slice(word);
+    start
+}
+
+/// Puts a word, a number and the line's end at the end of a room, and answers where the word begins: so the line is told in
+/// one piece.
+pub fn put_number_line(bytes: &mut [u8; ROOM], word: &[u8], number: u64, end: &[u8]) -> usize
+    requires { length word.now + length end.now ≤ 20 }
+    ensures text { drop result bytes.new ≡ word.now ++ (decimal number ++ end.now) }
+    ensures within { result ≤ 40 }
+{
+    let last = put_before(bytes, ROOM, end);
+    let middle = write_digits(number, bytes, last);
+    put_before(bytes, middle, word)
+}
