@@ -322,11 +322,11 @@ static COMPARE: Inputs = Inputs {
     writes_early: false,
 };
 
-/// A command of five bytes is five calls; its reply is one call, or three.
+/// A command of five bytes is five calls; its reply is one.
 static DEBUG: Inputs = Inputs {
     file: MEETING,
     other: b"s t0\ns t0\nb\n",
-    calls: [2, 13, 5],
+    calls: [2, 13, 3],
     writes_early: true,
 };
 
