@@ -71,6 +71,7 @@ fn branch(pc: &mut u16, taken: bool, target: u16) -> Option<i32>
 /// Plays the row at `pc`: it leaves its effect on the registers and on `pc`, and answers what it put into a register, where
 /// it puts anything: its event shows this number. Sums and differences wrap as Java's `int` does. The number of a
 /// program's row is always below 65535.
+#[inline(always)]
 pub fn local(row: Row, registers: &mut Regs, pc: &mut u16) -> Option<i32>
     requires local { IsTrue (is_local_row row) }
     requires place { pc.old < 65535 }

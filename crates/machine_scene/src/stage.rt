@@ -206,6 +206,7 @@ impl Stage {
     }
 
     /// `is_ready` without the set of those that are known to be asleep: a look at what the thread does.
+    #[inline(always)]
     #[tactic(auto, using(crate::proofs::Readiness::row_is_ready))]
     fn goes_on(&self, program: &Loaded, t: usize) -> bool
         requires sound { IsSound program.now most_before (scene_of self.now) }

@@ -194,6 +194,9 @@ impl Machine {
         requires choices { self.old.choices < 1000000000000 }
         requires turn { choice.expiry ≡ false }
         ensures played { record { world = world_of self.new; event = result } ≡ played (world_of self.old) choice }
+        ensures undo { undone (Some (scene.note_of choice.thread self.old.program self.old.scene)) self.new ≡ self.old }
+        ensures can { scene.CanUndo (scene.note_of choice.thread self.old.program self.old.scene) self.new.scene }
+        ensures counted { 0 < self.new.choices }
         ensures threads { length self.new.scene.threads ≡ length self.old.scene.threads }
     {
         let event = self
@@ -265,7 +268,12 @@ impl Machine {
             return Err(StepFault::NoSuchThread);
         }
         let before = self.steps;
+        let local = self.row_of_local_turn(choice);
         self.stage.note(&self.program, thread, &mut undo.note);
+        if let Some(row) = local {
+            undo.is_turn = true;
+            return Ok(self.local_turn(choice, row));
+        }
         let event = match self.stepped(choice) {
             Ok(event) => event,
             Err(fault) => return Err(fault),

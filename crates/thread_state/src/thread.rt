@@ -229,6 +229,7 @@ impl Thread {
     }
 
     /// A row on registers alone.
+    #[inline(always)]
     pub fn local_row(&mut self, row: Row) -> What
         requires row { IsTrue (is_local_row row) }
         requires place { self.old.pc < 65535 }

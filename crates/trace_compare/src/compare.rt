@@ -255,6 +255,7 @@ impl Comparison {
     /// it is left to be read whole. The choice that stands where the next line names its own is played first, and its line
     /// held against all these bytes at once: where they differ, none counts as accepted any more, since this isn't the line
     /// of any choice that could come next.
+    #[inline(always)]
     fn take_own_line(&mut self, bytes: &[u8]) -> Result<usize, AllocError>
         requires room { 120 ≤ length bytes.now }
         requires number { self.old.number < 9223372036854775807 }

@@ -110,22 +110,40 @@ impl KeptLine {
         self.is_idle = false;
     }
 
+    /// Whether it is the line of this choice, of a thread at this row, which was idle as the one before this step.
+    #[inline(always)]
+    fn precedes(&self, step: u64, choice: Choice, pc: u16) -> bool
+        ensures step { result ≡ true → self.now.step + 1 ≡ step }
+        ensures behind { result ≡ true → IsBehindNumber self.now.behind choice pc idle_event }
+    {
+        self.is_idle
+            && 0 < step
+            && step - 1 == self.step
+            && self.pc == pc
+            && are_same(self.choice, choice)
+    }
+
     /// Makes it the line of a choice that was idle, of a thread at this row.
-    #[inline(never)]
+    #[inline(always)]
     pub fn put_idle(&mut self, step: u64, choice: Choice, pc: u16)
         requires { step + 1 < 2 ^ 64 }
         ensures step { self.new.step ≡ step }
         ensures behind { IsBehindNumber self.new.behind choice pc idle_event }
     {
-        if self.is_idle
-            && 0 < step
-            && step - 1 == self.step
-            && self.pc == pc
-            && are_same(self.choice, choice)
-        {
+        if self.precedes(step, choice, pc) {
             self.count_up();
             return;
         }
+        self.put_another_idle(step, choice, pc);
+    }
+
+    /// The same whatever the last line is.
+    #[inline(never)]
+    fn put_another_idle(&mut self, step: u64, choice: Choice, pc: u16)
+        requires { step + 1 < 2 ^ 64 }
+        ensures step { self.new.step ≡ step }
+        ensures behind { IsBehindNumber self.new.behind choice pc idle_event }
+    {
         let event = Event {
             what: What::Idle,
             mark: Mark::Nothing,

@@ -21,8 +21,8 @@ pub fn first_bytes(text: &[u8], count: usize) -> &[u8]
     &text[..count]
 }
 
-/// Whether both begin with the same eight bytes: one test, where this is inlined.
-#[inline(always)]
+/// Whether both begin with the same eight bytes: one test, where the compiler inlines this. It does so by itself, and knows
+/// then how many bytes they are; where it is told to, it does so before it knows.
 fn begin_alike(one: &[u8], other: &[u8]) -> bool
     requires one { 8 ≤ length one.now }
     requires other { 8 ≤ length other.now }

@@ -308,6 +308,7 @@ impl Stage {
     }
 
     /// The pending phase end of a root comes, and the arrival that was the last has its answer.
+    #[inline(always)]
     pub(super) fn end_phase(
         &mut self,
         manner: Manner,

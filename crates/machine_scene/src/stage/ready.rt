@@ -84,6 +84,7 @@ impl Stage {
     }
 
     /// Whether a wait for a phase can end.
+    #[inline(always)]
     pub(super) fn is_phase_wait_over(&self, row: Row, phase: i32, t: usize) -> bool
         requires named { IsNamed (counts_in self.now) row }
         requires thread { t < length self.now.threads }

@@ -16,6 +16,7 @@ use thread_state::{Event, Mark};
 
 impl Stage {
     /// Whether a phase of this number is not the one that the phaser is in.
+    #[inline(always)]
     pub(super) fn is_past(&self, phaser: u16, phase: i32) -> bool
         requires phaser { phaser < length self.now.phasers }
         ensures { result ≡ is_past phaser phase (scene_of self.now) }
