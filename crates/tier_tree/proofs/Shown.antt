@@ -5,9 +5,9 @@ use Rattle.std.proofs.lemmas.Bool.{cases_eq}
 use Rattle.std.proofs.lemmas.Bool.Decides.{nat_tests}
 use Rattle.std.proofs.lemmas.List.{length-map, length-set, get_or-map, get_or_read, get_or_default, get_or-set_same, get_or-set_other, ext_get_or}
 use Rattle.std.proofs.lemmas.List.Elements.{All-head, All-tail, All-cons, All-nil}
-use Rattle.packed_phaser.specs.Flat.{Flat, advance, renew, force, fresh}
+use Rattle.packed_phaser.specs.Flat.{Flat, advance, renew, force, fresh, view_of}
 use Rattle.packed_phaser.specs.Word.{record_of}
-use Rattle.phase_number.specs.Phase.{next_phase}
+use Rattle.phase_number.specs.Phase.{next_phase, phase_view}
 use Rattle.tier_tree.specs.Forest.{PhaserState, no_phaser, phaser_at, flat_at, root_of, root_at, with_flat}
 use Rattle.tier_tree.specs.PhaseEnd.{follow, in_step, terminated, after_phase_end}
 use Rattle.tier_tree.specs.Sound.{Place, places_of}
@@ -337,6 +337,21 @@ word_read forest i r w wt wo own top stored there read_own is_top read_top is_wt
     is ∙ ap (λ (n : ℕ). present (record_of n) (record_of wo)) (is_wt ∙ ap (λ (s : Stored). s.word) (top_is ∙ ap (stored_at forest) r_is))
     ∙ ap (λ (n : ℕ). present (kept_flat (stored_at forest (top_at forest i))) (record_of n)) (is_wo ∙ ap (λ (s : Stored). s.word) own_is)
     ∙ sym (flat_shown forest i there)
+
+-- the phase that a phaser shows is that of its root
+view-present : (top own : Flat) → (top.ended ≡ false → own.ended ≡ false) → view_of (present top own) ≡ view_of top
+view-present top own live =
+    ap (λ (p : ℕ). phase_view p (present top own).ended) (present-phase top own) ∙ ap (phase_view top.phase) (present-ended top own live)
+
+pub view_read : (forest : List Stored) (i r w : ℕ) (own top : Stored) → IsStored forest → i < length forest → own ≡ get_or forest i own → r ≡ top_of own
+    → top ≡ get_or forest r top → w ≡ top.word → view_of (record_of w) ≡ view_of (flat_at (phasers_of forest) i)
+view_read forest i r w own top stored there read_own is_top read_top is_w =
+    let r_is : r ≡ top_at forest i = is_top ∙ ap top_of (get_or_read forest i own there read_own no_stored) in
+    let top_is : top ≡ stored_at forest r = get_or_read forest r top (top_read forest i r own stored there read_own is_top) read_top no_stored in
+    let w_is : record_of w ≡ kept_flat (stored_at forest (top_at forest i)) =
+    ap record_of (is_w ∙ ap (λ (s : Stored). s.word) (top_is ∙ ap (stored_at forest) r_is)) in
+    ap view_of w_is ∙ sym (ap view_of (flat_shown forest i there)
+    ∙ view-present (kept_flat (stored_at forest (top_at forest i))) (kept_flat (stored_at forest i)) (stored.live i there))
 
 pub puts_read : (forest : List Stored) (i w : ℕ) (d x : Stored) → x ≡ record (get_or forest i d) { word = w }
     → IsStored forest → i < length forest

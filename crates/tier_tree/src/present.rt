@@ -1,4 +1,5 @@
 ghost use Rattle.std.specs.Prelude.{◌≡◌, ◌<◌, ◌≤◌, [], ◌∷◌, length, false, All, slice_index_or};
+ghost use Rattle.packed_phaser.specs.Flat.{view_of};
 ghost use Rattle.packed_phaser.specs.Word.{record_of};
 ghost use Rattle.tier_tree.specs.Forest.{phaser_at, flat_at, root_at, with_flat};
 ghost use Rattle.tier_tree.specs.Stored.{IsStored, ChangedOnly, present, stored_at, phasers_of};
@@ -64,6 +65,17 @@ pub fn word_at(nodes: &[Node], i: usize) -> Word
     let node = &nodes[i];
     let root = &nodes[node.root() as usize];
     brought_up(root.word(), node.word())
+}
+
+/// What one phaser shows as its phase at present: that of its root, whatever its own word says.
+#[inline(always)]
+pub fn view_at(nodes: &[Node], i: usize) -> i32
+    requires stored { IsStored nodes.now }
+    requires there { i < length nodes.now }
+    ensures { result ≡ view_of (flat_at (phasers_of nodes.now) i) }
+{
+    let root = nodes[i].root();
+    nodes[root as usize].word().phase_view()
 }
 
 /// `word_at` where the word of its root is at hand.

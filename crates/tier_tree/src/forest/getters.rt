@@ -6,7 +6,7 @@ ghost use Rattle.tier_tree.specs.Stored.{phasers_of};
 
 use super::Forest;
 use crate::id::PhaserId;
-use crate::present::{line_at, phase_of, root_of, word_at};
+use crate::present::{line_at, phase_of, root_of, view_at, word_at};
 use packed_phaser::Policy;
 use phase_number::Phase;
 
@@ -20,11 +20,12 @@ impl Forest {
     }
 
     /// `getPhase`: the number of the tree's phase, less 2147483648 once the tree is terminated.
+    #[inline(always)]
     pub fn phase(&self, id: PhaserId) -> i32
         requires { id.0 < length self.now }
         ensures { result ≡ view_of (flat_at (phasers_of self.now) id.0) }
     {
-        word_at(self.nodes.as_slice(), id.0 as usize).phase_view()
+        view_at(self.nodes.as_slice(), id.0 as usize)
     }
 
     /// The number of the tree's phase, terminated or not.
