@@ -1,10 +1,11 @@
 -- A turn that is named once, read whole.
-use Rattle.std.proofs.Common.{◌≡◌, ◌∙◌, ◌+◌, ◌-◌, ◌*◌, ◌<◌, ◌≤◌, if◌then◌else◌, ℕ, Bool, true, false, List, [], ◌∷◌, ◌++◌, length, drop, refl, ap, sym, arith, lit≤, append_assoc, drop-drop}
-use Rattle.std.specs.Prelude.{Ok, Err, get_or}
+use Rattle.std.proofs.Common.{inl, ◌≡◌, ◌∙◌, ◌+◌, ◌-◌, ◌*◌, ◌<◌, ◌≤◌, if◌then◌else◌, ℕ, Bool, true, false, List, [], ◌∷◌, ◌++◌, length, drop, refl, ap, sym, subst, arith, lit≤, append_assoc, drop-drop}
+use Rattle.std.specs.Prelude.{All, Ok, Err, get_or}
 use Rattle.std.specs.List.{slice_split}
 use Rattle.std.specs.Char.{is_ascii_digit, digit_value}
 use Rattle.std.specs.Str.Parse.{AllDigits, digits_value_after}
 use Rattle.std.proofs.lemmas.List.{append-nil, drop_all}
+use Rattle.std.proofs.lemmas.List.Elements.{All-append, All-cons, All-nil}
 use Rattle.std.proofs.lemmas.List.Splits.{slice_split_at, length-slice_split}
 use Rattle.std.proofs.lemmas.Bool.Decides.{nat_tests}
 use Rattle.schedule_reader.specs.declared.run.Run.{Run}
@@ -12,7 +13,7 @@ use Rattle.schedule_reader.specs.declared.fault.ScheduleFault.{ScheduleFault}
 use Rattle.schedule_reader.specs.declared.fault.ScheduleFault.TheVariants as fault
 use Rattle.schedule_reader.specs.declared.place.Place.{Place}
 use Rattle.schedule_reader.specs.declared.place.Place.TheVariants as place
-use Rattle.schedule_reader.specs.Schedule.{Token, Unfinished, is_blank, whole, schedule_with, schedule_in, choice_of, run_of, digits_of, reading_of, reading_of_thread, reading_by_thread}
+use Rattle.schedule_reader.specs.Schedule.{Token, Schedule, IsRun, Unfinished, is_blank, whole, schedule_with, schedule_in, choice_of, run_of, digits_of, reading_of, reading_of_thread, reading_by_thread}
 use Rattle.schedule_reader.specs.Places.{BeginsWithTurn, Takes, thread_by, pieces_from, schedule_from, with_runs}
 use Rattle.schedule_reader.proofs.Numbers.{digit_value-digit, number_by-some}
 use Rattle.schedule_reader.proofs.Streams.{between-pieces, with_runs-append}
@@ -106,22 +107,64 @@ turn-schedule finished at thread count bytes rest begins =
     ∙ first-piece finished at piece run (slice_split is_blank after) (omega arith) some read
     ∙ ap (λ n. schedule_with (Ok run) (pieces_from finished place.Between n (slice_split is_blank after))) end
 
-pub takes-turn : (p : Place) (at thread count : ℕ) (bytes : List ℕ) (before after : List Run) (run : Run) → p ≡ place.Between
-    → BeginsWithTurn bytes thread count → run ≡ run_of (choice_of false thread) 1 → after ≡ before ++ (run ∷ [])
-    → Takes (Ok (place.Between, count)) before after (λ (stream : Bool × List ℕ). schedule_from stream.0 p at (bytes ++ stream.1))
-    (λ stream (next : Place × ℕ). schedule_from stream.0 next.0 (at + next.1) (drop next.1 bytes ++ stream.1))
-takes-turn p at thread count bytes before after run between begins is list = record {
-  added = run ∷ [];
-  list = list;
-  schedules = λ (stream : Bool × List ℕ). let rest = schedule_from stream.0 place.Between (at + count) (drop count bytes ++ stream.1) in (
-    rest,
-    (
-      ap (λ q. schedule_from stream.0 q at (bytes ++ stream.1)) between
-          ∙ turn-schedule stream.0 at thread count bytes stream.1 begins ∙ ap (λ r. with_runs (r ∷ []) rest) (sym is),
-      refl,
-    ),
-  );
+-- one turn more, behind those with which the bytes begin
+pub takes-turn : (p : Place) (at done thread count : ℕ) (bytes rest : List ℕ) (before between after : List Run) (run : Run) → p ≡ place.Between
+    → rest ≡ drop done bytes
+    → Takes (Ok done) before between (λ (stream : Bool × List ℕ). schedule_from stream.0 p at (bytes ++ stream.1))
+    (λ stream n. schedule_from stream.0 p (at + n) (drop n bytes ++ stream.1))
+    → BeginsWithTurn rest thread count → run ≡ run_of (choice_of false thread) 1 → after ≡ between ++ (run ∷ [])
+    → Takes (Ok (done + count)) before after (λ (stream : Bool × List ℕ). schedule_from stream.0 p at (bytes ++ stream.1))
+    (λ stream n. schedule_from stream.0 p (at + n) (drop n bytes ++ stream.1))
+takes-turn p at done thread count bytes rest before between after run here same so_far begins is list = record {
+  added = so_far.added ++ (run ∷ []);
+  list = list ∙ ap (λ rs. rs ++ (run ∷ [])) so_far.list ∙ append_assoc before so_far.added (run ∷ []);
+  schedules = λ (stream : Bool × List ℕ).
+      let first = so_far.schedules stream in
+      let next = at + done in
+      let left = schedule_from stream.0 p (at + (done + count)) (drop (done + count) bytes ++ stream.1) in
+      let end : next + count ≡ at + (done + count) = omega arith in
+      let one : schedule_from stream.0 p next (drop done bytes ++ stream.1) ≡ with_runs (run ∷ []) left =
+      ap (λ q. schedule_from stream.0 q next (drop done bytes ++ stream.1)) here
+      ∙ ap (λ bs. schedule_from stream.0 place.Between next (bs ++ stream.1)) (sym same)
+      ∙ turn-schedule stream.0 next thread count rest stream.1 begins
+      ∙ ap (λ r. with_runs (r ∷ []) (schedule_from stream.0 place.Between (next + count) (drop count rest ++ stream.1))) (sym is)
+      ∙ ap (λ q. with_runs (run ∷ []) (schedule_from stream.0 q (next + count) (drop count rest ++ stream.1))) (sym here)
+      ∙ ap (λ n. with_runs (run ∷ []) (schedule_from stream.0 p n (drop count rest ++ stream.1))) end
+      ∙ ap (λ bs. with_runs (run ∷ []) (schedule_from stream.0 p (at + (done + count)) (bs ++ stream.1)))
+      (ap (drop count) same ∙ drop-drop count done bytes) in
+      (left, (first.1.0 ∙ ap (with_runs so_far.added) (first.1.1 ∙ one) ∙ with_runs-append so_far.added (run ∷ []) left, refl));
 }
+
+-- and none more, for want of memory
+pub takes-turn_refused : (done : ℕ) (before between after : List Run) (start : Bool × List ℕ → Schedule) (left : Bool × List ℕ → ℕ → Schedule)
+    → Takes (Ok done) before between start left → after ≡ between → Takes (Err fault.Memory) before after start left
+takes-turn_refused done before between after start left so_far same = record {
+  added = so_far.added;
+  list = same ∙ so_far.list;
+  schedules = λ stream. let first = so_far.schedules stream in (first.0, (first.1.0, inl refl));
+}
+
+pub spelled-turn : (thread : ℕ) (before after : List Run) (run : Run) → thread ≤ 63 → run ≡ run_of (choice_of false thread) 1 → after ≡ before ++ (run ∷ [])
+    → All IsRun before → All IsRun after
+spelled-turn thread before after run small is list all =
+    let turn : IsRun (run_of (choice_of false thread) 1) = record { thread = small; some = lit≤ tt; few = lit≤ tt } in
+    subst (All IsRun) (sym list)
+    (All-append IsRun before (run ∷ []) all (All-cons IsRun run [] (subst IsRun (sym is) turn) (All-nil IsRun)))
+
+-- what the turns add is what the bytes add
+pub takes-turns : (p : Place) (at count : ℕ) (bytes : List ℕ) (before after : List Run)
+    → Takes (Ok count) before after (λ (stream : Bool × List ℕ). schedule_from stream.0 p at (bytes ++ stream.1))
+    (λ stream n. schedule_from stream.0 p (at + n) (drop n bytes ++ stream.1))
+    → Takes (Ok (p, count)) before after (λ (stream : Bool × List ℕ). schedule_from stream.0 p at (bytes ++ stream.1))
+    (λ stream (next : Place × ℕ). schedule_from stream.0 next.0 (at + next.1) (drop next.1 bytes ++ stream.1))
+takes-turns p at count bytes before after turns = record { added = turns.added; list = turns.list; schedules = turns.schedules }
+
+pub takes-turns_fault : (p : Place) (at : ℕ) (f : ScheduleFault) (bytes : List ℕ) (before after : List Run)
+    → Takes (Err f) before after (λ (stream : Bool × List ℕ). schedule_from stream.0 p at (bytes ++ stream.1))
+    (λ stream (n : ℕ). schedule_from stream.0 p (at + n) (drop n bytes ++ stream.1))
+    → Takes (Err f) before after (λ (stream : Bool × List ℕ). schedule_from stream.0 p at (bytes ++ stream.1))
+    (λ stream (next : Place × ℕ). schedule_from stream.0 next.0 (at + next.1) (drop next.1 bytes ++ stream.1))
+takes-turns_fault p at f bytes before after turns = record { added = turns.added; list = turns.list; schedules = turns.schedules }
 
 -- and after what was read before it, in a piece
 pub takes-some : (p next q : Place) (at offset done count : ℕ) (piece rest : List ℕ) (before between after : List Run) → rest ≡ drop done piece
@@ -171,26 +214,26 @@ takes-some_fault p next f at offset done piece rest before between after same so
 }
 
 -- one byte alone
-pub takes-one : (p q : Place) (at : ℕ) (rest : List ℕ) (before after : List Run) → 0 < length rest
-    → Takes (Ok q) before after (λ (stream : Bool × List ℕ). schedule_from stream.0 p at (get_or rest 0 0 ∷ stream.1))
+pub takes-one : (p q : Place) (at : ℕ) (rest : List ℕ) (before was after : List Run) → 0 < length rest → was ≡ before
+    → Takes (Ok q) was after (λ (stream : Bool × List ℕ). schedule_from stream.0 p at (get_or rest 0 0 ∷ stream.1))
     (λ stream n. schedule_from stream.0 n (at + 1) stream.1)
     → Takes (Ok (q, 1)) before after (λ (stream : Bool × List ℕ). schedule_from stream.0 p at (rest ++ stream.1))
     (λ stream (r : Place × ℕ). schedule_from stream.0 r.0 (at + r.1) (drop r.1 rest ++ stream.1))
-takes-one p q at [] before after some one = absurd (omega arith)
-takes-one p q at (b ∷ bs) before after some one = record {
+takes-one p q at [] before was after some same one = absurd (omega arith)
+takes-one p q at (b ∷ bs) before was after some same one = record {
   added = one.added;
-  list = one.list;
+  list = one.list ∙ ap (λ rs. rs ++ one.added) same;
   schedules = λ (stream : Bool × List ℕ). let t = one.schedules (stream.0, bs ++ stream.1) in (t.0, (t.1.0, t.1.1));
 }
 
-pub takes-one_fault : (p : Place) (f : ScheduleFault) (at : ℕ) (rest : List ℕ) (before after : List Run) → 0 < length rest
-    → Takes (Err f) before after (λ (stream : Bool × List ℕ). schedule_from stream.0 p at (get_or rest 0 0 ∷ stream.1))
+pub takes-one_fault : (p : Place) (f : ScheduleFault) (at : ℕ) (rest : List ℕ) (before was after : List Run) → 0 < length rest → was ≡ before
+    → Takes (Err f) was after (λ (stream : Bool × List ℕ). schedule_from stream.0 p at (get_or rest 0 0 ∷ stream.1))
     (λ stream (n : Place). schedule_from stream.0 n (at + 1) stream.1)
     → Takes (Err f) before after (λ (stream : Bool × List ℕ). schedule_from stream.0 p at (rest ++ stream.1))
     (λ stream (r : Place × ℕ). schedule_from stream.0 r.0 (at + r.1) (drop r.1 rest ++ stream.1))
-takes-one_fault p f at [] before after some one = absurd (omega arith)
-takes-one_fault p f at (b ∷ bs) before after some one = record {
+takes-one_fault p f at [] before was after some same one = absurd (omega arith)
+takes-one_fault p f at (b ∷ bs) before was after some same one = record {
   added = one.added;
-  list = one.list;
+  list = one.list ∙ ap (λ rs. rs ++ one.added) same;
   schedules = λ (stream : Bool × List ℕ). let t = one.schedules (stream.0, bs ++ stream.1) in (t.0, (t.1.0, t.1.1));
 }

@@ -165,8 +165,8 @@ fn bytes_from(piece: &[u8], done: usize) -> &[u8]
     &piece[done..]
 }
 
-/// Goes on from a place over the first of the bytes that begin at this offset: over a turn that is
-/// named once and the space behind it where they begin so, else over one. Answers how many.
+/// Goes on from a place over the first of the bytes that begin at this offset: over all turns that are
+/// named once, each with the space behind it, where they begin so, else over one. Answers how many.
 #[inline(always)]
 fn read_some(
     place: Place,
@@ -193,18 +193,45 @@ fn read_some(
     ensures room { 3 * vec_len runs.old + spent place + length rest.now
         < 3 * vec_capacity runs.old + 3 → result ≢ Err Memory }
 {
-    if let Place::Between = place {
-        if let Some((thread, count)) = turn_before_space(rest) {
-            return match runs.push(turn_of(thread)) {
-                Ok(()) => Ok((Place::Between, count)),
-                Err(_) => Err(ScheduleFault::Memory),
-            };
-        }
+    match read_turns(place, rest, runs) {
+        Ok(0) => {}
+        Ok(count) => return Ok((place, count)),
+        Err(fault) => return Err(fault),
     }
     match read_byte(place, at, rest[0], runs) {
         Ok(next) => Ok((next, 1)),
         Err(fault) => Err(fault),
     }
+}
+
+/// Goes on over the turns that are named once, each with the space behind it, with which the bytes begin. Answers how many
+/// bytes those are: none within a token, or where they don't begin so.
+#[inline(always)]
+fn read_turns(place: Place, rest: &[u8], runs: &mut Vec<Run>) -> Result<usize, ScheduleFault>
+    ensures takes { (at : ℕ) → Takes result runs.old.items runs.new.items
+        (λ (stream : Bool × List ℕ). schedule_from stream.0 place at (rest.now ++ stream.1))
+        (λ stream count. schedule_from stream.0 place (at + count) (drop count rest.now ++ stream.1)) }
+    ensures none { result ≡ Ok 0 → runs.new ≡ runs.old }
+    ensures between { IfOk result (λ count. 0 < count → place ≡ Between) }
+    ensures within { IfOk result (λ count. count ≤ length rest.now) }
+    ensures spelled { All IsRun runs.old.items → All IsRun runs.new.items }
+    ensures few { IfOk result (λ count. 3 * length runs.new.items ≤ 3 * length runs.old.items + count) }
+    ensures few_err { 3 * length runs.new.items ≤ 3 * length runs.old.items + length rest.now }
+    ensures capacity { vec_capacity runs.old ≤ vec_capacity runs.new }
+    ensures room { 3 * vec_len runs.old + length rest.now < 3 * vec_capacity runs.old + 3
+        → result ≢ Err Memory }
+{
+    let mut done = 0;
+    if !matches!(place, Place::Between) {
+        return Ok(done);
+    }
+    while let Some((thread, count)) = turn_before_space(bytes_from(rest, done)) {
+        match runs.push(turn_of(thread)) {
+            Ok(()) => done += count,
+            Err(_) => return Err(ScheduleFault::Memory),
+        }
+    }
+    Ok(done)
 }
 
 /// One turn of a thread.
