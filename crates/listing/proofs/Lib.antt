@@ -1,1 +1,2 @@
 pub mod ListedTexts
+pub mod OneDigit

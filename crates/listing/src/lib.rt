@@ -13,6 +13,7 @@ ghost use Rattle.listing.specs.Listing.{canonical};
 mod barriers;
 mod phasers;
 mod pieces;
+mod row_line;
 pub mod rows;
 mod threads;
 

@@ -1,0 +1,73 @@
+// A row's line, before it is pushed.
+ghost use Rattle.std.specs.Prelude.{◌≡◌, ◌+◌, ◌≤◌, ◌++◌, [], length};
+ghost use Rattle.std.specs.Fmt.{signed_decimal};
+
+use itoa::Buffer;
+use std::marker::Model;
+
+/// How long a row's line can be: a word, four operands of at most 13 bytes, and the line's end.
+const ROOM: usize = 64;
+
+/// A row's line as far as it is put together, in a room of fixed size: so it is pushed to the text in one piece.
+#[derive(Drop)]
+pub struct RowLine {
+    bytes: [u8; ROOM],
+    len: usize,
+}
+
+impl Model for RowLine {
+    ghost use Rattle.std.specs.Prelude.{◌≤◌, List, ℕ, take};
+
+    ghost Value = { List ℕ };
+
+    ghost view = { λ line. take line.len line.bytes };
+
+    ghost invariant = { λ line. line.len ≤ 64 };
+}
+
+impl RowLine {
+    /// A line of which nothing is there.
+    pub fn new() -> RowLine
+        ensures { result ≡ [] }
+    {
+        RowLine {
+            bytes: [0; ROOM],
+            len: 0,
+        }
+    }
+
+    /// What is there.
+    pub fn as_slice(&self) -> &[u8]
+        ensures { result.now ≡ self.now }
+    {
+        &self.bytes[..self.len]
+    }
+
+    /// Puts a word behind it.
+    #[inline(always)]
+    pub fn put_word(&mut self, word: &[u8])
+        requires { length self.old + length word.now ≤ 64 }
+        ensures text { self.new ≡ self.old ++ word.now }
+        ensures length { length self.new ≡ length self.old + length word.now }
+    {
+        let end = self.len + word.len();
+        self.bytes[self.len..end].copy_from_slice(word);
+        self.len = end;
+    }
+
+    /// Puts a word and a number behind it. Most numbers have one digit.
+    #[inline(always)]
+    #[tactic(auto, using(crate::proofs::OneDigit::digit_steps))]
+    pub fn put_value(&mut self, word: &[u8], value: i32)
+        requires { length self.old + length word.now + 11 ≤ 64 }
+        ensures text { self.new ≡ self.old ++ (word.now ++ signed_decimal value) }
+        ensures length { length self.new ≤ length self.old + length word.now + 11 }
+    {
+        self.put_word(word);
+        if 0 <= value && value < 10 {
+            self.put_word(&[b'0' + value as u8]);
+            return;
+        }
+        self.put_word(Buffer::new().format(value).as_bytes());
+    }
+}
