@@ -1,6 +1,6 @@
 -- The first line of a text, and what follows its end.
 use Rattle.std.proofs.Common.{◌≡◌, ◌∙◌, ℕ, ◌+◌, ◌-◌, ◌<◌, ◌==◌, true, List, [], ◌∷◌, ◌++◌, length, take, drop, Some, None, refl, sym, ap, arith}
-use Rattle.std.specs.List.{slice_split, position, before_first, after_first}
+use Rattle.std.specs.List.{slice_split, position, position_or_len, before_first, after_first}
 use Rattle.std.proofs.lemmas.Bool.Decides.{nat_tests}
 use Rattle.std.proofs.lemmas.List.{take_all, drop_all, length-drop}
 use Rattle.std.proofs.lemmas.List.Splits.{slice_split_first, slice_split_none, length-slice_split}
@@ -29,16 +29,15 @@ piece_only [] some = absurd (omega (arith, some))
 piece_only (byte ∷ bytes) some = refl
 
 -- a slice to its end
-to_end : (text : List ℕ) (n : ℕ) → take (length text - n) (drop n text) ≡ drop n text
+pub to_end : (text : List ℕ) (n : ℕ) → take (length text - n) (drop n text) ≡ drop n text
 to_end text n =
     let all = length-drop n text in
     take_all (length text - n) (drop n text) (omega (arith, all))
 
-pub line_at : (text : List ℕ) (place : ℕ) → Some place ≡ position is_line_end text →
+pub line_to : (text : List ℕ) (place : ℕ) → place ≡ position_or_len is_line_end text →
+    position_or_len is_line_end text < length text →
     lines_of text ≡ take place text ∷ lines_of (take (length text - (place + 1)) (drop (place + 1) text))
-line_at text place found =
-    let first = position_some is_line_end text place found in
-    let within = position_within is_line_end text place found in
+line_to text place first within =
     let after = after_first is_line_end text in
     let some : 0 < length (slice_split is_line_end after) = omega (arith, length-slice_split is_line_end after) in
     ap without_empty_last (slice_split_first is_line_end text 0 within)
@@ -46,14 +45,22 @@ line_at text place found =
     ∙ ap (λ k. take k text ∷ lines_of (drop (k + 1) text)) (sym first)
     ∙ ap (λ rest. take place text ∷ lines_of rest) (sym (to_end text (place + 1)))
 
-pub line_alone : (text : List ℕ) → 0 < length text → None ≡ position is_line_end text →
+pub line_at : (text : List ℕ) (place : ℕ) → Some place ≡ position is_line_end text →
+    lines_of text ≡ take place text ∷ lines_of (take (length text - (place + 1)) (drop (place + 1) text))
+line_at text place found =
+    line_to text place (position_some is_line_end text place found) (position_within is_line_end text place found)
+
+pub line_whole : (text : List ℕ) → 0 < length text → length text ≡ position_or_len is_line_end text →
     lines_of text ≡ text ∷ lines_of (take (length text - length text) (drop (length text) text))
-line_alone text some none =
-    let all = position_none is_line_end text none in
+line_whole text some all =
     ap without_empty_last (slice_split_none is_line_end text
     (λ k d there. fails_before_first is_line_end text k d (omega (arith, there, all))))
     ∙ piece_only text some
     ∙ ap (λ rest. text ∷ lines_of rest) (sym (to_end text (length text) ∙ drop_all (length text) text (omega arith)))
+
+pub line_alone : (text : List ℕ) → 0 < length text → None ≡ position is_line_end text →
+    lines_of text ≡ text ∷ lines_of (take (length text - length text) (drop (length text) text))
+line_alone text some none = line_whole text some (position_none is_line_end text none)
 
 -- an empty text has no lines
 pub no_lines : (text : List ℕ) → true ≡ (length text == 0) → lines_of text ≡ []

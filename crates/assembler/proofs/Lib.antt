@@ -1,5 +1,8 @@
 pub mod Drafts
 pub mod FirstLines
+pub mod PlainLines
+pub mod PlainWords
+pub mod KeptLines
 pub mod SpelledLines
 pub mod ReadLines
 pub mod FirstPass

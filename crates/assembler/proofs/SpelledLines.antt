@@ -75,7 +75,7 @@ row_plain word words row s =
 
 -- ---- a line of one word or more
 
-directive_behind_takes : (before : List (Line Name)) (word : List ℕ) (words : List (List ℕ)) (s : Statement Name) →
+pub directive_behind_takes : (before : List (Line Name)) (word : List ℕ) (words : List (List ℕ)) (s : Statement Name) →
     is_directive word ≡ true → directive_behind before word words ≡ Ok s → Spell (word ∷ words) s × Follows before s
 unfolding directive_behind
 directive_behind_takes before word words s known e =
@@ -88,7 +88,7 @@ directive_behind_takes before word words s known e =
       record { name = named.0; place = or_right (is_code said) (not (has_code before)) placed.0; room = fits.0 },
     ))
 
-row_behind_takes : (before : List (Line Name)) (label : Option Name) (word : List ℕ) (words : List (List ℕ)) (s : Statement Name) →
+pub row_behind_takes : (before : List (Line Name)) (label : Option Name) (word : List ℕ) (words : List (List ℕ)) (s : Statement Name) →
     is_new before label ≡ true → row_behind before label word words ≡ Ok s →
     (row : SymbolicRow Name) × (statement.Row label row ≡ s) × SpellRow (word ∷ words) row × Follows before (statement.Row label row)
 unfolding row_behind

@@ -5,3 +5,5 @@ pub mod Passes
 pub mod Symbols
 pub mod Answers
 pub mod Draft
+pub mod PlainLine
+pub mod KeptLine

@@ -1,17 +1,21 @@
-ghost use Rattle.std.specs.Prelude.{◌≡◌, ◌+◌, ◌<◌, ◌||◌, ◌++◌, ◌∷◌, [], IfErr, IfOk, List, map, option_copied, option_map};
+ghost use Rattle.std.specs.Prelude.{◌≡◌, ◌+◌, ◌<◌, ◌||◌, ◌++◌, ◌∷◌, [], IfErr, IfOk, List, Option, false, map, option_copied, option_map};
 ghost use Rattle.instruction_table.specs.declared.shape.OperandKind.{OperandKind};
 ghost use Rattle.line_reader.specs.declared.statement.Line.{Line};
 ghost use Rattle.assembler.specs.Draft.{IsKept, counted, named_with, number_there, places};
 ghost use Rattle.assembler.specs.Meaning.{referent};
-ghost use Rattle.assembler.specs.Statements.{Follows, adds, has_code, has_room, is_code, is_given, kind_named, most, name_in};
+ghost use Rattle.assembler.specs.Statements.{Follows, adds, has_code, has_room, is_code, is_given, kind_named, most, name_in, number_named};
 ghost use Rattle.line_reader.specs.Symbols.{Name};
-ghost use Rattle.line_reader.specs.Seen.{Borrowed, line_seen, name_seen, reference_seen, statement_seen};
+ghost use Rattle.line_reader.specs.Seen.{Borrowed, name_seen, reference_seen, statement_seen};
+ghost use Rattle.line_reader.specs.declared.statement.Statement.TheVariants as statement;
+ghost use Rattle.line_reader.specs.declared.symbolic_row.SymbolicRow.{SymbolicRow};
+ghost use Rattle.assembler.specs.KeptLine.{line_kept, statement_kept};
 
+use crate::kept_line::KeptLine;
 use crate::name_hash::{NameHash, NameKey};
 use indexmap::IndexMap;
 use instruction_table::OperandKind;
 use line_reader::reference::Reference;
-use line_reader::statement::{Line, Statement};
+use line_reader::statement::Statement;
 use std::alloc::{AllocError, Global};
 use std::marker::Model;
 
@@ -35,7 +39,8 @@ pub struct Counts {
 /// The lines of a text read so far that say something, with each name that they give.
 #[derive(Drop)]
 pub struct Draft<'a> {
-    lines: Vec<Line<&'a [u8]>>,
+    alloc: Global,
+    lines: Vec<KeptLine<'a>>,
     names: IndexMap<NameKey<'a>, Place, NameHash>,
     counts: Counts,
     has_code: bool,
@@ -44,9 +49,9 @@ pub struct Draft<'a> {
 impl<'a> Model for Draft<'a> {
     ghost Value = { List (Line Name) };
 
-    ghost view = { λ d. map line_seen d.lines.items };
+    ghost view = { λ d. map line_kept d.lines.items };
 
-    ghost invariant = { λ d. IsKept (map line_seen d.lines.items)
+    ghost invariant = { λ d. IsKept (map line_kept d.lines.items)
         (places d.names) d.counts d.has_code };
 }
 
@@ -100,58 +105,51 @@ fn counted(counts: &Counts, kind: OperandKind) -> u16
     }
 }
 
-/// Whether a statement is a label or a row.
-fn is_code(statement: &Statement<&[u8]>) -> bool
-    ensures { result ≡ is_code (statement_seen statement.now) }
-{
-    matches!(statement, Statement::Label(_) | Statement::Row(_, _))
-}
-
-/// Counts what a statement adds.
-fn counted_with(counts: Counts, statement: &Statement<&[u8]>) -> Counts
-    requires { let said = statement_seen statement.now in
+/// Counts what a line adds.
+fn counted_with(counts: Counts, line: &KeptLine<'_>) -> Counts
+    requires { let said = statement_kept line.now in
         counted counts (kind_named said) + adds (kind_named said) said < 65536 }
     ensures { (k : OperandKind) →
-        counted result k ≡ counted counts k + adds k (statement_seen statement.now) }
+        counted result k ≡ counted counts k + adds k (statement_kept line.now) }
 {
-    match statement {
-        Statement::Phaser(_) => Counts {
+    match line {
+        KeptLine::Phaser(_, _) => Counts {
             phasers: counts.phasers + 1,
             ..counts
         },
-        Statement::Barrier(_) => Counts {
+        KeptLine::Barrier(_, _) => Counts {
             barriers: counts.barriers + 1,
             ..counts
         },
-        Statement::Thread(_) => Counts {
+        KeptLine::Thread(_, _) => Counts {
             threads: counts.threads + 1,
             ..counts
         },
-        Statement::Cell(_) => Counts {
+        KeptLine::Cell(_, _) => Counts {
             cells: counts.cells + 1,
             ..counts
         },
-        Statement::Label(_) => counts,
-        Statement::Row(_, _) => Counts {
+        KeptLine::Label(_, _) => counts,
+        KeptLine::Row(_, _) | KeptLine::LabelledRow(_, _, _) => Counts {
             rows: counts.rows + 1,
             ..counts
         },
     }
 }
 
-/// Whether there is code with a statement more.
-fn code_with(has_code: bool, statement: &Statement<&[u8]>) -> bool
-    ensures { result ≡ (has_code || is_code (statement_seen statement.now)) }
+/// Whether there is code with a line more.
+fn code_with(has_code: bool, line: &KeptLine<'_>) -> bool
+    ensures { result ≡ (has_code || is_code (statement_kept line.now)) }
 {
-    has_code || is_code(statement)
+    has_code || line.is_code()
 }
 
-/// What the name of a statement names behind things of these counts.
-fn place_behind(counts: &Counts, statement: &Statement<&[u8]>) -> Place
-    ensures { let kind = kind_named (statement_seen statement.now) in
+/// What the name of a line names behind things of these counts.
+fn place_behind(counts: &Counts, line: &KeptLine<'_>) -> Place
+    ensures { let kind = kind_named (statement_kept line.now) in
         result ≡ record { kind = kind; number = counted counts.now kind } }
 {
-    let kind = kind_named(statement);
+    let kind = line.kind_named();
     Place {
         kind,
         number: counted(counts, kind),
@@ -159,6 +157,7 @@ fn place_behind(counts: &Counts, statement: &Statement<&[u8]>) -> Place
 }
 
 /// Adds a name, where there is one: none where memory is refused.
+#[inline(always)]
 fn add_name<'a>(
     names: &mut IndexMap<NameKey<'a>, Place, NameHash>,
     name: Option<&'a [u8]>,
@@ -196,6 +195,7 @@ impl<'a> Draft<'a> {
         ensures { result ≡ [] }
     {
         Draft {
+            alloc,
             lines: Vec::new(alloc),
             names: IndexMap::with_hasher(alloc, hash),
             counts: Counts {
@@ -210,8 +210,8 @@ impl<'a> Draft<'a> {
     }
 
     /// The lines that say something.
-    pub fn lines(&self) -> &[Line<&'a [u8]>]
-        ensures { map line_seen result.now ≡ self.now }
+    pub fn lines(&self) -> &[KeptLine<'a>]
+        ensures { map line_kept result.now ≡ self.now }
     {
         &self.lines
     }
@@ -243,27 +243,57 @@ impl<'a> Draft<'a> {
         }
     }
 
+    /// Whether there is room for a row more.
+    pub fn has_room_for_row(&self) -> bool
+        ensures { (label : Option Name) → (row : SymbolicRow Name) →
+            result ≡ has_room self.now (statement.Row label row) }
+    {
+        self.counts.rows < most(OperandKind::Target)
+    }
+
+    /// The number of the row or the object of this kind that has this name, where there is one.
+    pub fn number_named(&self, kind: OperandKind, name: &[u8]) -> Option<u16>
+        ensures { result ≡ number_named kind name.now self.now }
+    {
+        number_there(kind, self.names.get(&NameKey { bytes: name }))
+    }
+
     /// The number of the row or the object of this kind that is referred to, where there is one.
     pub fn referent(&self, kind: OperandKind, reference: &Reference<&'a [u8]>) -> Option<u16>
         ensures { result ≡ referent self.now kind (reference_seen reference.now) }
     {
         match reference {
             Reference::Numbered(number) => Some(*number),
-            Reference::Named(name) => number_there(kind, self.names.get(&NameKey { bytes: *name })),
+            Reference::Named(name) => self.number_named(kind, *name),
         }
     }
 
-    /// Adds a line, which may follow those so far: none where memory is refused.
-    pub fn push(&mut self, number: u64, statement: Statement<&'a [u8]>) -> Result<(), AllocError>
-        requires { Follows self.old (statement_seen statement) }
-        ensures { IfOk result (λ _. self.new
-            ≡ self.old ++ (line_seen (record { number = number; statement = statement.entry }) ∷ [])) }
+    /// Adds a directive, which may follow those so far: none where memory is refused.
+    pub fn push_directive(
+        &mut self,
+        number: u64,
+        said: Statement<&'a [u8]>,
+    ) -> Result<(), AllocError>
+        requires follows { Follows self.old (statement_seen said) }
+        requires directive { is_code (statement_seen said) ≡ false }
+        ensures { IfOk result (λ _. self.new ≡ self.old
+            ++ (record { number = number; statement = statement_seen said.entry } ∷ [])) }
     {
-        let name = name_in(&statement);
-        let place = place_behind(&self.counts, &statement);
-        let counts = counted_with(self.counts, &statement);
-        let has_code = code_with(self.has_code, &statement);
-        self.lines.push(Line { number, statement })?;
+        let line = KeptLine::of_directive(self.alloc, number, said)?;
+        self.push(line)
+    }
+
+    /// Adds a line, which may follow those so far: none where memory is refused.
+    #[inline(always)]
+    pub fn push(&mut self, line: KeptLine<'a>) -> Result<(), AllocError>
+        requires { Follows self.old (statement_kept line) }
+        ensures { IfOk result (λ _. self.new ≡ self.old ++ (line_kept line.entry ∷ [])) }
+    {
+        let name = line.name();
+        let place = place_behind(&self.counts, &line);
+        let counts = counted_with(self.counts, &line);
+        let has_code = code_with(self.has_code, &line);
+        self.lines.push(line)?;
         if let Err(refused) = add_name(&mut self.names, name, place) {
             self.lines.pop();
             return Err(refused);

@@ -14,7 +14,9 @@
 
 // How a line is read behind the lines before it.
 mod draft;
+mod kept_line;
 pub mod name_hash;
+mod plain_line;
 mod reading;
 
 // From a text to its image, and to its names.

@@ -1,17 +1,22 @@
-ghost use Rattle.std.specs.Prelude.{◌≡◌, map, option_map};
+ghost use Rattle.std.specs.Prelude.{◌≡◌, IfOk, Option, false, map, option_map, true};
 ghost use Rattle.line_reader.specs.Seen.{seen};
 ghost use Rattle.line_reader.specs.Reading.{before_last, is_label};
+ghost use Rattle.line_reader.specs.Symbols.{Name};
+ghost use Rattle.line_reader.specs.declared.statement.Statement.TheVariants as statement;
+ghost use Rattle.assembler.specs.KeptLine.{number_kept, statement_kept};
+ghost use Rattle.line_reader.specs.KeptRow.{row_kept};
 ghost use Rattle.assembler.specs.Reading.{directive_behind, labelled_behind, row_behind, statement_behind};
-ghost use Rattle.assembler.specs.Statements.{is_new};
+ghost use Rattle.assembler.specs.Statements.{is_code, is_new};
 ghost use Rattle.line_reader.specs.Seen.{name_seen, statement_seen};
 
 use crate::draft::{Draft, name_in};
+use crate::kept_line::KeptLine;
 use line_reader::asm_fault::AsmFaultKind;
 use line_reader::directive::{directive_at, is_directive};
-use line_reader::label::{before_last, is_label};
+use line_reader::kept_row::{KeptRow, row_at};
+use line_reader::label::before_last;
 use line_reader::name::name_at;
 use line_reader::statement::Statement;
-use line_reader::symbolic_row::row_at;
 
 /// Whether the name that a statement gives, if any, is new.
 fn is_new(draft: &Draft, name: Option<&[u8]>) -> bool
@@ -25,13 +30,14 @@ fn is_new(draft: &Draft, name: Option<&[u8]>) -> bool
 
 /// Reads a directive behind the lines so far.
 #[tactic(auto, unfolding(crate::specs::Reading::directive_behind))]
-fn directive_behind<'a>(
+pub fn directive_behind<'a>(
     draft: &Draft<'a>,
     word: &[u8],
     words: &[&'a [u8]],
 ) -> Result<Statement<&'a [u8]>, AsmFaultKind>
-    ensures { seen statement_seen result
+    ensures said { seen statement_seen result
         ≡ directive_behind draft.now word.now (map name_seen words.now) }
+    ensures directive { IfOk result (λ said. is_code (statement_seen said) ≡ false) }
 {
     if draft.has_code() {
         return Err(AsmFaultKind::MisplacedDirective);
@@ -47,63 +53,63 @@ fn directive_behind<'a>(
 }
 
 /// Reads a row behind the lines so far; its label was looked at before.
+#[inline(always)]
 #[tactic(auto, unfolding(crate::specs::Reading::row_behind))]
-fn row_behind<'a>(
+pub fn row_behind<'a>(
     draft: &Draft<'a>,
-    label: Option<&'a [u8]>,
     word: &[u8],
     words: &[&'a [u8]],
-) -> Result<Statement<&'a [u8]>, AsmFaultKind>
-    ensures { seen statement_seen result ≡ row_behind draft.now (option_map name_seen label.entry)
-        word.now (map name_seen words.now) }
+) -> Result<KeptRow<'a>, AsmFaultKind>
+    ensures { (label : Option Name) → seen (λ row. statement.Row label (row_kept row)) result
+        ≡ row_behind draft.now label word.now (map name_seen words.now) }
 {
-    let said = Statement::Row(label, row_at(word, words)?);
-    if !draft.has_room(&said) {
+    let row = row_at(word, words)?;
+    if !draft.has_room_for_row() {
         return Err(AsmFaultKind::TooMany);
     }
-    Ok(said)
+    Ok(row)
 }
 
-/// Reads what follows a label: nothing, or a row.
+/// Reads what follows a label in the line of this number: nothing, or a row.
 #[tactic(auto, unfolding(crate::specs::Reading::labelled_behind))]
 fn labelled_behind<'a>(
     draft: &Draft<'a>,
+    number: u64,
     label: &'a [u8],
     words: &[&'a [u8]],
-) -> Result<Statement<&'a [u8]>, AsmFaultKind>
-    ensures { seen statement_seen result
+) -> Result<KeptLine<'a>, AsmFaultKind>
+    ensures said { seen statement_kept result
         ≡ labelled_behind draft.now label.now (map name_seen words.now) }
+    ensures number { IfOk result (λ line. number_kept line ≡ number) }
 {
     match words {
-        [] => Ok(Statement::Label(label)),
+        [] => Ok(KeptLine::Label(number, label)),
         [word, operands @ ..] => {
             if is_directive(*word) {
                 return Err(AsmFaultKind::MisplacedDirective);
             }
-            row_behind(draft, Some(label), *word, operands)
+            let row = row_behind(draft, *word, operands)?;
+            Ok(KeptLine::LabelledRow(number, label, row))
         }
     }
 }
 
-/// Reads a line of one word or more behind the lines so far.
+/// Reads a label in the line of this number, and what follows it, behind the lines so far.
 #[tactic(auto, unfolding(crate::specs::Reading::statement_behind))]
-pub fn statement_behind<'a>(
+pub fn label_behind<'a>(
     draft: &Draft<'a>,
+    number: u64,
     word: &'a [u8],
     words: &[&'a [u8]],
-) -> Result<Statement<&'a [u8]>, AsmFaultKind>
-    ensures { seen statement_seen result
+) -> Result<KeptLine<'a>, AsmFaultKind>
+    requires { is_label word.now ≡ true }
+    ensures said { seen statement_kept result
         ≡ statement_behind draft.now word.now (map name_seen words.now) }
+    ensures number { IfOk result (λ line. number_kept line ≡ number) }
 {
-    if is_label(word) {
-        let label = name_at(before_last(word))?;
-        if !is_new(draft, Some(label)) {
-            return Err(AsmFaultKind::NameTwice);
-        }
-        labelled_behind(draft, label, words)
-    } else if is_directive(word) {
-        directive_behind(draft, word, words)
-    } else {
-        row_behind(draft, None, word, words)
+    let label = name_at(before_last(word))?;
+    if draft.is_given(label) {
+        return Err(AsmFaultKind::NameTwice);
     }
+    labelled_behind(draft, number, label, words)
 }

@@ -4,11 +4,11 @@ ghost use Rattle.line_reader.specs.declared.asm_fault.AsmFaultKind.TheVariants a
 ghost use Rattle.assembler.specs.Answers.{AnswersAt};
 ghost use Rattle.assembler.specs.Meaning.{image_of};
 ghost use Rattle.assembler.specs.Passes.{first_unknown, looked_up};
-ghost use Rattle.line_reader.specs.Seen.{line_seen};
+ghost use Rattle.assembler.specs.KeptLine.{line_kept};
 
 use crate::draft::Draft;
+use crate::kept_line::KeptLine;
 use line_reader::asm_fault::{AsmFault, AsmFaultKind};
-use line_reader::statement::Line;
 use parts::Parts;
 use row_code::Image;
 use std::alloc::Global;
@@ -20,22 +20,22 @@ mod parts;
 fn parts_of<'a>(
     alloc: Global,
     draft: &Draft<'a>,
-    lines: &[Line<&'a [u8]>],
+    lines: &[KeptLine<'a>],
     last: u64,
 ) -> Result<Parts, AsmFault>
     requires fits { IsImage (image_of draft.now) }
-    requires all { map line_seen lines.now ≡ draft.now }
+    requires all { map line_kept lines.now ≡ draft.now }
     ensures found { AnswersAt (λ parts. parts) result
         (looked_up draft.now (first_unknown draft.now)) }
     ensures memory { IfErr result (λ e. e.kind ≡ fault.Memory → e.line ≡ last) }
 {
     let mut parts = Parts::new(alloc);
     for line in lines {
-        match parts.add(draft, &line.statement) {
+        match parts.add(draft, line) {
             Ok(true) => {}
             Ok(false) => {
                 return Err(AsmFault {
-                    line: line.number,
+                    line: line.number(),
                     kind: AsmFaultKind::UnknownName,
                 });
             }

@@ -1,12 +1,12 @@
 ghost use Rattle.std.specs.Prelude.{◌≡◌, ◌++◌, [], find, map, option_map, IfOk};
 ghost use Rattle.std.specs.List.{cons_option};
-ghost use Rattle.line_reader.specs.Seen.{line_seen, name_seen, statement_seen};
+ghost use Rattle.line_reader.specs.Seen.{name_seen};
+ghost use Rattle.assembler.specs.KeptLine.{line_kept, statement_kept};
 ghost use Rattle.assembler.specs.Symbols.{SymbolTable, is_symbol_of, name_of, row_line, symbol_in, symbol_name, symbol_seen, symbols_of};
 
-use crate::draft::{Draft, kind_named, name_in};
+use crate::draft::Draft;
+use crate::kept_line::KeptLine;
 use instruction_table::OperandKind;
-use line_reader::reference::Reference;
-use line_reader::statement::{Line, Statement};
 use std::alloc::{AllocError, Global};
 use std::marker::Model;
 
@@ -34,14 +34,14 @@ impl<'a> Model for Symbols<'a> {
     } };
 }
 
-/// The name that a statement gives, with the number that it stands for.
-fn symbol_in<'a>(draft: &Draft<'a>, statement: &Statement<&'a [u8]>) -> Option<Symbol<&'a [u8]>>
+/// The name that a line gives, with the number that it stands for.
+fn symbol_in<'a>(draft: &Draft<'a>, line: &KeptLine<'a>) -> Option<Symbol<&'a [u8]>>
     ensures { cons_option (option_map symbol_seen result) []
-        ≡ symbol_in draft.now (statement_seen statement.now) }
+        ≡ symbol_in draft.now (statement_kept line.now) }
 {
-    let name = name_in(statement)?;
-    let kind = kind_named(statement);
-    let number = draft.referent(kind, &Reference::Named(name))?;
+    let name = line.name()?;
+    let kind = line.kind_named();
+    let number = draft.number_named(kind, name)?;
     Some(Symbol { kind, number, name })
 }
 
@@ -49,17 +49,17 @@ fn symbol_in<'a>(draft: &Draft<'a>, statement: &Statement<&'a [u8]>) -> Option<S
 fn add_line<'a>(
     symbols: &mut Symbols<'a>,
     draft: &Draft<'a>,
-    line: &Line<&'a [u8]>,
+    line: &KeptLine<'a>,
 ) -> Result<(), AllocError>
     ensures names { IfOk result (λ _. symbols.new.names
-        ≡ symbols.old.names ++ symbol_in draft.now (line_seen line.now).statement) }
-    ensures rows { IfOk result (λ _. symbols.new.rows ≡ symbols.old.rows ++ row_line (line_seen line.now)) }
+        ≡ symbols.old.names ++ symbol_in draft.now (line_kept line.now).statement) }
+    ensures rows { IfOk result (λ _. symbols.new.rows ≡ symbols.old.rows ++ row_line (line_kept line.now)) }
 {
-    if let Some(symbol) = symbol_in(draft, &line.statement) {
+    if let Some(symbol) = symbol_in(draft, line) {
         symbols.names.push(symbol)?;
     }
-    if matches!(line.statement, Statement::Row(_, _)) {
-        symbols.rows.push(line.number)?;
+    if line.is_row() {
+        symbols.rows.push(line.number())?;
     }
     Ok(())
 }
@@ -68,9 +68,9 @@ fn add_line<'a>(
 pub(crate) fn symbols_of<'a>(
     alloc: Global,
     draft: &Draft<'a>,
-    lines: &[Line<&'a [u8]>],
+    lines: &[KeptLine<'a>],
 ) -> Result<Symbols<'a>, AllocError>
-    requires { map line_seen lines.now ≡ draft.now }
+    requires { map line_kept lines.now ≡ draft.now }
     ensures { IfOk result (λ symbols. symbols ≡ symbols_of draft.now) }
 {
     let mut symbols = Symbols::none(alloc);

@@ -8,3 +8,4 @@ pub mod ByPlace
 pub mod SpelledNumbers
 pub mod SpelledOperands
 pub mod SpelledDirectives
+pub mod KeptRows

@@ -5,3 +5,4 @@ pub mod Symbols
 pub mod Spelling
 pub mod Reading
 pub mod Seen
+pub mod KeptRow

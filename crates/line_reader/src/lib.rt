@@ -13,6 +13,7 @@ pub mod number;
 pub mod words;
 
 // What a line says: a row or an object that it declares, with names where there may be names.
+pub mod kept_row;
 pub mod reference;
 pub mod statement;
 pub mod symbolic_barrier;

@@ -1,9 +1,6 @@
-ghost use Rattle.std.specs.Prelude.{◌≡◌, ◌==◌, ◌≤◌, IfOk, bytes_eq, length, map};
+ghost use Rattle.std.specs.Prelude.{◌≡◌, ◌==◌, ◌≤◌, bytes_eq, length};
 ghost use Rattle.std.specs.List.{before_first, list_all, position, position_or_len};
-ghost use Rattle.line_reader.specs.Seen.{name_seen};
-ghost use Rattle.line_reader.specs.Words.{begins_comment, is_allowed, is_blank, is_line_end, words_of};
-
-use std::alloc::AllocError;
+ghost use Rattle.line_reader.specs.Words.{begins_comment, is_allowed, is_blank, is_line_end};
 
 /// Space, tab and CR.
 pub fn is_blank(byte: u8) -> bool
@@ -56,15 +53,6 @@ pub fn before_comment(line: &[u8]) -> &[u8]
     ensures { result.now ≡ before_first begins_comment line.now }
 {
     &line[..length_before(b';', line)]
-}
-
-/// Puts the words of a line in the place of what the list held.
-pub fn read_words<'a>(words: &mut Vec<&'a [u8]>, line: &'a [u8]) -> Result<(), AllocError>
-    ensures { IfOk result (λ _. map name_seen words.new.items ≡ words_of line.now) }
-{
-    let pieces = before_comment(line).split(|byte| is_blank(*byte));
-    words.clear();
-    words.extend(pieces.filter(|piece| !piece.is_empty()))
 }
 
 /// Whether a word is this one.

@@ -137,7 +137,7 @@ impl KeptLine {
         self.put_another_idle(step, choice, pc);
     }
 
-    /// The same whatever the last line is.
+    /// Makes it the line of a choice that was idle, where it isn't that of the choice before.
     #[inline(never)]
     fn put_another_idle(&mut self, step: u64, choice: Choice, pc: u16)
         requires { step + 1 < 2 ^ 64 }

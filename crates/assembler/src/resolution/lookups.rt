@@ -5,14 +5,15 @@ ghost use Rattle.row_code.specs.Phasers.{IsPhaser};
 ghost use Rattle.line_reader.specs.declared.statement.Statement.TheVariants as statement;
 ghost use Rattle.assembler.specs.Meaning.{are_known, barrier_of, is_known_or_none, is_operand_known, is_policy_known, referent_or_0, operands_of, phaser_of, policy_of, row_of, thread_of, with_operand};
 ghost use Rattle.line_reader.specs.Symbols.{operands_in};
-ghost use Rattle.line_reader.specs.Seen.{barrier_seen, operand_seen, phaser_seen, policy_seen, reference_seen, row_seen, thread_seen};
+ghost use Rattle.line_reader.specs.Seen.{barrier_seen, phaser_seen, policy_seen, reference_seen, thread_seen};
+ghost use Rattle.line_reader.specs.KeptRow.{operand_kept, row_kept};
 
 use crate::draft::Draft;
 use instruction_table::{OperandKind, Reg, Row};
+use line_reader::kept_row::{Held, KeptOperand, KeptRow};
 use line_reader::reference::Reference;
 use line_reader::symbolic_barrier::SymbolicBarrier;
 use line_reader::symbolic_phaser::{SymbolicPhaser, SymbolicPolicy};
-use line_reader::symbolic_row::{Operand, SymbolicRow};
 use line_reader::symbolic_thread::SymbolicThread;
 use row_code::{
     DeclaredBarrier, DeclaredPhaser, DeclaredPolicy, DeclaredThread, Operands, row_with,
@@ -94,39 +95,44 @@ pub fn thread_of<'a>(draft: &Draft<'a>, thread: &SymbolicThread<&'a [u8]>) -> Op
     Some(DeclaredThread { first_row })
 }
 
-/// One more operand before these; nothing where its name is not known.
+/// One more operand of a row before these; nothing where its name is not known.
 fn with_operand<'a>(
     draft: &Draft<'a>,
-    operand: &Operand<&'a [u8]>,
+    held: &Held<'a>,
+    operand: KeptOperand,
     operands: Operands,
 ) -> Option<Operands>
-    ensures { result ≡ (if is_operand_known draft.now (operand_seen operand.now)
-        then Some (with_operand draft.now (operand_seen operand.now) operands) else None) }
+    ensures { result ≡ (if is_operand_known draft.now (operand_kept held.now operand)
+        then Some (with_operand draft.now (operand_kept held.now operand) operands) else None) }
 {
     match operand {
-        Operand::Absent => Some(operands),
-        Operand::Register(reg) => Some(Operands {
-            a: *reg,
+        KeptOperand::Absent => Some(operands),
+        KeptOperand::Register(reg) => Some(Operands {
+            a: reg,
             b: operands.a,
             c: operands.b,
             ..operands
         }),
-        Operand::Number(value) => Some(Operands {
-            number: *value,
+        KeptOperand::Number => Some(Operands {
+            number: held.number,
             ..operands
         }),
-        Operand::Object(kind, reference) => {
-            let object = draft.referent(*kind, reference)?;
+        KeptOperand::Numbered(_) => Some(Operands {
+            object: held.object,
+            ..operands
+        }),
+        KeptOperand::Named(kind) => {
+            let object = draft.number_named(kind, held.name)?;
             Some(Operands { object, ..operands })
         }
     }
 }
 
 /// The operands of a row; nothing where a name is not known.
-fn operands_of<'a>(draft: &Draft<'a>, row: &SymbolicRow<&'a [u8]>) -> Option<Operands>
+fn operands_of<'a>(draft: &Draft<'a>, row: &KeptRow<'a>) -> Option<Operands>
     ensures { result
-        ≡ (if list_all (is_operand_known draft.now) (operands_in (row_seen row.now))
-        then Some (operands_of draft.now (operands_in (row_seen row.now))) else None) }
+        ≡ (if list_all (is_operand_known draft.now) (operands_in (row_kept row.now))
+        then Some (operands_of draft.now (operands_in (row_kept row.now))) else None) }
 {
     let none = Operands {
         a: Reg::R0,
@@ -135,20 +141,21 @@ fn operands_of<'a>(draft: &Draft<'a>, row: &SymbolicRow<&'a [u8]>) -> Option<Ope
         number: 0,
         object: 0,
     };
-    let operands = with_operand(draft, &row.fourth, none)?;
-    let operands = with_operand(draft, &row.third, operands)?;
-    let operands = with_operand(draft, &row.second, operands)?;
-    with_operand(draft, &row.first, operands)
+    let operands = with_operand(draft, &row.held, row.fourth, none)?;
+    let operands = with_operand(draft, &row.held, row.third, operands)?;
+    let operands = with_operand(draft, &row.held, row.second, operands)?;
+    with_operand(draft, &row.held, row.first, operands)
 }
 
 /// A row; nothing where a name is not known.
-pub fn row_of<'a>(draft: &Draft<'a>, row: &SymbolicRow<&'a [u8]>) -> Option<Row>
+#[inline(always)]
+pub fn row_of<'a>(draft: &Draft<'a>, row: &KeptRow<'a>) -> Option<Row>
     ensures { result
-        ≡ (if list_all (is_operand_known draft.now) (operands_in (row_seen row.now))
-        then Some (row_of draft.now (row_seen row.now)) else None) }
+        ≡ (if list_all (is_operand_known draft.now) (operands_in (row_kept row.now))
+        then Some (row_of draft.now (row_kept row.now)) else None) }
 {
     match operands_of(draft, row) {
-        Some(operands) => Some(row_with(row.opcode, operands)),
+        Some(operands) => Some(row_with(row.held.opcode, operands)),
         None => None,
     }
 }

@@ -4,12 +4,12 @@ ghost use Rattle.row_code.specs.declared.image.Image.{Image};
 ghost use Rattle.row_code.specs.Image.{IsImage};
 ghost use Rattle.row_code.specs.Phasers.{IsPhaser};
 ghost use Rattle.assembler.specs.Meaning.{are_known, barriers_in, image_of, phasers_in, rows_in, threads_in};
-ghost use Rattle.line_reader.specs.Seen.{statement_seen};
+ghost use Rattle.assembler.specs.KeptLine.{statement_kept};
 
 use super::lookups::{barrier_of, phaser_of, row_of, thread_of};
 use crate::draft::Draft;
+use crate::kept_line::KeptLine;
 use instruction_table::Row;
-use line_reader::statement::Statement;
 use row_code::{
     Barriers, DeclaredBarrier, DeclaredPhaser, DeclaredThread, Image, Phasers, Rows, Threads,
 };
@@ -63,34 +63,31 @@ impl Parts {
         }
     }
 
-    /// Adds what a statement adds to an image, where each name that it refers to is known, and
+    /// Adds what a line adds to an image, where each name that it refers to is known, and
     /// tells whether this is so.
-    pub fn add<'a>(
-        &mut self,
-        draft: &Draft<'a>,
-        statement: &Statement<&'a [u8]>,
-    ) -> Result<bool, AllocError>
-        requires { AllByRecursion IsPhaser (phasers_in draft.now (statement_seen statement.now)) }
+    pub fn add<'a>(&mut self, draft: &Draft<'a>, line: &KeptLine<'a>) -> Result<bool, AllocError>
+        requires { AllByRecursion IsPhaser (phasers_in draft.now (statement_kept line.now)) }
         ensures known { IfOk result (λ known. known
-            ≡ are_known draft.now (statement_seen statement.now)) }
+            ≡ are_known draft.now (statement_kept line.now)) }
         ensures phasers { result ≡ Ok true → self.new.phasers
-            ≡ self.old.phasers ++ phasers_in draft.now (statement_seen statement.now) }
+            ≡ self.old.phasers ++ phasers_in draft.now (statement_kept line.now) }
         ensures barriers { result ≡ Ok true → self.new.barriers
-            ≡ self.old.barriers ++ barriers_in draft.now (statement_seen statement.now) }
+            ≡ self.old.barriers ++ barriers_in draft.now (statement_kept line.now) }
         ensures threads { result ≡ Ok true → self.new.threads
-            ≡ self.old.threads ++ threads_in draft.now (statement_seen statement.now) }
+            ≡ self.old.threads ++ threads_in draft.now (statement_kept line.now) }
         ensures rows { result ≡ Ok true → self.new.rows
-            ≡ self.old.rows ++ rows_in draft.now (statement_seen statement.now) }
+            ≡ self.old.rows ++ rows_in draft.now (statement_kept line.now) }
     {
-        match statement {
-            Statement::Phaser(phaser) => push_found(&mut self.phasers, phaser_of(draft, phaser)),
-            Statement::Barrier(barrier) => push_found(
+        match line {
+            KeptLine::Phaser(_, phaser) => push_found(&mut self.phasers, phaser_of(draft, phaser)),
+            KeptLine::Barrier(_, barrier) => push_found(
                 &mut self.barriers,
                 barrier_of(draft, barrier),
             ),
-            Statement::Thread(thread) => push_found(&mut self.threads, thread_of(draft, thread)),
-            Statement::Row(_, row) => push_found(&mut self.rows, row_of(draft, row)),
-            Statement::Cell(_) | Statement::Label(_) => Ok(true),
+            KeptLine::Thread(_, thread) => push_found(&mut self.threads, thread_of(draft, thread)),
+            KeptLine::Row(_, row) => push_found(&mut self.rows, row_of(draft, row)),
+            KeptLine::LabelledRow(_, _, row) => push_found(&mut self.rows, row_of(draft, row)),
+            KeptLine::Cell(_, _) | KeptLine::Label(_, _) => Ok(true),
         }
     }
 

@@ -23,9 +23,9 @@ returns-in-Err c =
     let texts = lines_of c.args.text.now in
     let k = c.loop-rest.number in
     let draft = c.loop-rest.draft in
-    let line = c.first_line.result.0.now in
-    let more = lines_of c.first_line.result.1.now in
-    let next = next_line texts k draft line more before.met (sym before.left ∙ c.first_line.ensures.lines) in
+    let line = c.first_line-line.result.bytes.now in
+    let more = lines_of c.first_line-line.result.after.now in
+    let next = next_line texts k draft line more before.met (sym before.left ∙ c.first_line-line.ensures.lines) in
     let fault = c.in-Err.fault in
     record {
       read = subst (λ r. FailsAt fault.kind fault r) (sym next)
@@ -38,15 +38,15 @@ loop-rest-preserved c =
     let before = c.loop-rest.invariant in
     let texts = lines_of c.args.text.now in
     let k = c.loop-rest.number in
-    let line = c.first_line.result.0.now in
-    let more = lines_of c.first_line.result.1.now in
-    let left = sym before.left ∙ c.first_line.ensures.lines in
+    let line = c.first_line-line.result.bytes.now in
+    let more = lines_of c.first_line-line.result.after.now in
+    let left = sym before.left ∙ c.first_line-line.ensures.lines in
     let within = one_left texts k line more left in
     record {
       met = one_more texts k c.loop-rest.draft c.read_line.new.draft line more before.met left c.in_default.ensures.read;
       left = sym (one_less texts k line more left);
       count = omega (arith, within);
-      room = omega (arith, before.room, c.first_line.ensures.shorter);
+      room = omega (arith, before.room, c.first_line-line.ensures.shorter);
     }
 
 pub returns : goal.returns

@@ -3,12 +3,12 @@ use Rattle.std.specs.Prelude.{find}
 use Rattle.std.specs.List.{flat_map}
 use Rattle.assembler.specs.Meaning.{are_known, barriers_in, phasers_in, rows_in, threads_in}
 use Rattle.assembler.specs.Passes.{first_unknown}
-use Rattle.line_reader.specs.Seen.{line_seen}
+use Rattle.assembler.specs.KeptLine.{line_kept}
 use Rattle.assembler.proofs.resolution.parts_of.Given as goal
 
 abbrev pub invariant-loop-line : goal.invariant-loop-line
 invariant-loop-line l =
-    let rest = map line_seen (drop l.line-index l.lines) in
+    let rest = map line_kept (drop l.line-index l.lines) in
     record {
       phasers : l.parts.phasers ++ flat_map (λ line. phasers_in l.draft line.statement) rest
           ≡ flat_map (λ line. phasers_in l.draft line.statement) l.draft;

@@ -1,7 +1,6 @@
 use Rattle.std.proofs.Common.{◌∙◌, ap, map, [], ◌∷◌}
 use Rattle.std.proofs.lemmas.List.{map-append}
-use Rattle.line_reader.specs.declared.statement.Line.{Line}
-use Rattle.line_reader.specs.Seen.{Borrowed, line_seen}
+use Rattle.assembler.specs.KeptLine.{line_kept}
 use Rattle.assembler.specs.Statements.{is_new, name_in}
 use Rattle.assembler.specs.Draft.{named_with, places}
 use Rattle.assembler.proofs.Drafts.{kept_with}
@@ -9,15 +8,15 @@ use Rattle.assembler.proofs.draft.Draft.push.Goals as goal
 
 pub invariant_of-self-2 : goal.invariant_of-self-2
 invariant_of-self-2 c =
-    let said : Line Borrowed = record { number = c.args.number; statement = c.args.statement } in
-    let line = line_seen said in
+    let said = c.args.line in
+    let line = line_kept said in
     let kept =
-    kept_with (map line_seen c.self.inside.lines.items) (places c.self.inside.names) (places c.add_name.new.names)
+    kept_with (map line_kept c.self.inside.lines.items) (places c.self.inside.names) (places c.add_name.new.names)
     c.self.inside.counts c.counted_with-counts.result c.self.inside.has_code line c.place_behind-place.result
     c.self.invariant
     (ap (λ lines. is_new lines (name_in line.statement)) c.self.view_is ∙ c.requires.name)
     c.place_behind-place.ensures
     (λ q. c.in_default.ensures.added q
-    ∙ ap (λ name. named_with name c.place_behind-place.result (places c.self.inside.names) q) c.name_in-name.ensures)
+    ∙ ap (λ name. named_with name c.place_behind-place.result (places c.self.inside.names) q) c.name-name.ensures)
     c.counted_with-counts.ensures in
-    rw (c.in_ok-push.ensures.items, map-append line_seen c.self.inside.lines.items (said ∷ []), c.code_with-has_code.ensures) kept
+    rw (c.in_ok-push.ensures.items, map-append line_kept c.self.inside.lines.items (said ∷ []), c.code_with-has_code.ensures) kept

@@ -1,14 +1,14 @@
 use Rattle.std.proofs.Common.{pos}
 use Rattle.instruction_table.specs.declared.register.Reg.TheVariants.{R0}
 use Rattle.assembler.specs.Meaning.{is_operand_known, with_operand}
-use Rattle.line_reader.specs.Seen.{row_seen}
+use Rattle.line_reader.specs.KeptRow.{row_kept}
 use Rattle.assembler.proofs.Lookups.{four_found}
 use Rattle.assembler.proofs.resolution.lookups.operands_of.Goals as goal
 
 pub returns : goal.returns
 returns c =
     let lines = c.args.draft.now in
-    let row = row_seen c.args.row.now in
+    let row = row_kept c.args.row.now in
     four_found (with_operand lines row.first) (with_operand lines row.second) (with_operand lines row.third)
     (is_operand_known lines row.first) (is_operand_known lines row.second) (is_operand_known lines row.third)
     (is_operand_known lines row.fourth)

@@ -1,6 +1,6 @@
 use Rattle.std.proofs.Common.{◌∙◌, sym}
 use Rattle.assembler.proofs.FirstLines.{line_at, line_alone}
-use Rattle.assembler.proofs.first_pass.first_line.Goals as goal
+use Rattle.assembler.proofs.plain_line.any_line.Goals as goal
 
 pub returns-in-Some-clause-lines : goal.returns-in-Some-clause-lines
 returns-in-Some-clause-lines c =

@@ -1,0 +1,8 @@
+use Rattle.std.proofs.Common.{sym}
+use Rattle.assembler.specs.KeptLine.{statement_kept}
+use Rattle.assembler.proofs.SpelledLines.{statement_takes}
+use Rattle.assembler.proofs.first_pass.add_labelled.Goals as goal
+
+pub push-requires : goal.push-requires
+push-requires c =
+    (statement_takes c.args.draft.now _ _ (statement_kept c.in-Ok.line) (sym c.in-Ok.ensures.said)).1

@@ -1,0 +1,9 @@
+use Rattle.std.proofs.Common.{None, map}
+use Rattle.line_reader.specs.Seen.{name_seen}
+use Rattle.line_reader.specs.KeptRow.{row_kept}
+use Rattle.assembler.proofs.KeptLines.{row_follows}
+use Rattle.assembler.proofs.first_pass.add_row.Goals as goal
+
+pub push-requires : goal.push-requires
+push-requires c =
+    row_follows c.args.draft.now c.args.word.now (map name_seen c.args.words.now) (row_kept c.in-Ok.row) (c.in-Ok.ensures None)

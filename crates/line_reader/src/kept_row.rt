@@ -1,0 +1,183 @@
+ghost use Rattle.std.specs.Prelude.{◌≡◌, IfOk, false, map, true};
+ghost use Rattle.line_reader.specs.Reading.{operand_at, operand_there, register_at, row_at, row_of_kinds};
+ghost use Rattle.line_reader.specs.Seen.{name_seen, seen};
+ghost use Rattle.line_reader.specs.KeptRow.{is_other, is_other_there, is_register, one_other, operand_kept, row_kept};
+
+use crate::asm_fault::AsmFaultKind;
+use crate::number::number_at;
+use crate::reference::{Reference, reference_at};
+use crate::words::is_word;
+use instruction_table::{OperandKind, Reg, shape_of};
+
+/// What stands at one of the four places of a row.
+#[derive(Clone, Copy)]
+pub enum KeptOperand {
+    Absent,
+    Register(Reg),
+    /// The number that the row holds.
+    Number,
+    /// The object of this kind, or the row, whose number the row holds.
+    Numbered(OperandKind),
+    /// The same by the name that the row holds.
+    Named(OperandKind),
+}
+
+/// A row's opcode, and its operand that is no register: no row has two of them.
+#[derive(Clone, Copy)]
+pub struct Held<'a> {
+    pub name: &'a [u8],
+    pub number: i32,
+    pub object: u16,
+    pub opcode: u8,
+}
+
+/// A row whose operands may still be names, in 32 bytes.
+#[derive(Clone, Copy)]
+pub struct KeptRow<'a> {
+    pub held: Held<'a>,
+    pub first: KeptOperand,
+    pub second: KeptOperand,
+    pub third: KeptOperand,
+    pub fourth: KeptOperand,
+}
+
+/// Reads a register: `r0` to `r7`.
+#[inline(always)]
+#[tactic(auto, using(crate::proofs::Registers::register_by_tests))]
+fn register_at(word: &[u8]) -> Result<Reg, AsmFaultKind>
+    ensures { result ≡ register_at word.now }
+{
+    if is_word(word, "r0") {
+        Ok(Reg::R0)
+    } else if is_word(word, "r1") {
+        Ok(Reg::R1)
+    } else if is_word(word, "r2") {
+        Ok(Reg::R2)
+    } else if is_word(word, "r3") {
+        Ok(Reg::R3)
+    } else if is_word(word, "r4") {
+        Ok(Reg::R4)
+    } else if is_word(word, "r5") {
+        Ok(Reg::R5)
+    } else if is_word(word, "r6") {
+        Ok(Reg::R6)
+    } else if is_word(word, "r7") {
+        Ok(Reg::R7)
+    } else {
+        Err(AsmFaultKind::BadRegister)
+    }
+}
+
+/// Reads an operand of this kind, which is no register, and holds what it is.
+#[inline(never)]
+#[tactic(auto, unfolding(crate::specs::Reading::operand_at))]
+fn other_at<'a>(
+    held: &mut Held<'a>,
+    kind: OperandKind,
+    word: &'a [u8],
+) -> Result<KeptOperand, AsmFaultKind>
+    requires { is_other kind ≡ true }
+    ensures read { seen (operand_kept held.new) result ≡ operand_at kind word.now }
+    ensures opcode { held.new.opcode ≡ held.old.opcode }
+{
+    match kind {
+        OperandKind::Number => {
+            held.number = number_at(i32::MIN, i32::MAX, word)?;
+            Ok(KeptOperand::Number)
+        }
+        _ => match reference_at(u16::MAX, word)? {
+            Reference::Named(name) => {
+                held.name = name;
+                Ok(KeptOperand::Named(kind))
+            }
+            Reference::Numbered(number) => {
+                held.object = number;
+                Ok(KeptOperand::Numbered(kind))
+            }
+        },
+    }
+}
+
+/// Reads an operand of this kind. What it is is held, where it is no register.
+#[inline(always)]
+#[tactic(auto, unfolding(crate::specs::Reading::operand_at))]
+fn operand_at<'a>(
+    held: &mut Held<'a>,
+    kind: OperandKind,
+    word: &'a [u8],
+) -> Result<KeptOperand, AsmFaultKind>
+    ensures read { seen (operand_kept held.new) result ≡ operand_at kind word.now }
+    ensures register { is_other kind ≡ false → held.new ≡ held.old }
+    ensures place { is_other kind ≡ false → IfOk result (λ kept. is_register kept ≡ true) }
+    ensures opcode { held.new.opcode ≡ held.old.opcode }
+{
+    match kind {
+        OperandKind::Register => Ok(KeptOperand::Register(register_at(word)?)),
+        _ => other_at(held, kind, word),
+    }
+}
+
+/// Reads the operand at this place, where there is one.
+#[inline(always)]
+#[tactic(auto, using(crate::proofs::ByPlace::seen_there))]
+fn operand_there<'a>(
+    held: &mut Held<'a>,
+    kinds: &[OperandKind],
+    words: &[&'a [u8]],
+    place: usize,
+) -> Result<KeptOperand, AsmFaultKind>
+    ensures read { seen (operand_kept held.new) result
+        ≡ operand_there kinds.now (map name_seen words.now) place }
+    ensures register { is_other_there kinds.now place ≡ false → held.new ≡ held.old }
+    ensures place { is_other_there kinds.now place ≡ false
+        → IfOk result (λ kept. is_register kept ≡ true) }
+    ensures opcode { held.new.opcode ≡ held.old.opcode }
+{
+    match (kinds.get(place), words.get(place)) {
+        (Some(kind), Some(word)) => operand_at(held, *kind, *word),
+        _ => Ok(KeptOperand::Absent),
+    }
+}
+
+/// Reads operands of these kinds, from left to right, as those of a row of this opcode.
+#[tactic(auto, unfolding(crate::specs::Reading::row_of_kinds))]
+fn row_of_kinds<'a>(
+    opcode: u8,
+    kinds: &[OperandKind],
+    words: &[&'a [u8]],
+) -> Result<KeptRow<'a>, AsmFaultKind>
+    requires { one_other kinds.now ≡ true }
+    ensures { seen row_kept result ≡ row_of_kinds opcode kinds.now (map name_seen words.now) }
+{
+    let mut held = Held {
+        name: &[],
+        number: 0,
+        object: 0,
+        opcode,
+    };
+    let first = operand_there(&mut held, kinds, words, 0)?;
+    let second = operand_there(&mut held, kinds, words, 1)?;
+    let third = operand_there(&mut held, kinds, words, 2)?;
+    let fourth = operand_there(&mut held, kinds, words, 3)?;
+    Ok(KeptRow {
+        held,
+        first,
+        second,
+        third,
+        fourth,
+    })
+}
+
+/// Reads a row: the word that begins it, and its operands.
+#[tactic(auto, unfolding(crate::specs::Reading::row_at))]
+pub fn row_at<'a>(word: &[u8], words: &[&'a [u8]]) -> Result<KeptRow<'a>, AsmFaultKind>
+    ensures { seen row_kept result ≡ row_at word.now (map name_seen words.now) }
+{
+    let Some(shape) = shape_of(word) else {
+        return Err(AsmFaultKind::UnknownWord);
+    };
+    if words.len() != shape.operands.len() {
+        return Err(AsmFaultKind::OperandCount);
+    }
+    row_of_kinds(shape.opcode, shape.operands, words)
+}
