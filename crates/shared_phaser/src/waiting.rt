@@ -15,19 +15,15 @@ use crossbeam_utils::sync::Key;
 use std::hint::spin_loop;
 use std::marker::Brand;
 use std::sync::Wait;
-use std::thread::yield_now;
 
 /// No party was left that could arrive.
 #[derive(Clone, Copy, Debug, PartialEq, Eq)]
 pub struct NotThere;
 
-/// How many rounds of a wait spin.
-const SPINS: u32 = 64;
-
-/// How many rounds behind them let another thread run. Each one after those sleeps until a phase
-/// ends: on a machine with other work to do, a waiter that only yields takes the turn of the
-/// thread that it waits for.
-const YIELDS: u32 = 128;
+/// How many rounds of a wait spin, as many as the JDK's. Each one after those sleeps until a phase
+/// ends. None yields: a thread that yields gives whatever else the machine has to do a whole slice
+/// of time, some milliseconds.
+const SPINS: u32 = 256;
 
 /// One round of a wait, after so many. A wait that was announced before the last try sleeps,
 /// unless a phase has ended since.
@@ -36,11 +32,7 @@ fn rest<R: Wait>(rt: &R, key: Option<Key<'_>>, rounds: u32) -> u32 {
         key.wait(rt);
         return rounds;
     }
-    if rounds < SPINS {
-        spin_loop();
-    } else {
-        yield_now();
-    }
+    spin_loop();
     rounds.saturating_add(1)
 }
 
@@ -48,7 +40,7 @@ impl SharedPhaser {
     /// Announces a wait that will sleep, before the try that decides on it: an end of a phase
     /// between that try and the sleep wakes it, so none is missed.
     fn announced(&self, rounds: u32) -> Option<Key<'_>> {
-        if rounds < SPINS + YIELDS {
+        if rounds < SPINS {
             None
         } else {
             Some(self.ended.prepare_wait())

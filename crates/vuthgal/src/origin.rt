@@ -2,4 +2,4 @@
 
 /// The version, the kit whose logic proves it, and the sum of the sources but for this file.
 pub const VERSION: &str =
-    "0.1.0\nkit rattle-kit-13f logic dac8208d650f15bf\nsources 4a3159aab52fef9a5d34d4bc6d12648550209b26a68cfae1f6a1dd12527e559c";
+    "0.1.0\nkit rattle-kit-13f logic dac8208d650f15bf\nsources e355d15d26a94439ad72cb473e5896e2fcbb177d4b2a197df183da630073c5a4";
