@@ -1,4 +1,4 @@
-ghost use Rattle.std.specs.Prelude.{◌≡◌, ◌+◌, ◌≤◌, [], ◌++◌, length, false, IfOk, OnOk};
+ghost use Rattle.std.specs.Prelude.{◌≡◌, ◌+◌, ◌≤◌, [], ◌++◌, length, false, IsTrue, IfOk, OnOk};
 ghost use Rattle.std.specs.Io.KnownBytes.{Appends, Keeps, append_known};
 ghost use Rattle.byte_ports.specs.Port.{FailsForGood};
 
@@ -86,6 +86,7 @@ impl<K: Sink + Drop> BlockPort<K> {
         ensures failed { FailsForGood self.old.failed self.new.failed result }
         ensures bytes { OnOk result (Appends (append_known (K.written self.old.inner) self.old.held)
             (append_known (K.written self.new.inner) self.new.held) bytes.now) }
+        ensures idle { IsTrue self.old.failed → self.new ≡ self.old }
     {
         if self.failed {
             return Err(Failed);
@@ -120,7 +121,14 @@ impl<K: Sink + Drop> Sink for BlockPort<K> {
     ghost has_failed = { λ p. p.failed };
 
     #[inline(always)]
-    fn push(&mut self, bytes: &[u8]) -> Result<(), Failed> {
+    fn push(&mut self, bytes: &[u8]) -> Result<(), Failed>
+        ensures failed { FailsForGood self.old.failed self.new.failed result }
+        ensures bytes { OnOk result (Appends (append_known (K.written self.old.inner) self.old.held)
+            (append_known (K.written self.new.inner) self.new.held) bytes.now) }
+
+        // Once it has failed, the sink inside is left alone.
+        ensures idle { IsTrue self.old.failed → self.new ≡ self.old }
+    {
         if self.failed || BLOCK - self.held < bytes.len() {
             return self.push_far(bytes);
         }

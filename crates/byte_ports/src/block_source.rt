@@ -1,4 +1,4 @@
-ghost use Rattle.std.specs.Prelude.{◌≡◌, ◌≢◌, ◌≤◌, [], ◌++◌, false, min, length, take, IfOk, OnOk, OnErr};
+ghost use Rattle.std.specs.Prelude.{◌≡◌, ◌≢◌, ◌≤◌, ◌+◌, [], ◌++◌, false, min, length, take, IfOk, OnOk, OnErr};
 ghost use Rattle.std.specs.Io.KnownBytes.{IsAtEnd, Keeps, ReadConsumes, prepend_known};
 ghost use Rattle.byte_ports.specs.Port.{FailsForGood};
 
@@ -61,6 +61,7 @@ impl<S: Source + Drop> BlockSource<S> {
             (prepend_known self.new.held (S.left self.new.inner)) }
         ensures end { OnOk result (self.new.held ≡ [] → IsAtEnd (S.left self.new.inner)) }
         ensures err { OnErr result (self.new.held ≡ []) }
+        ensures reads { S.reads self.new.inner ≤ S.reads self.old.inner + 1 }
     {
         self.next = 0;
         self.end = 0;
@@ -112,12 +113,15 @@ impl<S: Source + Drop> Source for BlockSource<S> {
 
     ghost has_failed = { λ s. s.failed };
 
+    ghost reads = { λ s. S.reads s.inner };
+
     #[inline(always)]
     fn pull(&mut self, buffer: &mut [u8]) -> Result<usize, Failed>
         ensures failed { FailsForGood self.old.failed self.new.failed result }
         ensures bound { IfOk result (λ n. n ≤ length buffer.new) }
         ensures bytes { ReadConsumes (prepend_known self.old.held (S.left self.old.inner))
             (prepend_known self.new.held (S.left self.new.inner)) result buffer.new }
+        ensures reads { S.reads self.new.inner ≤ S.reads self.old.inner + 1 }
         ensures waits { self.old.held ≢ [] → (self.new.inner ≡ self.old.inner) }
     {
         if self.failed {

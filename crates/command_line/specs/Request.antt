@@ -6,8 +6,8 @@ use Rattle.clap.specs.Words.{Row, Text, all_of, first_of, kind_of, matches_of, s
 use Rattle.clap.specs.declared.error.Error.{Error}
 use Rattle.clap.specs.declared.error.kind.ErrorKind.TheVariants.{OutOfMemory, ValueValidation}
 use Rattle.command_help.specs.Commands.{vuthgal}
-use Rattle.expected_state.specs.declared.expected.Expected.{Expected}
-use Rattle.expected_state.specs.Words.{name_of, names}
+use Rattle.thread_machine.specs.declared.standing.Standing.{Standing}
+use Rattle.thread_machine.specs.Standing.{name_of, names}
 use Rattle.command_line.specs.declared.refusal.Refusal.{Refusal}
 use Rattle.command_line.specs.declared.refusal.Refusal.TheVariants as refusal
 use Rattle.command_line.specs.declared.refusal.WrongOption.{WrongOption}
@@ -50,7 +50,7 @@ IsFlag (Some text) true = text ≡ codes "true"
 IsFlag (Some text) false = text ≢ codes "true"
 
 -- the end that a word says, none where there is no word
-abbrev pub IsExpected : Option Text → Option Expected → Type 0
+abbrev pub IsExpected : Option Text → Option Standing → Type 0
 IsExpected None None = Unit {0}
 IsExpected None (Some expected) = ⊥
 IsExpected (Some text) None = ⊥

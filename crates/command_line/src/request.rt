@@ -18,15 +18,15 @@ use command_help::names::{
     ASM, AT, CHOICES, COMPARE, DEBUG, DRAW, EXPECT, EXPLAIN, FILE, LIMIT, LIST, LIVE, OUT, PARTIES,
     RACE, ROUNDS, ROWS, RUN, RUNS, SCHEDULE, SHOW, SRC, STIR, TRACE, WIDTH, WORD,
 };
-use expected_state::Expected;
 use std::alloc::{AllocError, Global};
+use thread_machine::Standing;
 
 /// What a command line asks for. A file is named as it was written.
 #[derive(PartialEq, Eq, Drop)]
 pub enum Request<'a> {
     /// No command, `[--expect STATE]`: play what standard input holds.
     Both {
-        expected: Option<Expected>,
+        expected: Option<Standing>,
     },
     /// `asm SRC OUT`.
     Asm {
@@ -42,7 +42,7 @@ pub enum Request<'a> {
     Run {
         file: &'a str,
         schedule: &'a str,
-        expected: Option<Expected>,
+        expected: Option<Standing>,
     },
     /// `compare FILE TRACE [--show]`; the trace `-` is standard input.
     Compare {
@@ -72,7 +72,7 @@ pub enum Request<'a> {
         limit: u32,
         seed: Option<u32>,
         runs: Option<u32>,
-        expected: Option<Expected>,
+        expected: Option<Standing>,
     },
     /// `race --parties N --rounds R`: 1 to 16 threads, 1 to 1,000,000 phases.
     Race {
@@ -139,7 +139,7 @@ fn number(text: &str, least: u32, most: u32) -> Option<u32>
 }
 
 /// How a run is expected to end, if that is said, and is one of the ways in which it may end.
-fn expected(matches: &ArgMatches<'_>) -> Result<Option<Expected>, WrongOption>
+fn expected(matches: &ArgMatches<'_>) -> Result<Option<Standing>, WrongOption>
     ensures asked { IfOk result (IsExpected (word_given (codes "expect") (rows_of (found_of matches.now)))) }
     ensures wrong { IfErr result (λ wrong. (wrong ≡ option.Expect)
         × IsNoState (word_given (codes "expect") (rows_of (found_of matches.now)))) }
@@ -147,7 +147,7 @@ fn expected(matches: &ArgMatches<'_>) -> Result<Option<Expected>, WrongOption>
     let Some(name) = given(matches, EXPECT) else {
         return Ok(None);
     };
-    match Expected::named(name) {
+    match Standing::named(name) {
         Some(word) => Ok(Some(word)),
         None => Err(WrongOption::Expect),
     }

@@ -1,4 +1,4 @@
-ghost use Rattle.std.specs.Prelude.{◌≡◌, ◌≤◌, ◌<◌, IfOk, false, length, take};
+ghost use Rattle.std.specs.Prelude.{◌≡◌, ◌≤◌, ◌+◌, ◌<◌, IfOk, false, length, take};
 ghost use Rattle.std.specs.Io.KnownBytes.{ReadConsumes, prepend_known};
 ghost use Rattle.byte_ports.specs.Port.{FailsForGood};
 
@@ -50,11 +50,14 @@ impl<'a, S: Source> Source for LeadingSource<'a, S> {
 
     ghost has_failed = { λ both. S.has_failed both.rest };
 
+    ghost reads = { λ both. S.reads both.rest };
+
     fn pull(&mut self, buffer: &mut [u8]) -> Result<usize, Failed>
         ensures failed { FailsForGood (S.has_failed self.old.rest) (S.has_failed self.new.rest) result }
         ensures bound { IfOk result (λ n. n ≤ length buffer.new) }
         ensures bytes { ReadConsumes (prepend_known self.old.first (S.left self.old.rest))
             (prepend_known self.new.first (S.left self.new.rest)) result buffer.new }
+        ensures reads { S.reads self.new.rest ≤ S.reads self.old.rest + 1 }
     {
         if self.first.is_empty() {
             return self.rest.pull(buffer);

@@ -3,12 +3,12 @@ use Rattle.std.specs.Prelude.{◌≡◌, ℕ, Bool, true, if◌then◌else◌, L
 use Rattle.std.specs.List.{IsDistinct, list_all}
 use Rattle.std.specs.String.{string_bytes}
 use Rattle.std.specs.Map.{keys_of, lookup}
+use Rattle.thread_machine.specs.declared.standing.Standing.{Standing}
 use Rattle.thread_machine.specs.World.{World}
+use Rattle.thread_machine.specs.Standing.{name_of}
 use Rattle.thread_runner.specs.declared.ending.Ending.{Ending}
 use Rattle.thread_runner.specs.Endings.{ending_of}
 use Rattle.thread_runner.specs.Replay.{IsReplayOfText}
-use Rattle.expected_state.specs.declared.expected.Expected.{Expected}
-use Rattle.expected_state.specs.Words.{name_of}
 use Rattle.live_runs.specs.declared.end_state.EndState.{EndState}
 use Rattle.live_runs.specs.declared.outcomes.Outcome.{Outcome}
 use Rattle.live_runs.specs.Ends.{end_text, ending_word}
@@ -72,14 +72,14 @@ abbrev pub report : List (EndState × Outcome) → List ℕ
 report outcomes = flat_map (λ (outcome : EndState × Outcome). outcome_line outcome.1) outcomes
 
 -- whether a run that ended so ended as it was expected to
-abbrev pub is_as_expected : Option Expected → Ending → Bool
+abbrev pub is_as_expected : Option Standing → Ending → Bool
 is_as_expected None ending = true
 is_as_expected (Some expected) ending = bytes_eq (name_of expected) (ending_word ending)
 
-abbrev pub are_as_expected : Option Expected → List (EndState × Outcome) → Bool
+abbrev pub are_as_expected : Option Standing → List (EndState × Outcome) → Bool
 are_as_expected expected outcomes =
     list_all (λ (outcome : EndState × Outcome). is_as_expected expected outcome.1.ending) outcomes
 
 -- the exit status: 0 where all did
-abbrev pub status_by : Option Expected → List (EndState × Outcome) → ℕ
+abbrev pub status_by : Option Standing → List (EndState × Outcome) → ℕ
 status_by expected outcomes = if are_as_expected expected outcomes then 0 else 1

@@ -7,20 +7,21 @@ ghost use Rattle.workbench.specs.declared.fault.Fault.{Fault};
 ghost use Rattle.workbench.specs.Fault.{HasTold, status_of};
 ghost use Rattle.workbench.specs.Input.{GivesTooMuch};
 ghost use Rattle.workbench.specs.Run.{HasNoRun};
+ghost use Rattle.thread_machine.specs.World.{first_world};
 ghost use Rattle.live_runs.specs.Outcomes.{IsMostFrequentFirst, report, status_by};
-ghost use Rattle.live_runs.specs.Runs.{AreOutcomesOf, HasReported, HasReportedFile};
+ghost use Rattle.live_runs.specs.Runs.{AreOutcomesFrom, HasReported, HasReportedFile};
 
 use crate::outcomes::{Outcomes, sort};
 use crate::pauses::Pauses;
 use crate::report::{report, status_by};
 use crate::runs::add_runs;
 use byte_ports::{Sink, Source};
-use expected_state::Expected;
 use loader::{LoadFault, Loaded, load};
 use row_code::Image;
 use std::alloc::Global;
 use std::sync::Wait;
 use std::thread::Threads;
+use thread_machine::Standing;
 use thread_runner::Gate;
 use workbench::fault::Fault;
 use workbench::program_file::read_program;
@@ -34,7 +35,7 @@ pub struct Asked {
     pub limit: u32,
     pub pauses: Pauses,
     /// How each is expected to end, if that is said.
-    pub expected: Option<Expected>,
+    pub expected: Option<Standing>,
 }
 
 /// Plays the program in `file`, an image or a text, on real threads as often as it is asked for, and writes to `output` a line
@@ -147,7 +148,7 @@ fn outcomes_of<R: Threads + Wait + Sync, G: Gate + Sync>(
 ) -> Result<Outcomes, Fault>
     requires limit { asked.now.limit ≤ 1000000000 }
     requires count { asked.now.runs ≤ 100000 }
-    ensures outcomes { IfOk result (λ outcomes. AreOutcomesOf program.now asked.now outcomes.entries) }
+    ensures outcomes { IfOk result (λ outcomes. AreOutcomesFrom (first_world program.now asked.now.limit) asked.now outcomes.entries) }
     ensures sorted { IfOk result (λ outcomes. IsMostFrequentFirst outcomes.entries) }
     ensures fault { IfErr result (λ fault. (fault ≡ Fault.Memory) ⊎ (fault ≡ Fault.Spawn)) }
 {
@@ -171,7 +172,7 @@ fn outcomes_of<R: Threads + Wait + Sync, G: Gate + Sync>(
 /// Writes what the runs came to, in one piece, and answers the exit status.
 fn push_report<K: Sink>(
     alloc: Global,
-    expected: Option<Expected>,
+    expected: Option<Standing>,
     outcomes: &Outcomes,
     output: &mut K,
 ) -> Result<u8, Fault>

@@ -46,11 +46,7 @@ impl Hash for EndState {
 pub fn word_of(ending: Ending) -> &'static [u8]
     ensures { result.now ≡ ending_word ending }
 {
-    match ending {
-        Ending::AllEnded => b"all",
-        Ending::Stuck => b"stuck",
-        Ending::Limit => b"live",
-    }
+    ending.standing().name()
 }
 
 /// What stands behind the first line of a text.

@@ -5,9 +5,9 @@ ghost use Rattle.live_runs.specs.Outcomes.{are_as_expected, is_as_expected, outc
 
 use crate::end_state::word_of;
 use crate::outcomes::{Outcome, Outcomes};
-use expected_state::Expected;
 use itoa::Buffer;
 use std::alloc::{AllocError, Global};
+use thread_machine::Standing;
 use thread_runner::Ending;
 use workbench::fault::{DONE, UNLIKE};
 
@@ -38,19 +38,19 @@ pub fn report(alloc: Global, outcomes: &Outcomes) -> Result<Vec<u8>, AllocError>
 }
 
 /// Whether a run that ended so ended as it was expected to.
-fn is_as_expected(expected: Option<Expected>, ending: Ending) -> bool
+fn is_as_expected(expected: Option<Standing>, ending: Ending) -> bool
     ensures { result ≡ is_as_expected expected ending }
 {
     match expected {
         None => true,
-        Some(Expected::All) => ending == Ending::AllEnded,
-        Some(Expected::Stuck) => ending == Ending::Stuck,
-        Some(Expected::Live) => ending == Ending::Limit,
+        Some(Standing::All) => ending == Ending::AllEnded,
+        Some(Standing::Stuck) => ending == Ending::Stuck,
+        Some(Standing::Live) => ending == Ending::Limit,
     }
 }
 
 /// Whether all runs ended as they were expected to.
-fn are_as_expected(expected: Option<Expected>, outcomes: &Outcomes) -> bool
+fn are_as_expected(expected: Option<Standing>, outcomes: &Outcomes) -> bool
     ensures { result ≡ are_as_expected expected outcomes.now.entries }
 {
     for place in 0..outcomes.len() {
@@ -64,7 +64,7 @@ fn are_as_expected(expected: Option<Expected>, outcomes: &Outcomes) -> bool
 }
 
 /// The exit status by the outcomes: 0 where all runs ended as they were expected to.
-pub fn status_by(expected: Option<Expected>, outcomes: &Outcomes) -> u8
+pub fn status_by(expected: Option<Standing>, outcomes: &Outcomes) -> u8
     ensures { result ≡ status_by expected outcomes.now.entries }
 {
     if are_as_expected(expected, outcomes) {

@@ -1,3 +1,4 @@
 pub mod Search
 pub mod Whole
 pub mod Declaring
+pub mod Images

@@ -20,7 +20,7 @@ use Rattle.loader.specs.declared.named.Named.TheVariants as named
 use Rattle.loader.specs.Named.{named_by, stops}
 use Rattle.tier_tree.specs.Stored.{Stored}
 use Rattle.loader.specs.Declarations.{row_in, routine_row, new_barrier, action_row, declared_origin, AreDeclared}
-use Rattle.loader.specs.Program.{Program, IsThere, IsNamed, IsNewBarrier, IsProgram, row_at}
+use Rattle.loader.specs.Program.{Program, AreNewBarriers, CanStart, IsCode, IsThere, IsNamed, IsNewBarrier, IsProgram, program_of, row_at}
 use Rattle.loader.specs.Fault.{unless, earliest_in, first_fault, target_fault, routine_fault, listed_phaser_fault, action_fault, barrier_fault, thread_fault, named_fault, row_fault, last_fault, counts_in}
 use Rattle.loader.proofs.Search.{none_left, none_in}
 
@@ -96,60 +96,82 @@ barriers_new barriers = All-map IsNewBarrier new_barrier barriers (λ i d lt. re
 pub last_stops : (rows : List Row) → last_fault rows ≡ None → stops (row_at rows (length rows - 1)) ≡ true
 last_stops rows e = passed (stops (row_at rows (length rows - 1))) fault.FallsOff e
 
--- the program that an image declares, with its phasers in this forest
-abbrev pub declared_by : Image → List Stored → Program
-declared_by image forest = record {
-  rows = image.rows;
-  threads = image.threads;
-  phasers = forest;
-  routines = map routine_row image.phasers;
-  barriers = map new_barrier image.barriers;
-  actions = map action_row image.barriers;
+-- how many there are of each thing that a row of the image may name, if it has so many phasers
+abbrev pub counts_with : Image → ℕ → Counts
+counts_with image phasers = record {
+  rows = length image.rows;
+  threads = length image.threads;
+  phasers = phasers;
+  barriers = length (map new_barrier image.barriers);
 }
 
-pub whole : (image : Image) (forest : List Stored) → length image.rows ≤ 65535 → length image.threads ≤ 64
-    → length image.barriers ≤ 64 → first_fault image ≡ None → AreDeclared (length image.phasers) image.phasers forest
-    → IsProgram (declared_by image forest)
-whole image forest few few_threads few_barriers none declared =
+-- what is true of the program of an image without a fault, whatever is said of its phasers
+pub record HasParts (image : Image) : Type 0 where
+  pub code : IsCode (program_of image) (counts_with image (length image.phasers))
+  pub threads : CanStart (length image.rows) image.threads
+  pub barriers : AreNewBarriers (map new_barrier image.barriers)
+
+pub has_parts : (image : Image) → length image.rows ≤ 65535 → length image.threads ≤ 64
+    → length image.barriers ≤ 64 → first_fault image ≡ None → HasParts image
+has_parts image few few_threads few_barriers none =
     let test = ltb 0 (length image.threads) in
     let some_thread = none_left (unless test fault.NoThread) _ none in
     let some = ltb-true 0 (length image.threads) (passed test fault.NoThread some_thread.0) in
     let all_phasers = none_left (earliest_in (listed_phaser_fault (length image.rows) image.phasers) 0 image.phasers) _ some_thread.1 in
     let all_barriers = none_left (earliest_in (barrier_fault (length image.rows)) 0 image.barriers) _ all_phasers.1 in
-    let phasers = all_phasers.0 in
-    let barriers = all_barriers.0 in
     let threads = none_left (earliest_in (thread_fault (length image.rows)) 0 image.threads) _ all_barriers.1 in
     let rows = none_left (earliest_in (row_fault (counts_in image)) 0 image.rows) _ threads.1 in
     let last = none_left (last_fault image.rows) None rows.1 in
     let begin = threads_begin (length image.rows) image.threads threads.0 in
     let row = some_row (length image.rows) image.threads some begin in
-    let counts : ℕ → ℕ → Counts = λ phasers barriers. record {
+    let same : counts_in image ≡ counts_with image (length image.phasers) =
+    ap (λ n. record {
       rows = length image.rows;
       threads = length image.threads;
-      phasers = phasers;
-      barriers = barriers;
-    } in
-    let same : counts (length image.phasers) (length image.barriers) ≡ counts (length forest) (length (map new_barrier image.barriers)) =
-    ap (λ n. counts n (length image.barriers)) (sym declared.many)
-    ∙ ap (counts (length forest)) (sym (length-map image.barriers new_barrier)) in
+      phasers = length image.phasers;
+      barriers = n;
+    }) (sym (length-map image.barriers new_barrier)) in
     record {
       code = record {
         few = omega arith;
         named = subst (λ c. All (IsNamed c) image.rows) same (rows_named (counts_in image) image.rows rows.0);
         last = last_stops image.rows last.0;
-        routines = routines_there (length image.rows) image.phasers row phasers;
-        actions = actions_there (length image.rows) image.barriers row barriers;
-        all_routines = length-map image.phasers routine_row ∙ sym declared.many;
+        routines = routines_there (length image.rows) image.phasers row all_phasers.0;
+        actions = actions_there (length image.rows) image.barriers row all_barriers.0;
+        all_routines = length-map image.phasers routine_row;
         all_actions = length-map image.barriers action_row ∙ sym (length-map image.barriers new_barrier);
       };
       threads = record { some = some; few = few_threads; begin = begin };
+      barriers = record {
+        few = omega (arith, length-map image.barriers new_barrier);
+        fresh = barriers_new image.barriers;
+      };
+    }
+
+-- the program that an image declares, with its phasers in this forest
+abbrev pub declared_by : Image → List Stored → Program
+declared_by image forest = record (program_of image) { phasers = forest }
+
+pub whole : (image : Image) (forest : List Stored) → length image.rows ≤ 65535 → length image.threads ≤ 64
+    → length image.barriers ≤ 64 → first_fault image ≡ None → AreDeclared (length image.phasers) image.phasers forest
+    → IsProgram (declared_by image forest)
+whole image forest few few_threads few_barriers none declared =
+    let parts = has_parts image few few_threads few_barriers none in
+    record {
+      code = record {
+        few = parts.code.few;
+        named = subst (λ n. All (IsNamed (counts_with image n)) image.rows) (sym declared.many) parts.code.named;
+        last = parts.code.last;
+        routines = parts.code.routines;
+        actions = parts.code.actions;
+        all_routines = parts.code.all_routines ∙ sym declared.many;
+        all_actions = parts.code.all_actions;
+      };
+      threads = parts.threads;
       phasers = record {
         fresh = declared.fresh;
         ends = declared.ends;
         stands = (declared_origin image.phasers, (λ root. refl), declared.origin);
       };
-      barriers = record {
-        few = omega (arith, length-map image.barriers new_barrier);
-        fresh = barriers_new image.barriers;
-      };
+      barriers = parts.barriers;
     }

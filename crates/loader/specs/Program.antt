@@ -1,5 +1,5 @@
 -- A program that was loaded, and what is true of each: no row of it meets a missing thing.
-use Rattle.std.specs.Prelude.{◌≡◌, ℕ, ◌-◌, ◌<◌, ◌≤◌, true, false, List, length, map, slice_index_or, All}
+use Rattle.std.specs.Prelude.{◌≡◌, ℕ, ◌-◌, ◌<◌, ◌≤◌, true, false, List, [], length, map, slice_index_or, All}
 use Rattle.instruction_table.specs.declared.row.Row.{Row}
 use Rattle.instruction_table.specs.declared.row.Row.TheVariants.{Halt}
 use Rattle.tier_tree.specs.Declaration.{AreAllFresh}
@@ -24,6 +24,21 @@ pub record Program : Type 0 where
   pub routines : List ℕ
   pub barriers : List BarrierState
   pub actions : List ℕ
+
+-- a program, but for how its phasers are stored: no row rests on that
+abbrev pub without_words : Program → Program
+without_words program = record program { phasers = [] }
+
+-- the program that an image declares, but for how its phasers are stored
+abbrev pub program_of : Image → Program
+program_of image = record {
+  rows = image.rows;
+  threads = image.threads;
+  phasers = [];
+  routines = map routine_row image.phasers;
+  barriers = map new_barrier image.barriers;
+  actions = map action_row image.barriers;
+}
 
 -- how many there are of each thing that a row may name
 abbrev pub counts_of : Program → Counts

@@ -4,14 +4,15 @@ use Rattle.std.specs.Prelude.{is_some, Option, None, All}
 use Rattle.std.proofs.lemmas.Bool.{cases_lt}
 use Rattle.std.proofs.lemmas.List.{length-map, length-replicate, get_or-replicate, get_or_past}
 use Rattle.std.proofs.lemmas.List.Elements.{All-map}
-use Rattle.tier_tree.specs.Stored.{IsStored}
-use Rattle.tier_tree.proofs.Trees.{trees_begin}
+use Rattle.tier_tree.specs.Forest.{PhaserState}
+use Rattle.tier_tree.specs.Sound.{IsForest}
+use Rattle.tier_tree.specs.Stored.{phasers_of}
 use Rattle.tier_tree.proofs.Shown.{length-shown}
 use Rattle.cyclic_barrier.specs.declared.answer.WaitState.{WaitState}
 use Rattle.cyclic_barrier.specs.Waits.{wait_at}
 use Rattle.cyclic_barrier.specs.Barrier.{BarrierState, has_wait, fresh}
 use Rattle.row_code.specs.declared.threads.DeclaredThread.{DeclaredThread}
-use Rattle.loader.specs.Program.{Program, IsCode, IsProgram, IsNewBarrier, row_at}
+use Rattle.loader.specs.Program.{Program, AreNewBarriers, AreNewTrees, CanStart, IsCode, IsProgram, IsNewBarrier, row_at}
 use Rattle.loader.specs.Program.{counts_of as program_counts}
 use Rattle.thread_state.specs.declared.frame.Frame.{Frame}
 use Rattle.thread_state.specs.Frame.{is_advance, is_action}
@@ -45,25 +46,40 @@ starts_free [] t = EndsOn
 starts_free (thread ∷ threads) zero = RunsOn
 starts_free (thread ∷ threads) (suc t) = starts_free threads t
 
-pub sound_start : (program : Program) → IsProgram program → IsStored program.phasers → IsSound program 0 (first_scene program)
-sound_start program is stored =
-    let scene : Scene = first_scene program in
+-- a scene with these phasers in which a program begins
+abbrev pub first_scene_with : Program → List PhaserState → Scene
+first_scene_with program phasers = record (first_scene program) { phasers = phasers }
+
+pub sound_with : (program : Program) (phasers : List PhaserState) → IsCode program (counts_of program (first_scene_with program phasers))
+    → CanStart (length program.rows) program.threads → AreNewBarriers program.barriers → AreNewTrees phasers → IsForest phasers
+    → IsSound program 0 (first_scene_with program phasers)
+sound_with program phasers code threads barriers trees forest =
+    let scene : Scene = first_scene_with program phasers in
     let heads : length scene.threads ≡ length program.threads = length-map program.threads starting in
-    let same : counts_of program scene ≡ program_counts program = cc (heads, length-shown program.phasers) in
-    let few = is.threads.few in
+    let few = threads.few in
     record {
-      code = subst (IsCode program) (sym same) is.code;
+      code = code;
       few_threads = omega (arith, heads, few);
-      few_barriers = is.barriers.few;
-      trees = trees_begin program.phasers is.phasers.stands.0 stored is.phasers.stands.2 is.phasers.ends;
+      few_barriers = barriers.few;
+      trees = record {
+        forest = forest;
+        stands = (trees.stands.0, trees.stands.2);
+        ends = λ id. let none = trees.ends id in omega (arith, none);
+      };
       placed = All-map (IsPlaced program scene) starting program.threads (λ k d there. record {
-        pc = is.threads.begin k d there;
+        pc = threads.begin k d there;
         stack = λ j f none. absurd (omega (arith, none));
       });
       advances = λ root within top. let none = no_entries (is_advance root) program.threads in omega (arith, none);
       actions = λ b. let none = no_entries (is_action b) program.threads in omega (arith, none);
-      room = λ b within. ap (λ (g : BarrierState). length g.waits) (new_at program.barriers b is.barriers.fresh)
+      room = λ b within. ap (λ (g : BarrierState). length g.waits) (new_at program.barriers b barriers.fresh)
           ∙ length-replicate {A = Option WaitState} 64 None;
-      waits = λ b t. ap (has_wait t) (new_at program.barriers b is.barriers.fresh) ∙ none_waits 64 t
+      waits = λ b t. ap (has_wait t) (new_at program.barriers b barriers.fresh) ∙ none_waits 64 t
           ∙ sym (free_awaits b (thread_at scene t).status (row_at program.rows (thread_at scene t).pc) (starts_free program.threads t));
     }
+
+pub sound_start : (program : Program) → IsProgram program → IsForest (phasers_of program.phasers) → IsSound program 0 (first_scene program)
+sound_start program is forest =
+    let heads : length (map starting program.threads) ≡ length program.threads = length-map program.threads starting in
+    let same : counts_of program (first_scene program) ≡ program_counts program = cc (heads, length-shown program.phasers) in
+    sound_with program (phasers_of program.phasers) (subst (IsCode program) (sym same) is.code) is.threads is.barriers is.phasers forest

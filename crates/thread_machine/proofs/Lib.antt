@@ -7,4 +7,5 @@ pub mod PhaseNumbers
 pub mod PhaseEnds
 pub mod DirectCounts
 pub mod SafeEnds
+pub mod Firsts
 mod WorkedCounts

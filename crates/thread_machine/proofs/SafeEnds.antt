@@ -1,26 +1,34 @@
 -- No choice ends a phase early, nor does any in an execution.
-use Rattle.std.proofs.Common.{◌≡◌, ℕ, ◌+◌, ◌<◌, ◌≤◌, Bool, true, false, List, [], ◌∷◌, length, ap, refl, sym, subst, arith, if◌then◌else◌}
+use Rattle.std.proofs.Common.{◌≡◌, ℕ, ◌+◌, ◌<◌, ◌≤◌, Bool, true, false, List, [], ◌∷◌, length, map, ap, refl, sym, subst, ◌∙◌, arith, if◌then◌else◌}
 use Rattle.std.specs.Prelude.{◌||◌, ◌&&◌, ◌==◌, nat_le, is_some, Option, Some, None, Result, Ok, Err, IfOk, OnOk}
 use Rattle.std.proofs.lemmas.Bool.Decides.{nat_tests}
+use Rattle.std.proofs.lemmas.List.{length-map}
 use Rattle.tier_tree.specs.Forest.{PhaserState}
 use Rattle.tier_tree.specs.Origin.{Origin, StandsFor}
-use Rattle.tier_tree.specs.Stored.{IsStored, phasers_of}
-use Rattle.loader.specs.Program.{Program, IsProgram, row_at}
+use Rattle.tier_tree.specs.Sound.{IsForest}
+use Rattle.tier_tree.specs.Stored.{phasers_of}
+use Rattle.row_code.specs.declared.image.Image.{Image}
+use Rattle.row_code.specs.Image.{IsImage}
+use Rattle.loader.specs.declared.counts.Counts.{Counts}
+use Rattle.loader.specs.Declarations.{forest_of, declared_origin, new_barrier}
+use Rattle.loader.specs.Fault.{first_fault}
+use Rattle.loader.specs.Program.{Program, IsCode, IsProgram, program_of, row_at}
+use Rattle.loader.proofs.Images.{all_made, parts_of}
 use Rattle.thread_state.specs.declared.event.Event.{Event}
-use Rattle.machine_scene.specs.Scene.{Scene, Outcome, thread_at}
+use Rattle.machine_scene.specs.Scene.{Scene, Outcome, starting, thread_at}
 use Rattle.machine_scene.specs.Outcomes.{outcome_of, is_ready, timeout_in, outcome_of_expiry}
 use Rattle.machine_scene.specs.Sound.{IsSound}
 use Rattle.machine_scene.proofs.Plain.{either}
 use Rattle.machine_scene.proofs.Outcomes.{stands_at, sound_outcome, sound_timeout}
-use Rattle.machine_scene.proofs.Start.{sound_start}
+use Rattle.machine_scene.proofs.Start.{sound_start, sound_with}
 use Rattle.thread_machine.specs.declared.choice.Choice.{Choice}
 use Rattle.thread_machine.specs.declared.fault.StepFault.{StepFault}
 use Rattle.thread_machine.specs.declared.fault.StepFault.TheVariants as fault
-use Rattle.thread_machine.specs.World.{World, StoredWorld, world_of, first_world}
+use Rattle.thread_machine.specs.World.{World, StoredWorld, world_of, first_of, first_world}
 use Rattle.thread_machine.specs.Ready.{outcome_of_choice, is_choice_ready}
 use Rattle.thread_machine.specs.Step.{Played, played, played_by, refusal_of}
 use Rattle.thread_machine.specs.Execution.{execution, execution_by}
-use Rattle.thread_machine.specs.DirectCounts.{with_turn, counts_at_end, counts_after, EndsNoPhaseEarly, NoPhaseEndsEarly, NumbersStay, counts_by, counts_through}
+use Rattle.thread_machine.specs.DirectCounts.{with_turn, counts_at_end, counts_after, EndsNoPhaseEarly, NoPhaseEndsEarly, NoPhaseEndsEarlyFrom, NumbersStay, counts_by, counts_through}
 use Rattle.thread_machine.specs.Sound.{IsMachine}
 use Rattle.thread_machine.proofs.PhaseEnds.{Fares}
 use Rattle.thread_machine.proofs.DirectCounts.{phasers_after, FaresTo, IsAside, aside_fares, timeout_aside, turn_fares}
@@ -178,10 +186,45 @@ goes_through (choice ∷ choices) world origin goes =
     goes_through_by (refusal_of world choice) world choice choices origin goes refl (λ after other. goes_through choices after other)
 
 -- no accepted choice ends a phase early, whatever was chosen before
-pub no_early_end : (program : Program) (counts : Origin) → IsProgram program → IsStored program.phasers
-    → StandsFor (phasers_of program.phasers) counts → NoPhaseEndsEarly program counts
-no_early_end program counts whole stored stands limit choices choice most is =
-    let first = first_world program limit in
+no_early_end_from : (first : World) (counts : Origin) → Goes first counts → NoPhaseEndsEarlyFrom first counts
+no_early_end_from first counts goes choices choice is =
     (goes_keeps (execution first choices).world choice (counts_through first choices counts)
-    (goes_through choices first counts
-    (record { sound = sound_start program whole stored; steps = omega arith; limit = most; stands = stands })) is).safe
+    (goes_through choices first counts goes) is).safe
+
+pub no_early_end : (program : Program) (counts : Origin) → IsProgram program → IsForest (phasers_of program.phasers)
+    → StandsFor (phasers_of program.phasers) counts → NoPhaseEndsEarly program counts
+no_early_end program counts whole forest stands limit most =
+    no_early_end_from (first_world program limit) counts
+    (record { sound = sound_start program whole forest; steps = omega arith; limit = most; stands = stands })
+
+-- the world in which the program of an image without a fault begins
+pub goes_first : (image : Image) (limit : ℕ) → IsImage image → first_fault image ≡ None → limit ≤ 1000000000
+    → Goes (first_of image limit) (declared_origin image.phasers)
+goes_first image limit fits none most =
+    let made = all_made image none in
+    let parts = parts_of image fits none in
+    let heads : length (map starting image.threads) ≡ length image.threads = length-map image.threads starting in
+    let counts : ℕ → ℕ → Counts = λ threads phasers. record {
+      rows = length image.rows;
+      threads = threads;
+      phasers = phasers;
+      barriers = length (map new_barrier image.barriers);
+    } in
+    let same : counts (length image.threads) (length image.phasers)
+        ≡ counts (length (map starting image.threads)) (length (forest_of image.phasers)) =
+    ap (λ n. counts n (length image.phasers)) (sym heads)
+    ∙ ap (counts (length (map starting image.threads))) (sym made.many) in
+    record {
+      sound = sound_with (program_of image) (forest_of image.phasers) (subst (IsCode (program_of image)) same parts.code) parts.threads
+          parts.barriers
+          (record { fresh = made.fresh; ends = made.ends; stands = (declared_origin image.phasers, (λ root. refl), made.origin) })
+          made.forest;
+      steps = omega arith;
+      limit = most;
+      stands = made.origin;
+    }
+
+pub no_early_end_of : (image : Image) (limit : ℕ) → IsImage image → first_fault image ≡ None → limit ≤ 1000000000
+    → NoPhaseEndsEarlyFrom (first_of image limit) (declared_origin image.phasers)
+no_early_end_of image limit fits none most =
+    no_early_end_from (first_of image limit) (declared_origin image.phasers) (goes_first image limit fits none most)

@@ -35,7 +35,7 @@ one_step_more program limit choices steps before after machine left more sound a
 -- before the first choice
 scene_starts : (program : Program) (scene : StoredScene) → IsProgram program → IsStored program.phasers
     → scene_of scene ≡ first_scene program → IsSound program 0 (scene_of scene)
-scene_starts program scene whole stored is = subst (λ (s : Scene). IsSound program 0 s) (sym is) (sound_start program whole stored)
+scene_starts program scene whole stored is = subst (λ (s : Scene). IsSound program 0 s) (sym is) (sound_start program whole stored.places)
 
 pub machine_starts : (program : Program) (limit : ℕ) (scene : StoredScene) → IsProgram program → IsStored program.phasers
     → limit ≤ 1000000000 → scene_of scene ≡ first_scene program → scene.asleep ≡ 0 → IsMachine (world_with program limit scene 0 0)

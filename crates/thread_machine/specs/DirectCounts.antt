@@ -95,11 +95,14 @@ counts_through world (choice ∷ choices) counts =
     let after = (played world choice).world in
     counts_by (refusal_of world choice) counts (counts_through after choices (counts_after world choice after counts))
 
--- whatever was chosen before, no accepted choice ends a phase early; at first these are the counts
-abbrev pub NoPhaseEndsEarly : Program → Origin → Type 0
-NoPhaseEndsEarly program counts =
-    (limit : ℕ) (choices : List Choice) (choice : Choice) → limit ≤ 1000000000
-    → let first : World = first_world program limit in
-    let now : World = (execution first choices).world in
+-- whatever is chosen from this world on, no accepted choice ends a phase early; at first these are the counts
+abbrev pub NoPhaseEndsEarlyFrom : World → Origin → Type 0
+NoPhaseEndsEarlyFrom first counts =
+    (choices : List Choice) (choice : Choice)
+    → let now : World = (execution first choices).world in
     refusal_of now choice ≡ None
     → EndsNoPhaseEarly now choice (played now choice).world (counts_through first choices counts)
+
+-- the same of a program, within a limit that a machine may have
+abbrev pub NoPhaseEndsEarly : Program → Origin → Type 0
+NoPhaseEndsEarly program counts = (limit : ℕ) → limit ≤ 1000000000 → NoPhaseEndsEarlyFrom (first_world program limit) counts

@@ -1,5 +1,6 @@
 pub mod World
 pub mod Ready
+pub mod Standing
 pub mod Step
 pub mod Execution
 pub mod Idle

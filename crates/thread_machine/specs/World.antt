@@ -1,6 +1,8 @@
 -- All that a machine is.
-use Rattle.std.specs.Prelude.{ℕ}
-use Rattle.loader.specs.Program.{Program}
+use Rattle.std.specs.Prelude.{◌≡◌, ℕ}
+use Rattle.row_code.specs.declared.image.Image.{Image}
+use Rattle.loader.specs.Declarations.{forest_of}
+use Rattle.loader.specs.Program.{Program, program_of, without_words}
 use Rattle.machine_scene.specs.Scene.{Scene, StoredScene, scene_of, first_scene}
 
 -- the program, how many effective steps it may take, what its rows act on, and the counts of choices and of effective steps
@@ -38,3 +40,17 @@ first_world program limit = record {
   choices = 0;
   steps = 0;
 }
+
+-- the world before the first choice of the program that an image declares, played for so many effective steps at most
+abbrev pub first_of : Image → ℕ → World
+first_of image limit = record {
+  program = program_of image;
+  limit = limit;
+  scene = record (first_scene (program_of image)) { phasers = forest_of image.phasers };
+  choices = 0;
+  steps = 0;
+}
+
+-- a program begins in this world: it is the image's first, but for how the program's phasers are stored
+abbrev pub IsFirstOf : Image → ℕ → World → Type 0
+IsFirstOf image limit world = record world { program = without_words world.program } ≡ first_of image limit

@@ -1,13 +1,15 @@
 ghost use Rattle.std.specs.Prelude.{◌≡◌, ◌≤◌, ℕ, List, [], ◌∷◌, ◌++◌, None};
 ghost use Rattle.tier_tree.specs.Origin.{Origin, StandsFor};
 ghost use Rattle.tier_tree.specs.Stored.{phasers_of};
+ghost use Rattle.row_code.specs.Image.{IsImage};
 ghost use Rattle.row_code.specs.declared.image.Image.{Image};
 ghost use Rattle.loader.specs.Declarations.{declared_origin};
+ghost use Rattle.loader.specs.Fault.{first_fault};
 ghost use Rattle.loader.specs.Program.{IsProgramOf};
 ghost use Rattle.thread_machine.specs.declared.choice.Choice.{Choice};
-ghost use Rattle.thread_machine.specs.World.{World};
+ghost use Rattle.thread_machine.specs.World.{World, first_of};
 ghost use Rattle.thread_machine.specs.Execution.{execution, extended};
-ghost use Rattle.thread_machine.specs.DirectCounts.{NoPhaseEndsEarly};
+ghost use Rattle.thread_machine.specs.DirectCounts.{NoPhaseEndsEarly, NoPhaseEndsEarlyFrom};
 ghost use Rattle.thread_machine.specs.Limit.{under_limit, with_limit};
 
 use loader::Loaded;
@@ -39,3 +41,9 @@ pub fn no_phase_ends_early(program: &Loaded)
     program.each_program_is_whole();
     program.phasers().is_forest();
 }
+
+/// The same of every image without a fault, whether or not it is ever loaded.
+pub fn no_phase_of_an_image_ends_early()
+    ensures { (image : Image) (limit : ℕ) → IsImage image → first_fault image ≡ None → limit ≤ 1000000000
+        → NoPhaseEndsEarlyFrom (first_of image limit) (declared_origin image.phasers) }
+{}

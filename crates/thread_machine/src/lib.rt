@@ -13,6 +13,7 @@ mod choice;
 mod fault;
 mod law;
 mod machine;
+mod standing;
 mod undo;
 
 pub use choice::Choice;
@@ -22,5 +23,6 @@ pub use law::{
     one_more_choice_extends_the_execution,
 };
 pub use machine::Machine;
+pub use standing::Standing;
 pub use thread_state::{Entry, Event, Mark, Status, What};
 pub use undo::Undo;

@@ -11,6 +11,7 @@ ghost use Rattle.machine_scene.specs.Asleep.{is_local_turn};
 ghost use Rattle.machine_scene.specs.Undo as scene;
 ghost use Rattle.thread_machine.specs.World.{world_of, first_world};
 ghost use Rattle.thread_machine.specs.Ready.{can_expire, can_go_on, is_choice_ready, has_ended, is_stuck, some_ready};
+ghost use Rattle.thread_machine.specs.Standing.{standing_of};
 ghost use Rattle.thread_machine.specs.DirectCounts.{counts_after, EndsNoPhaseEarly, NumbersStay};
 ghost use Rattle.thread_machine.specs.Sound.{IsMachine};
 ghost use Rattle.thread_machine.specs.Step.{played, refusal_of, puts_out};
@@ -20,6 +21,7 @@ mod idle;
 
 use crate::choice::Choice;
 use crate::fault::StepFault;
+use crate::standing::Standing;
 use crate::undo::Undo;
 use cyclic_barrier::Barrier;
 use instruction_table::{Reg, Row};
@@ -479,6 +481,19 @@ impl Machine {
         ensures { result ≡ is_stuck (world_of self.now) }
     {
         !self.ended() && !self.some_ready()
+    }
+
+    /// How far the program is.
+    pub fn standing(&self) -> Standing
+        ensures { result ≡ standing_of (world_of self.now) }
+    {
+        if self.ended() {
+            Standing::All
+        } else if self.stuck() {
+            Standing::Stuck
+        } else {
+            Standing::Live
+        }
     }
 
     /// Whether some choice may take a step.

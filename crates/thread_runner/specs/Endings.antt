@@ -1,6 +1,8 @@
 -- How a run ends.
 use Rattle.std.specs.Prelude.{Bool, nat_le, if◌then◌else◌, Option, Some, None, is_some}
 use Rattle.thread_machine.specs.World.{World}
+use Rattle.thread_machine.specs.declared.standing.Standing.{Standing}
+use Rattle.thread_machine.specs.declared.standing.Standing.TheVariants as standing
 use Rattle.thread_machine.specs.Ready.{has_ended, is_stuck}
 use Rattle.thread_runner.specs.declared.ending.Ending.{Ending}
 use Rattle.thread_runner.specs.declared.ending.Ending.TheVariants.{AllEnded, Stuck, Limit}
@@ -14,3 +16,9 @@ ending_of world =
 
 abbrev pub is_over : World → Bool
 is_over world = is_some (ending_of world)
+
+-- how the program stands then
+abbrev pub standing_at : Ending → Standing
+standing_at AllEnded = standing.All
+standing_at Stuck = standing.Stuck
+standing_at Limit = standing.Live

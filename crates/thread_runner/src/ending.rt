@@ -1,3 +1,8 @@
+ghost use Rattle.std.specs.Prelude.{◌≡◌};
+ghost use Rattle.thread_runner.specs.Endings.{standing_at};
+
+use thread_machine::Standing;
+
 /// How a run ended.
 #[derive(Clone, Copy, Debug, PartialEq, Eq)]
 pub enum Ending {
@@ -7,4 +12,17 @@ pub enum Ending {
     Stuck,
     /// Some choice may still take a step, but the limit of steps is reached.
     Limit,
+}
+
+impl Ending {
+    /// How the program stands where its run ended so.
+    pub fn standing(self) -> Standing
+        ensures { result ≡ standing_at self }
+    {
+        match self {
+            Ending::AllEnded => Standing::All,
+            Ending::Stuck => Standing::Stuck,
+            Ending::Limit => Standing::Live,
+        }
+    }
 }

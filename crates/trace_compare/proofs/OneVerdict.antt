@@ -2,19 +2,16 @@
 use Rattle.std.proofs.Common.{◌≡◌, ◌∙◌, ◌+◌, ◌==◌, ◌&&◌, ◌||◌, not, nat_le, codes, decimal, length, is_some, ℕ, Bool, List, [], ◌∷◌, ◌++◌, cond, true, Option, Some, None, is_none, inl, inr, refl, ap, sym, append-nil}
 use Rattle.std.specs.List.{slice_split}
 use Rattle.std.specs.Str.{bytes_eq}
-use Rattle.instruction_table.specs.declared.row.Row.{Row}
 use Rattle.line_reader.specs.Words.{is_line_end}
 use Rattle.row_code.specs.declared.image.Image.{Image}
-use Rattle.row_code.specs.declared.threads.DeclaredThread.{DeclaredThread}
-use Rattle.cyclic_barrier.specs.Barrier.{BarrierState}
-use Rattle.tier_tree.specs.Forest.{PhaserState}
-use Rattle.tier_tree.specs.Stored.{Stored, phasers_of}
-use Rattle.loader.specs.Program.{Program, IsProgramOf}
-use Rattle.machine_scene.specs.Scene.{Outcome, first_scene, thread_at}
+use Rattle.tier_tree.specs.Stored.{Stored}
+use Rattle.machine_scene.specs.Scene.{Outcome, thread_at}
 use Rattle.thread_machine.specs.declared.choice.Choice.{Choice}
 use Rattle.thread_machine.specs.declared.fault.StepFault.{StepFault}
 use Rattle.thread_machine.specs.declared.fault.StepFault.TheVariants.{NoSuchThread, StepLimit, Memory}
-use Rattle.thread_machine.specs.World.{World, first_world}
+use Rattle.thread_machine.specs.World.{World, IsFirstOf, first_of}
+use Rattle.thread_machine.specs.Standing.{name_of}
+use Rattle.thread_machine.specs.declared.standing.Standing.TheVariants as standing
 use Rattle.thread_machine.specs.Ready.{all_finished, has_ended, outcome_of_choice}
 use Rattle.thread_machine.specs.Step.{Played, played, played_by, refusal_of}
 use Rattle.thread_machine.specs.Execution.{Execution, execution, execution_by}
@@ -29,10 +26,10 @@ use Rattle.trace_compare.proofs.StateLines.{parts_text}
 use Rattle.trace_compare.proofs.StoredOtherwise.{outcome-same, some_ready-same, stored_in}
 
 -- a world of a program whose phasers are stored otherwise
-abbrev stored : List Stored → World → World
+abbrev pub stored : List Stored → World → World
 stored phasers world = record world { program = stored_in phasers world.program }
 
-refusal-same : (phasers : List Stored) (world : World) (choice : Choice)
+pub refusal-same : (phasers : List Stored) (world : World) (choice : Choice)
     → refusal_of (stored phasers world) choice ≡ refusal_of world choice
 refusal-same phasers world choice =
     ap (λ outcome. cond (nat_le (length world.scene.threads) choice.thread) (Some NoSuchThread)
@@ -43,19 +40,19 @@ refusal-same phasers world choice =
 text_by : Bool → World → List ℕ
 text_by ready world =
     codes "state " ++ (decimal world.choices ++ (codes " " ++ (decimal world.steps ++ (codes " "
-    ++ (cond (has_ended world) (codes "all") (cond (not (all_finished world.scene) && not ready) (codes "stuck") (codes "live"))
+    ++ (name_of (cond (has_ended world) standing.All (cond (not (all_finished world.scene) && not ready) standing.Stuck standing.Live))
     ++ (codes "\n" ++ parts_text world))))))
 
-state-same : (phasers : List Stored) (world : World) → state_text (stored phasers world) ≡ state_text world
+pub state-same : (phasers : List Stored) (world : World) → state_text (stored phasers world) ≡ state_text world
 unfolding text_by
 state-same phasers world = ap (λ ready. text_by ready world) (some_ready-same phasers world.program world.scene)
 
-played-world : (phasers : List Stored) (outcome : Option Outcome) (world : World)
+pub played-world : (phasers : List Stored) (outcome : Option Outcome) (world : World)
     → (played_by outcome (stored phasers world)).world ≡ stored phasers (played_by outcome world).world
 played-world phasers (Some outcome) world = refl
 played-world phasers None world = refl
 
-played-event : (phasers : List Stored) (outcome : Option Outcome) (world : World)
+pub played-event : (phasers : List Stored) (outcome : Option Outcome) (world : World)
     → (played_by outcome (stored phasers world)).event ≡ (played_by outcome world).event
 played-event phasers (Some outcome) world = refl
 played-event phasers None world = refl
@@ -64,7 +61,7 @@ abbrev one_by : Option StepFault → World → Choice → Execution
 one_by refusal world choice = execution_by refusal world choice (λ after. execution after [])
 
 -- a choice is played by what it comes to
-plays-same : (phasers : List Stored) (world : World) (choice : Choice)
+pub plays-same : (phasers : List Stored) (world : World) (choice : Choice)
     → played (stored phasers world) choice ≡ played_by (outcome_of_choice world.program choice world.scene) (stored phasers world)
 plays-same phasers world choice =
     ap (λ outcome. played_by outcome (stored phasers world)) (outcome-same phasers world.program choice world.scene)
@@ -121,54 +118,23 @@ lines-same phasers (line ∷ lines) accepted world n =
     ∙ ap (λ v. cond (is_too_long line) (verdict.NotATrace n) (cond (is_state_line line) (state_verdict (state_text world) n (line ∷ lines)) v))
     (choice-same phasers (choice_in line) accepted world n line rest (λ all after. lines-same phasers lines all after (n + 1)))
 
--- a program by its parts, and its first world
-abbrev program_by : List Row → List DeclaredThread → List Stored → List ℕ → List BarrierState → List ℕ → Program
-program_by rows threads phasers routines barriers actions = record {
-  rows = rows;
-  threads = threads;
-  phasers = phasers;
-  routines = routines;
-  barriers = barriers;
-  actions = actions;
-}
+-- a world in which the program of an image begins is the image's first, stored otherwise
+pub as-stored : (image : Image) (limit : ℕ) (world : World) → IsFirstOf image limit world
+    → world ≡ stored world.program.phasers (first_of image limit)
+as-stored image limit world is = ap (stored world.program.phasers) is
 
-abbrev world_by : Program → List PhaserState → World
-world_by program phasers = record {
-  program = program;
-  limit = 1000000000;
-  scene = record (first_scene program) { phasers = phasers };
-  choices = 0;
-  steps = 0;
-}
-
-same-parts : {A B C D E F : Type 0} (make : A → B → C → D → E → F) (a x : A) (b y : B) (c z : C) (d v : D) (e w : E)
-    → a ≡ x → b ≡ y → c ≡ z → d ≡ v → e ≡ w → make a b c d e ≡ make x y z v w
-same-parts make a x b y c z d v e w p q r s t =
-    ap (λ i. make i b c d e) p ∙ ap (λ i. make x i c d e) q ∙ ap (λ i. make x y i d e) r ∙ ap (λ i. make x y z i e) s
-    ∙ ap (λ i. make x y z v i) t
-
-same-program : (image : Image) (one other : Program) → IsProgramOf image one → IsProgramOf image other
-    → other ≡ stored_in other.phasers one
-same-program image one other p q =
-    same-parts (λ rows threads routines barriers actions. program_by rows threads other.phasers routines barriers actions)
-    other.rows one.rows other.threads one.threads other.routines one.routines other.barriers one.barriers other.actions one.actions
-    (q.rows ∙ sym p.rows) (q.threads ∙ sym p.threads) (q.routines ∙ sym p.routines) (q.barriers ∙ sym p.barriers)
-    (q.actions ∙ sym p.actions)
-
-same-world : (image : Image) (one other : Program) → IsProgramOf image one → IsProgramOf image other
-    → first_world other 1000000000 ≡ stored other.phasers (first_world one 1000000000)
-same-world image one other p q =
-    ap (λ program. world_by program (phasers_of other.phasers)) (same-program image one other p q)
-    ∙ ap (λ phasers. world_by (stored_in other.phasers one) phasers) (q.phasers ∙ sym p.phasers)
+verdict-first : (image : Image) (world : World) (trace : List ℕ) → Begins image world
+    → verdict_of world trace ≡ verdict_of (first_of image 1000000000) trace
+verdict-first image world trace (loads, is) =
+    let lines = slice_split is_line_end trace in
+    ap (λ w. lines_verdict true w 1 lines) (as-stored image 1000000000 world is)
+    ∙ lines-same world.program.phasers lines true (first_of image 1000000000) 1
 
 -- an image's traces have one verdict
 one-verdict : (image : Image) (one other : World) (trace : List ℕ) → Begins image one → Begins image other
     → verdict_of one trace ≡ verdict_of other trace
-one-verdict image one other trace (p, (declares, first)) (q, (declares', first')) =
-    let lines = slice_split is_line_end trace in
-    ap (λ world. lines_verdict true world 1 lines) first
-    ∙ sym (lines-same q.phasers lines true (first_world p 1000000000) 1)
-    ∙ ap (λ world. lines_verdict true world 1 lines) (sym (first' ∙ same-world image p q declares declares'))
+one-verdict image one other trace begins begins' =
+    verdict-first image one trace begins ∙ sym (verdict-first image other trace begins')
 
 -- a comparison with its program finds a trace the same, if its verdict is that where the program begins
 pub found-same : (image : Image) (one : World) (trace : List ℕ) → Begins image one → verdict_of one trace ≡ verdict.Same

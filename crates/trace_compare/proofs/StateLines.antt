@@ -17,10 +17,12 @@ use Rattle.thread_state.specs.Thread.{ThreadState}
 use Rattle.tier_tree.specs.Forest.{PhaserState}
 use Rattle.cyclic_barrier.specs.Barrier.{BarrierState, number_waiting}
 use Rattle.thread_machine.specs.World.{World}
+use Rattle.thread_machine.specs.Standing.{name_of, standing_of}
+use Rattle.thread_machine.specs.declared.standing.Standing.TheVariants as standing
 use Rattle.thread_machine.specs.Ready.{has_ended, is_stuck}
 use Rattle.trace_compare.specs.Brief.{IsBrief}
 use Rattle.trace_compare.specs.Compare.{HasNoLongLine, is_state_line}
-use Rattle.trace_compare.specs.State.{all_registers, barrier_text, cell_text, entry_text, numbered_texts, phaser_text, registers_text, stack_text, state_text, status_text, thread_text, value_text, word_text}
+use Rattle.trace_compare.specs.State.{all_registers, barrier_text, cell_text, entry_text, numbered_texts, phaser_text, registers_text, stack_text, state_text, status_text, thread_text, value_text}
 use Rattle.trace_compare.proofs.WholeLines.{IsLine, IsPart, IsWhole, Line-after, Line-end, Part-append, Whole-append, Whole-line, Whole-nil, Whole-short, Whole-where, decimal-part, is_within, signed-part}
 
 -- no LF within a text, however long it is
@@ -46,7 +48,7 @@ texts-part text each xs = whole-part (flat_map text xs) (texts-within text each 
 value-part : (value : ℤ) → IsPart 66 (value_text value)
 value-part value = Part-append 1 65 (codes " ") (signed_decimal value) (literal 1 (codes " ") refl (omega arith)) (signed-part value)
 
-word-part : (ended stuck : Bool) → IsPart 5 (cond ended (codes "all") (cond stuck (codes "stuck") (codes "live")))
+word-part : (ended stuck : Bool) → IsPart 5 (name_of (cond ended standing.All (cond stuck standing.Stuck standing.Live)))
 word-part true stuck = literal 5 (codes "all") refl (omega arith)
 word-part false true = literal 5 (codes "stuck") refl (omega arith)
 word-part false false = literal 5 (codes "live") refl (omega arith)
@@ -192,14 +194,14 @@ parts-whole world =
 
 -- the first line, behind its first word
 counts-line : (world : World) → IsLine 135 (decimal world.choices ++ (codes " " ++ (decimal world.steps ++ (codes " "
-    ++ (word_text world ++ (codes "\n" ++ parts_text world)))))) (parts_text world)
+    ++ (name_of (standing_of world) ++ (codes "\n" ++ parts_text world)))))) (parts_text world)
 counts-line world =
     let rest = parts_text world in
     Line-after 64 71 (decimal world.choices) _ rest (decimal-part world.choices)
     (Line-after 1 70 (codes " ") _ rest (literal 1 (codes " ") refl (omega arith))
     (Line-after 64 6 (decimal world.steps) _ rest (decimal-part world.steps)
     (Line-after 1 5 (codes " ") _ rest (literal 1 (codes " ") refl (omega arith))
-    (Line-after 5 0 (word_text world) _ rest (word-part (has_ended world) (is_stuck world)) (Line-end rest)))))
+    (Line-after 5 0 (name_of (standing_of world)) _ rest (word-part (has_ended world) (is_stuck world)) (Line-end rest)))))
 
 pub state-line : (world : World) → IsLine 141 (state_text world) (parts_text world)
 state-line world =

@@ -3,10 +3,12 @@ use Rattle.std.proofs.Common.{◌≡◌, ◌⊎◌, inl, inr, refl, ◌∙◌, �
 use Rattle.std.proofs.lemmas.List.{length-take}
 use Rattle.std.proofs.KnownBytes.{Appends-trans, Consumes-trans}
 use Rattle.std.specs.Io.KnownBytes.{Appends, Consumes, IsAtEnd}
-use Rattle.std.specs.Prelude.{Result, Ok, Err, OnOk, None}
+use Rattle.std.specs.Prelude.{Result, Ok, Err, IfOk, OnOk, None}
 use Rattle.schedule_reader.specs.declared.fault.ScheduleFault.{ScheduleFault}
 use Rattle.schedule_reader.specs.declared.run.Run.{Run}
 use Rattle.schedule_reader.specs.Schedule.{Schedule, finished_schedule, choices_of}
+use Rattle.thread_machine.specs.declared.standing.Standing.{Standing}
+use Rattle.thread_machine.specs.Standing.{standing_of}
 use Rattle.thread_machine.specs.World.{World}
 use Rattle.thread_machine.specs.declared.choice.Choice.{Choice}
 use Rattle.thread_machine.specs.Execution.{execution}
@@ -16,7 +18,7 @@ use Rattle.trace_compare.proofs.NamedThreads.{named-threads}
 use Rattle.trace_compare.proofs.OneVerdict.{found-same}
 use Rattle.trace_compare.proofs.OwnTrace.{own-trace}
 use Rattle.trace_compare.specs.Playing.{HasPlayed, HasPlayedAll, HasPlayedInPart, HasTraced}
-use Rattle.trace_compare.specs.RunText.{HasRun, HasRunInPart, HasWrittenTheSame}
+use Rattle.trace_compare.specs.RunText.{EndsAs, HasRun, HasRunInPart, HasWrittenTheSame}
 use Rattle.trace_compare.specs.Start.{Begins}
 use Rattle.row_code.specs.declared.image.Image.{Image}
 use Rattle.trace_compare.specs.State.{state_text}
@@ -60,16 +62,16 @@ traced first last choices state pushed old between new played is same end =
     (Appends-trans old between new _ pushed played.0 end)
 
 -- the same of a whole schedule
-pub traced-all : {E : Type 0} (result : Result (Unit {0}) E) (first last : World)
+pub traced-all : {E : Type 0} (result : Result Standing E) (first last : World)
     (schedule_before schedule_after old between new : Option (List ℕ))
     → HasPlayedAll first last schedule_before schedule_after old between
     → OnOk result (Appends between new (state_text last)) → OnOk result (HasNoLongLine (state_text last))
-    → OnOk result (HasTraced first schedule_before schedule_after old new)
+    → OnOk result (HasTraced first last schedule_before schedule_after old new)
 traced-all (Ok x) first last schedule_before schedule_after old between new
     (bytes, (runs, (consumed, end, is, played))) appends short =
     let lines = subst (λ (world : World). HasNoLongLine (state_text world)) played.1 short in
     let text = state_text last in
-    (bytes, (runs, (consumed, end, is, lines, traced first last (choices_of runs) text text old between new played refl refl appends)))
+    (bytes, (runs, (consumed, end, is, lines, played.1, traced first last (choices_of runs) text text old between new played refl refl appends)))
 traced-all (Err e) first last schedule_before schedule_after old between new played appends short = appends
 
 -- the verdict on a trace, beside the program that it is of
@@ -77,29 +79,40 @@ begun-verdict : (image : Image) (world : World) (bytes : List ℕ) (runs : List 
     → finished_schedule bytes ≡ record { runs = runs; fault = None }
     → HasNoLongLine (state_text (execution world (choices_of runs)).world)
     → verdict_of world (trace_of world (choices_of runs)) ≡ Same
-begun-verdict image world bytes runs (program, (declares, first)) is short =
+begun-verdict image world bytes runs (loads, first) is short =
     own-trace (choices_of runs) world 1 (omega (arith, ap (λ (w : World). w.choices) first)) (named-threads bytes runs None is) short
 
 -- the same of an image whose program begins in that world
-pub begun : {E : Type 0} (result : Result (Unit {0}) E) (image : Image) (world : World)
+pub begun : {E : Type 0} (result : Result Standing E) (image : Image) (world last : World)
     (schedule_before schedule_after old new : Option (List ℕ)) → Begins image world
-    → OnOk result (HasTraced world schedule_before schedule_after old new)
+    → OnOk result (HasTraced world last schedule_before schedule_after old new)
     → OnOk result (HasRun image schedule_before schedule_after old new)
-begun (Ok x) image world schedule_before schedule_after old new begins p =
-    let (bytes, (runs, (consumed, end, is, short, appends))) = p in
+begun (Ok x) image world last schedule_before schedule_after old new begins p =
+    let (bytes, (runs, (consumed, end, is, short, ends, appends))) = p in
     (bytes, (trace_of world (choices_of runs), (consumed, end, (world, (runs, (begins, is, refl))), appends)))
-begun (Err e) image world schedule_before schedule_after old new begins p = p
+begun (Err e) image world last schedule_before schedule_after old new begins p = p
+
+-- and how the program stands in the end
+pub begun-ends : {E : Type 0} (result : Result Standing E) (image : Image) (world last : World)
+    (schedule_before schedule_after old new : Option (List ℕ)) → Begins image world
+    → OnOk result (HasTraced world last schedule_before schedule_after old new)
+    → IfOk result (λ standing. standing ≡ standing_of last)
+    → IfOk result (λ standing. EndsAs image standing schedule_before schedule_after)
+begun-ends (Ok standing) image world last schedule_before schedule_after old new begins p stands =
+    let (bytes, (runs, (consumed, end, is, short, ends, appends))) = p in
+    (bytes, (world, (runs, (consumed, end, begins, is, stands ∙ ap standing_of ends))))
+begun-ends (Err e) image world last schedule_before schedule_after old new begins p stands = p
 
 -- and a comparison finds what was written the same
-pub begun-same : {E : Type 0} (result : Result (Unit {0}) E) (image : Image) (world : World)
+pub begun-same : {E : Type 0} (result : Result Standing E) (image : Image) (world last : World)
     (schedule_before schedule_after old new : Option (List ℕ)) → Begins image world
-    → OnOk result (HasTraced world schedule_before schedule_after old new)
+    → OnOk result (HasTraced world last schedule_before schedule_after old new)
     → OnOk result (HasWrittenTheSame image old new)
-begun-same (Ok x) image world schedule_before schedule_after old new begins p =
-    let (bytes, (runs, (consumed, end, is, short, appends))) = p in
+begun-same (Ok x) image world last schedule_before schedule_after old new begins p =
+    let (bytes, (runs, (consumed, end, is, short, ends, appends))) = p in
     let trace = trace_of world (choices_of runs) in
     (trace, (appends, found-same image world trace begins (begun-verdict image world bytes runs begins is short)))
-begun-same (Err e) image world schedule_before schedule_after old new begins p = p
+begun-same (Err e) image world last schedule_before schedule_after old new begins p = p
 
 pub begun_part : (image : Image) (world : World) (schedule_before schedule_after old new : Option (List ℕ)) → Begins image world
     → (new ≡ old) ⊎ HasPlayedInPart world schedule_before schedule_after old new

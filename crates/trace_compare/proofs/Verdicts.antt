@@ -25,6 +25,7 @@ use Rattle.thread_machine.specs.declared.fault.StepFault.{StepFault}
 use Rattle.thread_machine.specs.World.{StoredWorld, World, world_of}
 use Rattle.thread_machine.specs.Execution.{execution}
 use Rattle.trace_compare.specs.declared.compare.Verdict.{Verdict}
+use Rattle.trace_compare.specs.declared.compare.Judged.{Judged}
 use Rattle.trace_compare.specs.declared.compare.Verdict.TheVariants as verdict
 use Rattle.trace_compare.specs.Compare.{HasCompared, HasVerdict, verdict_of, choice_verdict, first_line, after_line, state_verdict, lines_verdict, is_too_long, is_state_line, choice_in}
 use Rattle.trace_compare.specs.Trace.{Plays, lines_of}
@@ -262,3 +263,10 @@ compared (Ok v) image now machine before after begins machine_is start number_is
     let same = λ (rest : List ℕ). left-first now machine rest machine_is start.0 start.1 number_is in
     (world_of machine, (bytes, (begins, consumed, verdict-first now machine bytes after v same left)))
 compared (Err e) image now machine before after begins machine_is start number_is p = p
+
+-- a verdict that is handed on
+pub with_verdict : {E : Type 0} (result : Result Judged E) (image : Image) (before after : Option (List ℕ)) (v : Verdict)
+    → HasCompared image before after v → IfOk result (λ judged. judged.verdict ≡ v)
+    → IfOk result (λ judged. HasCompared image before after judged.verdict)
+with_verdict (Ok judged) image before after v compared same = subst (HasCompared image before after) (sym same) compared
+with_verdict (Err fault) image before after v compared same = tt

@@ -68,13 +68,14 @@ HasPlayedAll first last schedule_before schedule_after old new =
     × (Consumes schedule_before schedule_after bytes × IsAtEnd schedule_after
     × (finished_schedule bytes ≡ record { runs = runs; fault = None }) × HasPlayed first last (choices_of runs) old new))
 
--- the same, and the state was written, of which no line is too long to be compared
-abbrev pub HasTraced : World → Option (List ℕ) → Option (List ℕ) → Option (List ℕ) → Option (List ℕ) → Type 0
-HasTraced first schedule_before schedule_after old new =
+-- the same, and the state of this last world was written, of which no line is too long to be compared
+abbrev pub HasTraced : World → World → Option (List ℕ) → Option (List ℕ) → Option (List ℕ) → Option (List ℕ) → Type 0
+HasTraced first last schedule_before schedule_after old new =
     (bytes : List ℕ) × ((runs : List Run)
     × (Consumes schedule_before schedule_after bytes × IsAtEnd schedule_after
     × (finished_schedule bytes ≡ record { runs = runs; fault = None })
     × HasNoLongLine (state_text (execution first (choices_of runs)).world)
+    × (last ≡ (execution first (choices_of runs)).world)
     × Appends old new (trace_of first (choices_of runs))))
 
 abbrev pub HasPlayedToFault : World → ScheduleFault → Option (List ℕ) → Option (List ℕ) → Option (List ℕ) → Option (List ℕ)

@@ -5,7 +5,10 @@ use Rattle.row_code.specs.declared.image.Image.{Image}
 use Rattle.schedule_reader.specs.declared.fault.ScheduleFault.{ScheduleFault}
 use Rattle.schedule_reader.specs.declared.run.Run.{Run}
 use Rattle.schedule_reader.specs.Schedule.{Schedule, open_schedule, finished_schedule, choices_of}
+use Rattle.thread_machine.specs.declared.standing.Standing.{Standing}
 use Rattle.thread_machine.specs.World.{World}
+use Rattle.thread_machine.specs.Standing.{standing_of}
+use Rattle.thread_machine.specs.Execution.{execution}
 use Rattle.trace_compare.specs.Compare.{IsFoundTheSame}
 use Rattle.trace_compare.specs.Start.{Begins}
 use Rattle.trace_compare.specs.Trace.{AppendsPartOf, lines_of, trace_of}
@@ -23,6 +26,14 @@ HasRun image schedule_before schedule_after output_before output_after =
     (schedule : List ℕ) × ((trace : List ℕ)
     × (Consumes schedule_before schedule_after schedule × IsAtEnd schedule_after × IsTraceOf image schedule trace
     × Appends output_before output_after trace))
+
+-- the schedule was read to its end, and where its run ends the program stands so
+abbrev pub EndsAs : Image → Standing → Option (List ℕ) → Option (List ℕ) → Type 0
+EndsAs image standing schedule_before schedule_after =
+    (schedule : List ℕ) × ((world : World) × ((runs : List Run)
+    × (Consumes schedule_before schedule_after schedule × IsAtEnd schedule_after × Begins image world
+    × (finished_schedule schedule ≡ record { runs = runs; fault = None })
+    × (standing ≡ standing_of (execution world (choices_of runs)).world))))
 
 -- a trace was written, and a comparison with this program finds it the same
 abbrev pub HasWrittenTheSame : Image → Option (List ℕ) → Option (List ℕ) → Type 0

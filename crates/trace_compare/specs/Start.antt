@@ -1,18 +1,15 @@
 -- How a program begins.
-use Rattle.std.specs.Prelude.{◌≡◌, Bool, true, false, Some}
+use Rattle.std.specs.Prelude.{◌≡◌, Bool, true, false, Some, None}
 use Rattle.row_code.specs.declared.image.Image.{Image}
 use Rattle.loader.specs.declared.load_fault.LoadFault.{LoadFault}
 use Rattle.loader.specs.declared.load_fault.LoadFault.TheVariants as fault
 use Rattle.tier_tree.specs.declared.fault.DeclareFault.TheVariants as declare
-use Rattle.loader.specs.Program.{Program, IsProgramOf}
 use Rattle.loader.specs.Fault.{first_fault}
-use Rattle.thread_machine.specs.World.{World, first_world}
+use Rattle.thread_machine.specs.World.{World, IsFirstOf}
 
--- the world of an image before its first choice: its program is the one that the image declares, and may take at most
--- 1,000,000,000 effective steps
+-- an image without a fault begins in this world, and may take at most 1,000,000,000 effective steps from there
 abbrev pub Begins : Image → World → Type 0
-Begins image world =
-    (program : Program) × (IsProgramOf image program × (world ≡ first_world program 1000000000))
+Begins image world = (first_fault image ≡ None) × IsFirstOf image 1000000000 world
 
 -- why an image isn't loaded
 abbrev pub IsRefused : LoadFault → Image → Type 0

@@ -16,12 +16,7 @@ use Rattle.tier_tree.specs.Forest.{PhaserState}
 use Rattle.cyclic_barrier.specs.Barrier.{BarrierState, number_waiting}
 use Rattle.thread_state.specs.Thread.{ThreadState}
 use Rattle.thread_machine.specs.World.{World}
-use Rattle.thread_machine.specs.Ready.{has_ended, is_stuck}
-
--- `all` where every thread has ended or died, `stuck` where no choice of any other may take a step, else `live`
-abbrev pub word_text : World → List ℕ
-word_text world =
-    if has_ended world then codes "all" else (if is_stuck world then codes "stuck" else codes "live")
+use Rattle.thread_machine.specs.Standing.{standing_of, name_of}
 
 -- a status; of a wait it isn't said for what
 abbrev pub status_text : Status → List ℕ
@@ -87,7 +82,7 @@ cell_text n value =
 -- the state of the machine
 abbrev pub state_text : World → List ℕ
 state_text world =
-    codes "state " ++ (decimal world.choices ++ (codes " " ++ (decimal world.steps ++ (codes " " ++ (word_text world ++ (codes "\n"
+    codes "state " ++ (decimal world.choices ++ (codes " " ++ (decimal world.steps ++ (codes " " ++ (name_of (standing_of world) ++ (codes "\n"
     ++ (numbered_texts thread_text 0 world.scene.threads
     ++ (numbered_texts phaser_text 0 world.scene.phasers
     ++ (numbered_texts barrier_text 0 world.scene.barriers

@@ -1,4 +1,4 @@
-ghost use Rattle.std.specs.Prelude.{◌≡◌, ◌≢◌, ◌⊎◌, IsTrue, Err, OnErr, false, true, ◌==◌, ◌&&◌, ◌<◌, ◌≤◌, ◌+◌, ◌++◌, ◌∷◌, [], List, ℕ, IfOk, OnOk, drop, length, take};
+ghost use Rattle.std.specs.Prelude.{◌≡◌, ◌≢◌, ◌⊎◌, IsTrue, IfErr, Err, OnErr, false, true, ◌==◌, ◌&&◌, ◌<◌, ◌≤◌, ◌+◌, ◌++◌, ◌∷◌, [], List, ℕ, IfOk, OnOk, drop, length, take};
 ghost use Rattle.std.specs.Io.KnownBytes.{Consumes};
 ghost use Rattle.std.specs.List.{position_or_len};
 ghost use Rattle.line_reader.specs.Words.{is_line_end};
@@ -386,6 +386,51 @@ impl Comparison {
     }
 }
 
+/// The line that these bytes begin with, without its LF; none where there are no bytes.
+fn first_line(alloc: Global, bytes: &[u8]) -> Result<Option<Vec<u8>>, AllocError> {
+    if bytes.is_empty() {
+        return Ok(None);
+    }
+    let end = length_before(b'\n', bytes).min(bytes.len());
+    Ok(Some(Vec::from_slice(alloc, &bytes[..end])?))
+}
+
+impl Comparison {
+    /// The run's line of this number, where the verdict is that the trace's line of that number differs; none where the run has
+    /// no line more. No choice is played for it: it is the line of the choice that was played last, or one of the state text.
+    fn run_line(&self, alloc: Global, number: u64) -> Result<Option<Vec<u8>>, AllocError> {
+        if self.is_state {
+            let text = self.text.as_slice();
+            let due = rest_of_text(text, self.at);
+            // The last line of all differs where its LF is missing.
+            if due.is_empty() && number < self.number {
+                return first_line(alloc, last_line(text));
+            }
+            return first_line(alloc, due);
+        }
+        if self.accepted || self.machine.choices() == number {
+            return first_line(alloc, self.expected.as_slice());
+        }
+        first_line(alloc, state_text(alloc, &self.machine)?.as_slice())
+    }
+}
+
+/// What stands in a text from this place on.
+fn rest_of_text(text: &[u8], at: usize) -> &[u8] {
+    &text[at.min(text.len())..]
+}
+
+/// The last line of a text whose lines all end with an LF.
+fn last_line(text: &[u8]) -> &[u8] {
+    let mut start = 0;
+    for at in 1..text.len() {
+        if text[at - 1] == b'\n' {
+            start = at;
+        }
+    }
+    &text[start.min(text.len())..]
+}
+
 /// A line without its LF.
 fn before_lf(whole: &[u8]) -> &[u8]
     requires { 0 < length whole.now }
@@ -566,6 +611,7 @@ fn compare_stream<S: Source>(
         × HasLeft now.old bytes (S.left trace.new) verdict)) }
     ensures read { result ≡ Err CompareFault.Read → IsTrue (S.has_failed trace.new)
         ⊎ GivesOnAndOn (S.left trace.old) (S.left trace.new) }
+    ensures reads { S.reads trace.new ≤ S.reads trace.old + 1000000000 }
     ensures load { (fault : LoadFault) → result ≢ Err (CompareFault.Load fault) }
 {
     let mut piece = [0u8; PIECE];
@@ -602,12 +648,21 @@ fn compare_all<S: Source>(
         × HasLeft now.old bytes (S.left trace.new) verdict)) }
     ensures read { result ≡ Err CompareFault.Read → IsTrue (S.has_failed trace.new)
         ⊎ GivesOnAndOn (S.left trace.old) (S.left trace.new) }
+    ensures reads { S.reads trace.new ≤ S.reads trace.old + 1000000000 }
     ensures load { (fault : LoadFault) → result ≢ Err (CompareFault.Load fault) }
 {
     match Vec::with_capacity(alloc, MOST_BYTES + 1) {
         Ok(mut line) => compare_stream(now, alloc, &mut line, trace),
         Err(_) => Err(CompareFault::Memory),
     }
+}
+
+/// A verdict, and the run's line where the trace's differs.
+#[derive(Drop)]
+pub struct Judged {
+    pub verdict: Verdict,
+    /// Without its LF. None where the run has no line of that number.
+    pub run: Option<Vec<u8>>,
 }
 
 /// Compares a trace with the run of an image's program that the trace's lines name, byte for byte, the state too. The verdict
@@ -627,6 +682,7 @@ pub fn compare<S: Source>(
     ensures wants { (fault : LoadFault) → result ≡ Err (CompareFault.Load fault) → is_want_of_memory fault ≡ false }
     ensures read { result ≡ Err CompareFault.Read → IsTrue (S.has_failed trace.new)
         ⊎ GivesOnAndOn (S.left trace.old) (S.left trace.new) }
+    ensures reads { S.reads trace.new ≤ S.reads trace.old + 1000000000 }
 {
     match first_machine(alloc, image) {
         Ok(machine) => {
@@ -635,5 +691,47 @@ pub fn compare<S: Source>(
         }
         Err(StartFault::Load(fault)) => Err(CompareFault::Load(fault)),
         Err(StartFault::Memory) => Err(CompareFault::Memory),
+    }
+}
+
+/// The same, with the run's line beside a verdict that a line differs. Only that line is copied.
+pub fn compare_shown<S: Source>(
+    alloc: Global,
+    image: Image,
+    trace: &mut S,
+) -> Result<Judged, CompareFault>
+    ensures verdict { IfOk result (λ judged.
+        HasCompared image (S.left trace.old) (S.left trace.new) judged.verdict) }
+    ensures load { (fault : LoadFault) → result ≡ Err (CompareFault.Load fault)
+        → IsRefused fault image × (S.left trace.new ≡ S.left trace.old) }
+    ensures refused { (fault : LoadFault) → IsRefused fault image
+        → (result ≡ Err (CompareFault.Load fault)) ⊎ (result ≡ Err CompareFault.Memory) }
+    ensures wants { (fault : LoadFault) → result ≡ Err (CompareFault.Load fault) → is_want_of_memory fault ≡ false }
+    ensures read { result ≡ Err CompareFault.Read → IsTrue (S.has_failed trace.new)
+        ⊎ GivesOnAndOn (S.left trace.old) (S.left trace.new) }
+    ensures reads { S.reads trace.new ≤ S.reads trace.old + 1000000000 }
+{
+    match first_machine(alloc, image) {
+        Ok(machine) => {
+            let mut now = Comparison::new(alloc, machine);
+            let verdict = compare_all(alloc, &mut now, trace)?;
+            with_run_line(alloc, &now, verdict)
+        }
+        Err(StartFault::Load(fault)) => Err(CompareFault::Load(fault)),
+        Err(StartFault::Memory) => Err(CompareFault::Memory),
+    }
+}
+
+/// A verdict with the line that a comparison has for it.
+fn with_run_line(alloc: Global, now: &Comparison, verdict: Verdict) -> Result<Judged, CompareFault>
+    ensures verdict { IfOk result (λ judged. judged.verdict ≡ verdict) }
+    ensures fault { IfErr result (λ fault. fault ≡ CompareFault.Memory) }
+{
+    let Verdict::Differs { line } = verdict else {
+        return Ok(Judged { verdict, run: None });
+    };
+    match now.run_line(alloc, line) {
+        Ok(run) => Ok(Judged { verdict, run }),
+        Err(_) => Err(CompareFault::Memory),
     }
 }

@@ -24,6 +24,9 @@ pub mod start;
 pub mod state;
 pub mod trace_line;
 
-pub use law::{the_trace_of_any_choices_is_the_same, what_is_the_same_is_the_trace_of_its_choices};
+pub use law::{
+    every_trace_of_an_accepted_program_is_the_same, the_trace_of_any_choices_is_the_same,
+    what_is_the_same_is_the_trace_of_its_choices,
+};
 pub use line_end::LineEnd;
 pub use play::line_of_choice;

@@ -1,10 +1,11 @@
-ghost use Rattle.std.specs.Prelude.{◌≡◌, ◌≢◌, ◌⊎◌, ◌+◌, ◌<◌, ◌++◌, [], List, ℕ, Option, Some, None, Err, IsTrue, IfErr, IfOk, false, OnOk, length};
+ghost use Rattle.std.specs.Prelude.{◌≡◌, ◌≢◌, ◌⊎◌, ◌+◌, ◌<◌, ◌≤◌, ◌++◌, [], List, ℕ, Option, Some, None, Err, IsTrue, IfErr, IfOk, false, OnOk, length};
 ghost use Rattle.std.specs.Io.KnownBytes.{Appends};
 ghost use Rattle.schedule_reader.specs.Schedule.{choices_of, finished_schedule, open_schedule};
 ghost use Rattle.thread_machine.specs.World.{World, world_of};
+ghost use Rattle.thread_machine.specs.Standing.{standing_of};
 ghost use Rattle.trace_compare.specs.Compare.{HasNoLongLine};
 ghost use Rattle.trace_compare.specs.Playing.{HasPlayed, HasPlayedAll, HasPlayedInPart, HasPlayedSoFar, HasPlayedToFault, HasTraced, IsUpTo, PlaysOn, WritesOn, WritesPartOn};
-ghost use Rattle.trace_compare.specs.RunText.{GivesOnAndOn, HasRun, HasRunInPart, HasRunSoFar, HasRunToFault, HasWrittenTheSame, faulty_after};
+ghost use Rattle.trace_compare.specs.RunText.{EndsAs, GivesOnAndOn, HasRun, HasRunInPart, HasRunSoFar, HasRunToFault, HasWrittenTheSame, faulty_after};
 ghost use Rattle.trace_compare.specs.Start.{IsRefused, is_want_of_memory};
 ghost use Rattle.trace_compare.specs.State.{state_text};
 ghost use Rattle.trace_compare.specs.Trace.{AppendsPartOf, lines_of};
@@ -19,7 +20,7 @@ use loader::LoadFault;
 use row_code::Image;
 use schedule_reader::{Reader, Run, ScheduleFault};
 use std::alloc::Global;
-use thread_machine::Machine;
+use thread_machine::{Machine, Standing};
 
 /// How many bytes of a schedule are read at a time.
 const PIECE: usize = 4096;
@@ -206,6 +207,7 @@ fn play_stream<S: Source, W: Sink>(
         ⊎ GivesOnAndOn (S.left schedule.old) (S.left schedule.new))
         × HasPlayedSoFar (world_of machine.old) (S.left schedule.old) (S.left schedule.new)
         (W.written output.old) (W.written output.new) }
+    ensures reads { S.reads schedule.new ≤ S.reads schedule.old + 1000000000 }
     ensures write { result ≡ Err RunFault.Write → IsTrue (W.has_failed output.new) }
     ensures load { (fault : LoadFault) → result ≢ Err (RunFault.Load fault) }
     ensures wants { result ≢ Err (RunFault.Schedule ScheduleFault.Memory) }
@@ -238,8 +240,13 @@ fn play_stream<S: Source, W: Sink>(
     Err(RunFault::Read)
 }
 
-/// Writes the text of a machine's state.
-fn push_state<W: Sink>(alloc: Global, machine: &Machine, output: &mut W) -> Result<(), RunFault>
+/// Writes the text of a machine's state, and answers how the program stands in it.
+fn push_state<W: Sink>(
+    alloc: Global,
+    machine: &Machine,
+    output: &mut W,
+) -> Result<Standing, RunFault>
+    ensures standing { IfOk result (λ standing. standing ≡ standing_of (world_of machine.now)) }
     ensures state { OnOk result (Appends (W.written output.old) (W.written output.new)
         (state_text (world_of machine.now))) }
     ensures lines { OnOk result (HasNoLongLine (state_text (world_of machine.now))) }
@@ -252,7 +259,7 @@ fn push_state<W: Sink>(alloc: Global, machine: &Machine, output: &mut W) -> Resu
         Err(_) => return Err(RunFault::Memory),
     };
     match output.push(state.as_slice()) {
-        Ok(()) => Ok(()),
+        Ok(()) => Ok(machine.standing()),
         Err(_) => Err(RunFault::Write),
     }
 }
@@ -263,8 +270,9 @@ fn play_all<S: Source, W: Sink>(
     machine: &mut Machine,
     schedule: &mut S,
     output: &mut W,
-) -> Result<(), RunFault>
-    ensures done { OnOk result (HasTraced (world_of machine.old) (S.left schedule.old) (S.left schedule.new)
+) -> Result<Standing, RunFault>
+    ensures standing { IfOk result (λ standing. standing ≡ standing_of (world_of machine.new)) }
+    ensures done { OnOk result (HasTraced (world_of machine.old) (world_of machine.new) (S.left schedule.old) (S.left schedule.new)
         (W.written output.old) (W.written output.new)) }
     ensures schedule { (fault : ScheduleFault) → result ≡ Err (RunFault.Schedule fault)
         → HasPlayedToFault (world_of machine.old) fault (S.left schedule.old) (S.left schedule.new)
@@ -276,6 +284,7 @@ fn play_all<S: Source, W: Sink>(
         ⊎ GivesOnAndOn (S.left schedule.old) (S.left schedule.new))
         × HasPlayedSoFar (world_of machine.old) (S.left schedule.old) (S.left schedule.new)
         (W.written output.old) (W.written output.new) }
+    ensures reads { S.reads schedule.new ≤ S.reads schedule.old + 1000000000 }
     ensures write { result ≡ Err RunFault.Write → IsTrue (W.has_failed output.new) }
     ensures load { (fault : LoadFault) → result ≢ Err (RunFault.Load fault) }
     ensures wants { result ≢ Err (RunFault.Schedule ScheduleFault.Memory) }
@@ -290,11 +299,47 @@ fn play_all<S: Source, W: Sink>(
     }
 }
 
-/// Plays an image's program under a schedule, and writes the trace: a line for each choice as it is played, and then the
+/// Plays an image's program under a schedule, writes the trace, and answers how the program stands in the end: a line for each choice as it is played, and then the
 /// state. The schedule is read a piece at a time; it is read to its end, and its first fault is answered, also where a choice
 /// was refused before. After `Schedule` the lines of the choices before the fault are written, after `Read` those of the
 /// choices that were read, after `Memory` a part of them. How much memory is taken doesn't depend on how long the schedule or
 /// the trace is.
+pub fn run_to_end<S: Source, W: Sink>(
+    alloc: Global,
+    image: Image,
+    schedule: &mut S,
+    output: &mut W,
+) -> Result<Standing, RunFault>
+    ensures ends { IfOk result (λ standing. EndsAs image standing (S.left schedule.old) (S.left schedule.new)) }
+    ensures done { OnOk result (HasRun image (S.left schedule.old) (S.left schedule.new)
+        (W.written output.old) (W.written output.new)) }
+    ensures same { OnOk result (HasWrittenTheSame image (W.written output.old) (W.written output.new)) }
+    ensures load { (fault : LoadFault) → result ≡ Err (RunFault.Load fault) → IsRefused fault image
+        × (S.left schedule.new ≡ S.left schedule.old) × (W.written output.new ≡ W.written output.old) }
+    ensures refused { (fault : LoadFault) → IsRefused fault image
+        → (result ≡ Err (RunFault.Load fault)) ⊎ (result ≡ Err RunFault.Memory) }
+    ensures wants { ((fault : LoadFault) → result ≡ Err (RunFault.Load fault) → is_want_of_memory fault ≡ false)
+        × (result ≢ Err (RunFault.Schedule ScheduleFault.Memory)) }
+    ensures schedule { (fault : ScheduleFault) → result ≡ Err (RunFault.Schedule fault)
+        → HasRunToFault image fault (S.left schedule.old) (S.left schedule.new)
+        (W.written output.old) (W.written output.new) }
+    ensures memory { result ≡ Err RunFault.Memory → HasRunInPart image
+        (S.left schedule.old) (S.left schedule.new) (W.written output.old) (W.written output.new) }
+    ensures read { result ≡ Err RunFault.Read → (IsTrue (S.has_failed schedule.new)
+        ⊎ GivesOnAndOn (S.left schedule.old) (S.left schedule.new))
+        × HasRunSoFar image (S.left schedule.old) (S.left schedule.new)
+        (W.written output.old) (W.written output.new) }
+    ensures reads { S.reads schedule.new ≤ S.reads schedule.old + 1000000000 }
+    ensures write { result ≡ Err RunFault.Write → IsTrue (W.has_failed output.new) }
+{
+    match first_machine(alloc, image) {
+        Ok(mut machine) => play_all(alloc, &mut machine, schedule, output),
+        Err(StartFault::Load(fault)) => Err(RunFault::Load(fault)),
+        Err(StartFault::Memory) => Err(RunFault::Memory),
+    }
+}
+
+/// `run_to_end`, where nobody asks how the program stands.
 pub fn run_text<S: Source, W: Sink>(
     alloc: Global,
     image: Image,
@@ -319,11 +364,11 @@ pub fn run_text<S: Source, W: Sink>(
         ⊎ GivesOnAndOn (S.left schedule.old) (S.left schedule.new))
         × HasRunSoFar image (S.left schedule.old) (S.left schedule.new)
         (W.written output.old) (W.written output.new) }
+    ensures reads { S.reads schedule.new ≤ S.reads schedule.old + 1000000000 }
     ensures write { result ≡ Err RunFault.Write → IsTrue (W.has_failed output.new) }
 {
-    match first_machine(alloc, image) {
-        Ok(mut machine) => play_all(alloc, &mut machine, schedule, output),
-        Err(StartFault::Load(fault)) => Err(RunFault::Load(fault)),
-        Err(StartFault::Memory) => Err(RunFault::Memory),
+    match run_to_end(alloc, image, schedule, output) {
+        Ok(_) => Ok(()),
+        Err(fault) => Err(fault),
     }
 }

@@ -5,9 +5,10 @@ ghost use Rattle.machine_scene.specs.Scene.{scene_of, thread_at};
 ghost use Rattle.tier_tree.specs.Forest.{phaser_at, flat_at};
 ghost use Rattle.tier_tree.specs.Stored.{phasers_of};
 ghost use Rattle.thread_machine.specs.World.{world_of};
+ghost use Rattle.thread_machine.specs.Standing.{name_of, standing_of};
 ghost use Rattle.trace_compare.specs.Brief.{IsBrief};
 ghost use Rattle.trace_compare.specs.Compare.{HasNoLongLine};
-ghost use Rattle.trace_compare.specs.State.{word_text, status_text, entry_text, stack_text, registers_text, value_text, numbered_texts, thread_text, phaser_text, barrier_text, cell_text, state_text};
+ghost use Rattle.trace_compare.specs.State.{status_text, entry_text, stack_text, registers_text, value_text, numbered_texts, thread_text, phaser_text, barrier_text, cell_text, state_text};
 
 use super::pieces::{add_with_count, add_with_value};
 use cyclic_barrier::Barrier;
@@ -27,29 +28,16 @@ const REGISTERS: [Reg; 8] = [
     Reg::R7,
 ];
 
-/// How far the program is.
-fn word(machine: &Machine) -> &'static [u8]
-    ensures { result.now ≡ word_text (world_of machine.now) }
-{
-    if machine.ended() {
-        b"all"
-    } else if machine.stuck() {
-        b"stuck"
-    } else {
-        b"live"
-    }
-}
-
 /// The first line.
 fn add_counts(text: &mut Vec<u8>, machine: &Machine) -> Result<(), AllocError>
     ensures { OnOk result (text.new.items ≡ text.old.items ++ (codes "state "
         ++ (decimal machine.now.choices ++ (codes " " ++ (decimal machine.now.steps
-        ++ (codes " " ++ (word_text (world_of machine.now) ++ codes "\n"))))))) }
+        ++ (codes " " ++ (name_of (standing_of (world_of machine.now)) ++ codes "\n"))))))) }
 {
     add_with_count(text, b"state ", machine.choices())?;
     add_with_count(text, b" ", u64::from(machine.steps()))?;
     text.extend_from_slice(b" ")?;
-    text.extend_from_slice(word(machine))?;
+    text.extend_from_slice(machine.standing().name())?;
     text.extend_from_slice(b"\n")
 }
 

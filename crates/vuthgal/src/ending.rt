@@ -1,17 +1,14 @@
 //! How the program ends: what it tells, and with which status.
 
-ghost use Rattle.std.specs.Prelude.{◌≡◌, ◌==◌, ◌⊎◌, ◌&&◌, ◌||◌, not, true, false, IsTrue};
-ghost use Rattle.std.specs.Io.KnownBytes.{Appends};
+ghost use Rattle.std.specs.Prelude.{◌≡◌, ◌==◌, ◌&&◌, ◌||◌, ℕ, not, true, false, Ok, Err};
 ghost use Rattle.workbench.specs.declared.fault.Fault.{Fault};
 ghost use Rattle.workbench.specs.Fault.{HasTold, status_of};
 
-use byte_ports::{BlockPort, MemorySink, Sink, WritePort};
-use std::alloc::AllocError;
+use crate::expectation::as_expected;
+use byte_ports::{BlockPort, Sink, WritePort};
 use std::io::Write;
+use thread_machine::Standing;
 use workbench::fault::{DONE, Fault, UNLIKE};
-
-/// How many bytes a command tells at most. The longest line is that of a schedule's fault at an offset of 20 digits.
-const LONGEST_LINE: usize = 80;
 
 /// Whether the last flush decides the status: it failed, and else all was written, be it a trace or a verdict.
 fn is_lost_at_the_end(is_flushed: bool, status: u8) -> bool
@@ -26,48 +23,63 @@ pub fn told(rt: &HostRuntime, fault: Fault) -> u8 {
     fault.status()
 }
 
-/// A port that holds back what a command tells until its output is flushed.
-pub fn held_line(rt: &HostRuntime) -> Result<MemorySink, AllocError> {
-    MemorySink::new(rt.alloc(), LONGEST_LINE, None)
-}
-
-/// The status of a command, and the line that it told, once the last flush was tried: where that failed the output is lost,
-/// whatever else there was to tell.
-fn settled<E: Sink>(is_flushed: bool, status: u8, line: &[u8], errors: &mut E) -> u8
-    ensures kept { is_flushed ≡ true → (result ≡ status)
-        × (IsTrue (E.has_failed errors.new)
-        ⊎ Appends (E.written errors.old) (E.written errors.new) line.now) }
+/// The status of a command that came to this, once the last flush was tried: where that failed the output is lost, whatever
+/// else there was to tell.
+fn settled<E: Sink>(is_flushed: bool, outcome: Result<u8, Fault>, errors: &mut E) -> u8
+    ensures done { (status : ℕ) → is_flushed ≡ true → outcome ≡ Ok status
+        → (result ≡ status) × (E.written errors.new ≡ E.written errors.old) }
+    ensures refused { (fault : Fault) → is_flushed ≡ true → outcome ≡ Err fault → (result ≡ status_of fault)
+        × HasTold fault (E.has_failed errors.new) (E.written errors.old) (E.written errors.new) }
     ensures lost { is_flushed ≡ false → (result ≡ status_of Fault.Write)
         × HasTold Fault.Write (E.has_failed errors.new) (E.written errors.old) (E.written errors.new) }
 {
-    if is_flushed {
-        let _ = errors.push(line);
-        return status;
-    }
-    let _ = Fault::Write.tell(errors);
-    Fault::Write.status()
+    let fault = match outcome {
+        Ok(status) if is_flushed => return status,
+        Err(fault) if is_flushed => fault,
+        _ => Fault::Write,
+    };
+    let _ = fault.tell(errors);
+    fault.status()
 }
 
-/// The status of a command that has written blocks to `output`, once the last is handed on and all is flushed. Its line is
-/// told then.
-pub fn ended<W: Write + Drop, E: Sink>(
+/// The status of a command that has played a program and written blocks to `output`, once the last is handed on and all is
+/// flushed. A fault is told then.
+pub fn played<W: Write + Drop, E: Sink>(
     errors: &mut E,
-    status: u8,
+    outcome: Result<Standing, Fault>,
+    expected: Option<Standing>,
     output: BlockPort<WritePort<W>>,
-    line: &MemorySink,
 ) -> u8 {
     let is_flushed = match output.into_inner() {
         Ok(mut port) => port.finish().is_ok(),
         Err(_) => false,
     };
-    settled(is_flushed, status, line.bytes(), errors)
+    let outcome = match outcome {
+        Ok(standing) => Ok(as_expected(expected, standing)),
+        Err(fault) => Err(fault),
+    };
+    settled(is_flushed, outcome, errors)
+}
+
+/// The status of a command that came to this, once `output` is flushed, which keeps nothing back. Its fault, if it has one, is
+/// told; the last flush decides only where there is none.
+pub fn answered<W: Write, E: Sink>(
+    errors: &mut E,
+    outcome: Result<(), Fault>,
+    output: &mut WritePort<W>,
+) -> u8 {
+    let is_flushed = output.finish().is_ok();
+    match outcome {
+        Ok(()) => settled(is_flushed, Ok(DONE), errors),
+        Err(fault) => settled(true, Err(fault), errors),
+    }
 }
 
 /// The status of a command that has told its line itself, once `output` is flushed. That port keeps nothing back, or nothing
 /// was written where there was a line to tell.
 pub fn flushed<W: Write, E: Sink>(errors: &mut E, status: u8, output: &mut WritePort<W>) -> u8 {
     if is_lost_at_the_end(output.finish().is_ok(), status) {
-        settled(false, status, b"", errors)
+        settled(false, Ok(status), errors)
     } else {
         status
     }

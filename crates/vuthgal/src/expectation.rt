@@ -1,19 +1,18 @@
 //! Whether a run ended as it was expected to.
-ghost use Rattle.std.specs.Prelude.{◌≡◌, ◌≢◌, None, Some};
+ghost use Rattle.std.specs.Prelude.{◌≡◌, ◌≢◌, Option, Some, None};
+ghost use Rattle.thread_machine.specs.declared.standing.Standing.{Standing};
 
-use expected_state::Expected;
+use thread_machine::Standing;
 use workbench::fault::{DONE, UNLIKE};
 
-/// The status of a command that wrote a trace whose state has this word: 1 where all went well and it is another than the one
-/// expected.
-pub fn as_expected(status: u8, expected: Expected, word: Option<Expected>) -> u8
-    ensures met { word ≡ Some expected → result ≡ status }
-    ensures refused { status ≢ 0 → result ≡ status }
-    ensures unlike { status ≡ 0 → word ≢ Some expected → result ≡ 1 }
+/// The status of a command whose run ended so: 1 where it was expected to end otherwise.
+pub fn as_expected(expected: Option<Standing>, standing: Standing) -> u8
+    ensures open { expected ≡ None → result ≡ 0 }
+    ensures met { expected ≡ Some standing → result ≡ 0 }
+    ensures unlike { (other : Standing) → expected ≡ Some other → other ≢ standing → result ≡ 1 }
 {
-    if status == DONE && word != Some(expected) {
-        UNLIKE
-    } else {
-        status
+    match expected {
+        Some(expected) if expected != standing => UNLIKE,
+        _ => DONE,
     }
 }

@@ -19,9 +19,7 @@ use byte_ports::{BlockSource, ReadPort, Sink, Source, WritePort};
 use choices_command::choices::choices_cmd;
 use choices_command::opening::{Opening, opening_of};
 use command_line::request::Request;
-use ending::{ended, flushed, held_line};
-use expectation::as_expected;
-use expected_state::{Expected, StateWatch};
+use ending::{answered, flushed, played};
 use help::{Files, push_refusal};
 use leading_source::LeadingSource;
 use live_runs::{Asked, Pauses, runs_cmd};
@@ -35,22 +33,21 @@ use race::race_paced_cmd;
 use refusal_words::explain_cmd;
 use refusal_words::told_line::ToldLine;
 use row_listing::rows_cmd;
-use shown_difference::compare_shown_cmd;
+use shown_difference::{LinesSeen, compare_shown_cmd};
 use std::fs::File;
 use std::io::{BufWriter, IsTerminal};
 use std::process::ExitCode;
 use std::sync::Wait;
 use std::thread::Threads;
+use thread_machine::Standing;
 use trace_choices::naming::NamingFault;
 use traced::{ScheduleTrace, TextTrace, trace_port, traced};
 use until_failure::UntilFailure;
 use workbench::asm::asm_cmd;
 use workbench::compare::compare_cmd;
-use workbench::debug::debug_cmd;
 use workbench::fault::{DONE, Fault, UNLIKE, push_counted_line};
 use workbench::input::read_all;
 use workbench::list::list_cmd;
-use workbench::live::live_through_cmd;
 use workbench::slice_source::SliceSource;
 
 /// How many bytes are written at a time.
@@ -60,7 +57,7 @@ const BUFFER: usize = 65_536;
 fn both<'a, E: Sink>(
     rt: &HostRuntime,
     errors: &mut E,
-    expected: Option<Expected>,
+    expected: Option<Standing>,
 ) -> Result<u8, NoCommand<'a>> {
     if rt.stdin().is_terminal() {
         let _ = errors.push(b"reading a program text from the terminal (--help tells more)\n");
@@ -112,7 +109,7 @@ fn run_under<'a, S: Source + Drop, E: Sink>(
     errors: &mut E,
     program: File,
     schedule: S,
-    expected: Option<Expected>,
+    expected: Option<Standing>,
 ) -> Result<u8, NoCommand<'a>> {
     let mut run = ScheduleTrace {
         alloc: rt.alloc(),
@@ -128,7 +125,7 @@ fn run<'a, E: Sink>(
     errors: &mut E,
     file: &'a str,
     schedule: &'a str,
-    expected: Option<Expected>,
+    expected: Option<Standing>,
 ) -> Result<u8, NoCommand<'a>> {
     let program = files::read(rt, file)?;
     if schedule == "-" {
@@ -175,26 +172,27 @@ fn compare<'a, E: Sink>(
 }
 
 /// Compares a trace, and shows the lines that differ.
-fn compare_shown_with<'a, S: Source, A: Source, E: Sink>(
+fn compare_shown_with<'a, S: Source + Drop, E: Sink>(
     rt: &HostRuntime,
     errors: &mut E,
     program: File,
-    trace: &mut S,
-    again: &mut A,
+    trace: S,
 ) -> Result<u8, NoCommand<'a>> {
+    let Ok(mut trace) = LinesSeen::new(rt.alloc(), trace) else {
+        return Err(NoCommand::Memory);
+    };
     let mut output = WritePort::new(rt.stdout());
     let status = compare_shown_cmd(
         rt.alloc(),
         &mut ReadPort::new(program),
-        trace,
-        again,
+        &mut trace,
         &mut output,
         errors,
     );
     Ok(flushed(errors, status, &mut output))
 }
 
-/// The same with the files that two words name. The trace's is opened twice; standard input is held, where the word is `-`.
+/// The same with the files that two words name, the trace standard input where its word is `-`.
 fn compare_shown<'a, E: Sink>(
     rt: &HostRuntime,
     errors: &mut E,
@@ -203,42 +201,33 @@ fn compare_shown<'a, E: Sink>(
 ) -> Result<u8, NoCommand<'a>> {
     let program = files::read(rt, file)?;
     if trace == "-" {
-        let bytes = match read_all(rt.alloc(), &mut ReadPort::new(rt.stdin())) {
-            Ok(bytes) => bytes,
-            Err(fault) => {
-                let _ = fault.tell(errors);
-                return Ok(fault.status());
-            }
-        };
-        let mut first = SliceSource::new(bytes.as_slice());
-        let mut again = SliceSource::new(bytes.as_slice());
-        return compare_shown_with(rt, errors, program, &mut first, &mut again);
+        let trace = ShownSource::new(rt, ReadPort::new(rt.stdin()), 0);
+        return compare_shown_with(rt, errors, program, trace);
     }
-    let mut first = ReadPort::new(files::read(rt, trace)?);
-    let mut again = ReadPort::new(files::read(rt, trace)?);
-    compare_shown_with(rt, errors, program, &mut first, &mut again)
+    let trace = files::read(rt, trace)?;
+    let size = files::size(&trace);
+    compare_shown_with(
+        rt,
+        errors,
+        program,
+        ShownSource::new(rt, ReadPort::new(trace), size),
+    )
 }
 
-/// Answers commands about the program in a file. Nothing is kept back: standard output is flushed at each line's end, and
-/// `commands` are waited for only where none that has come is left.
-fn session<'a, S: Source + Drop, E: Sink>(
+/// Answers commands about a program. Nothing is kept back: standard output is flushed at each line's end, and `commands` are
+/// waited for only where none that has come is left.
+fn session<'a, F: Source, S: Source + Drop, E: Sink>(
     rt: &HostRuntime,
     errors: &mut E,
-    program: File,
+    program: &mut F,
     commands: S,
 ) -> Result<u8, NoCommand<'a>> {
     let Ok(mut commands) = BlockSource::new(rt.alloc(), commands) else {
         return Err(NoCommand::Memory);
     };
     let mut output = WritePort::new(rt.stdout());
-    let status = debug_cmd(
-        rt.alloc(),
-        &mut ReadPort::new(program),
-        &mut commands,
-        &mut output,
-        errors,
-    );
-    Ok(flushed(errors, status, &mut output))
+    let outcome = headline::debug(rt.alloc(), program, &mut commands, &mut output);
+    Ok(answered(errors, outcome, &mut output))
 }
 
 /// Writes which line is the first that is no line of a trace.
@@ -256,10 +245,10 @@ fn not_a_trace<'a, E: Sink>(
 }
 
 /// Answers the commands on standard input as if one that plays the choices of a trace stood before them.
-fn session_at<'a, E: Sink>(
+fn session_at<'a, F: Source, E: Sink>(
     rt: &HostRuntime,
     errors: &mut E,
-    program: File,
+    program: &mut F,
     trace: File,
 ) -> Result<u8, NoCommand<'a>> {
     match opening_of(rt.alloc(), &mut ReadPort::new(trace)) {
@@ -277,18 +266,47 @@ fn session_at<'a, E: Sink>(
     }
 }
 
-/// Shows the rows of the program in a file to a person who is about to debug it, and answers 0, or the status where it has none.
-fn show_rows<'a, E: Sink>(
+/// Answers the commands on standard input, which are about a program, behind a trace if there is one.
+fn session_on<'a, F: Source, E: Sink>(
     rt: &HostRuntime,
     errors: &mut E,
-    file: &'a str,
+    program: &mut F,
+    trace: Option<File>,
 ) -> Result<u8, NoCommand<'a>> {
-    if !rt.stdin().is_terminal() || !rt.stderr().is_terminal() {
-        return Ok(DONE);
+    if rt.stdin().is_terminal() {
+        let _ = errors.push(b"reading commands from the terminal (debug --help lists them)\n");
     }
-    let mut program = ReadPort::new(files::read(rt, file)?);
+    match trace {
+        Some(trace) => session_at(rt, errors, program, trace),
+        None => session(rt, errors, program, ReadPort::new(rt.stdin())),
+    }
+}
+
+/// The same for a person, who is shown the program's rows first. The file is read once.
+fn session_with_rows<'a, E: Sink>(
+    rt: &HostRuntime,
+    errors: &mut E,
+    program: File,
+    trace: Option<File>,
+) -> Result<u8, NoCommand<'a>> {
+    let bytes = match read_all(rt.alloc(), &mut ReadPort::new(program)) {
+        Ok(bytes) => bytes,
+        Err(fault) => {
+            let _ = fault.tell(errors);
+            return Ok(fault.status());
+        }
+    };
     let mut rows = WritePort::new(rt.stderr());
-    Ok(rows_cmd(rt.alloc(), &mut program, &mut rows, errors))
+    let status = rows_cmd(
+        rt.alloc(),
+        &mut SliceSource::new(bytes.as_slice()),
+        &mut rows,
+        errors,
+    );
+    if status != DONE {
+        return Ok(status);
+    }
+    session_on(rt, errors, &mut SliceSource::new(bytes.as_slice()), trace)
 }
 
 /// Answers the commands on standard input, which are about the program in a file.
@@ -303,16 +321,10 @@ fn debug<'a, E: Sink>(
         Some(trace) => Some(files::read(rt, trace)?),
         None => None,
     };
-    let status = show_rows(rt, errors, file)?;
-    if status != DONE {
-        return Ok(status);
-    }
-    if rt.stdin().is_terminal() {
-        let _ = errors.push(b"reading commands from the terminal (debug --help lists them)\n");
-    }
-    match trace {
-        Some(trace) => session_at(rt, errors, program, trace),
-        None => session(rt, errors, program, ReadPort::new(rt.stdin())),
+    if rt.stdin().is_terminal() && rt.stderr().is_terminal() {
+        session_with_rows(rt, errors, program, trace)
+    } else {
+        session_on(rt, errors, &mut ReadPort::new(program), trace)
     }
 }
 
@@ -373,8 +385,7 @@ fn picture<'a, P: Picture, E: Sink>(
     picture_under(rt, errors, picture, program, &mut ReadPort::new(schedule))
 }
 
-/// Plays the program in a file on real threads, which pause a little where there is a seed. Only where an end is expected is
-/// what is written looked at.
+/// Plays the program in a file on real threads, which pause a little where there is a seed.
 fn live<'a, R: Threads + Wait + Sync, E: Sink>(
     threads: &R,
     rt: &HostRuntime,
@@ -382,46 +393,25 @@ fn live<'a, R: Threads + Wait + Sync, E: Sink>(
     program: File,
     limit: u32,
     pauses: Pauses,
-    expected: Option<Expected>,
+    expected: Option<Standing>,
 ) -> Result<u8, NoCommand<'a>>
     requires { limit ≤ 1000000000 }
 {
     let Ok(mut output) = trace_port(rt) else {
         return Err(NoCommand::Memory);
     };
-    let Ok(mut line) = held_line(rt) else {
-        return Err(NoCommand::Memory);
-    };
-    let alloc = rt.alloc();
     let shown = ShownGate::new(rt);
     let gate = pauses.of_run(0, &shown);
-    let mut program = ReadPort::new(program);
-    let Some(expected) = expected else {
-        let status = live_through_cmd(
-            threads,
-            alloc,
-            limit,
-            &gate,
-            &mut program,
-            &mut output,
-            &mut line,
-        );
-        shown.end();
-        return Ok(ended(errors, status, output, &line));
-    };
-    let mut watch = StateWatch::new(output);
-    let status = live_through_cmd(
+    let outcome = headline::live(
         threads,
-        alloc,
+        rt.alloc(),
         limit,
         &gate,
-        &mut program,
-        &mut watch,
-        &mut line,
+        &mut ReadPort::new(program),
+        &mut output,
     );
     shown.end();
-    let status = as_expected(status, expected, watch.word());
-    Ok(ended(errors, status, watch.into_inner(), &line))
+    Ok(played(errors, outcome, expected, output))
 }
 
 /// Plays it so often, and writes what the runs came to.
@@ -459,7 +449,7 @@ fn play_live<'a, R: Threads + Wait + Sync, E: Sink>(
     runs: Option<u32>,
     limit: u32,
     pauses: Pauses,
-    expected: Option<Expected>,
+    expected: Option<Standing>,
 ) -> Result<u8, NoCommand<'a>>
     requires limit { limit ≤ 1000000000 }
     requires count { IfSome runs (λ n. n ≤ 100000) }

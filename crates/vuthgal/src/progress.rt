@@ -4,7 +4,7 @@
 //! over. Nothing else changes by it.
 ghost use Rattle.std.specs.Io.{WritesAtMost};
 ghost use Rattle.std.specs.Io.KnownBytes.{WriteAppends};
-ghost use Rattle.std.specs.Prelude.{◌≡◌, ◌≤◌, IfOk, length};
+ghost use Rattle.std.specs.Prelude.{◌≡◌, ◌≤◌, ◌+◌, IfOk, length};
 ghost use Rattle.std.specs.Io.KnownBytes.{ReadConsumes};
 ghost use Rattle.byte_ports.specs.Port.{FailsForGood};
 
@@ -172,10 +172,13 @@ impl<'a, S: Source> Source for ShownSource<'a, S> {
 
     ghost has_failed = { λ s. S.has_failed s.source };
 
+    ghost reads = { λ s. S.reads s.source };
+
     fn pull(&mut self, buffer: &mut [u8]) -> Result<usize, Failed>
         ensures failed { FailsForGood (S.has_failed self.old.source) (S.has_failed self.new.source) result }
         ensures bound { IfOk result (λ n. n ≤ length buffer.new) }
         ensures bytes { ReadConsumes (S.left self.old.source) (S.left self.new.source) result buffer.new }
+        ensures reads { S.reads self.new.source ≤ S.reads self.old.source + 1 }
     {
         let count = self.source.pull(buffer)?;
         self.note(&buffer[..count]);

@@ -1,20 +1,19 @@
 //! Commands that write a trace to standard output.
-use crate::ending::{ended, held_line};
-use crate::expectation::as_expected;
+use crate::ending::played;
 use crate::no_command::NoCommand;
 use crate::progress::ShownWriter;
 use byte_ports::{BlockPort, ReadPort, Sink, Source, WritePort};
-use expected_state::{Expected, StateWatch};
+use headline::{both, run};
 use std::alloc::{AllocError, Global};
 use std::fs::File;
 use std::io::Stdout;
-use workbench::both::both_cmd;
-use workbench::run::run_cmd;
+use thread_machine::Standing;
+use workbench::fault::Fault;
 
 /// A command that writes a trace.
 pub trait TraceCommand {
-    /// Answers the exit status. For one that isn't 0 it tells a line on `errors`.
-    fn push_trace<K: Sink, E: Sink>(&mut self, output: &mut K, errors: &mut E) -> u8;
+    /// Answers how the program stands where its run ends.
+    fn push_trace<K: Sink>(&mut self, output: &mut K) -> Result<Standing, Fault>;
 }
 
 /// Standard output, for a trace.
@@ -27,27 +26,18 @@ pub fn trace_port<'a>(
     )
 }
 
-/// Writes a trace to standard output. Only where an end is expected is what is written looked at.
+/// Writes a trace to standard output.
 pub fn traced<'a, T: TraceCommand, E: Sink>(
     rt: &HostRuntime,
     errors: &mut E,
     command: &mut T,
-    expected: Option<Expected>,
+    expected: Option<Standing>,
 ) -> Result<u8, NoCommand<'a>> {
     let Ok(mut output) = trace_port(rt) else {
         return Err(NoCommand::Memory);
     };
-    let Ok(mut line) = held_line(rt) else {
-        return Err(NoCommand::Memory);
-    };
-    let Some(expected) = expected else {
-        let status = command.push_trace(&mut output, &mut line);
-        return Ok(ended(errors, status, output, &line));
-    };
-    let mut watch = StateWatch::new(output);
-    let status = command.push_trace(&mut watch, &mut line);
-    let status = as_expected(status, expected, watch.word());
-    Ok(ended(errors, status, watch.into_inner(), &line))
+    let outcome = command.push_trace(&mut output);
+    Ok(played(errors, outcome, expected, output))
 }
 
 /// A text with its schedule.
@@ -58,8 +48,8 @@ pub struct TextTrace<S> {
 }
 
 impl<S: Source> TraceCommand for TextTrace<S> {
-    fn push_trace<K: Sink, E: Sink>(&mut self, output: &mut K, errors: &mut E) -> u8 {
-        both_cmd(self.alloc, &mut self.input, output, errors)
+    fn push_trace<K: Sink>(&mut self, output: &mut K) -> Result<Standing, Fault> {
+        both(self.alloc, &mut self.input, output)
     }
 }
 
@@ -72,13 +62,7 @@ pub struct ScheduleTrace<S> {
 }
 
 impl<S: Source> TraceCommand for ScheduleTrace<S> {
-    fn push_trace<K: Sink, E: Sink>(&mut self, output: &mut K, errors: &mut E) -> u8 {
-        run_cmd(
-            self.alloc,
-            &mut self.program,
-            &mut self.schedule,
-            output,
-            errors,
-        )
+    fn push_trace<K: Sink>(&mut self, output: &mut K) -> Result<Standing, Fault> {
+        run(self.alloc, &mut self.program, &mut self.schedule, output)
     }
 }

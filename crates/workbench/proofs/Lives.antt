@@ -26,9 +26,9 @@ ok_is a b is = cc
 
 -- a file is one program
 pub one_program : (file : List ℕ) (a b : Image) → IsProgramFile file a → IsProgramFile file b → a ≡ b
-one_program file a b (inl (is, first)) (inl (too, second)) = ok_is a b (sym first ∙ second)
-one_program file a b (inl (is, first)) (inr (other, second)) = absurd (cc (is, other))
-one_program file a b (inr (is, first)) (inl (other, second)) = absurd (cc (is, other))
+one_program file a b (inl (is, first, fits)) (inl (too, second, fit)) = ok_is a b (sym first ∙ second)
+one_program file a b (inl (is, first, fits)) (inr (other, second)) = absurd (cc (is, other))
+one_program file a b (inr (is, first)) (inl (other, second, fit)) = absurd (cc (is, other))
 one_program file a b (inr (is, first)) (inr (too, second)) = one_image file a b first second
 
 recorded_again : (limit : ℕ) (file schedule : List ℕ) (a b : Image) → IsProgramFile file a → IsProgramFile file b
@@ -80,7 +80,7 @@ part_by f image given schedule after output_before output_after A is (inr unread
     let most = so_far-in_part image (Some given) (Some after) output_before output_after so_far in
     (Some after, subst (λ s. HasRunInPart image (Some s) (Some after) output_before output_after) is most)
 
-pub part_of : (result : Result (Unit {0}) Fault) (image : Image) (given schedule after : List ℕ)
+pub part_of : {B : Type 0} (result : Result B Fault) (image : Image) (given schedule after : List ℕ)
     (output_before output_after : Option (List ℕ)) (A : Type 0) → given ≡ schedule
     → IfErr result (λ f. status_of f ≡ 4 → HasRunInPart image (Some given) (Some after) output_before output_after)
     → (result ≡ Err fault.Read → A × HasRunSoFar image (Some given) (Some after) output_before output_after)
@@ -96,7 +96,7 @@ as_many schedule after (bytes, (consumed, many)) =
     omega (arith, many, ap length consumed, length-append bytes after)
 
 -- the trace of a known schedule
-pub traced_of : (result : Result (Unit {0}) Fault) (image : Image) (given schedule after : List ℕ)
+pub traced_of : {A : Type 0} (result : Result A Fault) (image : Image) (given schedule after : List ℕ)
     (output_before output_after : Option (List ℕ)) → given ≡ schedule
     → OnOk result (HasRun image (Some given) (Some after) output_before output_after)
     → OnOk result ((trace : List ℕ) × (IsTraceOf image schedule trace × Appends output_before output_after trace))
@@ -107,7 +107,7 @@ traced_of (Ok x) image given schedule after output_before output_after is (bytes
 traced_of (Err e) image given schedule after output_before output_after is run = run
 
 -- what became of a recorded run whose image was read again
-pub lived : (result : Result (Unit {0}) Fault) (limit : ℕ) (file schedule : List ℕ) (a b : Image)
+pub lived : {A : Type 0} (result : Result A Fault) (limit : ℕ) (file schedule : List ℕ) (a b : Image)
     (output_before output_after : Option (List ℕ)) → IsProgramFile file a → IsProgramFile file b → IsRecorded a limit schedule
     → OnOk result ((trace : List ℕ) × (IsTraceOf b schedule trace × Appends output_before output_after trace))
     → OnOk result (IsLived limit file output_before output_after)
@@ -115,7 +115,7 @@ lived (Ok x) limit file schedule a b output_before output_after first again reco
     (b, (schedule, (trace, (again, recorded_again limit file schedule a b first again recorded, traced, appended))))
 lived (Err e) limit file schedule a b output_before output_after first again recorded done = done
 
-pub lived_in_part : (result : Result (Unit {0}) Fault) (limit : ℕ) (file schedule : List ℕ) (a b : Image)
+pub lived_in_part : {A : Type 0} (result : Result A Fault) (limit : ℕ) (file schedule : List ℕ) (a b : Image)
     (output_before output_after : Option (List ℕ)) → IsProgramFile file a → IsProgramFile file b → IsRecorded a limit schedule
     → IfErr result (λ f. (status_of f ≡ 4) ⊎ (f ≡ fault.Read)
     → (rest : Option (List ℕ)) × HasRunInPart b (Some schedule) rest output_before output_after)

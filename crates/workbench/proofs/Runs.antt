@@ -1,6 +1,6 @@
 -- What becomes of a program under a schedule that is known as a whole.
 use Rattle.std.proofs.Common.{◌≡◌, ◌≢◌, ◌∙◌, ◌++◌, ℕ, inl, inr, List, Ok, Err, Result, Option, Some, ap, sym, refl, subst, append-nil, arith}
-use Rattle.std.specs.Prelude.{OnOk, IfErr}
+use Rattle.std.specs.Prelude.{OnOk, IfErr, IfOk}
 use Rattle.std.specs.Io.KnownBytes.{Appends}
 use Rattle.line_reader.specs.declared.asm_fault.AsmFault.{AsmFault}
 use Rattle.row_code.specs.declared.image.Image.{Image}
@@ -10,6 +10,7 @@ use Rattle.loader.specs.declared.load_fault.LoadFault.{LoadFault}
 use Rattle.schedule_reader.specs.declared.fault.ScheduleFault.{ScheduleFault}
 use Rattle.schedule_reader.specs.declared.run.Run.{Run}
 use Rattle.schedule_reader.specs.Schedule.{finished_schedule, choices_of}
+use Rattle.thread_machine.specs.declared.standing.Standing.{Standing}
 use Rattle.trace_compare.specs.RunText.{HasFault, HasRun, HasRunToFault, faulty_after}
 use Rattle.trace_compare.specs.RunText as run
 use Rattle.trace_compare.specs.Start.{IsRefused}
@@ -28,7 +29,7 @@ whole_fault schedule bytes after runs f is (inl (end, faulty)) =
 whole_fault schedule bytes after runs f is (inr later) = ap finished_schedule is ∙ later after
 
 -- the trace of a whole text
-pub whole-traced : (result : Result (Unit {0}) Fault) (image : Image) (text schedule after : List ℕ)
+pub whole-traced : {A : Type 0} (result : Result A Fault) (image : Image) (text schedule after : List ℕ)
     (output_before output_after : Option (List ℕ)) → schedule ≡ schedule_part text → StandsFor (program_part text) image
     → OnOk result (HasRun image (Some schedule) (Some after) output_before output_after)
     → OnOk result ((trace : List ℕ) × (IsTraceOf text trace × Appends output_before output_after trace))
@@ -39,8 +40,18 @@ whole-traced (Ok x) image text schedule after output_before output_after is stan
     (trace, ((image, (stands, subst (λ given. run.IsTraceOf image given trace) whole traced)), appended))
 whole-traced (Err e) image text schedule after output_before output_after is stands run = run
 
+-- how the program of a whole text stands in the end
+pub whole-ends : (result : Result Standing Fault) (image : Image) (text schedule after : List ℕ)
+    → schedule ≡ schedule_part text → StandsFor (program_part text) image
+    → IfOk result (λ standing. run.EndsAs image standing (Some schedule) (Some after))
+    → IfOk result (λ standing. (image : Image) × ((rest : Option (List ℕ))
+    × (StandsFor (program_part text) image × run.EndsAs image standing (Some (schedule_part text)) rest)))
+whole-ends (Ok standing) image text schedule after is stands ends =
+    (image, (Some after, (stands, subst (λ given. run.EndsAs image standing (Some given) (Some after)) is ends)))
+whole-ends (Err e) image text schedule after is stands ends = ends
+
 -- why a whole text is refused, if it is
-pub whole-refused : (result : Result (Unit {0}) Fault) (image : Image) (text schedule after : List ℕ)
+pub whole-refused : {A : Type 0} (result : Result A Fault) (image : Image) (text schedule after : List ℕ)
     (output_before output_after : Option (List ℕ)) → schedule ≡ schedule_part text → StandsFor (program_part text) image
     → ((f : LoadFault) → result ≡ Err (fault.Load f) → IsRefused f image
     × (◌≡◌ {A = Option (List ℕ)} (Some after) (Some schedule)) × (output_after ≡ output_before))
@@ -70,7 +81,7 @@ whole-refused (Err fault.Write) image text schedule after output_before output_a
     λ three. absurd (omega (arith, three))
 
 -- what was written at most of a whole text
-pub whole-at_most : (result : Result (Unit {0}) Fault) (image : Image) (text schedule after : List ℕ)
+pub whole-at_most : {A : Type 0} (result : Result A Fault) (image : Image) (text schedule after : List ℕ)
     (output_before output_after : Option (List ℕ)) → schedule ≡ schedule_part text → StandsFor (program_part text) image
     → IfErr result (λ f. status_of f ≡ 4 → run.HasRunInPart image (Some schedule) (Some after) output_before output_after)
     → IfErr result (λ f. status_of f ≡ 4 → IsTracedAtMost text output_before output_after)

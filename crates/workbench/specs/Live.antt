@@ -1,9 +1,9 @@
 -- What `live` makes of a program's file.
-use Rattle.std.specs.Prelude.{◌≡◌, ◌⊎◌, ◌≤◌, ℕ, List, length, Option, Some}
+use Rattle.std.specs.Prelude.{◌≡◌, ◌⊎◌, ◌≤◌, ℕ, List, length, Option, Some, None}
 use Rattle.std.specs.Io.KnownBytes.{Appends}
 use Rattle.row_code.specs.declared.image.Image.{Image}
-use Rattle.loader.specs.Program.{Program, IsProgramOf}
-use Rattle.thread_machine.specs.World.{World, first_world}
+use Rattle.loader.specs.Fault.{first_fault}
+use Rattle.thread_machine.specs.World.{World, IsFirstOf}
 use Rattle.thread_runner.specs.declared.ending.Ending.{Ending}
 use Rattle.thread_runner.specs.Endings.{ending_of}
 use Rattle.thread_runner.specs.Replay.{IsReplayOfText}
@@ -14,12 +14,12 @@ use Rattle.workbench.specs.declared.fault.Fault.TheVariants as fault
 use Rattle.workbench.specs.Input.{GivesAll}
 use Rattle.workbench.specs.ProgramFile.{IsNoProgramFor, IsProgramFile}
 
--- the schedule is the record of a run of the image's program that came to an end, of at most so many steps: each of its
--- choices was accepted, and none was idle
+-- the image has no fault, and the schedule is the record of a run from its first world that came to an end, of at most so
+-- many steps: each of its choices was accepted, and none was idle
 abbrev pub IsRecorded : Image → ℕ → List ℕ → Type 0
 IsRecorded image limit schedule =
-    (program : Program) × ((world : World) × ((ending : Ending)
-    × (IsProgramOf image program × IsReplayOfText (first_world program limit) schedule world
+    (first : World) × ((world : World) × ((ending : Ending)
+    × ((first_fault image ≡ None) × IsFirstOf image limit first × IsReplayOfText first schedule world
     × (ending_of world ≡ Some ending))))
 
 -- the program in a file was played on real threads, and the trace of the recorded schedule was written

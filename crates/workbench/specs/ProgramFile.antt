@@ -2,6 +2,7 @@
 use Rattle.std.specs.Prelude.{◌≡◌, ◌⊎◌, ℕ, Bool, true, false, List, take, Ok, Err}
 use Rattle.assembler.specs.Meaning.{StandsFor}
 use Rattle.assembler.specs.Passes.{assembled}
+use Rattle.row_code.specs.Image.{IsImage}
 use Rattle.row_code.specs.Reading.{image_of, is_magic}
 use Rattle.row_code.specs.declared.image.Image.{Image}
 use Rattle.workbench.specs.declared.fault.Fault.{Fault}
@@ -11,10 +12,10 @@ use Rattle.workbench.specs.declared.fault.Fault.TheVariants as fault
 abbrev pub is_image_file : List ℕ → Bool
 is_image_file bytes = is_magic (take 4 bytes)
 
--- the image that a file is, or that the text in it stands for
+-- the image that a file is, which is within the limits of one, or that the text in it stands for
 abbrev pub IsProgramFile : List ℕ → Image → Type 0
 IsProgramFile file image =
-    ((is_image_file file ≡ true) × (image_of file ≡ Ok image))
+    ((is_image_file file ≡ true) × (image_of file ≡ Ok image) × IsImage image)
     ⊎ ((is_image_file file ≡ false) × StandsFor file image)
 
 -- why a file is no program: the first fault of the image, or of the text

@@ -1,7 +1,8 @@
 -- What `run` makes of a program's file and a schedule.
 use Rattle.std.specs.Prelude.{◌≡◌, ◌⊎◌, ℕ, List, Option}
 use Rattle.row_code.specs.declared.image.Image.{Image}
-use Rattle.trace_compare.specs.RunText.{HasRun, HasRunInPart, HasRunSoFar, HasRunToFault, HasWrittenTheSame}
+use Rattle.trace_compare.specs.RunText.{EndsAs, HasRun, HasRunInPart, HasRunSoFar, HasRunToFault, HasWrittenTheSame}
+use Rattle.thread_machine.specs.declared.standing.Standing.{Standing}
 use Rattle.trace_compare.specs.Start.{IsRefused}
 use Rattle.workbench.specs.declared.fault.Fault.{Fault}
 use Rattle.workbench.specs.declared.fault.Fault.TheVariants as fault
@@ -34,6 +35,11 @@ abbrev pub HasRunFile : (file_before file_after schedule_before schedule_after o
 HasRunFile file_before file_after schedule_before schedule_after output_before output_after =
     (image : Image) × (GivesProgram file_before file_after image
     × HasRun image schedule_before schedule_after output_before output_after)
+
+-- file and schedule were read to their ends, and where the run ends the program stands so
+abbrev pub HasRunFileTo : Standing → (file_before file_after schedule_before schedule_after : Option (List ℕ)) → Type 0
+HasRunFileTo standing file_before file_after schedule_before schedule_after =
+    (image : Image) × (GivesProgram file_before file_after image × EndsAs image standing schedule_before schedule_after)
 
 -- the file was read to its end, and a comparison with its program finds what was written the same
 abbrev pub HasRunTheSame : (file_before file_after output_before output_after : Option (List ℕ)) → Type 0

@@ -1,13 +1,13 @@
-ghost use Rattle.std.specs.Prelude.{◌≡◌, ◌≢◌, ◌⊎◌, ◌≤◌, length, List, ℕ, IsTrue, OnOk, IfErr};
+ghost use Rattle.std.specs.Prelude.{◌≡◌, ◌≢◌, ◌⊎◌, ◌≤◌, length, List, ℕ, Option, Some, IsTrue, OnOk, IfErr, IfOk};
 ghost use Rattle.std.specs.Io.KnownBytes.{Appends};
 ghost use Rattle.workbench.specs.declared.fault.Fault.{Fault};
-ghost use Rattle.workbench.specs.Both.{AreRefusedFor, HasRefused, HasTraced, HasTracedAtMost, HasTracedTheSame, IsTraceOf, IsTracedAtMost};
+ghost use Rattle.workbench.specs.Both.{AreRefusedFor, HasEndedAs, HasRefused, HasTraced, HasTracedAtMost, HasTracedTheSame, IsTraceOf, IsTracedAtMost};
 ghost use Rattle.workbench.specs.Fault.{HasTold, status_of};
 ghost use Rattle.workbench.specs.Input.{GivesTooMuch, most_bytes};
 ghost use Rattle.workbench.specs.RunLine.{program_part, schedule_part};
 ghost use Rattle.assembler.specs.Meaning.{StandsFor};
 ghost use Rattle.row_code.specs.declared.image.Image.{Image};
-ghost use Rattle.trace_compare.specs.RunText.{HasWrittenTheSame};
+ghost use Rattle.trace_compare.specs.RunText.{EndsAs, HasWrittenTheSame};
 
 use crate::fault::{DONE, Fault};
 use crate::input::read_all;
@@ -17,6 +17,7 @@ use crate::slice_source::SliceSource;
 use assembler::assemble;
 use byte_ports::{Sink, Source};
 use std::alloc::Global;
+use thread_machine::Standing;
 
 /// Reads a program text, a line `.run` and a schedule from `input`, plays the program under the schedule and writes the
 /// trace to `output`. Answers the exit status, 0 where all went well. For any other status one line stands on `errors`:
@@ -48,7 +49,7 @@ pub fn both_cmd<S: Source, K: Sink, E: Sink>(
         ⊎ IsTrue (K.has_failed output.new)) }
 {
     match both(alloc, input, output) {
-        Ok(()) => DONE,
+        Ok(_) => DONE,
         Err(fault) => {
             let _ = fault.tell(errors);
             fault.status()
@@ -56,8 +57,13 @@ pub fn both_cmd<S: Source, K: Sink, E: Sink>(
     }
 }
 
-/// The same with the fault that decides the status.
-fn both<S: Source, K: Sink>(alloc: Global, input: &mut S, output: &mut K) -> Result<(), Fault>
+/// The same: how the program stands in the end, or the fault that decides the status.
+pub fn both<S: Source, K: Sink>(
+    alloc: Global,
+    input: &mut S,
+    output: &mut K,
+) -> Result<Standing, Fault>
+    ensures ends { IfOk result (λ standing. HasEndedAs standing (S.left input.old) (S.left input.new)) }
     ensures done { OnOk result (HasTraced (S.left input.old) (S.left input.new)
         (K.written output.old) (K.written output.new)) }
     ensures same { OnOk result (HasTracedTheSame (S.left input.old) (S.left input.new)
@@ -79,8 +85,11 @@ fn both<S: Source, K: Sink>(alloc: Global, input: &mut S, output: &mut K) -> Res
 }
 
 /// Writes the trace of a whole input.
-fn trace_text<K: Sink>(alloc: Global, text: &[u8], output: &mut K) -> Result<(), Fault>
+fn trace_text<K: Sink>(alloc: Global, text: &[u8], output: &mut K) -> Result<Standing, Fault>
     requires { length text.now ≤ most_bytes }
+    ensures ends { IfOk result (λ standing. (image : Image) × ((rest : Option (List ℕ))
+        × (StandsFor (program_part text.now) image
+        × EndsAs image standing (Some (schedule_part text.now)) rest))) }
     ensures done { OnOk result ((trace : List ℕ) × (IsTraceOf text.now trace
         × Appends (K.written output.old) (K.written output.new) trace)) }
     ensures same { OnOk result ((image : Image) × (StandsFor (program_part text.now) image

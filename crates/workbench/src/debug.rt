@@ -75,7 +75,7 @@ pub fn debug_cmd<F: Source, S: Source, K: Sink, E: Sink>(
 }
 
 /// The same with the fault that decides the status.
-fn debug<F: Source, S: Source, K: Sink>(
+pub fn debug<F: Source, S: Source, K: Sink>(
     alloc: Global,
     file: &mut F,
     commands: &mut S,

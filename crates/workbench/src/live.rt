@@ -27,6 +27,7 @@ use row_code::Image;
 use std::alloc::Global;
 use std::sync::Wait;
 use std::thread::Threads;
+use thread_machine::Standing;
 use thread_runner::{Gate, LiveFault, NoGate, run_live};
 
 /// Plays the program in `file`, an image or a text, on real threads, one for each of its own, for at most `limit` steps,
@@ -97,7 +98,7 @@ pub fn live_through_cmd<R: Threads + Wait + Sync, G: Gate + Sync, F: Source, K: 
         ⊎ IsTrue (K.has_failed output.new) }
 {
     match live(threads, alloc, limit, gate, file, output) {
-        Ok(()) => DONE,
+        Ok(_) => DONE,
         Err(fault) => {
             let _ = fault.tell(errors);
             fault.status()
@@ -105,15 +106,16 @@ pub fn live_through_cmd<R: Threads + Wait + Sync, G: Gate + Sync, F: Source, K: 
     }
 }
 
-/// The same with the fault that decides the status. The image is read again from the bytes for the trace.
-fn live<R: Threads + Wait + Sync, G: Gate + Sync, F: Source, K: Sink>(
+/// The same: how the program stands in the end, or the fault that decides the status. The image is read again from the bytes
+/// for the trace.
+pub fn live<R: Threads + Wait + Sync, G: Gate + Sync, F: Source, K: Sink>(
     rt: &R,
     alloc: Global,
     limit: u32,
     gate: &G,
     file: &mut F,
     output: &mut K,
-) -> Result<(), Fault>
+) -> Result<Standing, Fault>
     requires { limit ≤ 1000000000 }
     ensures done { OnOk result (HasLived limit (F.left file.old) (F.left file.new)
         (K.written output.old) (K.written output.new)) }
@@ -143,7 +145,7 @@ fn play_live<R: Threads + Wait + Sync, G: Gate + Sync, K: Sink>(
     gate: &G,
     file: &[u8],
     output: &mut K,
-) -> Result<(), Fault>
+) -> Result<Standing, Fault>
     requires { limit ≤ 1000000000 }
     ensures done { OnOk result (IsLived limit file.now (K.written output.old) (K.written output.new)) }
     ensures same { OnOk result ((image : Image) × (IsProgramFile file.now image
@@ -175,7 +177,7 @@ fn push_trace<K: Sink>(
     image: Image,
     schedule: &[u8],
     output: &mut K,
-) -> Result<(), Fault>
+) -> Result<Standing, Fault>
     requires { (finished_schedule schedule.now).fault ≡ None }
     ensures done { OnOk result ((trace : List ℕ) × (IsTraceOf image schedule.now trace
         × Appends (K.written output.old) (K.written output.new) trace)) }

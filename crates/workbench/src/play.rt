@@ -1,9 +1,9 @@
-ghost use Rattle.std.specs.Prelude.{◌≡◌, ◌≢◌, ◌⊎◌, Err, IsTrue, IfErr, OnOk};
+ghost use Rattle.std.specs.Prelude.{◌≡◌, ◌≢◌, ◌⊎◌, Err, IsTrue, IfErr, IfOk, OnOk};
 ghost use Rattle.line_reader.specs.declared.asm_fault.AsmFault.{AsmFault};
 ghost use Rattle.row_code.specs.declared.image_fault.ImageFault.{ImageFault};
 ghost use Rattle.schedule_reader.specs.declared.fault.ScheduleFault.{ScheduleFault};
 ghost use Rattle.loader.specs.declared.load_fault.LoadFault.{LoadFault};
-ghost use Rattle.trace_compare.specs.RunText.{GivesOnAndOn, HasRun, HasRunInPart, HasRunSoFar, HasRunToFault, HasWrittenTheSame};
+ghost use Rattle.trace_compare.specs.RunText.{EndsAs, GivesOnAndOn, HasRun, HasRunInPart, HasRunSoFar, HasRunToFault, HasWrittenTheSame};
 ghost use Rattle.trace_compare.specs.Start.{IsRefused};
 ghost use Rattle.workbench.specs.Fault.{status_of};
 
@@ -11,16 +11,18 @@ use crate::fault::Fault;
 use byte_ports::{Sink, Source};
 use row_code::Image;
 use std::alloc::Global;
-use trace_compare::run::{RunFault, run_text};
+use thread_machine::Standing;
+use trace_compare::run::{RunFault, run_to_end};
 
-/// Plays an image's program under a schedule and writes the trace, with the fault that decides the status: `run_text` in
-/// the words of the commands.
+/// Plays an image's program under a schedule, writes the trace, and answers how the program stands in the end, or the fault
+/// that decides the status: `run_to_end` in the words of the commands.
 pub fn play<S: Source, K: Sink>(
     alloc: Global,
     image: Image,
     schedule: &mut S,
     output: &mut K,
-) -> Result<(), Fault>
+) -> Result<Standing, Fault>
+    ensures ends { IfOk result (λ standing. EndsAs image standing (S.left schedule.old) (S.left schedule.new)) }
     ensures done { OnOk result (HasRun image (S.left schedule.old) (S.left schedule.new)
         (K.written output.old) (K.written output.new)) }
     ensures same { OnOk result (HasWrittenTheSame image (K.written output.old) (K.written output.new)) }
@@ -41,8 +43,8 @@ pub fn play<S: Source, K: Sink>(
     ensures program { ((fault : AsmFault) → result ≢ Err (Fault.Asm fault))
         × ((fault : ImageFault) → result ≢ Err (Fault.Image fault)) }
 {
-    match run_text(alloc, image, schedule, output) {
-        Ok(()) => Ok(()),
+    match run_to_end(alloc, image, schedule, output) {
+        Ok(standing) => Ok(standing),
         Err(RunFault::Load(fault)) => Err(Fault::Load(fault)),
         Err(RunFault::Schedule(fault)) => Err(Fault::Schedule(fault)),
         Err(RunFault::Memory) => Err(Fault::Memory),

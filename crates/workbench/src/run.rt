@@ -1,15 +1,16 @@
-ghost use Rattle.std.specs.Prelude.{◌≡◌, ◌≢◌, ◌⊎◌, Err, IsTrue, IfErr, OnOk};
+ghost use Rattle.std.specs.Prelude.{◌≡◌, ◌≢◌, ◌⊎◌, Err, IsTrue, IfErr, IfOk, OnOk};
 ghost use Rattle.trace_compare.specs.RunText.{GivesOnAndOn};
 ghost use Rattle.workbench.specs.declared.fault.Fault.{Fault};
 ghost use Rattle.workbench.specs.Fault.{HasTold, status_of};
 ghost use Rattle.workbench.specs.Input.{GivesTooMuch};
-ghost use Rattle.workbench.specs.Run.{HasRunFile, HasRunFileAtMost, HasRunFileSoFar, HasRunRefused, HasRunTheSame};
+ghost use Rattle.workbench.specs.Run.{HasRunFile, HasRunFileAtMost, HasRunFileSoFar, HasRunFileTo, HasRunRefused, HasRunTheSame};
 
 use crate::fault::{DONE, Fault};
 use crate::play::play;
 use crate::program_file::read_program;
 use byte_ports::{Sink, Source};
 use std::alloc::Global;
+use thread_machine::Standing;
 
 /// Plays the program in `file`, an image or a text, under the schedule in `schedule` and writes the trace to `output`.
 /// Answers the exit status, 0 where all went well. For any other status one line stands on `errors`: `refused asm LINE
@@ -45,7 +46,7 @@ pub fn run_cmd<F: Source, S: Source, K: Sink, E: Sink>(
         ⊎ IsTrue (K.has_failed output.new)) }
 {
     match run(alloc, file, schedule, output) {
-        Ok(()) => DONE,
+        Ok(_) => DONE,
         Err(fault) => {
             let _ = fault.tell(errors);
             fault.status()
@@ -53,13 +54,15 @@ pub fn run_cmd<F: Source, S: Source, K: Sink, E: Sink>(
     }
 }
 
-/// The same with the fault that decides the status.
-fn run<F: Source, S: Source, K: Sink>(
+/// The same: how the program stands in the end, or the fault that decides the status.
+pub fn run<F: Source, S: Source, K: Sink>(
     alloc: Global,
     file: &mut F,
     schedule: &mut S,
     output: &mut K,
-) -> Result<(), Fault>
+) -> Result<Standing, Fault>
+    ensures ends { IfOk result (λ standing. HasRunFileTo standing (F.left file.old) (F.left file.new)
+        (S.left schedule.old) (S.left schedule.new)) }
     ensures done { OnOk result (HasRunFile (F.left file.old) (F.left file.new)
         (S.left schedule.old) (S.left schedule.new) (K.written output.old) (K.written output.new)) }
     ensures same { OnOk result (HasRunTheSame (F.left file.old) (F.left file.new)

@@ -1,8 +1,8 @@
 //! What the words of a command line ask for.
 use command_line::request::{Request, parse};
-use expected_state::Expected;
 use std::alloc::Global;
 use std::test::Fail;
+use thread_machine::Standing;
 
 /// Command lines whose words ask for nothing, and the status of each.
 static WRONG_WORDS: [(&str, i32); 21] = [
@@ -310,7 +310,7 @@ fn command_lines_ask_for_many_runs(rt: HostRuntime) -> Result<(), Fail> {
                 limit: 7,
                 seed: Some(0),
                 runs: Some(100_000),
-                expected: Some(Expected::Live),
+                expected: Some(Standing::Live),
             }
         )?
     );
@@ -325,7 +325,7 @@ fn command_lines_ask_for_ends_and_pauses(rt: HostRuntime) -> Result<(), Fail> {
             alloc,
             "--expect live",
             &Request::Both {
-                expected: Some(Expected::Live),
+                expected: Some(Standing::Live),
             }
         )?
     );
@@ -336,7 +336,7 @@ fn command_lines_ask_for_ends_and_pauses(rt: HostRuntime) -> Result<(), Fail> {
             &Request::Run {
                 file: "a.txt",
                 schedule: "b",
-                expected: Some(Expected::Stuck),
+                expected: Some(Standing::Stuck),
             }
         )?
     );
@@ -349,7 +349,7 @@ fn command_lines_ask_for_ends_and_pauses(rt: HostRuntime) -> Result<(), Fail> {
                 limit: 1_000_000,
                 seed: Some(4_294_967_295),
                 runs: None,
-                expected: Some(Expected::All),
+                expected: Some(Standing::All),
             }
         )?
     );

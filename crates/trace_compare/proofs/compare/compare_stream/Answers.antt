@@ -29,6 +29,7 @@ loop-preserved g c =
     record {
       reading = c.in-Ok-None.ensures.reading;
       number = omega (arith, c.take_piece.ensures.number, c.loop.invariant.number, size, length-take c.in-Ok.count c.pull.new.buffer, c.in-Ok.ensures.bound);
+      reads = omega (arith, c.pull.ensures.reads, c.loop.invariant.reads);
       stream = (
         bytes ++ piece,
         (

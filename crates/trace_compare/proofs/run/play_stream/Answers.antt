@@ -81,6 +81,7 @@ loop-preserved g c =
     record {
       empty = c.play_piece.ensures.empty;
       few = omega (arith, c.play_piece.ensures.count, c.loop.invariant.few, size, length-take c.in-Ok.count c.pull.new.buffer, c.in-Ok.ensures.bound);
+      reads = omega (arith, c.pull.ensures.reads, c.loop.invariant.reads);
       stream = (
         bytes ++ piece,
         (

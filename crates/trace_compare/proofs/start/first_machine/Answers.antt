@@ -1,7 +1,9 @@
-use Rattle.std.proofs.Common.{rules, ◌≡◌, ◌∙◌, inl, Some, Err, ap, subst, false}
+use Rattle.std.proofs.Common.{rules, ◌≡◌, ◌∙◌, inl, Some, Err, ap, subst, sym, false}
 use Rattle.loader.specs.Fault.{first_fault}
 use Rattle.trace_compare.specs.Start.{is_want_of_memory}
 use Rattle.trace_compare.specs.declared.start.StartFault.TheVariants as start
+use Rattle.thread_machine.specs.World.{IsFirstOf}
+use Rattle.thread_machine.proofs.Firsts.{is_first}
 use Rattle.trace_compare.proofs.Starting.{no_want, other_fault}
 use Rattle.trace_compare.proofs.start.first_machine.Goals as goal
 
@@ -15,3 +17,9 @@ returns-in-Err c =
       wants = λ fault is. let same : c.in-Err.fault ≡ fault = cc in
           subst (λ told. is_want_of_memory told ≡ false) same (no_want c.args.image c.in-Err.fault first);
     }
+
+pub returns-in-Ok-new-clause-machine : goal.returns-in-Ok-new-clause-machine
+returns-in-Ok-new-clause-machine c = (
+  c.in-Ok.ensures.none,
+  subst (IsFirstOf c.args.image 1000000000) (sym c.in-Ok-new.ensures) (is_first c.args.image c.in-Ok.program 1000000000 c.in-Ok.ensures.loaded),
+)

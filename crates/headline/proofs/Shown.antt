@@ -1,0 +1,70 @@
+-- What the commands have written, in the headline's words.
+use Rattle.std.proofs.Common.{◌≡◌, ◌∙◌, ◌++◌, ℕ, List, [], None, Some, refl, ap, sym, subst, append-nil, inl, inr}
+use Rattle.std.specs.Prelude.{Option, Result, Ok, Err, OnOk}
+use Rattle.row_code.specs.declared.image.Image.{Image}
+use Rattle.assembler.specs.Meaning.{StandsFor}
+use Rattle.assembler.proofs.ReadLines.{one_image}
+use Rattle.loader.specs.Fault.{first_fault}
+use Rattle.loader.specs.declared.load_fault.LoadFault.{LoadFault}
+use Rattle.schedule_reader.specs.Schedule.{choices_of}
+use Rattle.trace_compare.specs.RunText.{IsTraceOf}
+use Rattle.trace_compare.proofs.OneTrace.{trace-first}
+use Rattle.workbench.specs.Both.{HasTraced}
+use Rattle.workbench.specs.Debug.{Finished, HasDebugged}
+use Rattle.workbench.specs.Live.{HasLived}
+use Rattle.workbench.specs.Run.{HasRunFile}
+use Rattle.workbench.specs.RunLine.{program_part}
+use Rattle.headline.specs.Headline.{HasDebuggedFile, HasShownFile, HasShownLive, HasShownText, ShowsTheRows}
+
+-- what follows where the result is Ok
+pub where_ok : {A E P Q : Type 0} (result : Result A E) → (P → Q) → OnOk result P → OnOk result Q
+where_ok (Ok x) then p = then p
+where_ok (Err e) then p = p
+
+-- a trace of an image's program is that from the image's first world on
+rows : (image : Image) (schedule shown : List ℕ) → IsTraceOf image schedule shown
+    → (first_fault image ≡ None) × ShowsTheRows image schedule shown
+rows image schedule shown (first, (runs, ((loads, begins), whole, is))) =
+    (loads, (runs, (whole, is ∙ trace-first image 1000000000 first (choices_of runs) begins)))
+
+pub text-shown : (input_before input_after output_before output_after : Option (List ℕ))
+    → HasTraced input_before input_after output_before output_after
+    → HasShownText input_before input_after output_before output_after
+text-shown input_before input_after output_before output_after (text, (shown, (gives, (image, (stands, traced)), appends))) =
+    let all = rows image _ shown traced in
+    (text, (image, (shown, (gives, (stands, all.0), all.1, appends))))
+
+pub file-shown : (file_before file_after schedule_before schedule_after output_before output_after : Option (List ℕ))
+    → HasRunFile file_before file_after schedule_before schedule_after output_before output_after
+    → HasShownFile file_before file_after schedule_before schedule_after output_before output_after
+file-shown file_before file_after schedule_before schedule_after output_before output_after
+    (image, ((file, (gives, is)), (schedule, (shown, (consumed, end, traced, appends))))) =
+    let all = rows image schedule shown traced in
+    (file, (image, (schedule, (shown, (gives, (is, all.0), consumed, end, all.1, appends)))))
+
+pub file-debugged : (file_before file_after commands_before commands_after output_before output_after : Option (List ℕ))
+    → HasDebugged Finished file_before file_after commands_before commands_after output_before output_after
+    → HasDebuggedFile file_before file_after commands_before commands_after output_before output_after
+file-debugged file_before file_after commands_before commands_after output_before output_after (inl (other, untouched)) =
+    absurd (other refl)
+file-debugged file_before file_after commands_before commands_after output_before output_after
+    (inr (image, (world, ((file, (gives, is)), (loads, first), held)))) =
+    (file, (image, (world, (gives, (is, loads), first, held))))
+
+pub live-shown : (limit : ℕ) (file_before file_after output_before output_after : Option (List ℕ))
+    → HasLived limit file_before file_after output_before output_after
+    → HasShownLive limit file_before file_after output_before output_after
+live-shown limit file_before file_after output_before output_after
+    (file, (gives, (image, (schedule, (shown, (is, (first, (last, (ending, (loads, begins, replay, ends)))), traced, appends)))))) =
+    let all = rows image schedule shown traced in
+    (file, (image, (schedule, (shown, (gives, (is, loads), (first, (last, (begins, replay))), all.1, appends)))))
+
+-- a text whose program has a fault isn't shown
+pub never-shown : (text : List ℕ) (image : Image) (why : LoadFault) (left before after : Option (List ℕ))
+    → StandsFor (program_part text) image → first_fault image ≡ Some why → HasShownText (Some text) left before after → ⊥
+never-shown text image why (Some left) before after stands fault
+    (all, (other, (shown, ((consumed, end, few), (spells, loads), traced, appends)))) =
+    let whole : all ≡ text = sym (append-nil all) ∙ ap (λ rest. all ++ rest) (sym end) ∙ sym consumed in
+    let same : other ≡ image =
+    one_image (program_part text) other image (subst (λ bytes. StandsFor (program_part bytes) other) whole spells) stands in
+    absurd (cc (fault, loads, ap first_fault same))

@@ -1,0 +1,5 @@
+use Rattle.headline.proofs.Shown.{file-shown, where_ok}
+use Rattle.headline.proofs.shown.run.Goals as goal
+
+pub returns-clause-shown : goal.returns-clause-shown
+returns-clause-shown g c = where_ok c.run.result (file-shown _ _ _ _ _ _) c.run.ensures.done

@@ -1,0 +1,17 @@
+//! What the whole project promises, on one page (`specs/Headline.antt`), and the functions that keep it: the program's
+//! commands go through `shown` and `lived`, and `law` says what holds of every accepted program whatever is chosen. Beside
+//! them `beneath` has one function each for what lies below: a tree whose words lag, and the word that threads share.
+#![tactic(auto)]
+
+// What is shown.
+pub mod lived;
+pub mod shown;
+
+// What holds whatever is chosen.
+pub mod law;
+
+// What lies below.
+pub mod beneath;
+
+pub use lived::live;
+pub use shown::{both, debug, run};

@@ -1,0 +1,26 @@
+-- A program of an image begins in the image's first world, however its phasers are stored.
+use Rattle.std.proofs.Common.{◌∙◌, ℕ, List, ap}
+use Rattle.row_code.specs.declared.image.Image.{Image}
+use Rattle.tier_tree.specs.Forest.{PhaserState}
+use Rattle.tier_tree.specs.Stored.{phasers_of}
+use Rattle.loader.specs.Program.{Program, IsProgramOf, without_words}
+use Rattle.loader.proofs.Images.{is_declared}
+use Rattle.loader.proofs.Whole.{declared_by}
+use Rattle.machine_scene.specs.Scene.{first_scene}
+use Rattle.thread_machine.specs.World.{World, IsFirstOf, first_world}
+
+-- the first world of this program, with these phasers
+abbrev world_by : ℕ → Program → List PhaserState → World
+world_by limit program phasers = record {
+  program = without_words program;
+  limit = limit;
+  scene = record (first_scene program) { phasers = phasers };
+  choices = 0;
+  steps = 0;
+}
+
+pub is_first : (image : Image) (program : Program) (limit : ℕ) → IsProgramOf image program
+    → IsFirstOf image limit (first_world program limit)
+is_first image program limit is =
+    ap (λ p. world_by limit p (phasers_of program.phasers)) (is_declared image program is)
+    ∙ ap (world_by limit (declared_by image program.phasers)) is.phasers
