@@ -2,6 +2,7 @@ pub mod Statements
 pub mod Meaning
 pub mod Reading
 pub mod Passes
+pub mod Placed
 pub mod Symbols
 pub mod Answers
 pub mod Draft

@@ -1,4 +1,4 @@
-ghost use Rattle.std.specs.Prelude.{◌≡◌, ◌+◌, ◌<◌, ◌||◌, ◌++◌, ◌∷◌, [], IfErr, IfOk, List, Option, false, map, option_copied, option_map};
+ghost use Rattle.std.specs.Prelude.{◌≡◌, ◌+◌, ◌<◌, ◌||◌, ◌++◌, ◌∷◌, [], IfErr, IfOk, List, Option, false, is_some, map, option_copied, option_map};
 ghost use Rattle.instruction_table.specs.declared.shape.OperandKind.{OperandKind};
 ghost use Rattle.line_reader.specs.declared.statement.Line.{Line};
 ghost use Rattle.assembler.specs.Draft.{IsKept, counted, named_with, number_there, places};
@@ -228,6 +228,16 @@ impl<'a> Draft<'a> {
         ensures { result ≡ is_given name.now self.now }
     {
         self.names.get(&NameKey { bytes: name }).is_some()
+    }
+
+    /// The kind of what a name names, where it names anything.
+    pub fn kind_given(&self, name: &[u8]) -> Option<OperandKind>
+        ensures { is_some result ≡ is_given name.now self.now }
+    {
+        match self.names.get(&NameKey { bytes: name }) {
+            Some(place) => Some(place.kind),
+            None => None,
+        }
     }
 
     /// Whether there is room for what a statement adds.

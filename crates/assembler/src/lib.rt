@@ -22,8 +22,11 @@ mod reading;
 // From a text to its image, and to its names.
 pub mod assembling;
 mod first_pass;
+pub mod made;
+pub mod placed;
 mod resolution;
 pub mod symbols;
+pub mod word_place;
 
 // What texts mean, and that what was listed is assembled again.
 pub mod meaning;
@@ -31,4 +34,5 @@ pub mod meaning;
 pub use assembling::{assemble, assemble_named};
 pub use line_reader::asm_fault::{AsmFault, AsmFaultKind};
 pub use listing::disassemble;
+pub use placed::{PlacedFault, assemble_placed};
 pub use symbols::{Symbol, Symbols};

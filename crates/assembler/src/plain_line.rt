@@ -1,4 +1,4 @@
-ghost use Rattle.std.specs.Prelude.{◌≡◌, ◌<◌, ◌++◌, ◌∷◌, IfOk, length, map, not, true};
+ghost use Rattle.std.specs.Prelude.{drop, take, ◌-◌, ◌≤◌, ◌≡◌, ◌<◌, ◌++◌, ◌∷◌, IfOk, length, map, not, true};
 ghost use Rattle.std.specs.List.{before_first, list_all, position};
 ghost use Rattle.assembler.specs.PlainLine.{is_plain, word_alone};
 ghost use Rattle.line_reader.specs.Seen.{name_seen};
@@ -31,7 +31,8 @@ fn place_of_other(bytes: &[u8]) -> Option<usize>
 }
 
 /// The first line of a text, whatever it holds, and what follows its end.
-fn any_line(text: &[u8]) -> (&[u8], &[u8])
+#[inline(always)]
+pub fn any_line(text: &[u8]) -> (&[u8], &[u8])
     requires { 0 < length text.now }
     ensures lines { lines_of text.now ≡ result.0.now ∷ lines_of result.1.now }
     ensures shorter { length result.1.now < length text.now }
@@ -105,9 +106,13 @@ fn place_of_blank(bytes: &[u8]) -> Option<usize>
 }
 
 /// What stands before the first blank, and what follows it.
-fn first_piece(text: &[u8]) -> (&[u8], &[u8])
+#[inline(always)]
+pub fn first_piece(text: &[u8]) -> (&[u8], &[u8])
     requires { 0 < length text.now }
     ensures words { words_in text.now ≡ word_alone result.0.now ++ words_in result.1.now }
+    ensures piece { result.0.now ≡ take (length result.0.now) text.now }
+    ensures after { result.1.now ≡ drop (length text.now - length result.1.now) text.now }
+    ensures within { length result.0.now ≤ length text.now }
     ensures shorter { length result.1.now < length text.now }
 {
     match place_of_blank(text) {
@@ -117,6 +122,7 @@ fn first_piece(text: &[u8]) -> (&[u8], &[u8])
 }
 
 /// Puts the words of a text in the place of what the list held.
+#[inline(always)]
 pub fn put_words<'a>(words: &mut Vec<&'a [u8]>, text: &'a [u8]) -> Result<(), AllocError>
     ensures { IfOk result (λ _. map name_seen words.new.items ≡ words_in text.now) }
 {

@@ -6,3 +6,4 @@ pub mod Spelling
 pub mod Reading
 pub mod Seen
 pub mod KeptRow
+pub mod FaultNumber

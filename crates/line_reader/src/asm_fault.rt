@@ -1,4 +1,5 @@
 ghost use Rattle.std.specs.Prelude.{◌≡◌};
+ghost use Rattle.line_reader.specs.FaultNumber.{asm_number};
 ghost use Rattle.line_reader.specs.declared.asm_fault.AsmFaultKind.TheVariants.{Memory};
 
 use std::alloc::{AllocError, AllocFailed};
@@ -34,6 +35,30 @@ pub enum AsmFaultKind {
     TooMany,
     /// Memory was refused.
     Memory,
+}
+
+impl AsmFaultKind {
+    /// The number that the fault is told with: missing memory has none.
+    pub fn number(self) -> Option<u8>
+        ensures { result ≡ asm_number self }
+    {
+        match self {
+            AsmFaultKind::BadByte => Some(1),
+            AsmFaultKind::LongLine => Some(2),
+            AsmFaultKind::UnknownWord => Some(3),
+            AsmFaultKind::OperandCount => Some(4),
+            AsmFaultKind::BadRegister => Some(5),
+            AsmFaultKind::BadNumber => Some(6),
+            AsmFaultKind::OutOfRange => Some(7),
+            AsmFaultKind::BadName => Some(8),
+            AsmFaultKind::UnknownName => Some(9),
+            AsmFaultKind::NameTwice => Some(10),
+            AsmFaultKind::MisplacedDirective => Some(11),
+            AsmFaultKind::BadOption => Some(12),
+            AsmFaultKind::TooMany => Some(13),
+            AsmFaultKind::Memory => None,
+        }
+    }
 }
 
 /// The first fault of a text and its line, counted from 1; for `Memory` the line at hand when it was

@@ -1,4 +1,4 @@
-ghost use Rattle.std.specs.Prelude.{◌≡◌, IfOk, false, map, true};
+ghost use Rattle.std.specs.Prelude.{◌≡◌, ◌<◌, IfOk, IfSome, length, false, map, true};
 ghost use Rattle.line_reader.specs.Reading.{operand_at, operand_there, register_at, row_at, row_of_kinds};
 ghost use Rattle.line_reader.specs.Seen.{name_seen, seen};
 ghost use Rattle.line_reader.specs.KeptRow.{is_other, is_other_there, is_register, one_other, operand_kept, row_kept};
@@ -180,4 +180,49 @@ pub fn row_at<'a>(word: &[u8], words: &[&'a [u8]]) -> Result<KeptRow<'a>, AsmFau
         return Err(AsmFaultKind::OperandCount);
     }
     row_of_kinds(shape.opcode, shape.operands, words)
+}
+
+/// The place, from 0, of the first word that isn't what its kind wants.
+fn wrong_of_kinds(kinds: &[OperandKind], words: &[&[u8]]) -> Option<usize>
+    ensures { IfSome result (λ place. place < length words.now) }
+{
+    let mut held = Held {
+        name: &[],
+        number: 0,
+        object: 0,
+        opcode: 0,
+    };
+    for place in 0..words.len() {
+        if operand_there(&mut held, kinds, words, place).is_err() {
+            return Some(place);
+        }
+    }
+    None
+}
+
+/// The place, from 0, of the first operand that isn't what its kind wants, where the row has as many as it should.
+pub fn wrong_operand(word: &[u8], words: &[&[u8]]) -> Option<usize>
+    ensures { IfSome result (λ place. place < length words.now) }
+{
+    let shape = shape_of(word)?;
+    if words.len() == shape.operands.len() {
+        wrong_of_kinds(shape.operands, words)
+    } else {
+        None
+    }
+}
+
+impl<'a> KeptRow<'a> {
+    /// The place, from 0, of the operand that is a name, and what it should name.
+    pub fn named(&self) -> Option<(usize, OperandKind)>
+        ensures { IfSome result (λ named. named.0 < 4) }
+    {
+        let places = [self.first, self.second, self.third, self.fourth];
+        for (place, operand) in places.iter().enumerate() {
+            if let KeptOperand::Named(kind) = *operand {
+                return Some((place, kind));
+            }
+        }
+        None
+    }
 }

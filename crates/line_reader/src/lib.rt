@@ -25,3 +25,4 @@ pub mod symbolic_thread;
 mod argument;
 pub mod asm_fault;
 pub mod directive;
+pub mod wrong_word;

@@ -30,11 +30,13 @@ pub struct SymbolicPhaser<N> {
 }
 
 /// The greatest number of a phaser.
-const LAST_PHASER: u16 = 63;
+pub(crate) const LAST_PHASER: u16 = 63;
 
 /// Reads the option `phase`, where it comes next, and tells the words behind it.
 #[tactic(auto, unfolding(crate::specs::Reading::first_phase_at))]
-fn first_phase_at<'a, 'w>(words: &'w [&'a [u8]]) -> Result<(i32, &'w [&'a [u8]]), AsmFaultKind>
+pub(crate) fn first_phase_at<'a, 'w>(
+    words: &'w [&'a [u8]],
+) -> Result<(i32, &'w [&'a [u8]]), AsmFaultKind>
     ensures { seen (λ x. (x.0, map name_seen x.1.now)) result
         ≡ first_phase_at (map name_seen words.now) }
 {
@@ -51,7 +53,7 @@ fn first_phase_at<'a, 'w>(words: &'w [&'a [u8]]) -> Result<(i32, &'w [&'a [u8]])
 
 /// Reads the policy, where it comes next, and tells the words behind it.
 #[tactic(auto, unfolding(crate::specs::Reading::policy_at))]
-fn policy_at<'a, 'w>(
+pub(crate) fn policy_at<'a, 'w>(
     words: &'w [&'a [u8]],
 ) -> Result<(SymbolicPolicy<&'a [u8]>, &'w [&'a [u8]]), AsmFaultKind>
     ensures { seen (λ x. (policy_seen x.0, map name_seen x.1.now)) result

@@ -1,4 +1,4 @@
-ghost use Rattle.std.specs.Prelude.{◌≡◌, ◌==◌, ◌≤◌, bytes_eq, length};
+ghost use Rattle.std.specs.Prelude.{◌≡◌, ◌==◌, ◌<◌, ◌≤◌, IfSome, bytes_eq, false, length, slice_index};
 ghost use Rattle.std.specs.List.{before_first, list_all, position, position_or_len};
 ghost use Rattle.line_reader.specs.Words.{begins_comment, is_allowed, is_blank, is_line_end};
 
@@ -27,6 +27,18 @@ pub fn are_allowed(line: &[u8]) -> bool
     ensures { result ≡ list_all is_allowed line.now }
 {
     line.iter().all(|byte| is_allowed(*byte))
+}
+
+/// Where a byte first stands that no line may hold.
+pub fn place_of_forbidden(line: &[u8]) -> Option<usize>
+    ensures { IfSome result (λ place. (place < length line.now) × (is_allowed (slice_index line.now place) ≡ false)) }
+{
+    for (place, byte) in line.iter().enumerate() {
+        if !is_allowed(*byte) {
+            return Some(place);
+        }
+    }
+    None
 }
 
 /// Where this byte first stands.

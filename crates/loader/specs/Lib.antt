@@ -3,3 +3,4 @@ pub mod Declarations
 pub mod Program
 pub mod Fault
 pub mod Fields
+pub mod FaultNumber

@@ -1,4 +1,5 @@
 ghost use Rattle.std.specs.Prelude.{◌≡◌};
+ghost use Rattle.loader.specs.FaultNumber.{load_number};
 ghost use Rattle.loader.specs.declared.load_fault.LoadFault.TheVariants.{Memory};
 
 use std::alloc::{AllocError, AllocFailed};
@@ -38,6 +39,26 @@ pub enum LoadFault {
     NoThread,
     /// Memory was refused.
     Memory,
+}
+
+impl LoadFault {
+    /// The number that the fault is told with: missing memory has none.
+    pub fn number(self) -> Option<u8>
+        ensures { result ≡ load_number self }
+    {
+        match self {
+            LoadFault::Target(_) => Some(1),
+            LoadFault::FallsOff => Some(2),
+            LoadFault::NoSuchPhaser(_) => Some(3),
+            LoadFault::NoSuchBarrier(_) => Some(4),
+            LoadFault::NoSuchThread(_) => Some(5),
+            LoadFault::NoSuchCell(_) => Some(6),
+            LoadFault::Declare(_, _) => Some(7),
+            LoadFault::BarrierParties(_) => Some(8),
+            LoadFault::NoThread => Some(9),
+            LoadFault::Memory => None,
+        }
+    }
 }
 
 impl From<AllocError> for LoadFault {

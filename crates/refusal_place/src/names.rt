@@ -1,57 +1,24 @@
 //! The names that a text gives.
 
-use crate::operands::is_directive;
-use crate::text::label_name;
+use line_reader::directive::is_directive;
+use line_reader::label::{before_last, is_label};
+use line_reader::words::{before_comment, is_blank};
 use std::alloc::{AllocError, Global};
 use strsim::levenshtein;
 
-fn is_blank(byte: u8) -> bool {
-    byte == b' ' || byte == b'\t' || byte == b'\r'
-}
-
-/// A line without its comment.
-fn before_comment(line: &[u8]) -> &[u8] {
-    match line.iter().position(|byte| *byte == b';') {
-        Some(at) => line.get(..at).unwrap_or(line),
-        None => line,
-    }
-}
-
 /// The name that a line gives, if it gives one: its label's, or that of what it declares.
-pub fn name_given(line: &[u8]) -> Option<&[u8]> {
+fn name_given(line: &[u8]) -> Option<&[u8]> {
     let mut words = before_comment(line)
         .split(|byte| is_blank(*byte))
         .filter(|word| !word.is_empty());
     let first = words.next()?;
-    let label = label_name(first);
-    if label.is_some() {
-        return label;
+    if is_label(first) {
+        return Some(before_last(first));
     }
     if is_directive(first) {
         return words.next();
     }
     None
-}
-
-/// How many lines give this name.
-fn count_given(text: &[u8], name: &[u8]) -> u64 {
-    let mut count: u64 = 0;
-    for line in text.split(|byte| *byte == b'\n') {
-        if name_given(line) == Some(name) {
-            count = count.saturating_add(1);
-        }
-    }
-    count
-}
-
-/// Whether a line gives this name.
-pub fn is_given(text: &[u8], name: &[u8]) -> bool {
-    count_given(text, name) > 0
-}
-
-/// Whether two lines give this name.
-pub fn is_given_twice(text: &[u8], name: &[u8]) -> bool {
-    count_given(text, name) > 1
 }
 
 /// The number of the first line that gives this name, from 1.

@@ -1,13 +1,19 @@
 //! The place of a refusal, and its words.
 
+use crate::kinds::called;
 use crate::names::{first_line, nearest};
-use crate::offender::offender;
-use crate::shown::{push_file, push_marked, push_shown};
-use crate::text::{Word, label_name, line_at, statement, words_of};
+use crate::shown::{push_file, push_line, push_marked, push_shown};
+use assembler::made::line_that_makes;
+use assembler::placed::{PlacedFault, UnknownName, assemble_placed};
+use assembler::word_place::{WordPlace, line_at, place_of_word};
 use byte_ports::{Failed, Sink};
+use instruction_table::OperandKind;
 use itoa::Buffer;
 use line_reader::asm_fault::AsmFaultKind;
+use line_reader::label::{before_last, is_label};
+use line_reader::words::{before_comment, is_blank};
 use loader::{LoadFault, Place};
+use refusal_words::entry::Entry;
 use refusal_words::question::{Question, question_of};
 use refusal_words::subject::Subject;
 use std::alloc::{AllocError, Global};
@@ -17,6 +23,14 @@ use std::alloc::{AllocError, Global};
 pub struct Named<'a> {
     pub name: &'a str,
     pub bytes: &'a [u8],
+}
+
+/// A program's file: where a schedule may stand behind its text, that text, and where the schedule begins.
+#[derive(Clone, Copy)]
+pub struct ProgramFile<'a> {
+    pub file: Named<'a>,
+    pub text: &'a [u8],
+    pub schedule_at: usize,
 }
 
 /// Why a place wasn't written whole. Nobody asks more.
@@ -35,144 +49,177 @@ impl From<AllocError> for Unshown {
     }
 }
 
-/// What may have been meant by a name that nothing has, or the line that gave a name first.
-fn push_hint<E: Sink>(
+/// What helps where a text has a schedule and the command reads none.
+const AT_RUN: &str =
+    "this file is a text with its schedule: `vuthgal < FILE` plays it, `show FILE` shows it";
+
+/// What helps where a text begins with a byte order mark.
+const AT_MARK: &str =
+    "the file begins with a UTF-8 byte order mark (EF BB BF): saved without one it can be read";
+
+/// What a name is, and what should stand in its place; or the name that may have been meant.
+fn push_name<E: Sink>(
     alloc: Global,
     errors: &mut E,
     text: &[u8],
-    kind: AsmFaultKind,
+    unknown: Option<UnknownName>,
     word: &[u8],
 ) -> Result<(), Unshown> {
-    match kind {
-        AsmFaultKind::UnknownName => {
-            if let Some(name) = nearest(alloc, text, word)? {
-                errors.push(b"  Near:    ")?;
-                push_shown(errors, name)?;
-                errors.push(b"\n")?;
-            }
-        }
-        AsmFaultKind::NameTwice => {
-            if let Some(line) = first_line(text, label_name(word).unwrap_or(word)) {
-                errors.push(b"  Given:   line ")?;
-                errors.push(Buffer::new().format(line).as_bytes())?;
-                errors.push(b"\n")?;
-            }
-        }
-        _ => {}
+    if let Some(
+        UnknownName {
+            wanted,
+            given: Some(given),
+        },
+    ) = unknown
+    {
+        errors.push(b"  Name:    `")?;
+        push_shown(errors, word)?;
+        errors.push(b"` is ")?;
+        errors.push(called(given).as_bytes())?;
+        errors.push(b", ")?;
+        errors.push(called(wanted).as_bytes())?;
+        errors.push(b" is wanted\n")?;
+        return Ok(());
+    }
+    if let Some(name) = nearest(alloc, text, word)? {
+        errors.push(b"  Near:    ")?;
+        push_shown(errors, name)?;
+        errors.push(b"\n")?;
     }
     Ok(())
 }
 
-/// The place of the first byte that no line may hold.
-fn bad_byte(line: &[u8]) -> Option<usize> {
-    line.iter().position(|byte| *byte != 9 && *byte != 13 && (*byte < 32 || *byte > 126))
+/// The line that gave a name first; the word may be a label's.
+fn push_given<E: Sink>(errors: &mut E, text: &[u8], word: &[u8]) -> Result<(), Unshown> {
+    let name = if is_label(word) {
+        before_last(word)
+    } else {
+        word
+    };
+    if let Some(line) = first_line(text, name) {
+        errors.push(b"  Given:   line ")?;
+        errors.push(Buffer::new().format(line).as_bytes())?;
+        errors.push(b"\n")?;
+    }
+    Ok(())
+}
+
+/// The fault that a text has, where it is this one.
+fn fault_in(alloc: Global, text: &[u8], line: u64, kind: AsmFaultKind) -> Option<PlacedFault> {
+    match assemble_placed(alloc, text) {
+        Err(placed) if placed.fault.line == line && placed.fault.kind == kind => Some(placed),
+        _ => None,
+    }
+}
+
+/// The fault of a program's text, whether or not the command read a schedule behind it.
+fn fault_of(
+    alloc: Global,
+    program: ProgramFile<'_>,
+    line: u64,
+    kind: AsmFaultKind,
+) -> Option<PlacedFault> {
+    match fault_in(alloc, program.file.bytes, line, kind) {
+        Some(placed) => Some(placed),
+        None => fault_in(alloc, program.text, line, kind),
+    }
+}
+
+/// What helps at this word, where that is more than its kind's entry says.
+fn helps_at(text: &[u8], kind: AsmFaultKind, line: u64, word: &[u8]) -> Option<&'static str> {
+    match kind {
+        AsmFaultKind::UnknownWord if word == b".run".as_slice() => Some(AT_RUN),
+        AsmFaultKind::BadByte if line == 1 && text.starts_with(&[0xef, 0xbb, 0xbf]) => Some(
+            AT_MARK,
+        ),
+        _ => None,
+    }
 }
 
 /// The line of a text's fault, with a mark below the word that is wrong.
 fn push_text_place<E: Sink>(
     alloc: Global,
     errors: &mut E,
-    file: Named<'_>,
+    program: ProgramFile<'_>,
     number: u64,
     kind: AsmFaultKind,
-) -> Result<(), Unshown> {
+) -> Result<Option<&'static str>, Unshown> {
+    let file = program.file;
     let Some(line) = line_at(file.bytes, number) else {
-        return Ok(());
+        return Ok(None);
     };
     push_file(errors, file.name, number)?;
-    if kind == AsmFaultKind::BadByte {
-        push_marked(errors, line, bad_byte(line).unwrap_or(0), 1)?;
-        return Ok(());
-    }
-    let words = words_of(alloc, line)?;
-    match offender(file.bytes, kind, words.as_slice()) {
-        Some(word) if kind != AsmFaultKind::LongLine => {
-            push_marked(errors, line, word.at, word.text.len())?;
-            push_hint(alloc, errors, file.bytes, kind, word.text)
-        }
-        _ => {
-            push_marked(errors, line, 0, 0)?;
-            Ok(())
-        }
-    }
-}
-
-/// What a line of a text makes, that a refused program names by number.
-#[derive(Clone, Copy, PartialEq, Eq)]
-enum Made {
-    Row,
-    Thread,
-    Phaser,
-    Barrier,
-    Nothing,
-}
-
-fn made_by(statement: &[Word<'_>]) -> Made {
-    let Some(first) = statement.first() else {
-        return Made::Nothing;
+    let Some(
+        PlacedFault {
+            at: Some(at),
+            unknown,
+            ..
+        },
+    ) = fault_of(alloc, program, number, kind)
+    else {
+        push_line(errors, line)?;
+        return Ok(None);
     };
-    match first.text {
-        b".thread" => Made::Thread,
-        b".phaser" => Made::Phaser,
-        b".barrier" => Made::Barrier,
-        [b'.', ..] => Made::Nothing,
-        _ => Made::Row,
+    push_marked(errors, line, at)?;
+    let word = line
+        .get(at.at..at.at.saturating_add(at.length))
+        .unwrap_or(&[]);
+    match kind {
+        AsmFaultKind::UnknownName => push_name(alloc, errors, file.bytes, unknown, word)?,
+        AsmFaultKind::NameTwice => push_given(errors, file.bytes, word)?,
+        _ => {}
     }
+    Ok(helps_at(file.bytes, kind, number, word))
+}
+
+/// The place of what a line says, its label left out.
+fn place_of_statement(line: &[u8]) -> Option<WordPlace> {
+    let text = before_comment(line);
+    let first = place_of_word(text, 0)?;
+    let word = text
+        .get(first.at..first.at.saturating_add(first.length))
+        .unwrap_or(&[]);
+    let at = if is_label(word) {
+        place_of_word(text, 1)?.at
+    } else {
+        first.at
+    };
+    let last = text.iter().rposition(|byte| !is_blank(*byte))?;
+    Some(WordPlace {
+        at,
+        length: last.saturating_add(1).saturating_sub(at),
+    })
 }
 
 /// The line that makes the thing of this number, from 0.
 fn push_made_place<E: Sink>(
     alloc: Global,
     errors: &mut E,
-    file: Named<'_>,
-    made: Made,
+    program: ProgramFile<'_>,
+    made: OperandKind,
     number: u64,
 ) -> Result<(), Unshown> {
-    let mut at: u64 = 0;
-    let mut count: u64 = 0;
-    for line in file.bytes.split(|byte| *byte == b'\n') {
-        at = at.saturating_add(1);
-        let words = words_of(alloc, line)?;
-        let statement = statement(words.as_slice());
-        if made_by(statement) == made {
-            if count == number {
-                push_file(errors, file.name, at)?;
-                let from = statement.first().map_or(0, |word| word.at);
-                let end = statement
-                    .last()
-                    .map_or(0, |word| word.at.saturating_add(word.text.len()));
-                push_marked(errors, line, from, end.saturating_sub(from))?;
-                return Ok(());
-            }
-            count = count.saturating_add(1);
-        }
+    let Some(at) = line_that_makes(alloc, program.text, made, number) else {
+        return Ok(());
+    };
+    let Some(line) = line_at(program.text, at) else {
+        return Ok(());
+    };
+    if let Some(place) = place_of_statement(line) {
+        push_file(errors, program.file.name, at)?;
+        push_marked(errors, line, place)?;
     }
     Ok(())
 }
 
 /// What the place of a load fault counts.
-fn made_of(fault: LoadFault) -> Made {
+fn made_of(fault: LoadFault) -> OperandKind {
     match fault {
-        LoadFault::Target(Place::Thread(_)) => Made::Thread,
-        LoadFault::Target(Place::Phaser(_)) | LoadFault::Declare(_, _) => Made::Phaser,
-        LoadFault::Target(Place::Barrier(_)) | LoadFault::BarrierParties(_) => Made::Barrier,
-        _ => Made::Row,
+        LoadFault::Target(Place::Thread(_)) => OperandKind::Thread,
+        LoadFault::Target(Place::Phaser(_)) | LoadFault::Declare(_, _) => OperandKind::Phaser,
+        LoadFault::Target(Place::Barrier(_)) | LoadFault::BarrierParties(_) => OperandKind::Barrier,
+        _ => OperandKind::Target,
     }
-}
-
-/// The part of a text that is its schedule: what follows the first line whose only word is `.run`.
-fn schedule_in(alloc: Global, text: &[u8]) -> Result<Option<usize>, AllocError> {
-    let mut at: usize = 0;
-    for line in text.split(|byte| *byte == b'\n') {
-        at = at.saturating_add(line.len()).saturating_add(1);
-        let words = words_of(alloc, line)?;
-        if let [word] = words.as_slice() {
-            if word.text == b".run".as_slice() {
-                return Ok(Some(at));
-            }
-        }
-    }
-    Ok(None)
 }
 
 /// The token of a schedule at an offset, marked in its line.
@@ -188,7 +235,8 @@ fn push_token_place<E: Sink>(
         let end = begin.saturating_add(line.len());
         if begin <= offset && offset <= end {
             push_file(errors, file.name, number)?;
-            push_marked(errors, line, offset - begin, 1)?;
+            let at = offset - begin;
+            push_marked(errors, line, WordPlace { at, length: 1 })?;
             return Ok(());
         }
         begin = end.saturating_add(1);
@@ -198,9 +246,8 @@ fn push_token_place<E: Sink>(
 
 /// The token of a schedule, which stands in a file of its own or behind the program's text.
 fn push_schedule_place<E: Sink>(
-    alloc: Global,
     errors: &mut E,
-    program: Named<'_>,
+    program: ProgramFile<'_>,
     schedule: Option<Named<'_>>,
     offset: u64,
 ) -> Result<(), Unshown> {
@@ -209,10 +256,11 @@ fn push_schedule_place<E: Sink>(
     };
     match schedule {
         Some(schedule) => push_token_place(errors, schedule, offset),
-        None => {
-            let begin = schedule_in(alloc, program.bytes)?.unwrap_or(0);
-            push_token_place(errors, program, begin.saturating_add(offset))
-        }
+        None => push_token_place(
+            errors,
+            program.file,
+            program.schedule_at.saturating_add(offset),
+        ),
     }
 }
 
@@ -225,37 +273,38 @@ fn told_words<'a>(alloc: Global, told: &'a str) -> Result<Vec<&'a str>, AllocErr
     Ok(words)
 }
 
-/// Where a question's place is in the files.
+/// Where a question's place is in the files, and what helps there, where that is more than its entry says.
 fn push_found<E: Sink>(
     alloc: Global,
     errors: &mut E,
     question: Question,
-    program: Named<'_>,
+    program: ProgramFile<'_>,
     schedule: Option<Named<'_>>,
-) -> Result<(), Unshown> {
+) -> Result<Option<&'static str>, Unshown> {
     let Some(place) = question.place else {
-        return Ok(());
+        return Ok(None);
     };
-    let is_image = program.bytes.starts_with(b"PBW");
+    let is_image = program.file.bytes.starts_with(b"PBW");
     match question.subject {
-        Subject::Asm(kind) => push_text_place(alloc, errors, program, place, kind),
+        Subject::Asm(kind) => return push_text_place(alloc, errors, program, place, kind),
         Subject::Load(fault) if !is_image => push_made_place(
             alloc,
             errors,
             program,
             made_of(fault),
             place,
-        ),
+        )?,
         Subject::Declare(_) if !is_image => push_made_place(
             alloc,
             errors,
             program,
-            Made::Phaser,
+            OperandKind::Phaser,
             place,
-        ),
-        Subject::Schedule(_) => push_schedule_place(alloc, errors, program, schedule, place),
-        _ => Ok(()),
+        )?,
+        Subject::Schedule(_) => push_schedule_place(errors, program, schedule, place)?,
+        _ => {}
     }
+    Ok(None)
 }
 
 /// Writes where the place is that a line told, if it is one of a program's text or of a schedule, and then the words of its
@@ -263,7 +312,7 @@ fn push_found<E: Sink>(
 pub fn push_place<E: Sink>(
     alloc: Global,
     told: &str,
-    program: Named<'_>,
+    program: ProgramFile<'_>,
     schedule: Option<Named<'_>>,
     errors: &mut E,
 ) -> Result<(), Unshown> {
@@ -271,10 +320,13 @@ pub fn push_place<E: Sink>(
     let Some(question) = question_of(words.as_slice()) else {
         return Ok(());
     };
-    push_found(alloc, errors, question, program, schedule)?;
+    let helps = push_found(alloc, errors, question, program, schedule)?;
     let subject = question.subject;
-    subject
-        .entry()
-        .push_words(errors, subject.place_word(), question.place)?;
+    let entry = subject.entry();
+    let entry = match helps {
+        Some(helps) => Entry { helps, ..entry },
+        None => entry,
+    };
+    entry.push_words(errors, subject.place_word(), question.place)?;
     Ok(())
 }

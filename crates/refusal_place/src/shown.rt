@@ -1,10 +1,14 @@
 //! What is written.
 
+use assembler::word_place::WordPlace;
 use byte_ports::{Failed, Sink};
 use itoa::Buffer;
 
 /// How many bytes of a line are shown.
 const WIDTH: usize = 72;
+
+/// What stands for the beginning of a line that isn't shown.
+const DOTS: &[u8] = b"... ";
 
 /// Writes bytes of a file, each that is none of printable ASCII as `?`, and a tab as a blank.
 pub fn push_shown<E: Sink>(errors: &mut E, bytes: &[u8]) -> Result<(), Failed> {
@@ -18,26 +22,51 @@ pub fn push_shown<E: Sink>(errors: &mut E, bytes: &[u8]) -> Result<(), Failed> {
     Ok(())
 }
 
-/// Writes a line, and a mark below so many bytes of it from `at` on.
-pub fn push_marked<E: Sink>(
-    errors: &mut E,
-    line: &[u8],
-    at: usize,
-    length: usize,
-) -> Result<(), Failed> {
+/// Where the part of a line begins that is shown: its beginning, or a part with the place in its middle.
+fn window(line: &[u8], place: WordPlace) -> usize {
+    if place.at.saturating_add(place.length) <= WIDTH {
+        return 0;
+    }
+    let middle = place.at.saturating_add(place.length.min(WIDTH) / 2);
+    middle
+        .saturating_sub(WIDTH / 2)
+        .min(line.len().saturating_sub(WIDTH))
+}
+
+/// Writes so many times the same.
+fn push_times<E: Sink>(errors: &mut E, count: usize, bytes: &[u8]) -> Result<(), Failed> {
+    for _ in 0..count {
+        errors.push(bytes)?;
+    }
+    Ok(())
+}
+
+/// Writes a line from this byte on, as much of it as is shown. Where it isn't shown from its beginning, dots stand for that.
+fn push_part<E: Sink>(errors: &mut E, line: &[u8], from: usize) -> Result<(), Failed> {
+    let part = line.get(from..).unwrap_or(&[]);
     errors.push(b"    ")?;
-    push_shown(errors, line.get(..WIDTH).unwrap_or(line))?;
-    errors.push(b"\n")?;
-    if length == 0 || at >= WIDTH {
-        return Ok(());
+    if from > 0 {
+        errors.push(DOTS)?;
     }
+    push_shown(errors, part.get(..WIDTH).unwrap_or(part))?;
+    errors.push(b"\n")
+}
+
+/// Writes a line alone.
+pub fn push_line<E: Sink>(errors: &mut E, line: &[u8]) -> Result<(), Failed> {
+    push_part(errors, line, 0)
+}
+
+/// Writes the part of a line where the place is, and a mark below it.
+pub fn push_marked<E: Sink>(errors: &mut E, line: &[u8], place: WordPlace) -> Result<(), Failed> {
+    let from = window(line, place);
+    push_part(errors, line, from)?;
     errors.push(b"    ")?;
-    for _ in 0..at {
-        errors.push(b" ")?;
+    if from > 0 {
+        push_times(errors, DOTS.len(), b" ")?;
     }
-    for _ in 0..length.min(WIDTH) {
-        errors.push(b"^")?;
-    }
+    push_times(errors, place.at.saturating_sub(from), b" ")?;
+    push_times(errors, place.length.min(WIDTH), b"^")?;
     errors.push(b"\n")
 }
 

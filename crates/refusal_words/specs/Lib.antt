@@ -1,12 +1,5 @@
-pub mod Asm
-pub mod Declare
 pub mod Entry
-pub mod Exception
-pub mod Image
-pub mod Kinds
-pub mod Line
-pub mod Load
+pub mod Explained
+pub mod Numbers
 pub mod Question
-pub mod Schedule
-pub mod Status
 pub mod Subject

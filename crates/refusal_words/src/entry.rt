@@ -2,14 +2,17 @@
 ghost use Rattle.std.specs.Prelude.{◌≡◌, ◌++◌, codes, IsTrue, OnErr, OnOk};
 ghost use Rattle.std.specs.Fmt.{decimal};
 ghost use Rattle.std.specs.Io.KnownBytes.{Appends};
-ghost use Rattle.refusal_words.specs.Entry.{line, place_line, text_entry, text_of, words_of};
+ghost use Rattle.refusal_words.specs.Entry.{line, place_line, text_of, words_of};
 
+use crate::subject::Subject;
 use byte_ports::{Failed, Sink};
 use itoa::Buffer;
 
 /// What is told of a subject.
 #[derive(Clone, Copy, Debug)]
 pub struct Entry {
+    /// What it is an entry of.
+    pub subject: Subject,
     /// The words that programs are told, with a word in capitals for a place.
     pub told: &'static str,
     /// What is wrong.
@@ -66,7 +69,7 @@ impl Entry {
         place: Option<u64>,
     ) -> Result<(), Failed>
         ensures bytes { OnOk result (Appends (W.written output.old) (W.written output.new)
-            (words_of (text_entry self) (place_line word.now place))) }
+            (words_of (self) (place_line word.now place))) }
         ensures failed { OnErr result (IsTrue (W.has_failed output.new)) }
     {
         push_line(output, b"  Means:   ", self.means)?;
@@ -79,7 +82,7 @@ impl Entry {
     /// Writes the whole entry.
     pub fn push<W: Sink>(self, output: &mut W, word: &str, place: Option<u64>) -> Result<(), Failed>
         ensures bytes { OnOk result (Appends (W.written output.old) (W.written output.new)
-            (text_of (text_entry self) (place_line word.now place))) }
+            (text_of (self) (place_line word.now place))) }
         ensures failed { OnErr result (IsTrue (W.has_failed output.new)) }
     {
         push_line(output, b"", self.told)?;

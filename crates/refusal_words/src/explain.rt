@@ -1,9 +1,9 @@
 //! The command.
-ghost use Rattle.std.specs.Prelude.{◌≡◌, ◌⊎◌, [], IsTrue, OnErr, OnOk, codes};
+ghost use Rattle.std.specs.Prelude.{◌≡◌, ◌⊎◌, ◌++◌, IsTrue, OnErr, OnOk, codes, map};
 ghost use Rattle.std.specs.Io.KnownBytes.{Appends};
 ghost use Rattle.refusal_words.specs.declared.question.Question.{Question};
-ghost use Rattle.refusal_words.specs.Entry.{place_line, text_of};
-ghost use Rattle.refusal_words.specs.Subject.{place_word, subject_entry};
+ghost use Rattle.refusal_words.specs.Explained.{HasAnswer, HasExplained};
+ghost use Rattle.refusal_words.specs.Question.{AsksFor};
 
 use crate::question::{Question, question_of};
 use byte_ports::{Failed, Sink};
@@ -24,8 +24,12 @@ explain status 0 .. status 5        an exit status
 explain exception 1 .. exception 8  the number of an exception
 ";
 
+/// What is told where no line has the words, before what can be asked.
+const NO_LINE: &[u8] = b"error: no line on standard error has these words. What can be asked:\n\n";
+
 /// Writes what can be asked.
 fn push_questions<W: Sink>(output: &mut W) -> Result<(), Failed>
+    ensures bytes { OnOk result (Appends (W.written output.old) (W.written output.new) QUESTIONS.now) }
     ensures failed { OnErr result (IsTrue (W.has_failed output.new)) }
 {
     output.push(QUESTIONS.as_bytes())
@@ -33,8 +37,7 @@ fn push_questions<W: Sink>(output: &mut W) -> Result<(), Failed>
 
 /// Writes the entry that is asked for, with the place that was told.
 fn push_answer<W: Sink>(output: &mut W, question: Question) -> Result<(), Failed>
-    ensures bytes { OnOk result (Appends (W.written output.old) (W.written output.new)
-        (text_of (subject_entry question.subject) (place_line (place_word question.subject) question.place))) }
+    ensures bytes { OnOk result (HasAnswer question (W.written output.old) (W.written output.new)) }
     ensures failed { OnErr result (IsTrue (W.has_failed output.new)) }
 {
     let subject = question.subject;
@@ -53,17 +56,45 @@ fn told_write<E: Sink>(errors: &mut E) -> u8
     5
 }
 
+/// Tells that no line has the words, and what can be asked.
+fn push_refused<E: Sink>(errors: &mut E) -> Result<(), Failed>
+    ensures bytes { OnOk result (Appends (E.written errors.old) (E.written errors.new) (NO_LINE.now ++ QUESTIONS.now)) }
+    ensures failed { OnErr result (IsTrue (E.has_failed errors.new)) }
+{
+    errors.push(NO_LINE)?;
+    push_questions(errors)
+}
+
+/// The same, with the exit status.
+fn told_refused<E: Sink>(errors: &mut E) -> u8
+    ensures status { result ≡ 2 }
+    ensures line { IsTrue (E.has_failed errors.new)
+        ⊎ Appends (E.written errors.old) (E.written errors.new) (NO_LINE.now ++ QUESTIONS.now) }
+{
+    let _ = push_refused(errors);
+    2
+}
+
 /// Writes the entry that the words ask for, the words being those of a line on standard error, or what can be asked where
 /// there are none. Words of no line are told to `errors`, with what can be asked. Answers the exit status: 0, 2 for words of
 /// no line, 5 with the line `write` on `errors` where the output failed.
 pub fn explain_cmd<W: Sink, E: Sink>(words: &[&str], output: &mut W, errors: &mut E) -> u8
     ensures statuses { (result ≡ 0) ⊎ ((result ≡ 2) ⊎ (result ≡ 5)) }
+
+    // The entry of the question that the words ask for is written, and nothing else; without words, what can be asked.
+    ensures told { result ≡ 0 → HasExplained QUESTIONS.now (map (λ w. w.now) words.now) (W.written output.old) (W.written output.new) }
+    ensures quiet { result ≡ 0 → E.written errors.new ≡ E.written errors.old }
+
+    // Words of no line: that is told with what can be asked, and nothing is written.
+    ensures none { result ≡ 2 → (q : Question) → AsksFor (map (λ w. w.now) words.now) q → ⊥ }
     ensures untold { result ≡ 2 → W.written output.new ≡ W.written output.old }
+    ensures refused { result ≡ 2 → IsTrue (E.has_failed errors.new)
+        ⊎ Appends (E.written errors.old) (E.written errors.new) (NO_LINE.now ++ QUESTIONS.now) }
+
+    // The output failed: that alone is told.
     ensures port { result ≡ 5 → IsTrue (W.has_failed output.new) }
     ensures failed { result ≡ 5 → IsTrue (E.has_failed errors.new)
         ⊎ Appends (E.written errors.old) (E.written errors.new) (codes "write\n") }
-    ensures told { result ≡ 0 → (words.now ≡ []) ⊎ ((q : Question) × Appends (W.written output.old) (W.written output.new)
-        (text_of (subject_entry q.subject) (place_line (place_word q.subject) q.place))) }
 {
     if words.is_empty() {
         return match push_questions(output) {
@@ -76,12 +107,6 @@ pub fn explain_cmd<W: Sink, E: Sink>(words: &[&str], output: &mut W, errors: &mu
             Ok(()) => 0,
             Err(_) => told_write(errors),
         },
-        None => {
-            let _ = errors.push(
-                b"error: no line on standard error has these words. What can be asked:\n\n",
-            );
-            let _ = push_questions(errors);
-            2
-        }
+        None => told_refused(errors),
     }
 }

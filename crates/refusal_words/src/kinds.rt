@@ -7,7 +7,12 @@ ghost use Rattle.tier_tree.specs.declared.fault.DeclareFault.{DeclareFault};
 ghost use Rattle.schedule_reader.specs.declared.fault.ScheduleFault.{ScheduleFault};
 ghost use Rattle.refusal_words.specs.declared.subject.Status.{Status};
 ghost use Rattle.refusal_words.specs.declared.subject.Exception.{Exception};
-ghost use Rattle.refusal_words.specs.Kinds.{asm_number, image_number, load_number, declare_number, schedule_number, status_number, exception_number};
+ghost use Rattle.line_reader.specs.FaultNumber.{asm_number};
+ghost use Rattle.loader.specs.FaultNumber.{load_number};
+ghost use Rattle.row_code.specs.FaultNumber.{image_number};
+ghost use Rattle.schedule_reader.specs.FaultNumber.{schedule_number};
+ghost use Rattle.refusal_words.specs.Numbers.{exception_number, status_number};
+ghost use Rattle.refusal_words.specs.Question.{declare_number};
 
 use crate::subject::{Exception, Status};
 use line_reader::asm_fault::AsmFaultKind;
@@ -106,8 +111,8 @@ pub fn schedule_of(number: u64) -> Option<ScheduleFault>
 
 /// The exit status of this number.
 pub fn status_of(number: u64) -> Option<Status>
-    ensures found { IfSome result (λ status. status_number status ≡ Some number) }
-    ensures all { (status : Status) → status_number status ≡ Some number → is_some result ≡ true }
+    ensures found { IfSome result (λ status. status_number status ≡ number) }
+    ensures all { (status : Status) → status_number status ≡ number → is_some result ≡ true }
 {
     match number {
         0 => Some(Status::Done),
@@ -122,8 +127,8 @@ pub fn status_of(number: u64) -> Option<Status>
 
 /// The exception of this number.
 pub fn exception_of(number: u64) -> Option<Exception>
-    ensures found { IfSome result (λ exception. exception_number exception ≡ Some number) }
-    ensures all { (exception : Exception) → exception_number exception ≡ Some number → is_some result ≡ true }
+    ensures found { IfSome result (λ exception. exception_number exception ≡ number) }
+    ensures all { (exception : Exception) → exception_number exception ≡ number → is_some result ≡ true }
 {
     match number {
         1 => Some(Exception::IllegalState),

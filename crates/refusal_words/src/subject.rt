@@ -1,7 +1,7 @@
 //! What there is an entry of.
 ghost use Rattle.std.specs.Prelude.{◌≡◌};
-ghost use Rattle.refusal_words.specs.Entry.{text_entry};
-ghost use Rattle.refusal_words.specs.Subject.{place_word, subject_entry};
+ghost use Rattle.refusal_words.specs.Numbers.{exception_number, status_number};
+ghost use Rattle.refusal_words.specs.Subject.{place_word};
 
 use crate::entry::Entry;
 use crate::table::asm::asm_entry;
@@ -58,6 +58,22 @@ pub enum Status {
     Failed,
 }
 
+impl Status {
+    /// The program's exit status.
+    pub fn number(self) -> u8
+        ensures { result ≡ status_number self }
+    {
+        match self {
+            Status::Done => 0,
+            Status::Unlike => 1,
+            Status::WrongWords => 2,
+            Status::Refused => 3,
+            Status::Wanting => 4,
+            Status::Failed => 5,
+        }
+    }
+}
+
 /// The exceptions that the machine itself throws.
 #[derive(Clone, Copy, Debug, PartialEq, Eq)]
 pub enum Exception {
@@ -69,6 +85,24 @@ pub enum Exception {
     StackFull,
     BadReturn,
     OutputFull,
+}
+
+impl Exception {
+    /// The number that it is thrown with.
+    pub fn number(self) -> u8
+        ensures { result ≡ exception_number self }
+    {
+        match self {
+            Exception::IllegalState => 1,
+            Exception::IllegalArgument => 2,
+            Exception::Interrupted => 3,
+            Exception::BrokenBarrier => 4,
+            Exception::Timeout => 5,
+            Exception::StackFull => 6,
+            Exception::BadReturn => 7,
+            Exception::OutputFull => 8,
+        }
+    }
 }
 
 /// What there is an entry of. The places in a fault say nothing here.
@@ -87,7 +121,7 @@ pub enum Subject {
 impl Subject {
     /// Its entry.
     pub fn entry(self) -> Entry
-        ensures { text_entry result ≡ subject_entry self }
+        ensures { result.subject ≡ self }
     {
         match self {
             Subject::Asm(kind) => asm_entry(kind),

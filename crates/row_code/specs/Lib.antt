@@ -9,3 +9,4 @@ pub mod Threads
 pub mod Rows
 pub mod Image
 pub mod Reading
+pub mod FaultNumber

@@ -1,4 +1,5 @@
 ghost use Rattle.std.specs.Prelude.{◌≡◌};
+ghost use Rattle.row_code.specs.FaultNumber.{image_number};
 ghost use Rattle.row_code.specs.declared.image_fault.ImageFault.TheVariants.{Memory};
 
 use std::alloc::{AllocError, AllocFailed};
@@ -23,6 +24,24 @@ pub enum ImageFault {
     Memory,
     /// The magic is that of images with timed rows, and no row is one.
     Version,
+}
+
+impl ImageFault {
+    /// The number that the fault is told with: missing memory has none.
+    pub fn number(self) -> Option<u8>
+        ensures { result ≡ image_number self }
+    {
+        match self {
+            ImageFault::Short => Some(1),
+            ImageFault::Magic => Some(2),
+            ImageFault::Count => Some(3),
+            ImageFault::Field(_) => Some(4),
+            ImageFault::Row(_) => Some(5),
+            ImageFault::Extra => Some(6),
+            ImageFault::Memory => None,
+            ImageFault::Version => Some(8),
+        }
+    }
 }
 
 impl From<AllocError> for ImageFault {

@@ -2,3 +2,4 @@ pub mod Schedule
 pub mod Reading
 pub mod Places
 pub mod Text
+pub mod FaultNumber

@@ -1,3 +1,6 @@
+ghost use Rattle.std.specs.Prelude.{◌≡◌};
+ghost use Rattle.schedule_reader.specs.FaultNumber.{schedule_number};
+
 /// What is wrong with a schedule. An offset counts the stream's bytes from 0.
 #[derive(Clone, Copy, Debug, PartialEq, Eq)]
 pub enum ScheduleFault {
@@ -10,4 +13,18 @@ pub enum ScheduleFault {
     Repeat(u64),
     /// Out of memory.
     Memory,
+}
+
+impl ScheduleFault {
+    /// The number that the fault is told with: missing memory has none.
+    pub fn number(self) -> Option<u8>
+        ensures { result ≡ schedule_number self }
+    {
+        match self {
+            ScheduleFault::Byte(_) => Some(1),
+            ScheduleFault::Number(_) => Some(2),
+            ScheduleFault::Repeat(_) => Some(3),
+            ScheduleFault::Memory => None,
+        }
+    }
 }

@@ -2,11 +2,12 @@
 
 use byte_ports::{Sink, WritePort};
 use command_line::request::Request;
-use refusal_place::place::{Named, push_place};
+use refusal_place::place::{Named, ProgramFile, push_place};
 use std::alloc::Global;
 use std::fmt::Display;
 use std::fs;
 use std::io::IsTerminal;
+use workbench::run_line::split_at_run;
 
 /// How long a file is that is read again.
 const LONGEST: u64 = 16_777_216;
@@ -62,6 +63,16 @@ fn contents(rt: &HostRuntime, path: &str) -> Vec<u8> {
     }
 }
 
+/// A program's file, with what stands before its line `.run` and where the schedule begins that follows it.
+fn program_file<'a>(name: &'a str, bytes: &'a [u8]) -> ProgramFile<'a> {
+    let (text, schedule) = split_at_run(bytes);
+    ProgramFile {
+        file: Named { name, bytes },
+        text,
+        schedule_at: bytes.len().saturating_sub(schedule.len()),
+    }
+}
+
 /// Shows where the refusal is that a line told, and says what it means.
 pub fn push_refusal(rt: &HostRuntime, line: &[u8], files: Files<'_>) {
     let Ok(told) = str::from_utf8(line) else {
@@ -71,10 +82,7 @@ pub fn push_refusal(rt: &HostRuntime, line: &[u8], files: Files<'_>) {
         return;
     }
     let program = contents(rt, files.program);
-    let program = Named {
-        name: files.program,
-        bytes: program.as_slice(),
-    };
+    let program = program_file(files.program, program.as_slice());
     let mut errors = WritePort::new(rt.stderr());
     let _ = match files.schedule {
         None => push_place(rt.alloc(), told, program, None, &mut errors),
@@ -93,10 +101,7 @@ pub fn push_refusal(rt: &HostRuntime, line: &[u8], files: Files<'_>) {
 pub fn push_reason<R: Display>(rt: &HostRuntime, told: &str, path: &str, reason: &R) {
     if rt.stderr().is_terminal() {
         let _ = eprintln!(rt; "{path}: {reason}");
-        let nothing = Named {
-            name: path,
-            bytes: &[],
-        };
+        let nothing = program_file(path, &[]);
         let mut errors = WritePort::new(rt.stderr());
         let _ = push_place(rt.alloc(), told, nothing, None, &mut errors);
     }

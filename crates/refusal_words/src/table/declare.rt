@@ -1,16 +1,17 @@
 ghost use Rattle.std.specs.Prelude.{◌≡◌};
-ghost use Rattle.refusal_words.specs.Entry.{text_entry};
-ghost use Rattle.refusal_words.specs.Declare.{declare_entry};
+ghost use Rattle.refusal_words.specs.declared.subject.Subject.TheVariants as subject;
 
 use crate::entry::Entry;
+use crate::subject::Subject;
 use tier_tree::DeclareFault;
 
 /// What the table says of a phaser that can't be declared.
 pub fn declare_entry(fault: DeclareFault) -> Entry
-    ensures { text_entry result ≡ declare_entry fault }
+    ensures { result.subject ≡ subject.Declare fault }
 {
     match fault {
         DeclareFault::BadParties => Entry {
+            subject: Subject::Declare(DeclareFault::BadParties),
             told: "refused load 7 PHASER 1",
             means: "BadParties: below 0 or above 65535 parties",
             helps: "0 to 65535 parties",
@@ -18,6 +19,7 @@ pub fn declare_entry(fault: DeclareFault) -> Entry
             more: "docs/FORMATS.md, \"Load faults\"",
         },
         DeclareFault::TooMany => Entry {
+            subject: Subject::Declare(DeclareFault::TooMany),
             told: "refused load 7 PHASER 2",
             means: "TooMany: a phaser above it has 65535 parties, and would get one more",
             helps: "room for one party of each child",
@@ -25,6 +27,7 @@ pub fn declare_entry(fault: DeclareFault) -> Entry
             more: "docs/FORMATS.md, \"Load faults\"",
         },
         DeclareFault::TooDeep => Entry {
+            subject: Subject::Declare(DeclareFault::TooDeep),
             told: "refused load 7 PHASER 3",
             means: "TooDeep: it would be on level 9 of its tree",
             helps: "up to 8 levels",
@@ -32,6 +35,7 @@ pub fn declare_entry(fault: DeclareFault) -> Entry
             more: "docs/FORMATS.md, \"Load faults\"",
         },
         DeclareFault::TooManyPhasers => Entry {
+            subject: Subject::Declare(DeclareFault::TooManyPhasers),
             told: "refused load 7 PHASER 4",
             means: "TooManyPhasers: there are 64 phasers already",
             helps: "up to 64 phasers",
@@ -39,6 +43,7 @@ pub fn declare_entry(fault: DeclareFault) -> Entry
             more: "docs/FORMATS.md, \"Load faults\"",
         },
         DeclareFault::PhaseOnChild => Entry {
+            subject: Subject::Declare(DeclareFault::PhaseOnChild),
             told: "refused load 7 PHASER 5",
             means: "PhaseOnChild: a child is given a first phase other than 0",
             helps: "the first phase at the root",
@@ -46,6 +51,7 @@ pub fn declare_entry(fault: DeclareFault) -> Entry
             more: "docs/FORMATS.md, \"Load faults\"",
         },
         DeclareFault::NoParent => Entry {
+            subject: Subject::Declare(DeclareFault::NoParent),
             told: "refused load 7 PHASER 6",
             means: "NoParent: no phaser before it has its parent's number",
             helps: "the parent's line above its children's",
@@ -53,6 +59,7 @@ pub fn declare_entry(fault: DeclareFault) -> Entry
             more: "docs/FORMATS.md, \"Load faults\"",
         },
         DeclareFault::Memory => Entry {
+            subject: Subject::Declare(DeclareFault::Memory),
             told: "memory",
             means: "memory was refused",
             helps: "more memory, or a shorter input",

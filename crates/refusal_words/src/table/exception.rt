@@ -1,16 +1,16 @@
 ghost use Rattle.std.specs.Prelude.{◌≡◌};
-ghost use Rattle.refusal_words.specs.Entry.{text_entry};
-ghost use Rattle.refusal_words.specs.Exception.{exception_entry};
+ghost use Rattle.refusal_words.specs.declared.subject.Subject.TheVariants as subject;
 
 use crate::entry::Entry;
-use crate::subject::Exception;
+use crate::subject::{Exception, Subject};
 
 /// What the table says of an exception's number.
 pub fn exception_entry(exception: Exception) -> Entry
-    ensures { text_entry result ≡ exception_entry exception }
+    ensures { result.subject ≡ subject.Exception exception }
 {
     match exception {
         Exception::IllegalState => Entry {
+            subject: Subject::Exception(Exception::IllegalState),
             told: "exception 1",
             means: "IllegalStateException: an arrival without a party, or too many parties",
             helps: "a registration before the arrival",
@@ -18,6 +18,7 @@ pub fn exception_entry(exception: Exception) -> Entry
             more: "docs/BEHAVIOUR.md, \"Exceptions\"",
         },
         Exception::IllegalArgument => Entry {
+            subject: Subject::Exception(Exception::IllegalArgument),
             told: "exception 2",
             means: "IllegalArgumentException: bulkRegister of a number below 0",
             helps: "0 or more parties",
@@ -25,6 +26,7 @@ pub fn exception_entry(exception: Exception) -> Entry
             more: "docs/BEHAVIOUR.md, \"Exceptions\"",
         },
         Exception::Interrupted => Entry {
+            subject: Subject::Exception(Exception::Interrupted),
             told: "exception 3",
             means: "InterruptedException: an interruptible wait of a thread that was interrupted",
             helps: "`try L` before the wait catches it",
@@ -32,6 +34,7 @@ pub fn exception_entry(exception: Exception) -> Entry
             more: "docs/BEHAVIOUR.md, \"Exceptions\"",
         },
         Exception::BrokenBarrier => Entry {
+            subject: Subject::Exception(Exception::BrokenBarrier),
             told: "exception 4",
             means: "BrokenBarrierException: a wait at a barrier that is broken, or breaks",
             helps: "`creset B` makes it whole",
@@ -39,6 +42,7 @@ pub fn exception_entry(exception: Exception) -> Entry
             more: "docs/BEHAVIOUR.md, \"Exceptions\"",
         },
         Exception::Timeout => Entry {
+            subject: Subject::Exception(Exception::Timeout),
             told: "exception 5",
             means: "TimeoutException: a timed wait without time, or whose time runs out",
             helps: "a time above 0, and no xN in the schedule",
@@ -46,6 +50,7 @@ pub fn exception_entry(exception: Exception) -> Entry
             more: "docs/BEHAVIOUR.md, \"Exceptions\"",
         },
         Exception::StackFull => Entry {
+            subject: Subject::Exception(Exception::StackFull),
             told: "exception 6",
             means: "stack full: a call, a try or an arrival where the stack has 64 entries",
             helps: "a ret for each call, an endtry for each try",
@@ -53,6 +58,7 @@ pub fn exception_entry(exception: Exception) -> Entry
             more: "docs/BEHAVIOUR.md, \"Exceptions\"",
         },
         Exception::BadReturn => Entry {
+            subject: Subject::Exception(Exception::BadReturn),
             told: "exception 7",
             means: "bad return: ret or endtry without their entry, or halt in a routine or an action",
             helps: "a call before each ret, a try before each endtry",
@@ -60,6 +66,7 @@ pub fn exception_entry(exception: Exception) -> Entry
             more: "docs/BEHAVIOUR.md, \"Exceptions\"",
         },
         Exception::OutputFull => Entry {
+            subject: Subject::Exception(Exception::OutputFull),
             told: "exception 8",
             means: "output full: out after 4096 numbers",
             helps: "4096 numbers of a thread at most",

@@ -1,16 +1,17 @@
 ghost use Rattle.std.specs.Prelude.{◌≡◌};
-ghost use Rattle.refusal_words.specs.Entry.{text_entry};
-ghost use Rattle.refusal_words.specs.Image.{image_entry};
+ghost use Rattle.refusal_words.specs.declared.subject.Subject.TheVariants as subject;
 
 use crate::entry::Entry;
+use crate::subject::Subject;
 use row_code::ImageFault;
 
 /// What the table says of an image's fault.
 pub fn image_entry(fault: ImageFault) -> Entry
-    ensures { text_entry result ≡ image_entry fault }
+    ensures { result.subject ≡ subject.Image fault }
 {
     match fault {
         ImageFault::Short => Entry {
+            subject: Subject::Image(ImageFault::Short),
             told: "refused image 1",
             means: "Short: the bytes end too early",
             helps: "12 bytes, and as many entries as they count",
@@ -18,6 +19,7 @@ pub fn image_entry(fault: ImageFault) -> Entry
             more: "docs/FORMATS.md, \"Images\"",
         },
         ImageFault::Magic => Entry {
+            subject: Subject::Image(ImageFault::Magic),
             told: "refused image 2",
             means: "Magic: the first four bytes are none of an image's",
             helps: "PBW1 or PBW2",
@@ -25,20 +27,23 @@ pub fn image_entry(fault: ImageFault) -> Entry
             more: "docs/FORMATS.md, \"Images\"",
         },
         ImageFault::Count => Entry {
+            subject: Subject::Image(ImageFault::Count),
             told: "refused image 3",
             means: "Count: more than 64 phasers, barriers or threads",
             helps: "up to 64 of each",
             example: "printf 'PBW1\\101\\0\\0\\0\\0\\0\\0\\0' > a.image; vuthgal list a.image",
             more: "docs/FORMATS.md, \"Images\"",
         },
-        ImageFault::Field(_) => Entry {
+        ImageFault::Field(place) => Entry {
+            subject: Subject::Image(ImageFault::Field(place)),
             told: "refused image 4 BYTE",
             means: "Field: a field holds what it can't, from this byte of the file on",
             helps: "a parent 0 to 63 or 255, a policy 0 to 3, phases from 0, rows to 65535",
             example: "printf 'PBW1\\1\\0\\0\\0\\0\\0\\0\\0\\377\\4\\2\\0\\0\\0\\0\\0\\0\\0\\0\\0' > a.image; vuthgal list a.image",
             more: "docs/FORMATS.md, \"Images\"",
         },
-        ImageFault::Row(_) => Entry {
+        ImageFault::Row(number) => Entry {
+            subject: Subject::Image(ImageFault::Row(number)),
             told: "refused image 5 ROW",
             means: "Row: 8 bytes that spell no row, or behind PBW1 a row with a timeout",
             helps: "rows as `vuthgal asm` writes them",
@@ -46,6 +51,7 @@ pub fn image_entry(fault: ImageFault) -> Entry
             more: "docs/FORMATS.md, \"Images\"",
         },
         ImageFault::Extra => Entry {
+            subject: Subject::Image(ImageFault::Extra),
             told: "refused image 6",
             means: "Extra: bytes behind the last row",
             helps: "nothing behind it",
@@ -53,6 +59,7 @@ pub fn image_entry(fault: ImageFault) -> Entry
             more: "docs/FORMATS.md, \"Images\"",
         },
         ImageFault::Version => Entry {
+            subject: Subject::Image(ImageFault::Version),
             told: "refused image 8",
             means: "Version: the magic is PBW2, and no row has a timeout",
             helps: "PBW1 for a program without pawaitt and cawaitt",
@@ -60,6 +67,7 @@ pub fn image_entry(fault: ImageFault) -> Entry
             more: "docs/FORMATS.md, \"Images\"",
         },
         ImageFault::Memory => Entry {
+            subject: Subject::Image(ImageFault::Memory),
             told: "memory",
             means: "memory was refused",
             helps: "more memory, or a shorter input",

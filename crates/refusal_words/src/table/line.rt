@@ -1,16 +1,16 @@
 ghost use Rattle.std.specs.Prelude.{◌≡◌};
-ghost use Rattle.refusal_words.specs.Entry.{text_entry};
-ghost use Rattle.refusal_words.specs.Line.{line_entry};
+ghost use Rattle.refusal_words.specs.declared.subject.Subject.TheVariants as subject;
 
 use crate::entry::Entry;
-use crate::subject::Line;
+use crate::subject::{Line, Subject};
 
 /// What the table says of a line that is a fixed word.
 pub fn line_entry(line: Line) -> Entry
-    ensures { text_entry result ≡ line_entry line }
+    ensures { result.subject ≡ subject.Line line }
 {
     match line {
         Line::Show => Entry {
+            subject: Subject::Line(Line::Show),
             told: "refused show 2000",
             means: "the schedule has more choices than a page shows",
             helps: "a schedule of at most 2000 choices",
@@ -18,6 +18,7 @@ pub fn line_entry(line: Line) -> Entry
             more: "docs/FORMATS.md, \"Page\"",
         },
         Line::Draw => Entry {
+            subject: Subject::Line(Line::Draw),
             told: "refused draw 2000",
             means: "the schedule has more choices than a picture shows",
             helps: "a schedule of at most 2000 choices",
@@ -25,6 +26,7 @@ pub fn line_entry(line: Line) -> Entry
             more: "docs/FORMATS.md, \"Picture\"",
         },
         Line::Memory => Entry {
+            subject: Subject::Line(Line::Memory),
             told: "memory",
             means: "memory was refused",
             helps: "more memory, or a shorter input",
@@ -32,6 +34,7 @@ pub fn line_entry(line: Line) -> Entry
             more: "docs/FORMATS.md, \"Exit statuses\"",
         },
         Line::Spawn => Entry {
+            subject: Subject::Line(Line::Spawn),
             told: "spawn",
             means: "the system refused to start a thread",
             helps: "fewer threads, or a higher `ulimit -u`",
@@ -39,6 +42,7 @@ pub fn line_entry(line: Line) -> Entry
             more: "docs/FORMATS.md, \"Exit statuses\"",
         },
         Line::Read => Entry {
+            subject: Subject::Line(Line::Read),
             told: "read",
             means: "a file or standard input can't be read, isn't there, or is too long",
             helps: "a file that is there and no folder, of up to 16777216 bytes",
@@ -46,6 +50,7 @@ pub fn line_entry(line: Line) -> Entry
             more: "docs/FORMATS.md, \"Exit statuses\"",
         },
         Line::Write => Entry {
+            subject: Subject::Line(Line::Write),
             told: "write",
             means: "standard output or OUT can't be written, or OUT is SRC itself",
             helps: "room on the device, leave to write, another OUT",
@@ -53,6 +58,7 @@ pub fn line_entry(line: Line) -> Entry
             more: "docs/FORMATS.md, \"Exit statuses\"",
         },
         Line::NotATrace => Entry {
+            subject: Subject::Line(Line::NotATrace),
             told: "not a trace LINE",
             means: "this line of TRACE is none that a trace has there",
             helps: "the lines that `run` writes: choices, then the state",
@@ -60,6 +66,7 @@ pub fn line_entry(line: Line) -> Entry
             more: "docs/FORMATS.md, \"Comparing\"",
         },
         Line::Differs => Entry {
+            subject: Subject::Line(Line::Differs),
             told: "differs LINE",
             means: "this line of TRACE isn't the one that the run has there, byte for byte",
             helps: "`vuthgal run` with the choices of TRACE writes the run's own lines",
@@ -67,6 +74,7 @@ pub fn line_entry(line: Line) -> Entry
             more: "docs/FORMATS.md, \"Comparing\"",
         },
         Line::NoThread => Entry {
+            subject: Subject::Line(Line::NoThread),
             told: "none",
             means: "a choice of a thread that the program doesn't have",
             helps: "threads are numbered from 0, in the order of their .thread lines",
@@ -74,6 +82,7 @@ pub fn line_entry(line: Line) -> Entry
             more: "docs/FORMATS.md, \"Trace text\"",
         },
         Line::StepLimit => Entry {
+            subject: Subject::Line(Line::StepLimit),
             told: "limit",
             means: "the machine has taken all the steps or choices that it may",
             helps: "a shorter schedule",
@@ -81,6 +90,7 @@ pub fn line_entry(line: Line) -> Entry
             more: "docs/FORMATS.md, \"Trace text\"",
         },
         Line::Unknown => Entry {
+            subject: Subject::Line(Line::Unknown),
             told: "?",
             means: "the line is no command of `debug`, or names a row that isn't there",
             helps: "the commands that `vuthgal debug --help` lists",
@@ -88,6 +98,7 @@ pub fn line_entry(line: Line) -> Entry
             more: "docs/FORMATS.md, \"Debugger commands\"",
         },
         Line::NoHistory => Entry {
+            subject: Subject::Line(Line::NoHistory),
             told: "no history",
             means: "no choice is left that could be taken back",
             helps: "`b` takes back the last 4096 choices at most",

@@ -1,30 +1,33 @@
 ghost use Rattle.std.specs.Prelude.{◌≡◌};
-ghost use Rattle.refusal_words.specs.Entry.{text_entry};
-ghost use Rattle.refusal_words.specs.Schedule.{schedule_entry};
+ghost use Rattle.refusal_words.specs.declared.subject.Subject.TheVariants as subject;
 
 use crate::entry::Entry;
+use crate::subject::Subject;
 use schedule_reader::ScheduleFault;
 
 /// What the table says of a schedule's fault.
 pub fn schedule_entry(fault: ScheduleFault) -> Entry
-    ensures { text_entry result ≡ schedule_entry fault }
+    ensures { result.subject ≡ subject.Schedule fault }
 {
     match fault {
-        ScheduleFault::Byte(_) => Entry {
+        ScheduleFault::Byte(place) => Entry {
+            subject: Subject::Schedule(ScheduleFault::Byte(place)),
             told: "refused schedule 1 BYTE",
             means: "Byte: a byte that can't stand there, or a token that is cut short",
             helps: "tN, xN, tN*K and xN*K with blanks between them",
             example: "printf '.thread t #0\\nhalt\\n.run\\nt0,t1\\n' | vuthgal",
             more: "docs/FORMATS.md, \"Schedule text\"",
         },
-        ScheduleFault::Number(_) => Entry {
+        ScheduleFault::Number(place) => Entry {
+            subject: Subject::Schedule(ScheduleFault::Number(place)),
             told: "refused schedule 2 BYTE",
             means: "Number: a thread's number above 63, or of more than two digits",
             helps: "t0 to t63, and x0 to x63",
             example: "printf '.thread t #0\\nhalt\\n.run\\nt64\\n' | vuthgal",
             more: "docs/FORMATS.md, \"Schedule text\"",
         },
-        ScheduleFault::Repeat(_) => Entry {
+        ScheduleFault::Repeat(place) => Entry {
+            subject: Subject::Schedule(ScheduleFault::Repeat(place)),
             told: "refused schedule 3 BYTE",
             means: "Repeat: a count of 0, above 1000000000, or of more than ten digits",
             helps: "1 to 1000000000",
@@ -32,6 +35,7 @@ pub fn schedule_entry(fault: ScheduleFault) -> Entry
             more: "docs/FORMATS.md, \"Schedule text\"",
         },
         ScheduleFault::Memory => Entry {
+            subject: Subject::Schedule(ScheduleFault::Memory),
             told: "memory",
             means: "memory was refused",
             helps: "more memory, or a shorter input",

@@ -1,16 +1,16 @@
 ghost use Rattle.std.specs.Prelude.{◌≡◌};
-ghost use Rattle.refusal_words.specs.Entry.{text_entry};
-ghost use Rattle.refusal_words.specs.Status.{status_entry};
+ghost use Rattle.refusal_words.specs.declared.subject.Subject.TheVariants as subject;
 
 use crate::entry::Entry;
-use crate::subject::Status;
+use crate::subject::{Status, Subject};
 
 /// What the table says of an exit status.
 pub fn status_entry(status: Status) -> Entry
-    ensures { text_entry result ≡ status_entry status }
+    ensures { result.subject ≡ subject.Status status }
 {
     match status {
         Status::Done => Entry {
+            subject: Subject::Status(Status::Done),
             told: "status 0",
             means: "done: all that was asked for is written",
             helps: "nothing is wrong, also where threads are stuck",
@@ -18,6 +18,7 @@ pub fn status_entry(status: Status) -> Entry
             more: "docs/FORMATS.md, \"Exit statuses\"",
         },
         Status::Unlike => Entry {
+            subject: Subject::Status(Status::Unlike),
             told: "status 1",
             means: "a trace differs or is none, or a run ended otherwise than `--expect` says",
             helps: "a look at the line that is named, or at the line `state`",
@@ -25,6 +26,7 @@ pub fn status_entry(status: Status) -> Entry
             more: "docs/FORMATS.md, \"Exit statuses\"",
         },
         Status::WrongWords => Entry {
+            subject: Subject::Status(Status::WrongWords),
             told: "status 2",
             means: "the command line is wrong, and nothing was read",
             helps: "vuthgal --help",
@@ -32,6 +34,7 @@ pub fn status_entry(status: Status) -> Entry
             more: "docs/FORMATS.md, \"Exit statuses\"",
         },
         Status::Refused => Entry {
+            subject: Subject::Status(Status::Refused),
             told: "status 3",
             means: "the input is refused: standard error has a line `refused ..`",
             helps: "`vuthgal explain` with the words of that line",
@@ -39,6 +42,7 @@ pub fn status_entry(status: Status) -> Entry
             more: "docs/FORMATS.md, \"Exit statuses\"",
         },
         Status::Wanting => Entry {
+            subject: Subject::Status(Status::Wanting),
             told: "status 4",
             means: "memory or a thread is wanting: standard error has `memory` or `spawn`",
             helps: "more memory, or fewer threads",
@@ -46,6 +50,7 @@ pub fn status_entry(status: Status) -> Entry
             more: "docs/FORMATS.md, \"Exit statuses\"",
         },
         Status::Failed => Entry {
+            subject: Subject::Status(Status::Failed),
             told: "status 5",
             means: "a file can't be read or written: standard error has `read` or `write`",
             helps: "`vuthgal explain read` and `vuthgal explain write`",
