@@ -3,20 +3,18 @@ use Rattle.std.proofs.Common.{◌≡◌, ◌∙◌, ◌++◌, ◌⊎◌, ◌≤�
 use Rattle.std.specs.Prelude.{OnOk, IfErr}
 use Rattle.std.specs.Io.KnownBytes.{Appends}
 use Rattle.row_code.specs.declared.image.Image.{Image}
-use Rattle.row_code.specs.declared.image_fault.ImageFault.{ImageFault}
-use Rattle.row_code.specs.declared.image_fault.ImageFault.TheVariants as image
-use Rattle.loader.specs.declared.load_fault.LoadFault.{LoadFault}
-use Rattle.loader.specs.declared.load_fault.LoadFault.TheVariants as load
+use Rattle.line_reader.specs.FaultNumber.{asm_number}
+use Rattle.row_code.specs.FaultNumber.{image_number}
+use Rattle.loader.specs.FaultNumber.{load_number}
 use Rattle.assembler.proofs.ReadLines.{one_image}
-use Rattle.schedule_reader.specs.declared.fault.ScheduleFault.{ScheduleFault}
-use Rattle.schedule_reader.specs.declared.fault.ScheduleFault.TheVariants as schedule
+use Rattle.schedule_reader.specs.FaultNumber.{schedule_number}
 use Rattle.schedule_reader.specs.Schedule.{Schedule, finished_schedule, open_schedule, choices_of}
 use Rattle.trace_compare.specs.RunText.{GivesOnAndOn, HasRun, HasRunInPart, HasRunSoFar, HasRunToFault, IsTraceOf}
 use Rattle.trace_compare.specs.Trace.{lines_of}
 use Rattle.trace_compare.proofs.Plays.{Part-whole}
 use Rattle.workbench.specs.declared.fault.Fault.{Fault}
 use Rattle.workbench.specs.declared.fault.Fault.TheVariants as fault
-use Rattle.workbench.specs.Fault.{image_status, load_status, number_of, schedule_status, status_of, text_status}
+use Rattle.workbench.specs.Fault.{refusal_status, status_of}
 use Rattle.workbench.specs.Live.{IsLived, IsLivedAtMost, IsLivedLong, IsRecorded}
 use Rattle.workbench.specs.ProgramFile.{IsProgramFile}
 use Rattle.workbench.proofs.Runs.{whole_fault}
@@ -130,37 +128,9 @@ pub lived_long : (limit : ℕ) (file schedule : List ℕ) (a b : Image) → IsPr
 lived_long limit file schedule a b first again recorded long =
     (b, (schedule, (again, recorded_again limit file schedule a b first again recorded, long)))
 
-text_port : (number : Option ℕ) → text_status number ≡ 5 → ⊥
-text_port (Some n) five = absurd (omega (arith, five))
-text_port None five = absurd (omega (arith, five))
-
-image_port : (f : ImageFault) → image_status f ≡ 5 → ⊥
-image_port image.Short five = absurd (omega (arith, five))
-image_port image.Magic five = absurd (omega (arith, five))
-image_port image.Count five = absurd (omega (arith, five))
-image_port (image.Field at) five = absurd (omega (arith, five))
-image_port (image.Row n) five = absurd (omega (arith, five))
-image_port image.Extra five = absurd (omega (arith, five))
-image_port image.Memory five = absurd (omega (arith, five))
-image_port image.Version five = absurd (omega (arith, five))
-
-load_port : (f : LoadFault) → load_status f ≡ 5 → ⊥
-load_port (load.Target place) five = absurd (omega (arith, five))
-load_port load.FallsOff five = absurd (omega (arith, five))
-load_port (load.NoSuchPhaser row) five = absurd (omega (arith, five))
-load_port (load.NoSuchBarrier row) five = absurd (omega (arith, five))
-load_port (load.NoSuchThread row) five = absurd (omega (arith, five))
-load_port (load.NoSuchCell row) five = absurd (omega (arith, five))
-load_port (load.Declare phaser why) five = absurd (omega (arith, five))
-load_port (load.BarrierParties barrier) five = absurd (omega (arith, five))
-load_port load.NoThread five = absurd (omega (arith, five))
-load_port load.Memory five = absurd (omega (arith, five))
-
-schedule_port : (f : ScheduleFault) → schedule_status f ≡ 5 → ⊥
-schedule_port (schedule.Byte at) five = absurd (omega (arith, five))
-schedule_port (schedule.Number at) five = absurd (omega (arith, five))
-schedule_port (schedule.Repeat at) five = absurd (omega (arith, five))
-schedule_port schedule.Memory five = absurd (omega (arith, five))
+refusal_port : (number : Option ℕ) → refusal_status number ≡ 5 → ⊥
+refusal_port (Some n) five = absurd (omega (arith, five))
+refusal_port None five = absurd (omega (arith, five))
 
 -- who fails has a port that failed, or too much to read
 pub port_of : (f : Fault) (A B C D : Type 0) → (f ≡ fault.Read → A ⊎ (B ⊎ C)) → (f ≡ fault.Write → D) → status_of f ≡ 5
@@ -169,7 +139,7 @@ port_of fault.Read A B C D read write five = inl (read refl)
 port_of fault.Write A B C D read write five = inr (write refl)
 port_of fault.Memory A B C D read write five = absurd (omega (arith, five))
 port_of fault.Spawn A B C D read write five = absurd (omega (arith, five))
-port_of (fault.Asm f) A B C D read write five = absurd (text_port (number_of f.kind) five)
-port_of (fault.Image f) A B C D read write five = absurd (image_port f five)
-port_of (fault.Load f) A B C D read write five = absurd (load_port f five)
-port_of (fault.Schedule f) A B C D read write five = absurd (schedule_port f five)
+port_of (fault.Asm f) A B C D read write five = absurd (refusal_port (asm_number f.kind) five)
+port_of (fault.Image f) A B C D read write five = absurd (refusal_port (image_number f) five)
+port_of (fault.Load f) A B C D read write five = absurd (refusal_port (load_number f) five)
+port_of (fault.Schedule f) A B C D read write five = absurd (refusal_port (schedule_number f) five)

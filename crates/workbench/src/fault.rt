@@ -1,9 +1,11 @@
 ghost use Rattle.std.specs.Prelude.{◌≡◌, ◌++◌, IsTrue, OnErr, OnOk, codes};
-ghost use Rattle.std.specs.Fmt.{decimal};
 ghost use Rattle.std.specs.Io.KnownBytes.{Appends};
-ghost use Rattle.workbench.specs.Fault.{counted_line, image_line, line_of, load_line, number_of, place_line, schedule_line, status_of, text_line};
+ghost use Rattle.loader.specs.FaultNumber.{load_number};
+ghost use Rattle.row_code.specs.FaultNumber.{image_number};
+ghost use Rattle.schedule_reader.specs.FaultNumber.{schedule_number};
+ghost use Rattle.workbench.specs.Fault.{counted, counted_line, image_place, line_of, load_place, refusal_line, refusal_status, schedule_place, status_of, target_place, text_line};
 
-use assembler::{AsmFault, AsmFaultKind};
+use assembler::AsmFault;
 use byte_ports::{Failed, Sink};
 use itoa::Buffer;
 use loader::{LoadFault, Place};
@@ -37,32 +39,20 @@ pub enum Fault {
     Write,
 }
 
-/// A kind's number in the line of a text's fault, `None` for memory.
-fn number_of(kind: AsmFaultKind) -> Option<u8>
-    ensures { result ≡ number_of kind }
+/// The exit status of a refusal, by the number of its kind: missing memory has none.
+fn refusal_status(number: Option<u8>) -> u8
+    ensures { result ≡ refusal_status number }
 {
-    match kind {
-        AsmFaultKind::BadByte => Some(1),
-        AsmFaultKind::LongLine => Some(2),
-        AsmFaultKind::UnknownWord => Some(3),
-        AsmFaultKind::OperandCount => Some(4),
-        AsmFaultKind::BadRegister => Some(5),
-        AsmFaultKind::BadNumber => Some(6),
-        AsmFaultKind::OutOfRange => Some(7),
-        AsmFaultKind::BadName => Some(8),
-        AsmFaultKind::UnknownName => Some(9),
-        AsmFaultKind::NameTwice => Some(10),
-        AsmFaultKind::MisplacedDirective => Some(11),
-        AsmFaultKind::BadOption => Some(12),
-        AsmFaultKind::TooMany => Some(13),
-        AsmFaultKind::Memory => None,
+    match number {
+        Some(_) => 3,
+        None => 4,
     }
 }
 
 /// A word, and a number behind it.
 fn push_with_count<E: Sink>(errors: &mut E, word: &[u8], count: u64) -> Result<(), Failed>
     ensures bytes { OnOk result (Appends (E.written errors.old) (E.written errors.new)
-        (word.now ++ decimal count)) }
+        (counted word.now count)) }
     ensures failed { OnErr result (IsTrue (E.has_failed errors.new)) }
 {
     errors.push(word)?;
@@ -95,99 +85,120 @@ fn push_text_line<E: Sink>(errors: &mut E, line: u64, number: Option<u8>) -> Res
     }
 }
 
-/// The line of an image's fault, with its place where it has one.
-fn push_image_line<E: Sink>(errors: &mut E, fault: ImageFault) -> Result<(), Failed>
+/// Where an image's fault is, if it has a place.
+fn push_image_place<E: Sink>(errors: &mut E, fault: ImageFault) -> Result<(), Failed>
     ensures bytes { OnOk result (Appends (E.written errors.old) (E.written errors.new)
-        (image_line fault)) }
+        (image_place fault)) }
     ensures failed { OnErr result (IsTrue (E.has_failed errors.new)) }
 {
     match fault {
-        ImageFault::Short => errors.push(b"refused image 1\n"),
-        ImageFault::Magic => errors.push(b"refused image 2\n"),
-        ImageFault::Count => errors.push(b"refused image 3\n"),
-        ImageFault::Field(at) => push_counted_line(errors, b"refused image 4 ", at as u64),
-        ImageFault::Row(number) => push_counted_line(
-            errors,
-            b"refused image 5 ",
-            u64::from(number),
-        ),
-        ImageFault::Extra => errors.push(b"refused image 6\n"),
-        ImageFault::Memory => errors.push(b"memory\n"),
-        ImageFault::Version => errors.push(b"refused image 8\n"),
+        ImageFault::Field(at) => push_with_count(errors, b" ", at as u64),
+        ImageFault::Row(number) => push_with_count(errors, b" ", u64::from(number)),
+        _ => errors.push(b""),
     }
 }
 
-/// The line of a row that isn't there.
-fn push_place_line<E: Sink>(errors: &mut E, place: Place) -> Result<(), Failed>
+/// The line of an image's fault.
+fn push_image_line<E: Sink>(errors: &mut E, fault: ImageFault) -> Result<(), Failed>
     ensures bytes { OnOk result (Appends (E.written errors.old) (E.written errors.new)
-        (place_line place)) }
+        (refusal_line (codes "refused image ") (image_number fault) (image_place fault))) }
+    ensures failed { OnErr result (IsTrue (E.has_failed errors.new)) }
+{
+    match fault.number() {
+        Some(number) => {
+            push_with_count(errors, b"refused image ", u64::from(number))?;
+            push_image_place(errors, fault)?;
+            errors.push(b"\n")
+        }
+        None => errors.push(b"memory\n"),
+    }
+}
+
+/// What names a row that isn't there.
+fn push_target_place<E: Sink>(errors: &mut E, place: Place) -> Result<(), Failed>
+    ensures bytes { OnOk result (Appends (E.written errors.old) (E.written errors.new)
+        (target_place place)) }
     ensures failed { OnErr result (IsTrue (E.has_failed errors.new)) }
 {
     match place {
-        Place::Row(n) => push_counted_line(errors, b"refused load 1 row ", u64::from(n)),
-        Place::Thread(n) => push_counted_line(errors, b"refused load 1 thread ", u64::from(n)),
-        Place::Phaser(n) => push_counted_line(errors, b"refused load 1 phaser ", u64::from(n)),
-        Place::Barrier(n) => push_counted_line(errors, b"refused load 1 barrier ", u64::from(n)),
+        Place::Row(n) => push_with_count(errors, b" row ", u64::from(n)),
+        Place::Thread(n) => push_with_count(errors, b" thread ", u64::from(n)),
+        Place::Phaser(n) => push_with_count(errors, b" phaser ", u64::from(n)),
+        Place::Barrier(n) => push_with_count(errors, b" barrier ", u64::from(n)),
     }
 }
 
-/// The line of a phaser that can't be declared, by the number of why.
-fn push_declare_line<E: Sink>(errors: &mut E, phaser: u8, why: u8) -> Result<(), Failed>
+/// A phaser that can't be declared, and the number of why.
+fn push_declare_place<E: Sink>(errors: &mut E, phaser: u8, why: u8) -> Result<(), Failed>
     ensures bytes { OnOk result (Appends (E.written errors.old) (E.written errors.new)
-        (codes "refused load 7 " ++ (decimal phaser ++ counted_line (codes " ") why))) }
+        (counted (codes " ") phaser ++ counted (codes " ") why)) }
     ensures failed { OnErr result (IsTrue (E.has_failed errors.new)) }
 {
-    push_with_count(errors, b"refused load 7 ", u64::from(phaser))?;
-    push_counted_line(errors, b" ", u64::from(why))
+    push_with_count(errors, b" ", u64::from(phaser))?;
+    push_with_count(errors, b" ", u64::from(why))
+}
+
+/// Where the loader's fault is, if it has a place.
+fn push_load_place<E: Sink>(errors: &mut E, fault: LoadFault) -> Result<(), Failed>
+    ensures bytes { OnOk result (Appends (E.written errors.old) (E.written errors.new)
+        (load_place fault)) }
+    ensures failed { OnErr result (IsTrue (E.has_failed errors.new)) }
+{
+    match fault {
+        LoadFault::Target(place) => push_target_place(errors, place),
+        LoadFault::NoSuchPhaser(row) => push_with_count(errors, b" ", u64::from(row)),
+        LoadFault::NoSuchBarrier(row) => push_with_count(errors, b" ", u64::from(row)),
+        LoadFault::NoSuchThread(row) => push_with_count(errors, b" ", u64::from(row)),
+        LoadFault::NoSuchCell(row) => push_with_count(errors, b" ", u64::from(row)),
+        LoadFault::Declare(phaser, why) => push_declare_place(errors, phaser, why.number()),
+        LoadFault::BarrierParties(barrier) => push_with_count(errors, b" ", u64::from(barrier)),
+        LoadFault::FallsOff | LoadFault::NoThread | LoadFault::Memory => errors.push(b""),
+    }
 }
 
 /// The line of a program that isn't loaded.
 fn push_load_line<E: Sink>(errors: &mut E, fault: LoadFault) -> Result<(), Failed>
     ensures bytes { OnOk result (Appends (E.written errors.old) (E.written errors.new)
-        (load_line fault)) }
+        (refusal_line (codes "refused load ") (load_number fault) (load_place fault))) }
+    ensures failed { OnErr result (IsTrue (E.has_failed errors.new)) }
+{
+    match fault.number() {
+        Some(number) => {
+            push_with_count(errors, b"refused load ", u64::from(number))?;
+            push_load_place(errors, fault)?;
+            errors.push(b"\n")
+        }
+        None => errors.push(b"memory\n"),
+    }
+}
+
+/// The offset of a schedule's fault.
+fn push_schedule_place<E: Sink>(errors: &mut E, fault: ScheduleFault) -> Result<(), Failed>
+    ensures bytes { OnOk result (Appends (E.written errors.old) (E.written errors.new)
+        (schedule_place fault)) }
     ensures failed { OnErr result (IsTrue (E.has_failed errors.new)) }
 {
     match fault {
-        LoadFault::Target(place) => push_place_line(errors, place),
-        LoadFault::FallsOff => errors.push(b"refused load 2\n"),
-        LoadFault::NoSuchPhaser(row) => push_counted_line(
-            errors,
-            b"refused load 3 ",
-            u64::from(row),
-        ),
-        LoadFault::NoSuchBarrier(row) => push_counted_line(
-            errors,
-            b"refused load 4 ",
-            u64::from(row),
-        ),
-        LoadFault::NoSuchThread(row) => push_counted_line(
-            errors,
-            b"refused load 5 ",
-            u64::from(row),
-        ),
-        LoadFault::NoSuchCell(row) => push_counted_line(errors, b"refused load 6 ", u64::from(row)),
-        LoadFault::Declare(phaser, why) => push_declare_line(errors, phaser, why.number()),
-        LoadFault::BarrierParties(barrier) => push_counted_line(
-            errors,
-            b"refused load 8 ",
-            u64::from(barrier),
-        ),
-        LoadFault::NoThread => errors.push(b"refused load 9\n"),
-        LoadFault::Memory => errors.push(b"memory\n"),
+        ScheduleFault::Byte(at) => push_with_count(errors, b" ", at),
+        ScheduleFault::Number(at) => push_with_count(errors, b" ", at),
+        ScheduleFault::Repeat(at) => push_with_count(errors, b" ", at),
+        ScheduleFault::Memory => errors.push(b""),
     }
 }
 
 /// The line of a schedule's fault.
 fn push_schedule_line<E: Sink>(errors: &mut E, fault: ScheduleFault) -> Result<(), Failed>
     ensures bytes { OnOk result (Appends (E.written errors.old) (E.written errors.new)
-        (schedule_line fault)) }
+        (refusal_line (codes "refused schedule ") (schedule_number fault) (schedule_place fault))) }
     ensures failed { OnErr result (IsTrue (E.has_failed errors.new)) }
 {
-    match fault {
-        ScheduleFault::Byte(at) => push_counted_line(errors, b"refused schedule 1 ", at),
-        ScheduleFault::Number(at) => push_counted_line(errors, b"refused schedule 2 ", at),
-        ScheduleFault::Repeat(at) => push_counted_line(errors, b"refused schedule 3 ", at),
-        ScheduleFault::Memory => errors.push(b"memory\n"),
+    match fault.number() {
+        Some(number) => {
+            push_with_count(errors, b"refused schedule ", u64::from(number))?;
+            push_schedule_place(errors, fault)?;
+            errors.push(b"\n")
+        }
+        None => errors.push(b"memory\n"),
     }
 }
 
@@ -197,14 +208,11 @@ impl Fault {
         ensures { result ≡ status_of self }
     {
         match self {
-            Fault::Asm(fault) if number_of(fault.kind).is_some() => 3,
-            Fault::Asm(_)
-            | Fault::Image(ImageFault::Memory)
-            | Fault::Load(LoadFault::Memory)
-            | Fault::Schedule(ScheduleFault::Memory)
-            | Fault::Memory
-            | Fault::Spawn => 4,
-            Fault::Image(_) | Fault::Load(_) | Fault::Schedule(_) => 3,
+            Fault::Asm(fault) => refusal_status(fault.kind.number()),
+            Fault::Image(fault) => refusal_status(fault.number()),
+            Fault::Load(fault) => refusal_status(fault.number()),
+            Fault::Schedule(fault) => refusal_status(fault.number()),
+            Fault::Memory | Fault::Spawn => 4,
             Fault::Read | Fault::Write => 5,
         }
     }
@@ -216,7 +224,7 @@ impl Fault {
         ensures failed { OnErr result (IsTrue (E.has_failed errors.new)) }
     {
         match self {
-            Fault::Asm(fault) => push_text_line(errors, fault.line, number_of(fault.kind)),
+            Fault::Asm(fault) => push_text_line(errors, fault.line, fault.kind.number()),
             Fault::Image(fault) => push_image_line(errors, fault),
             Fault::Load(fault) => push_load_line(errors, fault),
             Fault::Schedule(fault) => push_schedule_line(errors, fault),
