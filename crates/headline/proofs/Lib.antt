@@ -1,3 +1,3 @@
-pub mod Shown
+pub mod Commands
 pub mod PhaseEnds
 pub mod Backs

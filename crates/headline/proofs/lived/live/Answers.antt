@@ -1,4 +1,4 @@
-use Rattle.headline.proofs.Shown.{live-shown, where_ok}
+use Rattle.headline.proofs.Commands.{live-shown, where_ok}
 use Rattle.headline.proofs.lived.live.Goals as goal
 
 pub returns-clause-shown : goal.returns-clause-shown

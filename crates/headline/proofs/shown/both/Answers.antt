@@ -1,4 +1,4 @@
-use Rattle.headline.proofs.Shown.{text-shown, where_ok}
+use Rattle.headline.proofs.Commands.{text-shown, where_ok}
 use Rattle.headline.proofs.shown.both.Goals as goal
 
 pub returns-clause-shown : goal.returns-clause-shown

@@ -1,4 +1,4 @@
-use Rattle.headline.proofs.Shown.{file-debugged, where_ok}
+use Rattle.headline.proofs.Commands.{file-debugged, where_ok}
 use Rattle.headline.proofs.shown.debug.Goals as goal
 
 pub returns-clause-debugged : goal.returns-clause-debugged

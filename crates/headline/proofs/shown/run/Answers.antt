@@ -1,4 +1,4 @@
-use Rattle.headline.proofs.Shown.{file-shown, where_ok}
+use Rattle.headline.proofs.Commands.{file-shown, where_ok}
 use Rattle.headline.proofs.shown.run.Goals as goal
 
 pub returns-clause-shown : goal.returns-clause-shown
