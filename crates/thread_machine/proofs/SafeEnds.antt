@@ -211,7 +211,7 @@ goes_first image limit fits none most =
       barriers = length (map new_barrier image.barriers);
     } in
     let same : counts (length image.threads) (length image.phasers)
-        ≡ counts (length (map starting image.threads)) (length (forest_of image.phasers)) =
+    ≡ counts (length (map starting image.threads)) (length (forest_of image.phasers)) =
     ap (λ n. counts n (length image.phasers)) (sym heads)
     ∙ ap (counts (length (map starting image.threads))) (sym made.many) in
     record {
