@@ -3,7 +3,7 @@ ghost use Rattle.std.specs.Prelude.{◌≡◌, IfOk};
 ghost use Rattle.shared_phaser.specs.Known.{EndsAs, phaser_of};
 ghost use Rattle.shared_phaser.specs.declared.history.Call.TheVariants.{Arrive};
 ghost use Rattle.shared_phaser.specs.declared.history.Answer.TheVariants.{Replied};
-ghost use Rattle.headline.specs.Headline.{MakesLegalCall, StepsAsShown};
+ghost use Rattle.headline.specs.Headline.{MakesLegalCall, StepGivesTheRow};
 
 use packed_phaser::Word;
 use shared_phaser::{Party, Reply, SharedPhaser};
@@ -12,7 +12,7 @@ use thread_machine::{Choice, Event, Machine, StepFault};
 
 /// A step of a machine, whose trees' words may lag behind their roots.
 pub fn step(machine: &mut Machine, choice: Choice) -> Result<Event, StepFault>
-    ensures { IfOk result (λ event. StepsAsShown machine.old choice event machine.new) }
+    ensures { IfOk result (λ event. StepGivesTheRow machine.old choice event machine.new) }
 {
     machine.step(choice)
 }
