@@ -29,7 +29,7 @@ impl<S> Model for LinesSeen<S> {
     ghost view = { λ seen. seen.source };
 }
 
-impl<S> LinesSeen<S> {
+impl<S: Drop> LinesSeen<S> {
     /// Over a source of which nothing was read. This alone takes memory.
     pub fn new(alloc: Global, source: S) -> Result<LinesSeen<S>, AllocError>
         ensures { IfOk result (λ seen. seen ≡ source) }
@@ -40,7 +40,9 @@ impl<S> LinesSeen<S> {
             first: 1,
         })
     }
+}
 
+impl<S> LinesSeen<S> {
     /// Forgets the lines that are whole.
     fn forget_whole_lines(&mut self)
         ensures { self.new ≡ self.old }
