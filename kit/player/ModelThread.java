@@ -78,6 +78,7 @@ final class ModelThread {
         }
         key.add(wait.object());
         key.add(wait.number());
+        key.add(wait.endedItself() ? 1 : 0);
         key.add(wait.generation() == null ? -1 : wait.generation().ordinal());
     }
 }
