@@ -8,6 +8,7 @@ final class BreakBursts {
         new BurstKind("interrupts-at-a-barrier", BreakBursts::interrupts),
         new BurstKind("resets-among-waiters", BreakBursts::resets),
         new BurstKind("no-time-among-waiters", BreakBursts::noTime),
+        new BurstKind("a-break-among-comers", BreakBursts::breakAmongComers),
         new BurstKind("time-that-breaks", BreakBursts::timeThatBreaks),
         new BurstKind("an-action-that-fails", BreakBursts::failingAction),
         new BurstKind("looks-at-a-barrier", BreakBursts::looks));
@@ -58,6 +59,18 @@ final class BreakBursts {
         }
         make.then(thread, BurstMaker.call(Method.GET_NUMBER_WAITING, barrier));
         make.closes(Request.of(Method.RESET, barrier));
+    }
+
+    /** One of those who come breaks the barrier, and they are too few to trip it: all get out, in any order. */
+    private static void breakAmongComers(BurstMaker make) {
+        int parties = make.between(3, BurstMaker.MOST_THREADS);
+        int barrier = make.barrier(parties, make.of(30), 0, false);
+        waiters(make, barrier, parties - 2, 1);
+        if (make.of(50)) {
+            make.thread(BurstMaker.timed(Method.AWAIT_FOR, barrier, 0, 0));
+        } else {
+            make.thread(BurstStep.interrupt(parties - 2), await(barrier));
+        }
     }
 
     /** Times of less than a millisecond, and nobody completes the generation but, maybe, one who comes late. */

@@ -7,8 +7,11 @@ import java.util.List;
 record Burst(String kind, long seed, long round, List<Phaser> phasers, List<Barrier> barriers, List<List<BurstStep>> threads,
         Request closer, List<BurstStep> pokes, BurstClaim claim) {
 
-    /** Whose {@code onAdvance} answers by {@code policy}; the class's own is kept where that is DEFAULT. */
-    record Phaser(int parent, int parties, Policy policy) {
+    /**
+     * Whose {@code onAdvance} answers by {@code policy} after {@code lasts} nanoseconds; the class's own is kept where the
+     * policy is DEFAULT.
+     */
+    record Phaser(int parent, int parties, Policy policy, long lasts) {
         boolean asks() {
             return policy.kind() != Policy.Kind.DEFAULT;
         }

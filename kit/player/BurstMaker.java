@@ -65,7 +65,8 @@ final class BurstMaker {
     }
 
     int phaser(int parent, int parties, Policy policy) {
-        phasers.add(new Burst.Phaser(parent, parties, policy));
+        long lasts = of(50) ? 0 : time(0, of(50) ? 200 : 3_000);
+        phasers.add(new Burst.Phaser(parent, parties, policy, lasts));
         return phasers.size() - 1;
     }
 

@@ -61,6 +61,7 @@ final class BurstPlayer {
             int at = number;
             Stage.Advance advance = !phaser.asks() ? null : (phase, parties) -> {
                 history.asks(Entered.onAdvance(at, phase, parties));
+                BurstGate.pauseUntil(System.nanoTime() + phaser.lasts());
                 return phaser.policy().decide(phase, parties);
             };
             stage.phaser(number, phaser.parent(), phaser.parties(), 0, advance);

@@ -12,6 +12,7 @@ final class MeetingBursts {
         new BurstKind("meetings-until-the-last", MeetingBursts::untilTheLast),
         new BurstKind("registration-while-a-phase-ends", MeetingBursts::registration),
         new BurstKind("bulk-registration-while-a-phase-ends", MeetingBursts::bulkRegistration),
+        new BurstKind("looks-at-a-phaser", MeetingBursts::manyLooks),
         new BurstKind("arrivals-that-nobody-awaits", MeetingBursts::arrivals));
 
     private MeetingBursts() {
@@ -96,6 +97,23 @@ final class MeetingBursts {
         looks(make, phaser);
     }
 
+    /** Looks at the counts while many come and go. */
+    private static void manyLooks(BurstMaker make) {
+        int phaser = make.root(1);
+        for (int other = make.between(2, 4); other > 0; other--) {
+            List<BurstStep> steps = new ArrayList<>();
+            for (int often = make.between(1, 3); often > 0; often--) {
+                steps.add(BurstMaker.call(Method.REGISTER, phaser));
+                steps.add(BurstMaker.call(Method.ARRIVE_AND_DEREGISTER, phaser));
+            }
+            make.thread(steps);
+        }
+        for (int looker = make.between(1, 3); looker > 0; looker--) {
+            Method getter = make.any(List.of(Method.GET_ARRIVED_PARTIES, Method.GET_UNARRIVED_PARTIES));
+            make.thread(BurstMaker.times(make.between(2, 5), BurstMaker.call(getter, phaser)));
+        }
+    }
+
     private static void bulkRegistration(BurstMaker make) {
         int phaser = make.root(1, BurstMaker.NEVER);
         make.thread(BurstMaker.times(make.between(1, 3), BurstMaker.call(Method.ARRIVE, phaser)));
@@ -124,7 +142,7 @@ final class MeetingBursts {
         List<Method> getters = List.of(Method.GET_PHASE, Method.GET_REGISTERED_PARTIES, Method.GET_ARRIVED_PARTIES,
             Method.GET_UNARRIVED_PARTIES, Method.IS_TERMINATED);
         List<BurstStep> steps = new ArrayList<>();
-        for (int look = make.between(1, 4); look > 0; look--) {
+        for (int look = make.between(2, 8); look > 0; look--) {
             steps.add(BurstMaker.call(make.any(getters), phaser));
         }
         make.thread(steps);

@@ -109,10 +109,14 @@ final class PhaseBursts {
         make.thread(arrive(phaser), BurstMaker.call(Method.GET_UNARRIVED_PARTIES, phaser));
     }
 
-    /** A time is over although others come and go all the while. */
+    /**
+     * A time is over although others come and go all the while. Now and then it is a long one, since on a busy machine they
+     * make longer breaks.
+     */
     private static void timeAmongPokes(BurstMaker make) {
         int phaser = make.root(1);
-        make.thread(BurstMaker.timed(Method.AWAIT_ADVANCE_FOR, phaser, 0, make.time(20_000, 30_000)));
+        long time = make.time(20_000, 30_000) * (make.of(10) ? 10 : 1);
+        make.thread(BurstMaker.timed(Method.AWAIT_ADVANCE_FOR, phaser, 0, time));
         make.pokes(BurstMaker.call(Method.REGISTER, phaser));
         make.pokes(BurstMaker.call(Method.ARRIVE_AND_DEREGISTER, phaser));
     }

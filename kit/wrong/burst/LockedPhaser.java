@@ -10,9 +10,8 @@ import kit.player.PhaserUnderTest;
 class LockedPhaser implements PhaserUnderTest {
     private static final int MOST_PARTIES = 65535;
 
-    /** Fair, so that others come in between where a call takes it twice. */
-    private final ReentrantLock lock = new ReentrantLock(true);
-    private final Condition changed = lock.newCondition();
+    private final ReentrantLock lock;
+    private final Condition changed;
     private final Factory.OnAdvance asked;
     private volatile int parties;
     private volatile int unarrived;
@@ -20,9 +19,16 @@ class LockedPhaser implements PhaserUnderTest {
     private volatile boolean terminated;
     private volatile boolean turned;
 
+    /** With a fair lock, so that others come in between where a call takes it twice. */
     LockedPhaser(int parties, Factory.OnAdvance asked) {
+        this(parties, asked, new ReentrantLock(true));
+    }
+
+    LockedPhaser(int parties, Factory.OnAdvance asked, ReentrantLock lock) {
         this.parties = parties;
         this.asked = asked;
+        this.lock = lock;
+        changed = lock.newCondition();
         unarrived = parties;
     }
 

@@ -1,10 +1,12 @@
 package kit.wrong.burst;
 
+import java.util.concurrent.locks.ReentrantLock;
+
 /** Waiters keep one bit of the phase: who sleeps while two phases end sleeps on. */
 public final class OneBitOfPhase extends LockedFactory {
     @Override
     LockedPhaser phaser(int parties, OnAdvance asked) {
-        return new LockedPhaser(parties, asked) {
+        return new LockedPhaser(parties, asked, new ReentrantLock()) {
             private boolean bit;
 
             @Override
