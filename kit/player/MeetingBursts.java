@@ -116,7 +116,7 @@ final class MeetingBursts {
 
     private static void bulkRegistration(BurstMaker make) {
         int phaser = make.root(1, BurstMaker.NEVER);
-        make.thread(BurstMaker.times(make.between(1, 3), BurstMaker.call(Method.ARRIVE, phaser)));
+        make.thread(BurstMaker.times(make.between(1, 6), BurstMaker.call(Method.ARRIVE, phaser)));
         for (int other = make.between(1, 3); other > 0; other--) {
             int count = make.between(0, 2);
             List<BurstStep> steps = new ArrayList<>();
