@@ -3,7 +3,6 @@ package kit.player;
 import java.util.HashSet;
 import java.util.List;
 import java.util.Set;
-import java.util.TreeSet;
 
 /** What is wrong with the history of a burst, in words; nothing where it is right. */
 final class BurstJudge {
@@ -69,7 +68,8 @@ final class BurstJudge {
         for (BurstEntry entry : entries) {
             boolean meets = !entry.step().interrupts() && entry.request().method() == Method.ARRIVE_AND_AWAIT_ADVANCE;
             if (meets && !entry.answer().isValue(++met[entry.thread()])) {
-                return "not all who arrived for phase " + (met[entry.thread()] - 1) + " get the number after it: " + entry.words();
+                int phase = met[entry.thread()] - 1;
+                return "not all who arrived for phase " + phase + " get the number after it: " + entry.words();
             }
         }
         return null;
@@ -79,17 +79,16 @@ final class BurstJudge {
         int parties = history.burst().barriers().get(0).parties();
         int[] came = new int[history.burst().looker()];
         Set<List<Integer>> indexes = new HashSet<>();
-        Set<Integer> whole = new TreeSet<>();
         for (BurstEntry entry : entries) {
             if (!entry.step().interrupts() && entry.request().method() == Method.AWAIT) {
                 int trip = came[entry.thread()]++;
                 int index = entry.answer().number();
-                whole.add(index);
-                if (entry.answer().kind() != Answer.Kind.VALUE || index < 0 || index >= parties || !indexes.add(List.of(trip, index))) {
+                boolean is = entry.answer().kind() == Answer.Kind.VALUE && index >= 0 && index < parties;
+                if (!is || !indexes.add(List.of(trip, index))) {
                     return "the indexes of trip " + (trip + 1) + " aren't each number once: " + entry.words();
                 }
             }
         }
-        return whole.size() == parties ? null : "an index is missing";
+        return null;
     }
 }

@@ -44,7 +44,7 @@ final class BurstKit {
             Files.delete(file);
         }
         Files.delete(room);
-        System.out.println("the model of the bursts: " + cases.size() + " cases and " + SCENARIOS + " random scenarios held against it");
+        System.out.println("the model of the bursts played " + cases.size() + " cases and " + SCENARIOS + " random scenarios");
     }
 
     private void countModel(ModelCheck check, Case each) {
@@ -63,11 +63,11 @@ final class BurstKit {
     }
 
     private void checkRight(String name, Stage stage, int rounds) throws IOException {
-        Bursts bursts = new Bursts(stage, Bursts.PATIENT, null);
-        bursts.play(1, 0, rounds, System.out);
+        Bursts bursts = new Bursts(stage, Bursts.PATIENT, null, System.out);
+        bursts.play(1, rounds);
         tally.count("bursts on " + name, bursts.findings() == 0, bursts.findings() + " found");
         System.out.print("bursts on " + name + ": ");
-        bursts.tell(System.out);
+        bursts.tell();
     }
 
     /** Each wrong adapter of the folder is found by some burst, and the right one by none. */
@@ -76,7 +76,7 @@ final class BurstKit {
         for (String name : adapters(folder)) {
             Stage stage = stageOf(name);
             boolean right = name.equals(RIGHT);
-            String finding = new Bursts(stage, right ? Bursts.PATIENT : IMPATIENT, null)
+            String finding = new Bursts(stage, right ? Bursts.PATIENT : IMPATIENT, null, System.out)
                 .find(1, right ? ROUNDS_ON_THE_RIGHT_ONE : ROUNDS_TO_FIND);
             tally.count(name, right == (finding == null), right ? "it is right, and found: " + finding : "no burst finds it");
             if (!right && finding != null) {

@@ -27,13 +27,13 @@ record BurstOrder(long seed, long round, long count, Path keep) {
 
     /** Whether nothing was found. */
     boolean play(Stage stage, PrintStream to) throws IOException {
-        Bursts bursts = new Bursts(stage, Bursts.PATIENT, keep);
+        Bursts bursts = new Bursts(stage, Bursts.PATIENT, keep, to);
         if (round == EACH) {
-            bursts.play(seed, 0, count, to);
+            bursts.play(seed, count);
         } else {
-            bursts.repeat(seed, round, count, to);
+            bursts.repeat(seed, round, count);
         }
-        bursts.tell(to);
+        bursts.tell();
         return bursts.findings() == 0;
     }
 }

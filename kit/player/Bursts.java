@@ -25,6 +25,7 @@ final class Bursts {
     private final Stage stage;
     private final BurstPlayer player;
     private final Path keep;
+    private final PrintStream to;
     private final Map<String, String> leftOut = new TreeMap<>();
     private int rounds;
     private int calls;
@@ -34,59 +35,50 @@ final class Bursts {
     private long overtakenSince;
 
     /** {@code keep} is null where nothing is kept. */
-    Bursts(Stage stage, long bound, Path keep) {
+    Bursts(Stage stage, long bound, Path keep, PrintStream to) {
         this.stage = stage;
         this.keep = keep;
+        this.to = to;
         player = new BurstPlayer(stage, bound);
-    }
-
-    int rounds() {
-        return rounds;
     }
 
     int findings() {
         return findings;
     }
 
-    /** The round of the first finding, from 1; 0 where there is none. */
-    long firstFound() {
-        return firstFound;
-    }
-
     /** Plays so many rounds, but none behind so many findings that no more are wanted. */
-    void play(long seed, long first, long count, PrintStream to) throws IOException {
-        for (long round = first; round < first + count && findings < MOST_FINDINGS; round++) {
-            playOne(seed, round, to);
+    void play(long seed, long count) throws IOException {
+        for (long round = 0; round < count && findings < MOST_FINDINGS; round++) {
+            playOne(seed, round);
         }
     }
 
     /** Plays the burst of one round so often, since its threads are free to run otherwise each time. */
-    void repeat(long seed, long round, long count, PrintStream to) throws IOException {
+    void repeat(long seed, long round, long count) throws IOException {
         for (long time = 0; time < count && findings == 0; time++) {
-            playOne(seed, round, to);
+            playOne(seed, round);
         }
     }
 
     /** Plays until something is found; answers that in words, or null. */
-    String find(long seed, long count) throws IOException {
+    String find(long seed, long count) {
         for (long round = 0; round < count; round++) {
             BurstHistory history = playRound(seed, round);
             BurstJudge.Finding finding = history == null ? null : judge(history);
             if (finding != null) {
-                return finding.words() + " (" + history.burst().kind() + ", round " + (round + 1) + ")";
+                return finding.words() + " (" + history.burst().kind() + ", round " + round + ")";
             }
         }
         return null;
     }
 
-    private void playOne(long seed, long round, PrintStream to) throws IOException {
+    private void playOne(long seed, long round) throws IOException {
         BurstHistory history = playRound(seed, round);
         BurstJudge.Finding finding = history == null ? null : judge(history);
         if (finding == null) {
             return;
         }
-        findings++;
-        firstFound = firstFound == 0 ? rounds : firstFound;
+        found(round);
         String text = new BurstReport(history, finding).text();
         to.print(text);
         if (keep == null) {
@@ -113,7 +105,17 @@ final class Bursts {
         } catch (Unplayable why) {
             leftOut.put(burst.kind(), why.getMessage());
             return null;
+        } catch (Hangs hangs) {
+            found(round);
+            to.println(burst.name() + ": " + hangs.getMessage());
+            stage.abandon();
+            return null;
         }
+    }
+
+    private void found(long round) {
+        firstFound = findings == 0 ? round : firstFound;
+        findings++;
     }
 
     /** Null where the history is right. */
@@ -134,7 +136,7 @@ final class Bursts {
         return overtaken >= OVERTAKEN_TO_COUNT;
     }
 
-    void tell(PrintStream to) {
+    void tell() {
         leftOut.forEach((kind, why) -> to.println(kind + " left out: " + why));
         to.println(rounds + " bursts of " + BurstKind.ALL.size() + " kinds, " + calls + " calls and interrupts: "
             + findings + " found" + (findings == 0 ? "" : ", the first in round " + firstFound)
