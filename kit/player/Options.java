@@ -21,7 +21,7 @@ final class Options {
           --trace FILE     writes the trace of what was played
           --random N       plays N scenarios of its own, with documented differences told over
           --burst ROUNDS   plays so many bursts: several calls at once on threads that run freely
-          --burst FILE     plays a burst that was kept 1000 times over
+          --burst FILE     plays a burst that was kept, 1000 times over
           --round R        plays the burst of round R alone, ROUNDS times over
           --seed S         other scenarios, or other bursts; by default 1
           --keep FOLDER    writes each scenario that differs there, as NAME.asm, NAME.schedule and NAME.trace, and each burst

@@ -1,37 +1,31 @@
 package kit.wrong.burst;
 
 import java.util.concurrent.BrokenBarrierException;
-import java.util.concurrent.TimeoutException;
 
-/** A generation is over when the last of its waiters has left: who is back sooner passes through it once more. */
+/** A generation is renewed when the last of its waiters has left: who is back sooner trips it once more, alone. */
 public final class LastOutRenews extends LockedFactory {
     @Override
     LockedBarrier lockedBarrier(int parties, Runnable action) {
-        return action != null ? super.lockedBarrier(parties, action) : new LockedBarrier(parties, null) {
-            private int came;
-            private int left;
+        return new LockedBarrier(parties, action) {
+            private int inside;
 
             @Override
-            int await(boolean timed, long nanoseconds) throws InterruptedException, BrokenBarrierException, TimeoutException {
-                return timed ? super.await(true, nanoseconds) : pass();
+            void tripped() {
+                inside = parties - 1;
+                if (inside == 0) {
+                    renew();
+                } else {
+                    wakeAll();
+                }
             }
 
-            private int pass() throws InterruptedException {
-                lock();
-                try {
-                    int index = Math.max(parties - ++came, 0);
-                    wakeAll();
-                    while (came < parties) {
-                        sleep();
-                    }
-                    if (++left == came) {
-                        came = 0;
-                        left = 0;
-                    }
-                    return index;
-                } finally {
-                    unlock();
+            @Override
+            int comesOut(Generation mine, int index) throws BrokenBarrierException {
+                int answer = super.comesOut(mine, index);
+                if (--inside == 0) {
+                    renew();
                 }
+                return answer;
             }
         };
     }

@@ -82,6 +82,11 @@ class LockedBarrier implements BarrierUnderTest {
         action.run();
     }
 
+    /** The generation has tripped; the lock is held. */
+    void tripped() {
+        renew();
+    }
+
     /** What a thread meets that comes in; the lock is held. */
     void meets(Generation present) throws BrokenBarrierException {
         if (present.broken) {
@@ -150,10 +155,10 @@ class LockedBarrier implements BarrierUnderTest {
             }
         }
         generation.tripped = true;
-        renew();
+        tripped();
     }
 
-    private void renew() {
+    final void renew() {
         generation = new Generation();
         waiting = 0;
         changed.signalAll();
