@@ -4,10 +4,14 @@ import kit.player.BarrierUnderTest;
 import kit.player.Factory;
 import kit.player.PhaserUnderTest;
 
-/** Makes phasers without tiers and barriers, each over one lock; a wrong factory overrides one of the two. */
+/** Makes phasers, each with its own lock, and barriers over one lock; a wrong factory overrides one of these. */
 abstract class LockedFactory implements Factory {
     LockedPhaser phaser(int parties, OnAdvance asked) {
         return new LockedPhaser(parties, asked);
+    }
+
+    TieredChild child(PhaserUnderTest parent, int parties) {
+        return new TieredChild(parent, parties);
     }
 
     LockedBarrier lockedBarrier(int parties, Runnable action) {
@@ -16,10 +20,10 @@ abstract class LockedFactory implements Factory {
 
     @Override
     public final PhaserUnderTest phaser(PhaserUnderTest parent, int parties, int firstPhase, OnAdvance onAdvance) {
-        if (parent != null || firstPhase != 0) {
-            throw new UnsupportedOperationException("tiers, and first phases but 0");
+        if (firstPhase != 0) {
+            throw new UnsupportedOperationException("a first phase but 0");
         }
-        return phaser(parties, onAdvance);
+        return parent == null ? phaser(parties, onAdvance) : child(parent, parties);
     }
 
     @Override

@@ -6,7 +6,7 @@ import java.util.concurrent.locks.ReentrantLock;
 import kit.player.Factory;
 import kit.player.PhaserUnderTest;
 
-/** A right phaser without tiers over one lock; a wrong one overrides what it has misunderstood. */
+/** A right root over one lock; a wrong one overrides what it has misunderstood. */
 class LockedPhaser implements PhaserUnderTest {
     private static final int MOST_PARTIES = 65535;
 
