@@ -66,7 +66,7 @@ final class Bursts {
             BurstHistory history = playRound(seed, round);
             BurstJudge.Finding finding = history == null ? null : judge(history);
             if (finding != null) {
-                return finding.words() + " (" + history.burst().kind() + ", round " + round + ")";
+                return history.burst().kind() + ", round " + round + ": " + finding.words();
             }
         }
         return null;
