@@ -20,7 +20,7 @@ final class Bursts {
      * where it comes so often among so many rounds in a row.
      */
     private static final int OVERTAKEN_TO_COUNT = 3;
-    private static final int ROUNDS_OF_OVERTAKING = 1_000;
+    private static final int ROUNDS_OF_OVERTAKING = 5_000;
 
     private final Stage stage;
     private final BurstPlayer player;
