@@ -5,6 +5,8 @@ import kit.player.PhaserUnderTest;
 
 /** A child over a lock of its own, which follows its root's phase when it is next called; a wrong one overrides a look. */
 class TieredChild implements PhaserUnderTest {
+    private static final int MOST_PARTIES = 65535;
+
     private final PhaserUnderTest parent;
     private int parties;
     private volatile int unarrived;
@@ -41,12 +43,18 @@ class TieredChild implements PhaserUnderTest {
 
     @Override
     public int bulkRegister(int count) {
+        if (count < 0) {
+            throw new IllegalArgumentException();
+        }
         for (;;) {
             int turnedIn;
             synchronized (this) {
                 follow();
                 if (count == 0 || seen < 0) {
                     return seen;
+                }
+                if (parties + (long) count > MOST_PARTIES) {
+                    throw new IllegalStateException();
                 }
                 if (parties == 0 || unarrived > 0) {
                     seen = parties == 0 ? parent.register() : seen;
