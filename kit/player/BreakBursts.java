@@ -1,5 +1,6 @@
 package kit.player;
 
+import java.util.ArrayList;
 import java.util.List;
 
 /** Bursts in which barriers break and are reset. Who is left alone is let out by a reset now and then. */
@@ -8,10 +9,12 @@ final class BreakBursts {
         new BurstKind("interrupts-at-a-barrier", BreakBursts::interrupts),
         new BurstKind("resets-among-waiters", BreakBursts::resets),
         new BurstKind("no-time-among-waiters", BreakBursts::noTime),
-        new BurstKind("a-break-among-comers", BreakBursts::breakAmongComers),
+        new BurstKind("breaks-among-comers", BreakBursts::breaksAmongComers),
         new BurstKind("time-that-breaks", BreakBursts::timeThatBreaks),
         new BurstKind("an-action-that-fails", BreakBursts::failingAction),
         new BurstKind("looks-at-a-barrier", BreakBursts::looks));
+
+    private static final int MOST_BARRIERS = 6;
 
     private BreakBursts() {
     }
@@ -61,16 +64,25 @@ final class BreakBursts {
         make.closes(Request.of(Method.RESET, barrier));
     }
 
-    /** One of those who come breaks the barrier, and they are too few to trip it: all get out, in any order. */
-    private static void breakAmongComers(BurstMaker make) {
+    /** One of those who come breaks one barrier after the other. They are too few to trip any: all get out, in any order. */
+    private static void breaksAmongComers(BurstMaker make) {
         int parties = make.between(3, BurstMaker.MOST_THREADS);
-        int barrier = make.barrier(parties, make.of(30), 0, false);
-        waiters(make, barrier, parties - 2, 1);
-        if (make.of(50)) {
-            make.thread(BurstMaker.timed(Method.AWAIT_FOR, barrier, 0, 0));
-        } else {
-            make.thread(BurstStep.interrupt(parties - 2), await(barrier));
+        List<BurstStep> comes = new ArrayList<>();
+        List<BurstStep> breaks = new ArrayList<>();
+        for (int more = make.between(1, MOST_BARRIERS); more > 0; more--) {
+            int barrier = make.barrier(parties, make.of(30), 0, false);
+            comes.add(await(barrier));
+            if (make.of(50)) {
+                breaks.add(BurstMaker.timed(Method.AWAIT_FOR, barrier, 0, 0).after(make.time(0, 800)));
+            } else {
+                breaks.add(BurstStep.interrupt(parties - 2).after(make.time(0, 800)));
+                breaks.add(await(barrier));
+            }
         }
+        for (int waiter = 0; waiter < parties - 2; waiter++) {
+            make.thread(comes);
+        }
+        make.thread(breaks);
     }
 
     /** Times of less than a millisecond, and nobody completes the generation but, maybe, one who comes late. */
