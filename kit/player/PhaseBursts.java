@@ -115,7 +115,7 @@ final class PhaseBursts {
      */
     private static void timeAmongPokes(BurstMaker make) {
         int phaser = make.root(1);
-        long time = make.time(20_000, 30_000) * (make.of(10) ? 10 : 1);
+        long time = make.time(20_000, 30_000) * (make.of(25) ? 10 : 1);
         make.thread(BurstMaker.timed(Method.AWAIT_ADVANCE_FOR, phaser, 0, time));
         make.pokes(BurstMaker.call(Method.REGISTER, phaser));
         make.pokes(BurstMaker.call(Method.ARRIVE_AND_DEREGISTER, phaser));
