@@ -3,12 +3,14 @@ package kit.player;
 /** A call that a real thread was told to make. The real side writes into it, the player reads. */
 final class Call {
     final Request request;
+    private final CallWatcher watcher;
     private volatile Answer answer;
     private volatile Entered entered;
     private volatile boolean inside;
 
-    Call(Request request) {
+    Call(Request request, CallWatcher watcher) {
         this.request = request;
+        this.watcher = watcher;
     }
 
     boolean done() {
@@ -22,12 +24,14 @@ final class Call {
 
     void finish(Answer answer) {
         this.answer = answer;
+        watcher.done(this);
     }
 
     /** The real thread stands at the beginning of a routine or an action. */
     void enter(Entered where) {
         inside = true;
         entered = where;
+        watcher.entered(this, where);
     }
 
     boolean hasEntered() {

@@ -53,6 +53,11 @@ final class JvmStage implements Stage {
         return actors.computeIfAbsent(number, fresh -> new Actor(request -> make(objects, request)));
     }
 
+    @Override
+    public boolean isHere() {
+        return true;
+    }
+
     /** Threads that hang are left behind as they are; the next case has new ones. */
     @Override
     public void abandon() {

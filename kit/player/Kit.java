@@ -10,7 +10,10 @@ import java.util.List;
 import java.util.Set;
 import java.util.stream.Stream;
 
-/** What {@code kit/run} runs: the cases, the differences, the wrong adapters, a port behind a pipe, and random scenarios. */
+/**
+ * What {@code kit/run} runs: the cases, the differences, the wrong adapters, a port behind a pipe, random scenarios, and
+ * bursts.
+ */
 public final class Kit {
     private static final int SCENARIOS = 300;
 
@@ -42,6 +45,7 @@ public final class Kit {
             kit.checkPort(command);
         }
         kit.checkRandom();
+        kit.checkBursts(List.of(words).subList(2, words.length));
         System.out.println(kit.passed + " passed, " + kit.failed + " failed");
         System.exit(kit.failed == 0 ? 0 : 1);
     }
@@ -151,13 +155,13 @@ public final class Kit {
 
     private List<String> wrongAdapters() throws IOException {
         try (Stream<Path> files = Files.list(kit.resolve("wrong"))) {
-            return files.map(file -> file.getFileName().toString().replace(".java", ""))
-                .filter(name -> !name.equals("package-info")).filter(Kit::isAdapter).sorted().toList();
+            return files.map(file -> file.getFileName().toString()).filter(name -> name.endsWith(".java"))
+                .map(name -> name.replace(".java", "")).filter(name -> !name.equals("package-info"))
+                .filter(name -> isAdapter(classOf(name))).sorted().toList();
         }
     }
 
-    private static boolean isAdapter(String name) {
-        Class<?> adapter = classOf(name);
+    static boolean isAdapter(Class<?> adapter) {
         return Factory.class.isAssignableFrom(adapter) && !Modifier.isAbstract(adapter.getModifiers());
     }
 
@@ -236,6 +240,18 @@ public final class Kit {
         failed += cases.different();
         if (cases.different() == 0) {
             Files.delete(keep);
+        }
+    }
+
+    // ---- bursts
+
+    private void checkBursts(List<String> ports) throws IOException {
+        BurstKit bursts = new BurstKit(vuthgal, this::count);
+        bursts.checkModel(learned.stream().map(Learned::each).toList());
+        bursts.checkJdk();
+        bursts.checkAdapters(kit.resolve("wrong").resolve("burst"));
+        for (String command : ports) {
+            bursts.checkPort(command);
         }
     }
 }

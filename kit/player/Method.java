@@ -36,6 +36,8 @@ enum Method {
     private static final Set<Method> PHASE_WAITS = EnumSet.range(ARRIVE_AND_AWAIT_ADVANCE, AWAIT_ADVANCE_FOR);
     private static final Set<Method> NUMBERED =
         EnumSet.of(BULK_REGISTER, AWAIT_ADVANCE, AWAIT_ADVANCE_INTERRUPTIBLY, AWAIT_ADVANCE_FOR);
+    private static final Set<Method> LOOKS = EnumSet.of(GET_PHASE, GET_REGISTERED_PARTIES, GET_ARRIVED_PARTIES,
+        GET_UNARRIVED_PARTIES, IS_TERMINATED, GET_PARENT, GET_ROOT, IS_BROKEN, GET_NUMBER_WAITING, GET_PARTIES, IS_INTERRUPTED);
 
     final String word;
 
@@ -80,6 +82,11 @@ enum Method {
 
     boolean timed() {
         return this == AWAIT_ADVANCE_FOR || this == AWAIT_FOR;
+    }
+
+    /** Whether it looks, and changes nothing. */
+    boolean looks() {
+        return LOOKS.contains(this);
     }
 
     /** Whether it has a number beside its object: parties or a phase. */

@@ -1,5 +1,7 @@
 package kit.player;
 
+import java.io.IOException;
+import java.nio.file.Files;
 import java.nio.file.Path;
 import java.util.ArrayList;
 import java.util.Iterator;
@@ -11,13 +13,19 @@ final class Options {
         kit/play [--factory NAME | --port COMMAND] [--known] PROGRAM SCHEDULE [--trace FILE]
         kit/play [--factory NAME | --port COMMAND] [--known] FOLDER..
         kit/play [--factory NAME | --port COMMAND] --random N [--seed S] [--keep FOLDER]
+        kit/play [--factory NAME | --port COMMAND] --burst ROUNDS [--seed S] [--round R] [--keep FOLDER]
+        kit/play [--factory NAME | --port COMMAND] --burst FILE
           --factory NAME   a class on the class path KIT_CLASSPATH that implements kit.player.Factory
           --port COMMAND   a command that speaks the port protocol (docs/FORMATS.md)
           --known          tells documented differences over (docs/BEHAVIOUR.md, "Where the JDK differs"), and counts them
           --trace FILE     writes the trace of what was played
           --random N       plays N scenarios of its own, with documented differences told over
-          --seed S         other scenarios; by default 1
-          --keep FOLDER    writes each scenario that differs there, as NAME.asm, NAME.schedule and NAME.trace
+          --burst ROUNDS   plays so many bursts: several calls at once on threads that run freely
+          --burst FILE     plays a burst that was kept, 1000 times over
+          --round R        plays the burst of round R alone, ROUNDS times over
+          --seed S         other scenarios, or other bursts; by default 1
+          --keep FOLDER    writes each scenario that differs there, as NAME.asm, NAME.schedule and NAME.trace, and each burst
+                           that fails, as KIND-SEED-ROUND.burst
           --vuthgal FILE   the program, by default that of this repository""";
 
     /** The words are wrong. */
@@ -37,6 +45,9 @@ final class Options {
     boolean known;
     int random;
     long seed = 1;
+    private String burst;
+    private Path keepBursts;
+    private long round = -1;
     private String factory = JdkFactory.class.getName();
     private String port;
 
@@ -49,15 +60,20 @@ final class Options {
                 case "--factory" -> factory = argument(word, at);
                 case "--port" -> port = argument(word, at);
                 case "--trace" -> trace = Path.of(argument(word, at));
-                case "--keep" -> keep = Path.of(argument(word, at));
+                case "--keep" -> {
+                    keep = Path.of(argument(word, at));
+                    keepBursts = keep;
+                }
+                case "--burst" -> burst = argument(word, at);
+                case "--round" -> round = number(word, at);
                 case "--random" -> random = (int) number(word, at);
                 case "--seed" -> seed = number(word, at);
                 case "--known" -> known = true;
                 default -> place(word);
             }
         }
-        if (programs.isEmpty() == (random == 0)) {
-            throw new Wrong("either programs or --random");
+        if (programs.isEmpty() == (random == 0 && burst == null)) {
+            throw new Wrong("either programs, or --random, or --burst");
         }
     }
 
@@ -88,6 +104,26 @@ final class Options {
         } else {
             programs.add(path);
         }
+    }
+
+    /** The bursts that were asked for, or null. */
+    BurstOrder bursts() throws Wrong, IOException {
+        if (burst == null) {
+            return null;
+        }
+        Path file = Path.of(burst);
+        if (Files.isRegularFile(file)) {
+            BurstOrder kept = BurstOrder.ofFile(file, keepBursts);
+            if (kept == null) {
+                throw new Wrong(burst + " is no burst that was kept");
+            }
+            return kept;
+        }
+        long count = number("--burst", List.of(burst).iterator());
+        if (count < 1) {
+            throw new Wrong("--burst wants a number above 0, or a file");
+        }
+        return round < 0 ? BurstOrder.of(seed, count, keepBursts) : new BurstOrder(seed, round, count, keepBursts);
     }
 
     /** The real side that was asked for. */

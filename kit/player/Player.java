@@ -29,8 +29,12 @@ public final class Player {
     }
 
     private int run() throws IOException, Options.Wrong {
+        BurstOrder bursts = options.bursts();
         Stage stage = options.stage();
         try {
+            if (bursts != null) {
+                return bursts.play(stage, System.out) ? 0 : 1;
+            }
             if (options.random > 0) {
                 return playRandom(stage);
             }

@@ -21,7 +21,11 @@ abstract class RealThread {
     private final Deque<Call> open = new ConcurrentLinkedDeque<>();
 
     final Call tell(Request request) {
-        Call call = new Call(request);
+        return tell(request, CallWatcher.NOBODY);
+    }
+
+    final Call tell(Request request, CallWatcher watcher) {
+        Call call = new Call(request, watcher);
         open.addLast(call);
         send(call);
         return call;

@@ -26,6 +26,11 @@ interface Stage {
     /** Some thread didn't come out of its call: whatever is needed so that the next case meets fresh threads. */
     void abandon();
 
+    /** Whether its threads are threads of this JVM, which run a call's watcher themselves. */
+    default boolean isHere() {
+        return false;
+    }
+
     /** How long to wait, first and then at each further try. */
     Patience[] patience();
 
