@@ -13,6 +13,9 @@ import java.util.stream.Stream;
 /** What {@code kit/run} runs: the cases, the differences, the wrong adapters, a port behind a pipe, and random scenarios. */
 public final class Kit {
     private static final int SCENARIOS = 300;
+    /** So many processes of a port play at once. */
+    private static final int JOBS = 2;
+    private static final long SECOND = 1_000_000_000L;
 
     /** A case that the JDK plays as Vuthgal does, with what its first play has taught. */
     private record Learned(Case each, Plan plan) {
@@ -179,8 +182,6 @@ public final class Kit {
         }
     }
 
-    private static final long SECOND = 1_000_000_000L;
-
     /** The first case in which it differs, twice; null where there is none. */
     private String findByCases(String adapter) {
         Judge judge = judgeOf(adapter, KnownDifferences.COUNTS);
@@ -208,34 +209,32 @@ public final class Kit {
     // ---- a port behind a pipe, and random scenarios
 
     private void checkPort(String command) {
-        Stage stage = new PortStage(command);
-        Judge judge = new Judge(stage, vuthgal, KnownDifferences.COUNTS).warm();
-        Sums sums = new Sums();
-        int leftOut = 0;
-        for (Learned at : learned) {
-            Verdict verdict = judge.judge(at.each(), at.plan());
-            boolean none = verdict.kind() == Verdict.Kind.LEFT_OUT;
-            leftOut += none ? 1 : 0;
-            count(at.each().name() + " by " + command, verdict.isSame() || none,
-                verdict.words() + "; " + String.join("; ", verdict.notes().lines()));
-            tellAgain(at.each().name() + " by the port", verdict);
-            sums.add(verdict.notes());
+        List<Judge> judges = new ArrayList<>();
+        for (int job = 0; job < JOBS; job++) {
+            judges.add(new Judge(new PortStage(command), vuthgal, KnownDifferences.COUNTS));
         }
-        stage.close();
+        Sums sums = new Sums();
+        int[] leftOut = {0};
+        new Jobs<>(learned, (judge, at) -> Played.of(judge, at.each(), at.plan())).run(judges, played -> {
+            Verdict verdict = played.verdict();
+            boolean none = verdict.kind() == Verdict.Kind.LEFT_OUT;
+            leftOut[0] += none ? 1 : 0;
+            count(played.each().name() + " by " + command, verdict.isSame() || none,
+                verdict.words() + "; " + String.join("; ", verdict.notes().lines()));
+            tellAgain(played.each().name() + " by the port", verdict);
+            sums.add(verdict.notes());
+            return true;
+        });
         System.out.println("cases on the port `" + command + "`: " + sums.line());
-        System.out.println(leftOut + " cases that it can't play");
+        System.out.println(leftOut[0] + " cases that it can't play");
     }
 
     private void checkRandom() throws IOException {
-        Path keep = Files.createTempDirectory("vuthgal-different");
-        Judge judge = new Judge(new JvmStage(new JdkFactory()), vuthgal, KnownDifferences.ALL);
-        RandomCases cases = new RandomCases(vuthgal, judge, keep);
         System.out.println("random scenarios on the JDK, seeds 1 to " + SCENARIOS + ":");
-        cases.play(1, SCENARIOS, System.out);
-        passed += cases.same();
-        failed += cases.different();
-        if (cases.different() == 0) {
-            Files.delete(keep);
-        }
+        Tally tally = new Tally(SCENARIOS, true, System.out);
+        Judge judge = new Judge(new JvmStage(new JdkFactory()), vuthgal, KnownDifferences.ALL);
+        new RandomCases(vuthgal, tally, null, System.out).play(List.of(judge), 1, SCENARIOS);
+        passed += tally.same();
+        failed += tally.different();
     }
 }

@@ -37,6 +37,8 @@ enum Method {
     private static final Set<Method> NUMBERED =
         EnumSet.of(BULK_REGISTER, AWAIT_ADVANCE, AWAIT_ADVANCE_INTERRUPTIBLY, AWAIT_ADVANCE_FOR);
 
+    private static final Set<Method> TRUTHS = EnumSet.of(IS_TERMINATED, IS_BROKEN, INTERRUPTED, IS_INTERRUPTED);
+
     final String word;
 
     Method(String word) {
@@ -85,6 +87,15 @@ enum Method {
     /** Whether it has a number beside its object: parties or a phase. */
     boolean numbered() {
         return NUMBERED.contains(this);
+    }
+
+    boolean hasValue() {
+        return this != FORCE_TERMINATION && this != RESET;
+    }
+
+    /** Whether its value is true or false. */
+    boolean isTruth() {
+        return TRUTHS.contains(this);
     }
 
     /** Whether a barrier answers it only when no other thread runs the action. */
