@@ -98,7 +98,8 @@ final class Caller {
             boolean namesPhase = method.waitsForPhase() && !method.arrives();
             pending.awaits(namesPhase ? row.number(thread.registers) : scene.view(scene.root(object)));
         }
-        RealThread.Outcome outcome = scene.settle(thread, pending.call());
+        RealThread.Outcome outcome =
+            mayBlock(thread, pending) ? scene.settle(thread, pending.call()) : scene.comeBack(thread, pending.call());
         if (outcome == RealThread.Outcome.ENTERED) {
             return enter(thread, pending);
         }
@@ -109,6 +110,15 @@ final class Caller {
             scene.broken(object);
         }
         return answer(thread, pending, true);
+    }
+
+    /** Whether the rules let it wait, as far as the objects show. */
+    private boolean mayBlock(ProgramThread thread, Pending pending) {
+        Method method = pending.method();
+        if (method.waitsForPhase() && !method.arrives()) {
+            return pending.awaited() == scene.view(scene.root(pending.object()));
+        }
+        return method.waits() || method.registers() || method.lockedOutByAction() && scene.lockedOut(thread, pending.object());
     }
 
     private void rememberCounts(int root) {
@@ -193,7 +203,7 @@ final class Caller {
         } else {
             real.answer(action || number == 0 ? 0 : 1);
         }
-        RealThread.Outcome outcome = scene.settle(thread, pending.call());
+        RealThread.Outcome outcome = scene.comeBack(thread, pending.call());
         if (action) {
             scene.actionEnds(entry.number());
         }

@@ -48,7 +48,8 @@ final class Judge {
             if (last) {
                 stage.abandon();
             }
-            verdict = once(asked, taught != null ? taught : learn(asked, number), number);
+            Verdict next = once(asked, taught != null ? taught : learn(asked, number), number);
+            verdict = verdict == null ? next : next.behind(verdict);
             if (!verdict.mayBeSlowness()) {
                 break;
             }
@@ -82,7 +83,7 @@ final class Judge {
         }
         int line = line(asked, trace, play.scene.notes);
         Verdict.Kind kind = line == 0 ? Verdict.Kind.SAME : Verdict.Kind.DIFFERS;
-        return new Verdict(kind, line, trace, play.scene.notes, plan, play.breakdown(), number, "");
+        return new Verdict(kind, line, trace, play.scene.notes, plan, play.breakdown(), 1, "", "");
     }
 
     /** The first line that differs, or the first choice at which something odd happened; 0 if there is none. */

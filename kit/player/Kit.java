@@ -60,7 +60,7 @@ public final class Kit {
 
     private static void tellAgain(String name, Verdict verdict) {
         if (verdict.isSame() && verdict.tries() > 1) {
-            System.out.println(name + ": the same with more patience, at try " + verdict.tries());
+            System.out.println(name + " " + verdict.words() + verdict.triesInWords());
         }
     }
 

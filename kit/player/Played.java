@@ -15,7 +15,6 @@ record Played(Case each, Verdict verdict, long nanoseconds) {
 
     /** The verdict as a line tells it: with what was odd, and how often it was played. */
     String line() {
-        String odd = verdict.notes().firstOddWords();
-        return each.name() + " " + verdict.words() + (odd.isEmpty() ? "" : ", " + odd) + verdict.triesInWords();
+        return each.name() + " " + verdict.wordsWithOdd() + verdict.triesInWords();
     }
 }

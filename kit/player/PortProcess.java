@@ -31,6 +31,7 @@ final class PortProcess {
     private volatile boolean answered;
     private volatile Breakdown breakdown;
     private long longestAnswer;
+    private Tasks tasks;
 
     /** The answer to a command for objects; {@code said} is null where no more answers come. */
     private record Reply(PortLine said) {
@@ -64,6 +65,12 @@ final class PortProcess {
         advances.clear();
         actions.clear();
         order("case");
+        tasks = new Tasks(process);
+    }
+
+    /** Whether none of its threads runs now. */
+    boolean isAtRest() {
+        return tasks.areAtRest();
     }
 
     void overrides(int phaser, Stage.Advance advance) {

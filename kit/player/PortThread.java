@@ -27,10 +27,15 @@ final class PortThread extends RealThread {
         process.write("interrupt " + number);
     }
 
-    /** Nothing can be seen of it, so time alone says that it is blocked. */
+    /** Nothing can be seen of it alone. */
     @Override
     protected boolean mayBeBlocked() {
         return true;
+    }
+
+    @Override
+    protected boolean isAtRest() {
+        return process.isAtRest();
     }
 
     @Override

@@ -51,6 +51,11 @@ abstract class RealThread {
     /** Whether it may be blocked now, as far as can be seen. */
     protected abstract boolean mayBeBlocked();
 
+    /** Whether none of the real side's threads runs now, as far as can be seen. */
+    protected boolean isAtRest() {
+        return true;
+    }
+
     /** Throws where the real side has broken down. */
     protected void check() {
     }

@@ -95,6 +95,11 @@ final class Scene {
         return settling.settle(real(thread), call);
     }
 
+    /** The same of a call that never waits. */
+    RealThread.Outcome comeBack(ProgramThread thread, Call call) {
+        return settling.comeBack(real(thread), call);
+    }
+
     /** How long the real side has taken of late to answer a question. */
     long roundTrip() {
         return settling.lately();

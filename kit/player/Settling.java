@@ -4,10 +4,12 @@ package kit.player;
  * Whether a call is done, enters a routine or an action, or is blocked. Of a blocked thread there is nothing to be seen but
  * that it stands still, and on a busy machine so does one that waits for a processor. So the time for which it has to stand
  * still counts from when a round trip of the looker, begun after the call, has come back; it is longer where that trip was
- * long; and one more trip, which mustn't be longer than that time, comes behind it.
+ * long; the real side has to be at rest behind it; and one more trip, which mustn't be longer than that time, comes last.
  */
 final class Settling {
     private static final int TRIPS = 3;
+    /** A real side that isn't at rest after so many times is one that spins while it waits. */
+    private static final int MOST_ROUNDS = 10;
 
     private final Stage stage;
     private final Patience patience;
@@ -18,6 +20,7 @@ final class Settling {
         this.patience = patience;
     }
 
+    /** What has become of a call that may wait. */
     RealThread.Outcome settle(RealThread thread, Call call) {
         long limit = System.nanoTime() + patience.bound();
         thread.standStill(call, patience.settle() / 4, limit);      // most calls are done by then
@@ -25,14 +28,22 @@ final class Settling {
             return RealThread.outcome(call);
         }
         long last = roundTrip();
-        for (;;) {
+        for (int round = 1;; round++) {
             long still = Math.max(patience.settle(), TRIPS * last);
             thread.standStill(call, still, limit);
+            boolean rests = round >= MOST_ROUNDS || thread.isAtRest();
             last = roundTrip();
-            if (last <= still || System.nanoTime() > limit || RealThread.outcome(call) != RealThread.Outcome.BLOCKED) {
+            boolean settled = rests && last <= still || System.nanoTime() > limit;
+            if (settled || RealThread.outcome(call) != RealThread.Outcome.BLOCKED) {
                 return RealThread.outcome(call);
             }
         }
+    }
+
+    /** What has become of a call that never waits. */
+    RealThread.Outcome comeBack(RealThread thread, Call call) {
+        thread.standStill(call, patience.bound(), System.nanoTime() + patience.bound());
+        return RealThread.outcome(call);
     }
 
     /** How long the looker takes to answer now. */

@@ -1,7 +1,7 @@
 package kit.player;
 
-/** What came of playing a case. */
-record Verdict(Kind kind, int line, String trace, Notes notes, Plan plan, Breakdown breakdown, int tries, String why) {
+/** What came of playing a case. {@code before} is what the tries before came to. */
+record Verdict(Kind kind, int line, String trace, Notes notes, Plan plan, Breakdown breakdown, int tries, String before, String why) {
     enum Kind {
         /** Byte for byte Vuthgal's trace, and nothing odd happened. */
         SAME,
@@ -12,7 +12,7 @@ record Verdict(Kind kind, int line, String trace, Notes notes, Plan plan, Breakd
     }
 
     static Verdict leftOut(String why) {
-        return new Verdict(Kind.LEFT_OUT, 0, "", new Notes(), new Plan(), null, 1, why);
+        return new Verdict(Kind.LEFT_OUT, 0, "", new Notes(), new Plan(), null, 1, "", why);
     }
 
     boolean isSame() {
@@ -42,8 +42,20 @@ record Verdict(Kind kind, int line, String trace, Notes notes, Plan plan, Breakd
         };
     }
 
-    /** How often it was played, where that was more than once; else empty. */
+    /** With what was odd. */
+    String wordsWithOdd() {
+        String odd = notes.firstOddWords();
+        return words() + (odd.isEmpty() ? "" : ", " + odd);
+    }
+
+    /** How often it was played, and what came of that, where that was more than once; else empty. */
     String triesInWords() {
-        return tries > 1 ? " (played " + tries + " times, each with more patience)" : "";
+        return tries > 1 ? " (played " + tries + " times, each with more patience; before: " + before + ")" : "";
+    }
+
+    /** This one, with the try before it. */
+    Verdict behind(Verdict earlier) {
+        String told = earlier.before.isEmpty() ? earlier.wordsWithOdd() : earlier.before + "; " + earlier.wordsWithOdd();
+        return new Verdict(kind, line, trace, notes, plan, breakdown, earlier.tries + 1, told, why);
     }
 }
