@@ -48,7 +48,7 @@ final class Judge {
             if (last) {
                 stage.abandon();
             }
-            Verdict next = once(asked, taught != null ? taught : learn(asked, number), number);
+            Verdict next = once(asked, taught, number);
             verdict = verdict == null ? next : next.behind(verdict);
             if (!verdict.mayBeSlowness()) {
                 break;
@@ -70,14 +70,20 @@ final class Judge {
         return plan;
     }
 
-    private Verdict once(Case asked, Plan plan, int number) {
+    private Verdict once(Case asked, Plan taught, int number) {
+        try {
+            return once(asked, number, taught != null ? taught : learn(asked, number));
+        } catch (Unplayable why) {
+            return Verdict.leftOut(why.getMessage());
+        }
+    }
+
+    private Verdict once(Case asked, int number, Plan plan) {
         Play play = new Play(
             new Scene(asked.program(), stage, plan, patience[number - 1], known, false), asked.schedule());
         String trace;
         try {
             trace = play.play();
-        } catch (Unplayable why) {
-            return Verdict.leftOut(why.getMessage());
         } finally {
             play.clear();
         }

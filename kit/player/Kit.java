@@ -34,14 +34,18 @@ public final class Kit {
         vuthgal = new Vuthgal(program);
     }
 
-    /** The words are the repository's folder, the program to hold all against, and the commands of ports. */
-    public static void main(String[] words) throws IOException {
+    /**
+     * The words are the repository's folder, the program to hold all against, the command of Python (empty where there is
+     * none), and the commands of ports.
+     */
+    public static void main(String[] words) throws IOException, InterruptedException {
         Kit kit = new Kit(Path.of(words[0]), Path.of(words[1]));
+        kit.checkPlayer(Path.of(words[1]), words[2]);
         kit.checkCases();
         kit.checkDifferences();
         kit.checkRules();
         kit.checkWrongAdapters();
-        for (String command : List.of(words).subList(2, words.length)) {
+        for (String command : List.of(words).subList(3, words.length)) {
             kit.checkPort(command);
         }
         kit.checkRandom();
@@ -62,6 +66,19 @@ public final class Kit {
         if (verdict.isSame() && verdict.tries() > 1) {
             System.out.println(name + " " + verdict.words() + verdict.triesInWords());
         }
+    }
+
+    // ---- the player itself
+
+    private void checkPlayer(Path program, String python) throws IOException, InterruptedException {
+        int before = passed + failed;
+        CommandChecks commands = new CommandChecks(kit, program, this::count);
+        commands.checkWords();
+        if (!python.isEmpty()) {
+            new FaultTable(kit.resolve("faults")).check(vuthgal, python, this::count);
+            commands.checkPorts(python);
+        }
+        System.out.println("the player's own words: " + (passed + failed - before) + " commands and faults of ports");
     }
 
     // ---- cases

@@ -40,9 +40,4 @@ record Patience(long settle, long expiry, long bound, double factor) {
     Patience withBound(long nanoseconds) {
         return new Patience(settle, expiry, nanoseconds, factor);
     }
-
-    /** A fixed time, so many times as long as was asked for. */
-    long scaled(long nanoseconds) {
-        return (long) (nanoseconds * factor);
-    }
 }

@@ -53,13 +53,17 @@ record PortLine(Kind kind, int thread, int[] numbers, String line) {
     /** The numbers begin at word {@code first}, and are so many. */
     private static PortLine of(Kind kind, int thread, String line, String[] words, int first, int count) {
         if (words.length != first + count) {
-            throw fault(line, (count == 0 ? "no number" : count == 1 ? "one number" : count + " numbers") + " has to follow, behind one space each");
+            throw fault(line, countWords(count) + " to follow, behind one space each");
         }
         int[] numbers = new int[count];
         for (int at = 0; at < count; at++) {
             numbers[at] = number(line, words[first + at]);
         }
         return new PortLine(kind, thread, numbers, line);
+    }
+
+    private static String countWords(int count) {
+        return count == 0 ? "no number has" : count == 1 ? "one number has" : count + " numbers have";
     }
 
     private static int number(String line, String word) {

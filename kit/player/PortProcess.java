@@ -15,7 +15,9 @@ import java.util.concurrent.TimeUnit;
 final class PortProcess {
     private static final long SECOND = 1_000_000_000L;
     /** How long the first answer may take, since a start takes its time. */
-    private static final long LONGEST_START = 5 * SECOND;
+    private static final long LONGEST_START = 4 * SECOND;
+    /** A port that isn't at rest is waited for so many times as long. */
+    private static final int TIMES_FOR_THE_BUSY = 4;
 
     private final Process process;
     private final BufferedWriter into;
@@ -61,15 +63,18 @@ final class PortProcess {
 
     /** A new case begins. */
     void begin(Patience patience) {
-        longestAnswer = answered ? patience.bound() : Math.max(patience.bound(), patience.scaled(LONGEST_START));
+        longestAnswer = answered ? patience.bound() : Math.max(patience.bound(), LONGEST_START);
+        tasks = null;
         advances.clear();
         actions.clear();
         order("case");
-        tasks = new Tasks(process);
     }
 
     /** Whether none of its threads runs now. */
     boolean isAtRest() {
+        if (tasks == null) {
+            tasks = new Tasks(process);
+        }
         return tasks.areAtRest();
     }
 
@@ -89,11 +94,9 @@ final class PortProcess {
     void order(String command) {
         asked = true;
         write(command);
-        Reply reply = null;
-        try {
-            reply = replies.poll(longestAnswer, TimeUnit.NANOSECONDS);
-        } catch (InterruptedException never) {
-            throw new IllegalStateException(never);
+        Reply reply = reply();
+        for (int time = 1; reply == null && time < TIMES_FOR_THE_BUSY && !new Tasks(process).stayAtRest(); time++) {
+            reply = reply();
         }
         check();
         if (reply == null) {
@@ -101,6 +104,15 @@ final class PortProcess {
         }
         if (reply.said().kind() == PortLine.Kind.NO) {
             throw new Unplayable(Excerpt.of(reply.said().reason()));
+        }
+    }
+
+    /** The next answer; null where none comes for as long as one may take. */
+    private Reply reply() {
+        try {
+            return replies.poll(longestAnswer, TimeUnit.NANOSECONDS);
+        } catch (InterruptedException never) {
+            throw new IllegalStateException(never);
         }
     }
 
