@@ -35,7 +35,8 @@ final class BoundedLines {
         }
         begun.append(letter);
         if (begun.length() > LONGEST) {
-            throw new ProtocolFault("the port wrote a line of more than " + LONGEST + " characters: `" + Excerpt.of(begun.toString()) + "`");
+            String excerpt = Excerpt.of(begun.toString());
+            throw new ProtocolFault("the port wrote a line of more than " + LONGEST + " characters: `" + excerpt + "`");
         }
         return null;
     }

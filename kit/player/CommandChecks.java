@@ -116,7 +116,7 @@ final class CommandChecks {
     /** Ends the player by a signal while a port with a child hangs: neither stays behind. */
     private void checkEnd(String port, String signal) throws IOException, InterruptedException {
         Path told = Files.createTempFile("vuthgal", ".told");
-        Process player = start(told, "--patience", "100", "--port", port + "ok child; sleep 600", kit.resolve("cases/reset").toString());
+        Process player = start(told, "--patience", "100", "--port", port + "ok child; sleep 600", folder("reset"));
         List<ProcessHandle> below = List.of();
         for (int wait = 0; wait < 200 && !hasChild(below); wait++) {
             Thread.sleep(50);
@@ -147,8 +147,9 @@ final class CommandChecks {
 
     private Process start(Path told, String... words) throws IOException {
         String java = Path.of(System.getProperty("java.home"), "bin", "java").toString();
-        List<String> command = new ArrayList<>(List.of(java, "-XX:+UseSerialGC", "--add-opens", "java.base/java.util.concurrent=ALL-UNNAMED", "-cp", System.getProperty("java.class.path"),
-            Player.class.getName(), "--vuthgal", vuthgal.toString()));
+        List<String> command = new ArrayList<>(List.of(java, "-XX:+UseSerialGC", "--add-opens",
+            "java.base/java.util.concurrent=ALL-UNNAMED", "-cp", System.getProperty("java.class.path"), Player.class.getName(),
+            "--vuthgal", vuthgal.toString()));
         command.addAll(List.of(words));
         File output = told.toFile();
         return new ProcessBuilder(command).directory(room.toFile()).redirectErrorStream(true).redirectOutput(output).start();

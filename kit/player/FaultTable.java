@@ -39,7 +39,8 @@ final class FaultTable {
     }
 
     private void check(Row row, Case played, Vuthgal vuthgal, String python, Taker to) {
-        String command = python + " " + quoted(folder.resolve("port.py").toString()) + " " + quoted(row.when()) + " " + quoted(row.what());
+        String port = quoted(folder.resolve("port.py").toString());
+        String command = python + " " + port + " " + quoted(row.when()) + " " + quoted(row.what());
         Stage stage = new PortStage(command);
         Judge judge = new Judge(stage, vuthgal, KnownDifferences.NONE, Patience.times(row.patience(), stage.patience()));
         Played told = Played.of(judge, played);
@@ -47,7 +48,8 @@ final class FaultTable {
         String line = told.line();
         boolean passes = line.contains(row.words()) && told.nanoseconds() < LONGEST_SECONDS * 1e9;
         synchronized (to) {
-            to.take("faults: `" + row.when() + "`, " + row.what(), passes, line + ", after " + told.nanoseconds() / 1_000_000 + " ms");
+            long milliseconds = told.nanoseconds() / 1_000_000;
+            to.take("faults: `" + row.when() + "`, " + row.what(), passes, line + ", after " + milliseconds + " ms");
         }
     }
 

@@ -56,7 +56,8 @@ public final class Player {
 
     private int playRandom() throws IOException, Options.Wrong {
         Tally tally = new Tally(options.random(), options.keepGoing(), System.out);
-        new RandomCases(vuthgal, tally, options.keep(), System.out).play(options.judges(vuthgal), options.seed(), options.random());
+        RandomCases cases = new RandomCases(vuthgal, tally, options.keep(), System.out);
+        cases.play(options.judges(vuthgal), options.seed(), options.random());
         return end(tally.report(), tally.status());
     }
 

@@ -54,7 +54,8 @@ final class Tally {
     void tell() {
         int notPlayed = cases - same - different - leftOut;
         if (notPlayed > 0) {
-            to.println("the run ends here, since there is no answer in " + endlessInARow + " cases in a row (--keep-going goes on)");
+            to.println("the run ends here, since there is no answer in " + endlessInARow
+                + " cases in a row (--keep-going goes on)");
         }
         whyLeftOut.forEach((why, count) -> to.println(count + " left out: " + why));
         to.println(sums.line());

@@ -1,7 +1,8 @@
 package kit.player;
 
 /** What came of playing a case. {@code before} is what the tries before came to. */
-record Verdict(Kind kind, int line, String trace, Notes notes, Plan plan, Breakdown breakdown, int tries, String before, String why) {
+record Verdict(Kind kind, int line, String trace, Notes notes, Plan plan, Breakdown breakdown, int tries, String before,
+        String why) {
     enum Kind {
         /** Byte for byte Vuthgal's trace, and nothing odd happened. */
         SAME,

@@ -57,7 +57,8 @@ final class Waiter {
         if (scene.first) {
             scene.plan.expires(thread, scene.step());
             scene.real(thread).interrupt();
-            if (scene.real(thread).done(pending.call(), scene.patience.bound()) && pending.call().answer().isThrown(Answer.INTERRUPTED)) {
+            boolean out = scene.real(thread).done(pending.call(), scene.patience.bound());
+            if (out && pending.call().answer().isThrown(Answer.INTERRUPTED)) {
                 pending.call().finish(Answer.thrown(Answer.TIMEOUT));
             }
         } else if (!pending.expires()) {
