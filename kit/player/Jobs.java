@@ -32,7 +32,6 @@ final class Jobs<T> {
         try {
             for (int number = 0; number < played.size() && !enough; number++) {
                 enough = !goesOn.test(played.get(number).join());
-                played.set(number, null);
             }
         } catch (CompletionException failed) {
             throw failed.getCause() instanceof RuntimeException cause ? cause : failed;
@@ -45,19 +44,12 @@ final class Jobs<T> {
         try {
             judge.warm();
             for (int number = begun.getAndIncrement(); number < cases.size() && !enough; number = begun.getAndIncrement()) {
-                playCase(judge, number);
+                played.get(number).complete(player.apply(judge, cases.get(number)));
             }
+        } catch (RuntimeException | Error failed) {
+            played.forEach(place -> place.completeExceptionally(failed));
         } finally {
             judge.close();
-        }
-    }
-
-    private void playCase(Judge judge, int number) {
-        CompletableFuture<Played> place = played.get(number);
-        try {
-            place.complete(player.apply(judge, cases.get(number)));
-        } catch (RuntimeException | Error failed) {
-            place.completeExceptionally(failed);
         }
     }
 }

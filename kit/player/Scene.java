@@ -5,6 +5,8 @@ import java.util.List;
 
 /** What the parts of one play share: the program's threads, and its objects as far as the player has to follow them. */
 final class Scene {
+    private static final int MOST_PARTIES = 65535;
+
     final Program program;
     final Stage stage;
     final Plan plan;
@@ -16,8 +18,6 @@ final class Scene {
     final Holds holds = new Holds();
     final List<ProgramThread> threads = new ArrayList<>();
     final int[] cells = new int[32];
-
-    private static final int MOST_PARTIES = 65535;
 
     private final Settling settling;
     private final int[] root;

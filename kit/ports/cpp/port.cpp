@@ -9,6 +9,7 @@
 #include <cstdlib>
 #include <deque>
 #include <exception>
+#include <functional>
 #include <iostream>
 #include <map>
 #include <memory>
@@ -24,9 +25,10 @@
 
 namespace {
 
+std::mutex writing;
+
 /// Writes a line at once. Many threads have something to say.
 void say(const std::string& line) {
-  static std::mutex writing;
   std::lock_guard<std::mutex> lock(writing);
   std::cout << line << '\n' << std::flush;
 }
@@ -215,6 +217,8 @@ std::string outcome(std::istringstream& words) {
 // ---------------------------------------------------------------- the reader of commands
 
 void begin() {
+  // every thread has answered its last call under this lock, so that the reader sees all that it did there
+  std::lock_guard<std::mutex> lock(writing);
   phasers.clear();
   barriers.clear();
   for (auto& entry : actors) {
