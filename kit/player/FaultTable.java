@@ -8,7 +8,10 @@ import java.util.List;
 
 /** The faults of ports in kit/faults, and whether the player tells each in the right words, and soon. */
 final class FaultTable {
-    private static final double LONGEST_SECONDS = 5;
+    private static final long LONGEST = 5_000_000_000L;
+    /** On a busy machine a fault may take so many times as long as the right port, beyond that. */
+    private static final int TIMES_THE_RIGHT_ONE = 4;
+    private static final Row RIGHT = new Row(1, "nothing", "", " same");
 
     private final List<Row> rows = new ArrayList<>();
     private final Path folder;
@@ -35,10 +38,12 @@ final class FaultTable {
     /** Makes all the faults, some at a time. */
     void check(Vuthgal vuthgal, String python, Taker to) {
         Case played = Case.of(vuthgal, "faults/case.asm", folder.resolve("case.asm"));
-        rows.parallelStream().forEach(row -> check(row, played, vuthgal, python, to));
+        long longest = LONGEST + TIMES_THE_RIGHT_ONE * check(RIGHT, played, vuthgal, python, Long.MAX_VALUE, to);
+        rows.parallelStream().forEach(row -> check(row, played, vuthgal, python, longest, to));
     }
 
-    private void check(Row row, Case played, Vuthgal vuthgal, String python, Taker to) {
+    /** How many nanoseconds it took. */
+    private long check(Row row, Case played, Vuthgal vuthgal, String python, long longest, Taker to) {
         String port = quoted(folder.resolve("port.py").toString());
         String command = python + " " + port + " " + quoted(row.when()) + " " + quoted(row.what());
         Stage stage = new PortStage(command);
@@ -46,11 +51,12 @@ final class FaultTable {
         Played told = Played.of(judge, played);
         judge.close();
         String line = told.line();
-        boolean passes = line.contains(row.words()) && told.nanoseconds() < LONGEST_SECONDS * 1e9;
+        boolean passes = line.contains(row.words()) && told.nanoseconds() < longest;
         synchronized (to) {
             long milliseconds = told.nanoseconds() / 1_000_000;
             to.take("faults: `" + row.when() + "`, " + row.what(), passes, line + ", after " + milliseconds + " ms");
         }
+        return told.nanoseconds();
     }
 
     private static String quoted(String word) {

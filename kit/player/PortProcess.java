@@ -98,6 +98,9 @@ final class PortProcess {
         for (int time = 1; reply == null && time < TIMES_FOR_THE_BUSY && !new Tasks(process).stayAtRest(); time++) {
             reply = reply();
         }
+        if (reply == null) {
+            reply = replies.poll();     // the look at its threads took its time
+        }
         check();
         if (reply == null) {
             throw new Hangs("the port doesn't answer: " + command + from.unfinished(), !answered);
