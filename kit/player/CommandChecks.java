@@ -31,6 +31,7 @@ final class CommandChecks {
 
     private static final String NO_NUMBER = " wants a number from ";
     private static final long LONGEST_SECONDS = 60;
+    private static final int INTERRUPT = 2;
 
     private final Path kit;
     private final Path vuthgal;
@@ -80,7 +81,9 @@ final class CommandChecks {
         checks.parallelStream().forEach(this::check);
         checkNothingIsWritten();
         checkEnd(port, "TERM");
-        checkEnd(port, "INT");
+        if (!ignoresInterrupts()) {
+            checkEnd(port, "INT");
+        }
     }
 
     private String folder(String rule) {
@@ -134,6 +137,13 @@ final class CommandChecks {
 
     private static boolean hasChild(List<ProcessHandle> processes) {
         return processes.stream().anyMatch(each -> each.info().commandLine().orElse("").endsWith("sleep 87654"));
+    }
+
+    /** Whether this process was started so, as a shell starts what runs in the background: the player would ignore them, too. */
+    private static boolean ignoresInterrupts() throws IOException {
+        String ignored = Files.readAllLines(Path.of("/proc/self/status")).stream()
+            .filter(line -> line.startsWith("SigIgn:")).findFirst().orElse("SigIgn: 0");
+        return (Long.parseUnsignedLong(ignored.substring("SigIgn:".length()).strip(), 16) & 1 << (INTERRUPT - 1)) != 0;
     }
 
     /** Whether it is there, and not only its entry until somebody asks how it ended. */
