@@ -39,6 +39,17 @@ record Answer(Kind kind, int number, String words) {
         return new Answer(Kind.FAULT, 0, words);
     }
 
+    /** In words, as what a call did. */
+    String told() {
+        return switch (kind) {
+            case VALUE -> "answered " + number;
+            case VOID -> "answered without one";
+            case THROWN -> "threw exception " + number;
+            case THROUGH -> "threw what it was told to, " + number;
+            case FAULT -> "threw something else: " + words;
+        };
+    }
+
     boolean isValue(int wanted) {
         return kind == Kind.VALUE && number == wanted;
     }

@@ -55,7 +55,7 @@ final class BurstPlayer {
     }
 
     private void build(Burst burst, BurstHistory history) {
-        stage.begin();
+        stage.begin(stage.patience()[0]);
         for (int number = 0; number < burst.phasers().size(); number++) {
             Burst.Phaser phaser = burst.phasers().get(number);
             int at = number;
@@ -125,14 +125,16 @@ final class BurstPlayer {
 
     private void close(Burst burst, BurstHistory history) {
         BurstEntry entry = history.begin(burst.looker(), BurstStep.call(burst.closer()));
-        Call call = stage.thread(Stage.LOOKER).tell(burst.closer());
-        if (RealThread.done(call, bound)) {
+        RealThread looker = stage.thread(Stage.LOOKER);
+        Call call = looker.tell(burst.closer());
+        if (looker.done(call, bound)) {
             history.end(entry, call.answer());
         }
     }
 
     private void ask(Request request) {
-        RealThread.done(stage.thread(Stage.LOOKER).tell(request), bound);
+        RealThread looker = stage.thread(Stage.LOOKER);
+        looker.done(looker.tell(request), bound);
     }
 
     /** The looks of a player when all is quiet, and each thread's interrupted status; false where one hangs. */
@@ -175,7 +177,7 @@ final class BurstPlayer {
             calls.add(stage.thread(thread).tell(status));
         }
         for (int thread = 0; thread < calls.size(); thread++) {
-            if (!RealThread.done(calls.get(thread), bound)) {
+            if (!stage.thread(thread).done(calls.get(thread), bound)) {
                 return false;
             }
             history.end(entries.get(thread), calls.get(thread).answer());

@@ -105,9 +105,9 @@ final class Bursts {
         } catch (Unplayable why) {
             leftOut.put(burst.kind(), why.getMessage());
             return null;
-        } catch (Hangs hangs) {
+        } catch (Breakdown broken) {
             found(round);
-            to.println(burst.name() + ": " + hangs.getMessage());
+            to.println(burst.name() + ": " + broken.getMessage());
             stage.abandon();
             return null;
         }

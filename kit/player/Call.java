@@ -7,6 +7,8 @@ final class Call {
     private volatile Answer answer;
     private volatile Entered entered;
     private volatile boolean inside;
+    /** What its routine or action was told to throw; null where it was told nothing, or to return. */
+    private volatile Integer thrown;
 
     Call(Request request, CallWatcher watcher) {
         this.request = request;
@@ -50,9 +52,14 @@ final class Call {
         return inside;
     }
 
-    /** The routine or action is told to end. */
-    void leave() {
+    /** The routine or action is told to end: to throw this number, or, where that is null, to return. */
+    void leave(Integer throwing) {
+        thrown = throwing;
         entered = null;
         inside = false;
+    }
+
+    boolean wasToldToThrow(int number) {
+        return thrown != null && thrown == number;
     }
 }

@@ -16,6 +16,9 @@ import java.util.stream.Stream;
  */
 public final class Kit {
     private static final int SCENARIOS = 300;
+    /** So many processes of a port play at once. */
+    private static final int JOBS = 2;
+    private static final long SECOND = 1_000_000_000L;
 
     /** A case that the JDK plays as Vuthgal does, with what its first play has taught. */
     private record Learned(Case each, Plan plan) {
@@ -34,18 +37,22 @@ public final class Kit {
         vuthgal = new Vuthgal(program);
     }
 
-    /** The words are the repository's folder, the program to hold all against, and the commands of ports. */
-    public static void main(String[] words) throws IOException {
+    /**
+     * The words are the repository's folder, the program to hold all against, the command of Python (empty where there is
+     * none), and the commands of ports.
+     */
+    public static void main(String[] words) throws IOException, InterruptedException {
         Kit kit = new Kit(Path.of(words[0]), Path.of(words[1]));
+        kit.checkPlayer(Path.of(words[1]), words[2]);
         kit.checkCases();
         kit.checkDifferences();
         kit.checkRules();
         kit.checkWrongAdapters();
-        for (String command : List.of(words).subList(2, words.length)) {
+        for (String command : List.of(words).subList(3, words.length)) {
             kit.checkPort(command);
         }
         kit.checkRandom();
-        kit.checkBursts(List.of(words).subList(2, words.length));
+        kit.checkBursts(List.of(words).subList(3, words.length));
         System.out.println(kit.passed + " passed, " + kit.failed + " failed");
         System.exit(kit.failed == 0 ? 0 : 1);
     }
@@ -61,8 +68,21 @@ public final class Kit {
 
     private static void tellAgain(String name, Verdict verdict) {
         if (verdict.isSame() && verdict.tries() > 1) {
-            System.out.println(name + ": the same with more patience, at try " + verdict.tries());
+            System.out.println(name + " " + verdict.words() + verdict.triesInWords());
         }
+    }
+
+    // ---- the player itself
+
+    private void checkPlayer(Path program, String python) throws IOException, InterruptedException {
+        int before = passed + failed;
+        CommandChecks commands = new CommandChecks(kit, program, this::count);
+        commands.checkWords();
+        if (!python.isEmpty()) {
+            new FaultTable(kit.resolve("faults")).check(vuthgal, python, this::count);
+            commands.checkPorts(python);
+        }
+        System.out.println("the player's own words: " + (passed + failed - before) + " commands and faults of ports");
     }
 
     // ---- cases
@@ -183,8 +203,6 @@ public final class Kit {
         }
     }
 
-    private static final long SECOND = 1_000_000_000L;
-
     /** The first case in which it differs, twice; null where there is none. */
     private String findByCases(String adapter) {
         Judge judge = judgeOf(adapter, KnownDifferences.COUNTS);
@@ -212,35 +230,33 @@ public final class Kit {
     // ---- a port behind a pipe, and random scenarios
 
     private void checkPort(String command) {
-        Stage stage = new PortStage(command);
-        Judge judge = new Judge(stage, vuthgal, KnownDifferences.COUNTS).warm();
-        Sums sums = new Sums();
-        int leftOut = 0;
-        for (Learned at : learned) {
-            Verdict verdict = judge.judge(at.each(), at.plan());
-            boolean none = verdict.kind() == Verdict.Kind.LEFT_OUT;
-            leftOut += none ? 1 : 0;
-            count(at.each().name() + " by " + command, verdict.isSame() || none,
-                verdict.words() + "; " + String.join("; ", verdict.notes().lines()));
-            tellAgain(at.each().name() + " by the port", verdict);
-            sums.add(verdict.notes());
+        List<Judge> judges = new ArrayList<>();
+        for (int job = 0; job < JOBS; job++) {
+            judges.add(new Judge(new PortStage(command), vuthgal, KnownDifferences.COUNTS));
         }
-        stage.close();
+        Sums sums = new Sums();
+        int[] leftOut = {0};
+        new Jobs<>(learned, (judge, at) -> Played.of(judge, at.each(), at.plan())).run(judges, played -> {
+            Verdict verdict = played.verdict();
+            boolean none = verdict.kind() == Verdict.Kind.LEFT_OUT;
+            leftOut[0] += none ? 1 : 0;
+            count(played.each().name() + " by " + command, verdict.isSame() || none,
+                verdict.words() + "; " + String.join("; ", verdict.notes().lines()));
+            tellAgain(played.each().name() + " by the port", verdict);
+            sums.add(verdict.notes());
+            return true;
+        });
         System.out.println("cases on the port `" + command + "`: " + sums.line());
-        System.out.println(leftOut + " cases that it can't play");
+        System.out.println(leftOut[0] + " cases that it can't play");
     }
 
     private void checkRandom() throws IOException {
-        Path keep = Files.createTempDirectory("vuthgal-different");
-        Judge judge = new Judge(new JvmStage(new JdkFactory()), vuthgal, KnownDifferences.ALL);
-        RandomCases cases = new RandomCases(vuthgal, judge, keep);
         System.out.println("random scenarios on the JDK, seeds 1 to " + SCENARIOS + ":");
-        cases.play(1, SCENARIOS, System.out);
-        passed += cases.same();
-        failed += cases.different();
-        if (cases.different() == 0) {
-            Files.delete(keep);
-        }
+        Tally tally = new Tally(SCENARIOS, true, System.out);
+        Judge judge = new Judge(new JvmStage(new JdkFactory()), vuthgal, KnownDifferences.ALL);
+        new RandomCases(vuthgal, tally, null, System.out).play(List.of(judge), 1, SCENARIOS);
+        passed += tally.same();
+        failed += tally.different();
     }
 
     // ---- bursts

@@ -5,7 +5,7 @@ import java.util.List;
 
 /** The model as a real side in lock-step, so that what Vuthgal answers can be held against it. */
 final class ModelStage implements Stage {
-    private static final Patience[] PATIENCE = {new Patience(0, 0, 1_000_000_000L)};
+    private static final Patience[] PATIENCE = {new Patience(0, 0, 1_000_000_000L, 1)};
 
     private final List<Advance> advances = new ArrayList<>();
     private final List<Actor> actors = new ArrayList<>();
@@ -106,7 +106,7 @@ final class ModelStage implements Stage {
     }
 
     @Override
-    public void begin() {
+    public void begin(Patience patience) {
         model = new Model(LOOKER + 1);
         advances.clear();
         actors.clear();
@@ -133,7 +133,7 @@ final class ModelStage implements Stage {
 
     @Override
     public void abandon() {
-        begin();
+        begin(PATIENCE[0]);
     }
 
     @Override

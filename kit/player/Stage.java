@@ -12,7 +12,7 @@ interface Stage {
     }
 
     /** A new case begins: all objects are forgotten. */
-    void begin();
+    void begin(Patience patience);
 
     /** Makes the next phaser. {@code parent} is -1 for a root; {@code advance} is null where the class's own is kept. */
     void phaser(int number, int parent, int parties, int firstPhase, Advance advance);
