@@ -61,9 +61,4 @@ record Burst(String kind, long seed, long round, List<Phaser> phasers, List<Barr
         }
         return looks;
     }
-
-    /** How it is found again. */
-    String name() {
-        return kind + ", seed " + seed + ", round " + round;
-    }
 }

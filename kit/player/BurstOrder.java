@@ -25,8 +25,8 @@ record BurstOrder(long seed, long round, long count, Path keep) {
         }
     }
 
-    /** Whether nothing was found. */
-    boolean play(Stage stage, PrintStream to) throws IOException {
+    /** Answers the exit status. */
+    int play(Stage stage, PrintStream to) throws IOException {
         Bursts bursts = new Bursts(stage, Bursts.PATIENT, keep, to);
         if (round == EACH) {
             bursts.play(seed, count);
@@ -34,6 +34,6 @@ record BurstOrder(long seed, long round, long count, Path keep) {
             bursts.repeat(seed, round, count);
         }
         bursts.tell();
-        return bursts.findings() == 0;
+        return bursts.status();
     }
 }

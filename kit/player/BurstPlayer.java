@@ -10,6 +10,8 @@ import java.util.concurrent.TimeUnit;
 /** Plays bursts on a real side: tells all threads to begin, lets them run freely, and looks when all are through. */
 final class BurstPlayer {
     private static final long MILLISECOND = 1_000_000;
+    /** So often it looks whether the real side has broken down. */
+    private static final long LOOK = 20 * MILLISECOND;
 
     /** What the player is told by the threads. */
     private record Event(BurstRunner finished, RealThread standing, Burst.Barrier at) {
@@ -115,9 +117,18 @@ final class BurstPlayer {
         return true;
     }
 
-    private static Event next(BlockingQueue<Event> events, long nanoseconds) {
+    /** What comes next; null where nothing comes for so long. */
+    private <T> T next(BlockingQueue<T> events, long nanoseconds) {
+        long limit = System.nanoTime() + nanoseconds;
         try {
-            return events.poll(nanoseconds, TimeUnit.NANOSECONDS);
+            while (true) {
+                stage.thread(Stage.LOOKER).check();
+                long left = limit - System.nanoTime();
+                T event = events.poll(Math.min(left, LOOK), TimeUnit.NANOSECONDS);
+                if (event != null || left <= LOOK) {
+                    return event;
+                }
+            }
         } catch (InterruptedException never) {
             throw new IllegalStateException(never);
         }
@@ -153,19 +164,11 @@ final class BurstPlayer {
                 throw new IllegalStateException("a getter runs an action");
             }
         }.goOn();
-        if (!isThere(looked)) {
+        if (next(looked, bound) == null) {
             return false;
         }
         runners.forEach(BurstRunner::interruptsAreIn);
         return !burst.hasInterrupts() || askStatuses(history, runners);
-    }
-
-    private boolean isThere(BlockingQueue<Boolean> looked) {
-        try {
-            return looked.poll(bound, TimeUnit.NANOSECONDS) != null;
-        } catch (InterruptedException never) {
-            throw new IllegalStateException(never);
-        }
     }
 
     private boolean askStatuses(BurstHistory history, List<BurstRunner> runners) {

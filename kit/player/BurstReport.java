@@ -18,9 +18,14 @@ final class BurstReport {
         this.finding = finding;
     }
 
+    /** The first line of a kept burst, without its end. */
+    static String head(Burst burst) {
+        return HEAD + " " + burst.seed() + " " + burst.round() + " " + burst.kind();
+    }
+
     String text() {
         Burst burst = history.burst();
-        line(HEAD + " " + burst.seed() + " " + burst.round() + " " + burst.kind());
+        line(head(burst));
         line("  " + finding.words());
         objects(burst);
         line("  in the order in which they began, each with its begin and its end:");

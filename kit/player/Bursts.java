@@ -4,7 +4,9 @@ import java.io.IOException;
 import java.io.PrintStream;
 import java.nio.file.Files;
 import java.nio.file.Path;
+import java.util.HashSet;
 import java.util.Map;
+import java.util.Set;
 import java.util.TreeMap;
 
 /** Plays many bursts on a real side, tells those that fail, and keeps them where a folder is named. */
@@ -26,7 +28,8 @@ final class Bursts {
     private final BurstPlayer player;
     private final Path keep;
     private final PrintStream to;
-    private final Map<String, String> leftOut = new TreeMap<>();
+    private final Set<String> kindsLeftOut = new HashSet<>();
+    private final Map<String, Integer> whyLeftOut = new TreeMap<>();
     private int rounds;
     private int calls;
     private int findings;
@@ -63,7 +66,7 @@ final class Bursts {
     /** Plays until something is found; answers that in words, or null. */
     String find(long seed, long count) {
         for (long round = 0; round < count; round++) {
-            BurstHistory history = playRound(seed, round);
+            BurstHistory history = history(burst(seed, round));
             BurstJudge.Finding finding = history == null ? null : judge(history);
             if (finding != null) {
                 return history.burst().kind() + ", round " + round + ": " + finding.words();
@@ -72,50 +75,56 @@ final class Bursts {
         return null;
     }
 
+    private Burst burst(long seed, long round) {
+        return BurstKind.burst(seed, round, stage.isHere() ? UNIT_HERE : UNIT_OF_PORT);
+    }
+
     private void playOne(long seed, long round) throws IOException {
-        BurstHistory history = playRound(seed, round);
-        BurstJudge.Finding finding = history == null ? null : judge(history);
-        if (finding == null) {
+        Burst burst = burst(seed, round);
+        String text = whatFails(burst);
+        if (text == null) {
             return;
         }
-        found(round);
-        String text = new BurstReport(history, finding).text();
+        firstFound = findings == 0 ? round : firstFound;
+        findings++;
         to.print(text);
         if (keep == null) {
             to.println("again: --burst 1000 --seed " + seed + " --round " + round);
         } else {
             Files.createDirectories(keep);
-            Path file = keep.resolve(history.burst().kind() + "-" + seed + "-" + round + ".burst");
+            Path file = keep.resolve(burst.kind() + "-" + seed + "-" + round + ".burst");
             Files.writeString(file, text);
             to.println("kept; again: --burst " + file);
         }
     }
 
+    /** In words; null where it is right, and where the real side can't make the objects. */
+    private String whatFails(Burst burst) {
+        try {
+            BurstHistory history = history(burst);
+            BurstJudge.Finding finding = history == null ? null : judge(history);
+            return finding == null ? null : new BurstReport(history, finding).text();
+        } catch (Breakdown broken) {
+            stage.abandon();
+            return BurstReport.head(burst) + "\n  " + broken.getMessage() + "\n";
+        }
+    }
+
     /** Null where the real side can't make the objects. */
-    private BurstHistory playRound(long seed, long round) {
-        Burst burst = BurstKind.burst(seed, round, stage.isHere() ? UNIT_HERE : UNIT_OF_PORT);
-        rounds++;
-        if (leftOut.containsKey(burst.kind())) {
+    private BurstHistory history(Burst burst) {
+        if (kindsLeftOut.contains(burst.kind())) {
             return null;
         }
         try {
             BurstHistory history = player.play(burst);
+            rounds++;
             calls += history.entries().size();
             return history;
         } catch (Unplayable why) {
-            leftOut.put(burst.kind(), why.getMessage());
-            return null;
-        } catch (Breakdown broken) {
-            found(round);
-            to.println(burst.name() + ": " + broken.getMessage());
-            stage.abandon();
+            kindsLeftOut.add(burst.kind());
+            whyLeftOut.merge(why.getMessage(), 1, Integer::sum);
             return null;
         }
-    }
-
-    private void found(long round) {
-        firstFound = findings == 0 ? round : firstFound;
-        findings++;
     }
 
     /** Null where the history is right. */
@@ -137,9 +146,17 @@ final class Bursts {
     }
 
     void tell() {
-        leftOut.forEach((kind, why) -> to.println(kind + " left out: " + why));
-        to.println(rounds + " bursts of " + BurstKind.ALL.size() + " kinds, " + calls + " calls and interrupts: "
-            + findings + " found" + (findings == 0 ? "" : ", the first in round " + firstFound)
+        whyLeftOut.forEach((why, kinds) -> to.println(kinds + " kinds left out: " + why));
+        if (rounds + findings == 0) {
+            to.println("nothing was compared");
+        }
+        to.println(rounds + " bursts of " + (BurstKind.ALL.size() - kindsLeftOut.size()) + " kinds, " + calls
+            + " calls and interrupts: " + findings + " found" + (findings == 0 ? "" : ", the first in round " + firstFound)
             + (overtaken == 0 ? "" : "; an interrupt won over the end of a phase " + overtaken + " times"));
+    }
+
+    /** The exit status: 0 where nothing was found, 1 where something was, 2 where nothing was compared. */
+    int status() {
+        return findings > 0 ? 1 : rounds == 0 ? 2 : 0;
     }
 }

@@ -35,10 +35,10 @@ final class CommandChecks {
 
     private final Path kit;
     private final Path vuthgal;
-    private final FaultTable.Taker to;
+    private final Taker to;
     private final Path room;
 
-    CommandChecks(Path kit, Path vuthgal, FaultTable.Taker to) throws IOException {
+    CommandChecks(Path kit, Path vuthgal, Taker to) throws IOException {
         this.kit = kit.toAbsolutePath().normalize();
         this.vuthgal = vuthgal.toAbsolutePath();
         this.to = to;
@@ -59,7 +59,11 @@ final class CommandChecks {
             new Check(2, "--jobs" + NO_NUMBER, "--jobs", "0", reset),
             new Check(2, "--jobs wants --port", "--jobs", "2", reset),
             new Check(2, "--patience wants a factor", "--patience", "NaN", reset),
-            new Check(2, "--keep wants --random", "--keep", room.toString(), reset),
+            new Check(2, "--keep wants --random or --burst", "--keep", room.toString(), reset),
+            new Check(2, "--burst" + NO_NUMBER, "--burst", "0"),
+            new Check(2, "with --burst go only", "--burst", "1", "--jobs", "2", "--port", "./nosuch"),
+            new Check(2, "--round wants --burst", "--round", "1", reset),
+            new Check(1, "burst 1 0 meetings\n  the port has ended before its first answer", "--burst", "1", "--port", "./nosuch"),
             new Check(1, "with status 127 (no such command)", "--port", "./nosuch", reset),
             new Check(1, "the run ends here, since there is no answer in 3 cases in a row", "--port", "./nosuch", reset),
             new Check(1, " different, 0 left out\n", "--keep-going", "--port", "./nosuch", reset),

@@ -20,11 +20,6 @@ final class FaultTable {
     private record Row(double patience, String when, String what, String words) {
     }
 
-    /** Takes what each fault came to. */
-    interface Taker {
-        void take(String name, boolean passes, String what);
-    }
-
     FaultTable(Path folder) throws IOException {
         this.folder = folder;
         for (String line : Files.readAllLines(folder.resolve("table.txt"))) {

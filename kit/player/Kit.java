@@ -1,18 +1,16 @@
 package kit.player;
 
 import java.io.IOException;
-import java.lang.reflect.Modifier;
 import java.nio.file.Files;
 import java.nio.file.Path;
 import java.util.ArrayList;
 import java.util.HashSet;
 import java.util.List;
 import java.util.Set;
-import java.util.stream.Stream;
 
 /**
- * What {@code kit/run} runs: the cases, the differences, the wrong adapters, a port behind a pipe, random scenarios, and
- * bursts.
+ * What {@code kit/run} runs: the player's own words, the cases, the differences, the wrong adapters, ports, random scenarios,
+ * and bursts.
  */
 public final class Kit {
     private static final int SCENARIOS = 300;
@@ -24,9 +22,22 @@ public final class Kit {
     private record Learned(Case each, Plan plan) {
     }
 
+    /** A port, and how many bursts it plays. */
+    record Port(String command, int bursts) {
+        /** Of words in pairs: a number of bursts, and a command. */
+        static List<Port> of(List<String> words) {
+            List<Port> ports = new ArrayList<>();
+            for (int at = 0; at < words.size(); at += 2) {
+                ports.add(new Port(words.get(at + 1), Integer.parseInt(words.get(at))));
+            }
+            return ports;
+        }
+    }
+
     private final Path repository;
     private final Path kit;
     private final Vuthgal vuthgal;
+    private final WrongAdapters adapters;
     private final List<Learned> learned = new ArrayList<>();
     private int passed;
     private int failed;
@@ -35,24 +46,26 @@ public final class Kit {
         this.repository = repository;
         kit = repository.resolve("kit");
         vuthgal = new Vuthgal(program);
+        adapters = new WrongAdapters(kit.resolve("wrong"), "kit.wrong");
     }
 
     /**
      * The words are the repository's folder, the program to hold all against, the command of Python (empty where there is
-     * none), and the commands of ports.
+     * none), and, for each port, how many bursts it plays, and its command.
      */
     public static void main(String[] words) throws IOException, InterruptedException {
         Kit kit = new Kit(Path.of(words[0]), Path.of(words[1]));
+        List<Port> ports = Port.of(List.of(words).subList(3, words.length));
         kit.checkPlayer(Path.of(words[1]), words[2]);
         kit.checkCases();
         kit.checkDifferences();
         kit.checkRules();
         kit.checkWrongAdapters();
-        for (String command : List.of(words).subList(3, words.length)) {
-            kit.checkPort(command);
+        for (Port port : ports) {
+            kit.checkPort(port.command());
         }
         kit.checkRandom();
-        kit.checkBursts(List.of(words).subList(3, words.length));
+        kit.checkBursts(ports);
         System.out.println(kit.passed + " passed, " + kit.failed + " failed");
         System.exit(kit.failed == 0 ? 0 : 1);
     }
@@ -159,7 +172,7 @@ public final class Kit {
         int found = 0;
         Set<String> nearly = new HashSet<>();
         KnownDifferences.ALL.list.forEach(difference -> nearly.add(difference.nearly()));
-        for (String name : wrongAdapters()) {
+        for (String name : adapters.names()) {
             String finder = findByCases(name);
             if (finder == null && nearly.contains(name)) {
                 finder = findByDifferences(name);
@@ -173,34 +186,9 @@ public final class Kit {
         System.out.println("wrong adapters: " + found + " found");
     }
 
-    private List<String> wrongAdapters() throws IOException {
-        try (Stream<Path> files = Files.list(kit.resolve("wrong"))) {
-            return files.map(file -> file.getFileName().toString()).filter(name -> name.endsWith(".java"))
-                .map(name -> name.replace(".java", "")).filter(name -> !name.equals("package-info"))
-                .filter(name -> isAdapter(classOf(name))).sorted().toList();
-        }
-    }
-
-    static boolean isAdapter(Class<?> adapter) {
-        return Factory.class.isAssignableFrom(adapter) && !Modifier.isAbstract(adapter.getModifiers());
-    }
-
-    private static Class<?> classOf(String name) {
-        try {
-            return Class.forName("kit.wrong." + name);
-        } catch (ClassNotFoundException none) {
-            throw new IllegalStateException(none);
-        }
-    }
-
     private Judge judgeOf(String adapter, KnownDifferences known) {
-        try {
-            Stage stage = new JvmStage((Factory) classOf(adapter).getDeclaredConstructor().newInstance());
-            return new Judge(stage, vuthgal, known,
-                Patience.OF_JVM[0].withBound(SECOND / 3), Patience.OF_JVM[1].withBound(SECOND));
-        } catch (ReflectiveOperationException none) {
-            throw new IllegalStateException(none);
-        }
+        return new Judge(adapters.stage(adapter), vuthgal, known,
+            Patience.OF_JVM[0].withBound(SECOND / 3), Patience.OF_JVM[1].withBound(SECOND));
     }
 
     /** The first case in which it differs, twice; null where there is none. */
@@ -261,13 +249,13 @@ public final class Kit {
 
     // ---- bursts
 
-    private void checkBursts(List<String> ports) throws IOException {
+    private void checkBursts(List<Port> ports) throws IOException {
         BurstKit bursts = new BurstKit(vuthgal, this::count);
         bursts.checkModel(learned.stream().map(Learned::each).toList());
         bursts.checkJdk();
-        bursts.checkAdapters(kit.resolve("wrong").resolve("burst"));
-        for (String command : ports) {
-            bursts.checkPort(command);
+        bursts.checkAdapters(new WrongAdapters(kit.resolve("wrong").resolve("burst"), "kit.wrong.burst"));
+        for (Port port : ports) {
+            bursts.checkPort(port);
         }
     }
 }

@@ -98,6 +98,12 @@ final class Options {
         if (programs.isEmpty() == (random == 0 && burst == null)) {
             throw new Wrong("either programs, or --random, or --burst");
         }
+        if (burst != null && (random > 0 || jobs > 1 || patience != 1 || report != null || known || firstTry || keepGoing)) {
+            throw new Wrong("with --burst go only --factory or --port, --seed, --round, and --keep");
+        }
+        if (round >= 0 && burst == null) {
+            throw new Wrong("--round wants --burst");
+        }
         if (jobs > 1 && port == null) {
             throw new Wrong("--jobs wants --port: classes on the JVM are played one case after the other");
         }

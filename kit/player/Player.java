@@ -44,7 +44,7 @@ public final class Player {
     private int playBursts(BurstOrder bursts) throws IOException, Options.Wrong {
         Stage stage = options.stage();
         try {
-            return bursts.play(stage, System.out) ? 0 : 1;
+            return bursts.play(stage, System.out);
         } finally {
             stage.close();
         }

@@ -20,6 +20,7 @@ final class PortProcess {
     private static final int TIMES_FOR_THE_BUSY = 4;
 
     private final Process process;
+    private final Thread reader = new Thread(this::read, "port reader");
     private final BufferedWriter into;
     private final BoundedLines from;
     /** The answers to commands for objects; null where the port has broken down. */
@@ -47,7 +48,6 @@ final class PortProcess {
         }
         into = new BufferedWriter(new OutputStreamWriter(process.getOutputStream(), StandardCharsets.US_ASCII));
         from = new BoundedLines(process.getInputStream());
-        Thread reader = new Thread(this::read, "port reader");
         reader.setDaemon(true);
         reader.start();
     }
@@ -126,6 +126,9 @@ final class PortProcess {
             into.write('\n');
             into.flush();
         } catch (IOException closed) {
+            if (Thread.currentThread() == reader) {
+                return;     // it reads on, and comes to the reason
+            }
             awaitBreakdown();
             check();
             throw new PortEnded("the port has closed its input", !answered);
