@@ -39,14 +39,25 @@ record Answer(Kind kind, int number, String words) {
         return new Answer(Kind.FAULT, 0, words);
     }
 
-    /** In words, as what a call did. */
+    /** What the call did, in words. */
     String told() {
         return switch (kind) {
-            case VALUE -> "answered " + number;
-            case VOID -> "answered without one";
-            case THROWN -> "threw exception " + number;
-            case THROUGH -> "threw what it was told to, " + number;
-            case FAULT -> "threw something else: " + words;
+            case VALUE -> "= " + number;
+            case VOID -> "ok";
+            case THROWN -> "throws " + exception();
+            case THROUGH -> "throws what its onAdvance or action threw";
+            case FAULT -> "throws something else: " + words;
+        };
+    }
+
+    private String exception() {
+        return switch (number) {
+            case ILLEGAL_STATE -> "IllegalStateException";
+            case ILLEGAL_ARGUMENT -> "IllegalArgumentException";
+            case INTERRUPTED -> "InterruptedException";
+            case BROKEN_BARRIER -> "BrokenBarrierException";
+            case TIMEOUT -> "TimeoutException";
+            default -> "exception " + number;
         };
     }
 

@@ -89,27 +89,6 @@ final class BurstEntry {
         if (step.interrupts()) {
             return "interrupt of thread " + step.target();
         }
-        return "thread " + thread + ": " + step.request().words() + (answer == null ? " has no answer" : " " + words(answer));
-    }
-
-    static String words(Answer answer) {
-        return switch (answer.kind()) {
-            case VALUE -> "= " + answer.number();
-            case VOID -> "ok";
-            case THROWN -> "throws " + exception(answer.number());
-            case THROUGH -> "throws what its action threw";
-            case FAULT -> "throws something else: " + answer.words();
-        };
-    }
-
-    private static String exception(int number) {
-        return switch (number) {
-            case Answer.ILLEGAL_STATE -> "IllegalStateException";
-            case Answer.ILLEGAL_ARGUMENT -> "IllegalArgumentException";
-            case Answer.INTERRUPTED -> "InterruptedException";
-            case Answer.BROKEN_BARRIER -> "BrokenBarrierException";
-            case Answer.TIMEOUT -> "TimeoutException";
-            default -> "exception " + number;
-        };
+        return "thread " + thread + ": " + step.request().words() + (answer == null ? " has no answer" : " " + answer.told());
     }
 }

@@ -48,6 +48,7 @@ final class CommandChecks {
     /** What is no command, and what can't be played to its end. */
     void checkWords() throws IOException {
         String reset = folder("reset");
+        String one = reset + "/a-timed-wait";
         List<Check> checks = List.of(
             new Check(2, "there is no case in", room.toString()),
             new Check(2, "there is no case in", reset, room.toString()),
@@ -67,7 +68,7 @@ final class CommandChecks {
             new Check(1, "with status 127 (no such command)", "--port", "./nosuch", reset),
             new Check(1, "the run ends here, since there is no answer in 3 cases in a row", "--port", "./nosuch", reset),
             new Check(1, " different, 0 left out\n", "--keep-going", "--port", "./nosuch", reset),
-            new Check(1, "the port doesn't answer: case", "--patience", "0.1", "--port", "exec sleep 600", reset),
+            new Check(1, "the port doesn't answer: case", "--port", "exec sleep 600", one + ".asm", one + ".schedule"),
             new Check(0, "2 left out: it makes no phaser\n", "--factory", BarriersAlone.class.getName(), folder("action")),
             new Check(2, "nothing was compared\n", "--factory", BarriersAlone.class.getName(), folder("policies")));
         checks.parallelStream().forEach(this::check);
@@ -81,7 +82,12 @@ final class CommandChecks {
             new Check(0, "2 left out: it makes no phaser\n", "--port", port + "without phaser", folder("action")),
             new Check(2, "nothing was compared\n", "--port", port + "without barrier", folder("reset")),
             new Check(2, "nothing was compared\n", "--port", port + "without case", folder("reset")),
-            new Check(1, "--keep FOLDER writes it\n", "--random", "1", "--port", port + "'64 = ' 'say 64 = x\\n'"));
+            new Check(1, "--keep FOLDER writes it\n", "--random", "1", "--port", port + "'64 = ' 'say 64 = x\\n'"),
+            new Check(1, "burst 1 0 meetings\n  the port has ended, with status 3\n",
+                "--burst", "1", "--port", port + "'0 = ' 'exit 3'"),
+            new Check(1, "  the port wrote `0 = x`: `x` is no int\n", "--burst", "1", "--port", port + "'0 = ' 'say 0 = x\\n'"),
+            new Check(0, "15 kinds left out: it makes no barrier\n", "--burst", "37", "--port", port + "without barrier"),
+            new Check(2, "nothing was compared\n", "--burst", "37", "--port", port + "without case"));
         checks.parallelStream().forEach(this::check);
         checkNothingIsWritten();
         checkEnd(port, "TERM");
