@@ -3,6 +3,7 @@ package kit.player;
 import java.util.ArrayList;
 import java.util.Collections;
 import java.util.List;
+import java.util.Locale;
 
 /** A burst that fails, in words: what is wrong, its objects and calls, and the answer that no order explains. */
 final class BurstReport {
@@ -43,7 +44,7 @@ final class BurstReport {
             Burst.Phaser phaser = burst.phasers().get(number);
             line("  phaser " + number + ": " + phaser.parties() + " parties"
                 + (phaser.parent() < 0 ? "" : ", child of " + phaser.parent())
-                + (phaser.asks() ? ", onAdvance overridden: " + phaser.policy().kind().name().toLowerCase(java.util.Locale.ROOT)
+                + (phaser.asks() ? ", onAdvance overridden: " + phaser.policy().kind().name().toLowerCase(Locale.ROOT)
                     + (phaser.policy().kind() == Policy.Kind.UNTIL ? " " + phaser.policy().argument() : "") : ""));
         }
         for (int number = 0; number < burst.barriers().size(); number++) {
