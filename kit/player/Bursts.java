@@ -105,6 +105,7 @@ final class Bursts {
             BurstJudge.Finding finding = history == null ? null : judge(history);
             return finding == null ? null : new BurstReport(history, finding).text();
         } catch (Breakdown broken) {
+            rounds++;
             stage.abandon();
             return BurstReport.head(burst) + "\n  " + broken.getMessage() + "\n";
         }
@@ -147,7 +148,7 @@ final class Bursts {
 
     void tell() {
         whyLeftOut.forEach((why, kinds) -> to.println(kinds + " kinds left out: " + why));
-        if (rounds + findings == 0) {
+        if (rounds == 0) {
             to.println("nothing was compared");
         }
         to.println(rounds + " bursts of " + (BurstKind.ALL.size() - kindsLeftOut.size()) + " kinds, " + calls

@@ -62,6 +62,7 @@ final class CommandChecks {
             new Check(2, "--patience wants a factor", "--patience", "NaN", reset),
             new Check(2, "--keep wants --random or --burst", "--keep", room.toString(), reset),
             new Check(2, "--burst" + NO_NUMBER, "--burst", "0"),
+            new Check(2, "there is no ./nosuch.burst", "--burst", "./nosuch.burst"),
             new Check(2, "with --burst go only", "--burst", "1", "--jobs", "2", "--port", "./nosuch"),
             new Check(2, "--round wants --burst", "--round", "1", reset),
             new Check(1, "burst 1 0 meetings\n  the port has ended before its first answer",

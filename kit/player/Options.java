@@ -175,6 +175,9 @@ final class Options {
             }
             return kept;
         }
+        if (!burst.matches("-?[0-9]+")) {
+            throw new Wrong("there is no " + burst);
+        }
         long count = number("--burst", List.of(burst).iterator(), 1, MOST_ROUNDS);
         return round < 0 ? BurstOrder.of(seed, count, keep) : new BurstOrder(seed, round, count, keep);
     }
