@@ -39,6 +39,28 @@ record Answer(Kind kind, int number, String words) {
         return new Answer(Kind.FAULT, 0, words);
     }
 
+    /** What the call did, in words. */
+    String told() {
+        return switch (kind) {
+            case VALUE -> "= " + number;
+            case VOID -> "ok";
+            case THROWN -> "throws " + exception();
+            case THROUGH -> "throws what its onAdvance or action threw";
+            case FAULT -> "throws something else: " + words;
+        };
+    }
+
+    private String exception() {
+        return switch (number) {
+            case ILLEGAL_STATE -> "IllegalStateException";
+            case ILLEGAL_ARGUMENT -> "IllegalArgumentException";
+            case INTERRUPTED -> "InterruptedException";
+            case BROKEN_BARRIER -> "BrokenBarrierException";
+            case TIMEOUT -> "TimeoutException";
+            default -> "exception " + number;
+        };
+    }
+
     boolean isValue(int wanted) {
         return kind == Kind.VALUE && number == wanted;
     }

@@ -3,12 +3,16 @@ package kit.player;
 /** A call that a real thread was told to make. The real side writes into it, the player reads. */
 final class Call {
     final Request request;
+    private final CallWatcher watcher;
     private volatile Answer answer;
     private volatile Entered entered;
     private volatile boolean inside;
+    /** What its routine or action was told to throw; null where it was told nothing, or to return. */
+    private volatile Integer thrown;
 
-    Call(Request request) {
+    Call(Request request, CallWatcher watcher) {
         this.request = request;
+        this.watcher = watcher;
     }
 
     boolean done() {
@@ -22,12 +26,14 @@ final class Call {
 
     void finish(Answer answer) {
         this.answer = answer;
+        watcher.done(this);
     }
 
     /** The real thread stands at the beginning of a routine or an action. */
     void enter(Entered where) {
         inside = true;
         entered = where;
+        watcher.entered(this, where);
     }
 
     boolean hasEntered() {
@@ -46,9 +52,14 @@ final class Call {
         return inside;
     }
 
-    /** The routine or action is told to end. */
-    void leave() {
+    /** The routine or action is told to end: to throw this number, or, where that is null, to return. */
+    void leave(Integer throwing) {
+        thrown = throwing;
         entered = null;
         inside = false;
+    }
+
+    boolean wasToldToThrow(int number) {
+        return thrown != null && thrown == number;
     }
 }

@@ -2,6 +2,10 @@ package kit.player;
 
 /** What a choice comes to where it makes a call, enters a routine or an action, or ends one. */
 final class Caller {
+    private static final long HOUR = 3_600_000_000_000L;
+    /** So many questions may be asked of the real side at one choice. */
+    private static final int TRIPS_OF_A_CHOICE = 8;
+
     private final Scene scene;
 
     Caller(Scene scene) {
@@ -27,7 +31,7 @@ final class Caller {
         }
         KnownDifference difference = forbidding(Situation.of(scene, thread, row));
         if (difference != null) {
-            scene.notes.toldOver(difference, scene.step + 1);
+            scene.notes.toldOver(difference, scene.step() + 1);
             return thread.fail(Answer.ILLEGAL_STATE);
         }
         if (method.waitsAtBarrier() && thread.stackFull() && scene.program.barriers.get(row.object()).action() >= 0) {
@@ -44,12 +48,12 @@ final class Caller {
 
     private KnownDifference forbidding(Situation at) {
         if (!scene.first) {
-            KnownDifference difference = scene.plan.toldOver(scene.step);
+            KnownDifference difference = scene.plan.toldOver(scene.step());
             return difference != null && scene.known.list.contains(difference) ? difference : null;
         }
         KnownDifference difference = scene.known.forbidding(at);
         if (difference != null) {
-            scene.plan.tellOver(scene.step, difference);
+            scene.plan.tellOver(scene.step(), difference);
         }
         return difference;
     }
@@ -57,7 +61,7 @@ final class Caller {
     /** Whether the call isn't made now: the first play asks Vuthgal's rules, the second has learned it. */
     private boolean isHeld(ProgramThread thread, Row row, Holds.Cause cause) {
         if (!scene.first) {
-            boolean leftOut = scene.plan.leavesOut(scene.step);
+            boolean leftOut = scene.plan.leavesOut(scene.step());
             if (leftOut) {
                 scene.note(Notes.Kind.LEFT_OUT, row.operation().word());
             }
@@ -67,12 +71,12 @@ final class Caller {
         boolean held = method.registers() ? scene.held(thread, row)
             : method.lockedOutByAction() && scene.lockedOut(thread, row.object());
         if (held) {
-            scene.holds.held(thread, cause, Situation.of(scene, thread, row).parties(), scene.step);
+            scene.holds.held(thread, cause, Situation.of(scene, thread, row).parties(), scene.step());
             return true;
         }
         boolean wasHeld = scene.holds.goesOn(thread, scene.plan);
         if (!(wasHeld && method.registers())) {     // held registrations may go on one after the other
-            scene.holds.called(scene.step);
+            scene.holds.called(scene.step());
         }
         return false;
     }
@@ -80,7 +84,7 @@ final class Caller {
     private String make(ProgramThread thread, Row row) {
         Method method = row.method();
         int object = row.object();
-        int waitingBefore = method == Method.RESET && scene.runner[object] == null
+        int waitingBefore = method == Method.RESET && scene.runner(object) == null
             ? scene.look(Method.GET_NUMBER_WAITING, object) : 0;
         if (method == Method.FORCE_TERMINATION && scene.first) {
             rememberCounts(scene.root(object));
@@ -89,13 +93,13 @@ final class Caller {
         Pending pending = new Pending(
             scene.real(thread).tell(new Request(method, Math.max(object, 0), row.number(thread.registers), time)), row);
         scene.notes.asked();
-        pending.expires = method.timed() && !scene.first && scene.plan.expiry(thread) != null;
-        pending.time = time;
+        pending.times(method.timed() && !scene.first && scene.plan.expiry(thread) != null, time);
         if (method.ofPhaser()) {
             boolean namesPhase = method.waitsForPhase() && !method.arrives();
-            pending.awaited = namesPhase ? row.number(thread.registers) : scene.view[scene.root(object)];
+            pending.awaits(namesPhase ? row.number(thread.registers) : scene.view(scene.root(object)));
         }
-        RealThread.Outcome outcome = scene.real(thread).settle(pending.call, scene.patience);
+        RealThread.Outcome outcome =
+            mayBlock(thread, pending) ? scene.settle(thread, pending.call()) : scene.comeBack(thread, pending.call());
         if (outcome == RealThread.Outcome.ENTERED) {
             return enter(thread, pending);
         }
@@ -108,8 +112,17 @@ final class Caller {
         return answer(thread, pending, true);
     }
 
+    /** Whether the rules let it wait, as far as the objects show. */
+    private boolean mayBlock(ProgramThread thread, Pending pending) {
+        Method method = pending.method();
+        if (method.waitsForPhase() && !method.arrives()) {
+            return pending.awaited() == scene.view(scene.root(pending.object()));
+        }
+        return method.waits() || method.registers() || method.lockedOutByAction() && scene.lockedOut(thread, pending.object());
+    }
+
     private void rememberCounts(int root) {
-        if (scene.view[root] >= 0) {
+        if (scene.view(root) >= 0) {
             scene.plan.forced(root, scene.unarrived(root));
         }
     }
@@ -129,22 +142,21 @@ final class Caller {
             return HOUR;
         }
         long settle = scene.patience.settle();
-        long expiries = scene.plan.expiriesBetween(scene.step, until);
-        return expiries * (scene.patience.expiry() + 4 * settle) + (until - scene.step) * 2L * settle;
+        long expiries = scene.plan.expiriesBetween(scene.step(), until);
+        long choices = until - scene.step();
+        return expiries * (scene.patience.expiry() + 4 * settle) + choices * (2 * settle + TRIPS_OF_A_CHOICE * scene.roundTrip());
     }
-
-    private static final long HOUR = 3_600_000_000_000L;
 
     private String blocked(ProgramThread thread, Pending pending) {
         Method method = pending.method();
         thread.pending = pending;
         if (method.registers() || method.ofBarrier() && scene.lockedOut(thread, pending.object())) {
-            scene.note(Notes.Kind.HELD, pending.row.operation().word());
+            scene.note(Notes.Kind.HELD, pending.row().operation().word());
             return "idle";
         }
         if (!method.waits()) {
             scene.odd(method.word + " blocks");
-        } else if (method.waitsForPhase() && pending.awaited != scene.view[scene.root(pending.object())]) {
+        } else if (method.waitsForPhase() && pending.awaited() != scene.view(scene.root(pending.object()))) {
             scene.odd(method.word + " waits for another phase");
         }
         return waits(thread, pending);
@@ -153,7 +165,7 @@ final class Caller {
     /** The thread waits from now on, as the trace tells it. */
     String waits(ProgramThread thread, Pending pending) {
         if (pending.method().waitsAtBarrier()) {
-            pending.generation = scene.generation[pending.object()];
+            pending.waitsIn(scene.generation(pending.object()));
         }
         thread.pending = pending;
         thread.status = ProgramThread.Status.WAITS;
@@ -162,7 +174,7 @@ final class Caller {
 
     /** The real thread stands at the beginning of a routine or an action. */
     String enter(ProgramThread thread, Pending pending) {
-        Entered where = pending.call.takeEntered();
+        Entered where = pending.call().takeEntered();
         StackEntry.Kind kind = where.ofPhaser() ? StackEntry.Kind.ROUTINE : StackEntry.Kind.ACTION;
         thread.push(new StackEntry(kind, where.object(), thread.registers.clone(), thread.row, pending));
         thread.status = ProgramThread.Status.RUNS;
@@ -174,7 +186,7 @@ final class Caller {
             scene.routineBegins(where.object());
         } else {
             thread.row = scene.program.barriers.get(where.object()).action();
-            scene.runner[where.object()] = thread;
+            scene.actionBegins(where.object(), thread);
         }
         return "enter";
     }
@@ -185,16 +197,15 @@ final class Caller {
         boolean action = entry.kind() == StackEntry.Kind.ACTION;
         Pending pending = entry.pending();
         RealThread real = scene.real(thread);
-        scene.holds.called(scene.step);
+        scene.holds.called(scene.step());
         if (throwing) {
             real.fail(number);
         } else {
             real.answer(action || number == 0 ? 0 : 1);
         }
-        RealThread.Outcome outcome = real.settle(pending.call, scene.patience);
+        RealThread.Outcome outcome = scene.comeBack(thread, pending.call());
         if (action) {
-            scene.runner[entry.number()] = null;
-            scene.holds.freed(Holds.Cause.action(entry.number()), scene.step);
+            scene.actionEnds(entry.number());
         }
         thread.registers = entry.registers();
         thread.row = entry.row();
@@ -206,7 +217,7 @@ final class Caller {
             scene.odd(pending.method().word + " waits behind its routine or action");
             return waits(thread, pending);
         }
-        if (throwing && pending.call.answer().equals(Answer.through(number))) {
+        if (throwing && pending.call().answer().equals(Answer.through(number))) {
             if (action) {
                 scene.broken(entry.number());
             }
@@ -221,7 +232,7 @@ final class Caller {
      * thread had to wait, and another choice shows the answer.
      */
     String answer(ProgramThread thread, Pending pending, boolean atOnce) {
-        Answer given = scene.known.told(Situation.of(scene, thread, pending.row), pending.call.answer());
+        Answer given = scene.known.told(Situation.of(scene, thread, pending.row()), pending.call().answer());
         thread.pending = null;
         switch (given.kind()) {
             case VALUE -> {
@@ -260,12 +271,12 @@ final class Caller {
             thread.interrupted = false;
         } else if (method.waitsAtBarrier() && atOnce && value == 0) {
             scene.tripped(pending.object());
-        } else if (method.waitsForPhase() && pending.released && value == pending.viewAtRelease) {
+        } else if (method.waitsForPhase() && pending.released() && value == pending.viewAtRelease()) {
             told = scene.look(Method.GET_PHASE, scene.root(pending.object()));
             if (told != value) {
                 scene.note(Notes.Kind.TOLD_AGAIN, method.word + " answered " + value + " when it was released");
             }
         }
-        return thread.put(pending.row.operand(0), told);
+        return thread.put(pending.row().operand(0), told);
     }
 }

@@ -3,11 +3,11 @@ package kit.player;
 /**
  * Plays cases on a real side and says whether their traces are Vuthgal's. Each is played twice: first on the JDK's classes,
  * with every documented difference told over, to learn which calls are held and which waits run out; then for the verdict.
- * A case that differs is played again with more patience before it counts: a slow machine is no difference.
+ * A case that differs is played again with more patience before it counts, the last time on a fresh real side: a slow
+ * machine is no difference.
  */
 final class Judge {
-    private static final Stage LEARNER = new JvmStage(new JdkFactory());
-
+    private final Stage learner = new JvmStage(new JdkFactory());
     private final Stage stage;
     private final Vuthgal vuthgal;
     private final KnownDifferences known;
@@ -26,38 +26,42 @@ final class Judge {
 
     /** Loads what a first call loads, so that this doesn't look like a wait. */
     Judge warm() {
-        WarmUp.play(LEARNER);
-        WarmUp.play(stage);
+        WarmUp.play(learner, learner.patience());
+        WarmUp.play(stage, patience);
         return this;
     }
 
+    /** The real side isn't needed any more. */
+    void close() {
+        stage.close();
+    }
+
     Verdict judge(Case asked) {
+        return judge(asked, null);
+    }
+
+    /** Plays a case by the plan of a verdict that was the same; where there is none it is learned. */
+    Verdict judge(Case asked, Plan taught) {
         Verdict verdict = null;
         for (int number = 1; number <= patience.length; number++) {
-            Patience learning = Patience.OF_JVM[Math.min(number, Patience.OF_JVM.length) - 1];
-            verdict = once(asked, learn(asked, learning), number);
-            if (verdict.kind() != Verdict.Kind.DIFFERS) {
+            boolean last = number > 1 && (number == patience.length || verdict.breakdown() != null);
+            if (last) {
+                stage.abandon();
+            }
+            Verdict next = once(asked, taught, number);
+            verdict = verdict == null ? next : next.behind(verdict);
+            if (!verdict.mayBeSlowness()) {
                 break;
             }
         }
         return verdict;
     }
 
-    /** Plays a case by the plan of a verdict that was the same. */
-    Verdict judge(Case asked, Plan plan) {
-        Verdict verdict = null;
-        for (int number = 1; number <= patience.length; number++) {
-            verdict = once(asked, plan, number);
-            if (verdict.kind() != Verdict.Kind.DIFFERS) {
-                break;
-            }
-        }
-        return verdict;
-    }
-
-    private Plan learn(Case asked, Patience patient) {
+    private Plan learn(Case asked, int number) {
+        Patience[] learning = Patience.times(patience[0].factor(), learner.patience());
+        Patience patient = learning[Math.min(number, learning.length) - 1];
         Plan plan = new Plan();
-        Play play = new Play(new Scene(asked.program(), LEARNER, plan, patient, KnownDifferences.ALL, true), asked.schedule());
+        Play play = new Play(new Scene(asked.program(), learner, plan, patient, KnownDifferences.ALL, true), asked.schedule());
         try {
             play.play();
         } finally {
@@ -66,19 +70,26 @@ final class Judge {
         return plan;
     }
 
-    private Verdict once(Case asked, Plan plan, int number) {
-        Play play = new Play(
-            new Scene(asked.program(), stage, plan, patience[number - 1], known, false), asked.schedule());
+    private Verdict once(Case asked, Plan taught, int number) {
         try {
-            String trace = play.play();
-            int line = line(asked, trace, play.scene.notes);
-            Verdict.Kind kind = line == 0 ? Verdict.Kind.SAME : Verdict.Kind.DIFFERS;
-            return new Verdict(kind, line, trace, play.scene.notes, plan, number, "");
+            return once(asked, number, taught != null ? taught : learn(asked, number));
         } catch (Unplayable why) {
             return Verdict.leftOut(why.getMessage());
+        }
+    }
+
+    private Verdict once(Case asked, int number, Plan plan) {
+        Play play = new Play(
+            new Scene(asked.program(), stage, plan, patience[number - 1], known, false), asked.schedule());
+        String trace;
+        try {
+            trace = play.play();
         } finally {
             play.clear();
         }
+        int line = line(asked, trace, play.scene.notes);
+        Verdict.Kind kind = line == 0 ? Verdict.Kind.SAME : Verdict.Kind.DIFFERS;
+        return new Verdict(kind, line, trace, play.scene.notes, plan, play.breakdown(), 1, "", "");
     }
 
     /** The first line that differs, or the first choice at which something odd happened; 0 if there is none. */

@@ -6,6 +6,7 @@ import java.util.List;
 import java.util.Map;
 import java.util.concurrent.BrokenBarrierException;
 import java.util.concurrent.TimeoutException;
+import java.util.function.Supplier;
 
 /** Calls on the objects of a factory, made by threads of this JVM. */
 final class JvmStage implements Stage {
@@ -24,7 +25,7 @@ final class JvmStage implements Stage {
     }
 
     @Override
-    public void begin() {
+    public void begin(Patience patience) {
         objects = new Objects();
     }
 
@@ -35,22 +36,33 @@ final class JvmStage implements Stage {
             return known != null ? known : Actor.current().stand(Entered.onAdvance(number, phase, registered)) != 0;
         };
         PhaserUnderTest above = parent < 0 ? null : objects.phasers.get(parent);
-        try {
-            objects.phasers.add(factory.phaser(above, parties, firstPhase, onAdvance));
-        } catch (UnsupportedOperationException missing) {
-            throw new Unplayable(missing.getMessage());
-        }
+        objects.phasers.add(made(() -> factory.phaser(above, parties, firstPhase, onAdvance), "phaser"));
     }
 
     @Override
     public void barrier(int number, int parties, boolean withAction) {
         Runnable action = withAction ? () -> Actor.current().stand(Entered.action(number)) : null;
-        objects.barriers.add(factory.barrier(parties, action));
+        objects.barriers.add(made(() -> factory.barrier(parties, action), "barrier"));
+    }
+
+    private static <T> T made(Supplier<T> maker, String what) {
+        try {
+            return maker.get();
+        } catch (UnsupportedOperationException missing) {
+            throw new Unplayable(missing.getMessage() == null ? "the factory makes no such " + what : missing.getMessage());
+        } catch (RuntimeException thrown) {
+            throw new ProtocolFault("the factory's " + what + " threw " + Excerpt.of(thrown.toString()));
+        }
     }
 
     @Override
     public RealThread thread(int number) {
         return actors.computeIfAbsent(number, fresh -> new Actor(request -> make(objects, request)));
+    }
+
+    @Override
+    public boolean isHere() {
+        return true;
     }
 
     /** Threads that hang are left behind as they are; the next case has new ones. */

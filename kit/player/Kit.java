@@ -1,26 +1,43 @@
 package kit.player;
 
 import java.io.IOException;
-import java.lang.reflect.Modifier;
 import java.nio.file.Files;
 import java.nio.file.Path;
 import java.util.ArrayList;
 import java.util.HashSet;
 import java.util.List;
 import java.util.Set;
-import java.util.stream.Stream;
 
-/** What {@code kit/run} runs: the cases, the differences, the wrong adapters, a port behind a pipe, and random scenarios. */
+/**
+ * What {@code kit/run} runs: the player's own words, the cases, the differences, the wrong adapters, ports, random scenarios,
+ * and bursts.
+ */
 public final class Kit {
     private static final int SCENARIOS = 300;
+    /** So many processes of a port play at once. */
+    private static final int JOBS = 2;
+    private static final long SECOND = 1_000_000_000L;
 
     /** A case that the JDK plays as Vuthgal does, with what its first play has taught. */
     private record Learned(Case each, Plan plan) {
     }
 
+    /** A port, and how many bursts it plays. */
+    record Port(String command, int bursts) {
+        /** Of words in pairs: a number of bursts, and a command. */
+        static List<Port> of(List<String> words) {
+            List<Port> ports = new ArrayList<>();
+            for (int at = 0; at < words.size(); at += 2) {
+                ports.add(new Port(words.get(at + 1), Integer.parseInt(words.get(at))));
+            }
+            return ports;
+        }
+    }
+
     private final Path repository;
     private final Path kit;
     private final Vuthgal vuthgal;
+    private final WrongAdapters adapters;
     private final List<Learned> learned = new ArrayList<>();
     private int passed;
     private int failed;
@@ -29,19 +46,26 @@ public final class Kit {
         this.repository = repository;
         kit = repository.resolve("kit");
         vuthgal = new Vuthgal(program);
+        adapters = new WrongAdapters(kit.resolve("wrong"), "kit.wrong");
     }
 
-    /** The words are the repository's folder, the program to hold all against, and the commands of ports. */
-    public static void main(String[] words) throws IOException {
+    /**
+     * The words are the repository's folder, the program to hold all against, the command of Python (empty where there is
+     * none), and, for each port, how many bursts it plays, and its command.
+     */
+    public static void main(String[] words) throws IOException, InterruptedException {
         Kit kit = new Kit(Path.of(words[0]), Path.of(words[1]));
+        List<Port> ports = Port.of(List.of(words).subList(3, words.length));
+        kit.checkPlayer(Path.of(words[1]), words[2]);
         kit.checkCases();
         kit.checkDifferences();
         kit.checkRules();
         kit.checkWrongAdapters();
-        for (String command : List.of(words).subList(2, words.length)) {
-            kit.checkPort(command);
+        for (Port port : ports) {
+            kit.checkPort(port.command());
         }
         kit.checkRandom();
+        kit.checkBursts(ports);
         System.out.println(kit.passed + " passed, " + kit.failed + " failed");
         System.exit(kit.failed == 0 ? 0 : 1);
     }
@@ -57,8 +81,21 @@ public final class Kit {
 
     private static void tellAgain(String name, Verdict verdict) {
         if (verdict.isSame() && verdict.tries() > 1) {
-            System.out.println(name + ": the same with more patience, at try " + verdict.tries());
+            System.out.println(name + " " + verdict.words() + verdict.triesInWords());
         }
+    }
+
+    // ---- the player itself
+
+    private void checkPlayer(Path program, String python) throws IOException, InterruptedException {
+        int before = passed + failed;
+        CommandChecks commands = new CommandChecks(kit, program, this::count);
+        commands.checkWords();
+        if (!python.isEmpty()) {
+            new FaultTable(kit.resolve("faults")).check(vuthgal, python, this::count);
+            commands.checkPorts(python);
+        }
+        System.out.println("the player's own words: " + (passed + failed - before) + " commands and faults of ports");
     }
 
     // ---- cases
@@ -135,7 +172,7 @@ public final class Kit {
         int found = 0;
         Set<String> nearly = new HashSet<>();
         KnownDifferences.ALL.list.forEach(difference -> nearly.add(difference.nearly()));
-        for (String name : wrongAdapters()) {
+        for (String name : adapters.names()) {
             String finder = findByCases(name);
             if (finder == null && nearly.contains(name)) {
                 finder = findByDifferences(name);
@@ -149,37 +186,10 @@ public final class Kit {
         System.out.println("wrong adapters: " + found + " found");
     }
 
-    private List<String> wrongAdapters() throws IOException {
-        try (Stream<Path> files = Files.list(kit.resolve("wrong"))) {
-            return files.map(file -> file.getFileName().toString().replace(".java", ""))
-                .filter(name -> !name.equals("package-info")).filter(Kit::isAdapter).sorted().toList();
-        }
-    }
-
-    private static boolean isAdapter(String name) {
-        Class<?> adapter = classOf(name);
-        return Factory.class.isAssignableFrom(adapter) && !Modifier.isAbstract(adapter.getModifiers());
-    }
-
-    private static Class<?> classOf(String name) {
-        try {
-            return Class.forName("kit.wrong." + name);
-        } catch (ClassNotFoundException none) {
-            throw new IllegalStateException(none);
-        }
-    }
-
     private Judge judgeOf(String adapter, KnownDifferences known) {
-        try {
-            Stage stage = new JvmStage((Factory) classOf(adapter).getDeclaredConstructor().newInstance());
-            return new Judge(stage, vuthgal, known,
-                Patience.OF_JVM[0].withBound(SECOND / 3), Patience.OF_JVM[1].withBound(SECOND));
-        } catch (ReflectiveOperationException none) {
-            throw new IllegalStateException(none);
-        }
+        return new Judge(adapters.stage(adapter), vuthgal, known,
+            Patience.OF_JVM[0].withBound(SECOND / 3), Patience.OF_JVM[1].withBound(SECOND));
     }
-
-    private static final long SECOND = 1_000_000_000L;
 
     /** The first case in which it differs, twice; null where there is none. */
     private String findByCases(String adapter) {
@@ -208,34 +218,44 @@ public final class Kit {
     // ---- a port behind a pipe, and random scenarios
 
     private void checkPort(String command) {
-        Stage stage = new PortStage(command);
-        Judge judge = new Judge(stage, vuthgal, KnownDifferences.COUNTS).warm();
-        Sums sums = new Sums();
-        int leftOut = 0;
-        for (Learned at : learned) {
-            Verdict verdict = judge.judge(at.each(), at.plan());
-            boolean none = verdict.kind() == Verdict.Kind.LEFT_OUT;
-            leftOut += none ? 1 : 0;
-            count(at.each().name() + " by " + command, verdict.isSame() || none,
-                verdict.words() + "; " + String.join("; ", verdict.notes().lines()));
-            tellAgain(at.each().name() + " by the port", verdict);
-            sums.add(verdict.notes());
+        List<Judge> judges = new ArrayList<>();
+        for (int job = 0; job < JOBS; job++) {
+            judges.add(new Judge(new PortStage(command), vuthgal, KnownDifferences.COUNTS));
         }
-        stage.close();
+        Sums sums = new Sums();
+        int[] leftOut = {0};
+        new Jobs<>(learned, (judge, at) -> Played.of(judge, at.each(), at.plan())).run(judges, played -> {
+            Verdict verdict = played.verdict();
+            boolean none = verdict.kind() == Verdict.Kind.LEFT_OUT;
+            leftOut[0] += none ? 1 : 0;
+            count(played.each().name() + " by " + command, verdict.isSame() || none,
+                verdict.words() + "; " + String.join("; ", verdict.notes().lines()));
+            tellAgain(played.each().name() + " by the port", verdict);
+            sums.add(verdict.notes());
+            return true;
+        });
         System.out.println("cases on the port `" + command + "`: " + sums.line());
-        System.out.println(leftOut + " cases that it can't play");
+        System.out.println(leftOut[0] + " cases that it can't play");
     }
 
     private void checkRandom() throws IOException {
-        Path keep = Files.createTempDirectory("vuthgal-different");
-        Judge judge = new Judge(new JvmStage(new JdkFactory()), vuthgal, KnownDifferences.ALL);
-        RandomCases cases = new RandomCases(vuthgal, judge, keep);
         System.out.println("random scenarios on the JDK, seeds 1 to " + SCENARIOS + ":");
-        cases.play(1, SCENARIOS, System.out);
-        passed += cases.same();
-        failed += cases.different();
-        if (cases.different() == 0) {
-            Files.delete(keep);
+        Tally tally = new Tally(SCENARIOS, true, System.out);
+        Judge judge = new Judge(new JvmStage(new JdkFactory()), vuthgal, KnownDifferences.ALL);
+        new RandomCases(vuthgal, tally, null, System.out).play(List.of(judge), 1, SCENARIOS);
+        passed += tally.same();
+        failed += tally.different();
+    }
+
+    // ---- bursts
+
+    private void checkBursts(List<Port> ports) throws IOException {
+        BurstKit bursts = new BurstKit(vuthgal, this::count);
+        bursts.checkModel(learned.stream().map(Learned::each).toList());
+        bursts.checkJdk();
+        bursts.checkAdapters(new WrongAdapters(kit.resolve("wrong").resolve("burst"), "kit.wrong.burst"));
+        for (Port port : ports) {
+            bursts.checkPort(port);
         }
     }
 }

@@ -43,7 +43,7 @@ final class KnownDifferences {
         for (KnownDifference difference : list) {
             Answer instead = difference.instead(at, given);
             if (instead != null) {
-                at.scene().notes.toldOver(difference, at.scene().step + 1);
+                at.scene().notes.toldOver(difference, at.scene().step() + 1);
                 return instead;
             }
         }

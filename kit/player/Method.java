@@ -36,6 +36,10 @@ enum Method {
     private static final Set<Method> PHASE_WAITS = EnumSet.range(ARRIVE_AND_AWAIT_ADVANCE, AWAIT_ADVANCE_FOR);
     private static final Set<Method> NUMBERED =
         EnumSet.of(BULK_REGISTER, AWAIT_ADVANCE, AWAIT_ADVANCE_INTERRUPTIBLY, AWAIT_ADVANCE_FOR);
+    private static final Set<Method> LOOKS = EnumSet.of(GET_PHASE, GET_REGISTERED_PARTIES, GET_ARRIVED_PARTIES,
+        GET_UNARRIVED_PARTIES, IS_TERMINATED, GET_PARENT, GET_ROOT, IS_BROKEN, GET_NUMBER_WAITING, GET_PARTIES, IS_INTERRUPTED);
+
+    private static final Set<Method> TRUTHS = EnumSet.of(IS_TERMINATED, IS_BROKEN, INTERRUPTED, IS_INTERRUPTED);
 
     final String word;
 
@@ -82,9 +86,23 @@ enum Method {
         return this == AWAIT_ADVANCE_FOR || this == AWAIT_FOR;
     }
 
+    /** Whether it looks, and changes nothing. */
+    boolean looks() {
+        return LOOKS.contains(this);
+    }
+
     /** Whether it has a number beside its object: parties or a phase. */
     boolean numbered() {
         return NUMBERED.contains(this);
+    }
+
+    boolean hasValue() {
+        return this != FORCE_TERMINATION && this != RESET;
+    }
+
+    /** Whether its value is true or false. */
+    boolean isTruth() {
+        return TRUTHS.contains(this);
     }
 
     /** Whether a barrier answers it only when no other thread runs the action. */

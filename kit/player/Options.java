@@ -1,24 +1,45 @@
 package kit.player;
 
+import java.io.IOException;
+import java.nio.file.Files;
 import java.nio.file.Path;
 import java.util.ArrayList;
+import java.util.Collections;
 import java.util.Iterator;
 import java.util.List;
 
 /** The words of the command line. */
 final class Options {
     static final String USAGE = """
-        kit/play [--factory NAME | --port COMMAND] [--known] PROGRAM SCHEDULE [--trace FILE]
-        kit/play [--factory NAME | --port COMMAND] [--known] FOLDER..
-        kit/play [--factory NAME | --port COMMAND] --random N [--seed S] [--keep FOLDER]
-          --factory NAME   a class on the class path KIT_CLASSPATH that implements kit.player.Factory
-          --port COMMAND   a command that speaks the port protocol (docs/FORMATS.md)
-          --known          tells documented differences over (docs/BEHAVIOUR.md, "Where the JDK differs"), and counts them
-          --trace FILE     writes the trace of what was played
-          --random N       plays N scenarios of its own, with documented differences told over
-          --seed S         other scenarios; by default 1
-          --keep FOLDER    writes each scenario that differs there, as NAME.asm, NAME.schedule and NAME.trace
-          --vuthgal FILE   the program, by default that of this repository""";
+        kit/play [OPTION].. PROGRAM SCHEDULE [--trace FILE]
+        kit/play [OPTION].. FOLDER..
+        kit/play [OPTION].. --random N [--seed S] [--keep FOLDER]
+        kit/play [OPTION].. --burst ROUNDS [--seed S] [--round R] [--keep FOLDER]
+        kit/play [OPTION].. --burst FILE
+          --factory NAME     a class on the class path KIT_CLASSPATH that implements kit.player.Factory
+          --port COMMAND     a command that speaks the port protocol (docs/FORMATS.md)
+          --jobs N           starts the port so many times, and plays so many cases at once
+          --known            tells documented differences over (docs/BEHAVIOUR.md, "Where the JDK differs"), and counts them
+          --trace FILE       writes the trace of what was played
+          --random N         plays N scenarios of its own, with documented differences told over
+          --burst ROUNDS     plays so many bursts: several calls at once on threads that run freely
+          --burst FILE       plays a burst that was kept, 1000 times over
+          --round R          plays the burst of round R alone, ROUNDS times over
+          --seed S           other scenarios, or other bursts; by default 1
+          --keep FOLDER      writes each scenario that differs there, as NAME.asm, NAME.schedule and NAME.trace, and each
+                             burst that fails, as KIND-SEED-ROUND.burst
+          --report FILE      writes all verdicts as JUnit XML
+          --patience FACTOR  waits so many times as long, 0.1 to 100, before a thread counts as blocked and a call as hanging
+          --first-try        plays nothing again that differs
+          --keep-going       goes on where three cases in a row hang, or the port can't be started
+          --vuthgal FILE     the program, by default that of this repository""";
+
+    private static final long MOST_SCENARIOS = 1_000_000;
+    private static final long LAST_SEED = 1_000_000_000_000L;
+    private static final long MOST_ROUNDS = 1_000_000_000L;
+    private static final long MOST_JOBS = 64;
+    private static final double LEAST_PATIENCE = 0.1;
+    private static final double MOST_PATIENCE = 100;
 
     /** The words are wrong. */
     static final class Wrong extends Exception {
@@ -29,14 +50,21 @@ final class Options {
         }
     }
 
-    final List<Path> programs = new ArrayList<>();
-    Path vuthgal = Path.of("bin/vuthgal");
-    Path schedule;
-    Path trace;
-    Path keep = Path.of(".");
-    boolean known;
-    int random;
-    long seed = 1;
+    private final List<Path> programs = new ArrayList<>();
+    private Path vuthgal = Path.of("bin/vuthgal");
+    private Path schedule;
+    private Path trace;
+    private Path keep;
+    private Path report;
+    private boolean known;
+    private boolean firstTry;
+    private boolean keepGoing;
+    private int random;
+    private long seed = 1;
+    private int jobs = 1;
+    private double patience = 1;
+    private String burst;
+    private long round = -1;
     private String factory = JdkFactory.class.getName();
     private String port;
 
@@ -48,16 +76,42 @@ final class Options {
                 case "--vuthgal" -> vuthgal = Path.of(argument(word, at));
                 case "--factory" -> factory = argument(word, at);
                 case "--port" -> port = argument(word, at);
+                case "--jobs" -> jobs = (int) number(word, at, 1, MOST_JOBS);
                 case "--trace" -> trace = Path.of(argument(word, at));
                 case "--keep" -> keep = Path.of(argument(word, at));
-                case "--random" -> random = (int) number(word, at);
-                case "--seed" -> seed = number(word, at);
+                case "--report" -> report = Path.of(argument(word, at));
+                case "--random" -> random = (int) number(word, at, 1, MOST_SCENARIOS);
+                case "--seed" -> seed = number(word, at, 0, LAST_SEED);
+                case "--burst" -> burst = argument(word, at);
+                case "--round" -> round = number(word, at, 0, MOST_ROUNDS);
+                case "--patience" -> patience = factor(word, at);
                 case "--known" -> known = true;
+                case "--first-try" -> firstTry = true;
+                case "--keep-going" -> keepGoing = true;
                 default -> place(word);
             }
         }
-        if (programs.isEmpty() == (random == 0)) {
-            throw new Wrong("either programs or --random");
+        check();
+    }
+
+    private void check() throws Wrong {
+        if (programs.isEmpty() == (random == 0 && burst == null)) {
+            throw new Wrong("either programs, or --random, or --burst");
+        }
+        if (burst != null && (random > 0 || jobs > 1 || patience != 1 || report != null || known || firstTry || keepGoing)) {
+            throw new Wrong("with --burst go only --factory or --port, --seed, --round, and --keep");
+        }
+        if (round >= 0 && burst == null) {
+            throw new Wrong("--round wants --burst");
+        }
+        if (jobs > 1 && port == null) {
+            throw new Wrong("--jobs wants --port: classes on the JVM are played one case after the other");
+        }
+        if (keep != null && random == 0 && burst == null) {
+            throw new Wrong("--keep wants --random or --burst");
+        }
+        if (trace != null && schedule == null) {
+            throw new Wrong("--trace wants one program and its schedule");
         }
     }
 
@@ -68,12 +122,30 @@ final class Options {
         return at.next();
     }
 
-    private static long number(String option, Iterator<String> at) throws Wrong {
+    private static long number(String option, Iterator<String> at, long least, long most) throws Wrong {
+        String word = argument(option, at);
         try {
-            return Long.parseLong(argument(option, at));
+            long number = Long.parseLong(word);
+            if (number >= least && number <= most) {
+                return number;
+            }
         } catch (NumberFormatException none) {
-            throw new Wrong(option + " wants a number behind it");
+            // told below
         }
+        throw new Wrong(option + " wants a number from " + least + " to " + most + ", and not " + word);
+    }
+
+    private static double factor(String option, Iterator<String> at) throws Wrong {
+        String word = argument(option, at);
+        try {
+            double factor = Double.parseDouble(word);
+            if (factor >= LEAST_PATIENCE && factor <= MOST_PATIENCE) {
+                return factor;
+            }
+        } catch (NumberFormatException none) {
+            // told below
+        }
+        throw new Wrong(option + " wants a factor from " + LEAST_PATIENCE + " to " + (int) MOST_PATIENCE + ", and not " + word);
     }
 
     /** A folder, a program, or the schedule of the program before it. */
@@ -90,6 +162,26 @@ final class Options {
         }
     }
 
+    /** The bursts that were asked for, or null. */
+    BurstOrder bursts() throws Wrong, IOException {
+        if (burst == null) {
+            return null;
+        }
+        Path file = Path.of(burst);
+        if (Files.isRegularFile(file)) {
+            BurstOrder kept = BurstOrder.ofFile(file, keep);
+            if (kept == null) {
+                throw new Wrong(burst + " is no burst that was kept");
+            }
+            return kept;
+        }
+        if (!burst.matches("-?[0-9]+")) {
+            throw new Wrong("there is no " + burst);
+        }
+        long count = number("--burst", List.of(burst).iterator(), 1, MOST_ROUNDS);
+        return round < 0 ? BurstOrder.of(seed, count, keep) : new BurstOrder(seed, round, count, keep);
+    }
+
     /** The real side that was asked for. */
     Stage stage() throws Wrong {
         if (port != null) {
@@ -100,5 +192,62 @@ final class Options {
         } catch (ReflectiveOperationException | ClassCastException none) {
             throw new Wrong(factory + " is no factory: " + none);
         }
+    }
+
+    /** A judge for each case that is played at once. */
+    List<Judge> judges(Vuthgal by) throws Wrong {
+        List<Judge> judges = new ArrayList<>();
+        for (int job = 0; job < jobs; job++) {
+            Stage stage = stage();
+            Patience[] tries = Patience.times(patience, stage.patience());
+            judges.add(new Judge(stage, by, knownDifferences(), firstTry ? new Patience[] {tries[0]} : tries));
+        }
+        return judges;
+    }
+
+    private KnownDifferences knownDifferences() {
+        return known || random > 0 ? KnownDifferences.ALL : KnownDifferences.NONE;
+    }
+
+    /** The folders and programs that are named. */
+    List<Path> programs() {
+        return Collections.unmodifiableList(programs);
+    }
+
+    /** The schedule of the one program that is named; null where there is none. */
+    Path schedule() {
+        return schedule;
+    }
+
+    Path vuthgal() {
+        return vuthgal;
+    }
+
+    /** Where the trace is to be written; null for nowhere. */
+    Path trace() {
+        return trace;
+    }
+
+    /** Where scenarios that differ are kept; null for nowhere. */
+    Path keep() {
+        return keep;
+    }
+
+    /** Where all verdicts are to be written; null for nowhere. */
+    Path report() {
+        return report;
+    }
+
+    /** How many scenarios of its own it plays. */
+    int random() {
+        return random;
+    }
+
+    long seed() {
+        return seed;
+    }
+
+    boolean keepGoing() {
+        return keepGoing;
     }
 }

@@ -1,10 +1,13 @@
 package kit.player;
 
+import java.util.Arrays;
+
 /**
  * How long the player waits for a real thread, in nanoseconds. {@code settle}: a thread that stands still for so long is
  * taken to be blocked. {@code expiry}: the time of a timed wait that is to run out. {@code bound}: what takes longer hangs.
+ * {@code factor} is what was asked for, and is in the three.
  */
-record Patience(long settle, long expiry, long bound) {
+record Patience(long settle, long expiry, long bound, double factor) {
     private static final long MILLISECOND = 1_000_000;
 
     /** In this JVM, where a thread's state can be seen. */
@@ -21,7 +24,20 @@ record Patience(long settle, long expiry, long bound) {
         new Patience(100 * MILLISECOND, 1_000 * MILLISECOND, 10_000 * MILLISECOND),
     };
 
+    private Patience(long settle, long expiry, long bound) {
+        this(settle, expiry, bound, 1);
+    }
+
+    /** The patience of each try, so many times as long. */
+    static Patience[] times(double factor, Patience... tries) {
+        return Arrays.stream(tries).map(each -> each.times(factor)).toArray(Patience[]::new);
+    }
+
+    private Patience times(double more) {
+        return new Patience((long) (settle * more), (long) (expiry * more), (long) (bound * more), factor * more);
+    }
+
     Patience withBound(long nanoseconds) {
-        return new Patience(settle, expiry, nanoseconds);
+        return new Patience(settle, expiry, nanoseconds, factor);
     }
 }

@@ -13,6 +13,7 @@ final class Play {
     private final Waiter waiter;
     private final StringBuilder trace = new StringBuilder();
     private int effectiveSteps;
+    private Breakdown breakdown;
 
     Play(Scene scene, List<Choice> schedule) {
         this.scene = scene;
@@ -37,38 +38,47 @@ final class Play {
             } else {
                 trace.append(new StateText(scene, waiter).write(effectiveSteps));
             }
-        } catch (Hangs hangs) {
-            scene.odd(hangs.getMessage());
+        } catch (Breakdown down) {
+            breakDown(down);
         }
         return trace.toString();
     }
 
+    private void breakDown(Breakdown down) {
+        breakdown = down;
+        scene.odd(down.getMessage());
+    }
+
+    /** Why the real side couldn't go on; null where it could. */
+    Breakdown breakdown() {
+        return breakdown;
+    }
+
     private String head(Choice choice) {
-        return (scene.step + 1) + (choice.expiry() ? " x" : " t") + choice.thread() + " ";
+        return (scene.step() + 1) + (choice.expiry() ? " x" : " t") + choice.thread() + " ";
     }
 
     private void playChoice(Choice choice) {
         ProgramThread thread = scene.threads.get(choice.thread());
         int row = thread.row;
-        scene.mark = null;
+        scene.beginChoice();
         String what = choose(thread, choice.expiry());
         if (!what.equals("idle")) {
             effectiveSteps++;
-            if (scene.reached) {
+            if (scene.reached()) {
                 scene.followViews();
                 waiter.followReleases();
             }
         }
         trace.append(head(choice)).append(row).append(' ').append(what);
-        if (scene.mark != null) {
-            trace.append(' ').append(scene.mark);
+        if (scene.mark() != null) {
+            trace.append(' ').append(scene.mark());
         }
         trace.append('\n');
-        scene.step++;
+        scene.nextStep();
     }
 
     private String choose(ProgramThread thread, boolean expiry) {
-        scene.reached = true;
         if (expiry) {
             return waiter.canExpire(thread) ? waiter.expire(thread) : "idle";
         }
@@ -84,7 +94,7 @@ final class Play {
         Row row = scene.program.rows.get(thread.row);
         String plain = thread.playPlain(row, scene.cells);
         if (plain != null) {
-            scene.reached = false;
+            scene.reachesNothing();
             return plain;
         }
         return switch (row.operation()) {
@@ -100,27 +110,40 @@ final class Play {
     private String popThrowing(ProgramThread thread) {
         String popped = thread.popThrowing();
         if (popped != null) {
-            scene.reached = false;
+            scene.reachesNothing();
             return popped;
         }
         return caller.endRoutine(thread, true, thread.code);
     }
 
-    /** Lets all real threads out of their calls, and clears their interrupted statuses. */
+    /**
+     * Lets all real threads out of their calls, and clears their interrupted statuses. Where the real side breaks down or
+     * somebody stays inside it is abandoned; that somebody stays tells nothing of the case.
+     */
     void clear() {
-        long limit = System.nanoTime() + LONGEST_CLEARING;
-        try {
-            for (int round = 0; !allOut(round > ROUNDS_BEFORE_INTERRUPTS); round++) {
-                forceAll();
-                if (System.nanoTime() > limit) {
-                    scene.stage.abandon();
-                    return;
-                }
-                Thread.yield();
-            }
-            clearStatuses();
-        } catch (Hangs hangs) {
+        if (breakdown != null) {
             scene.stage.abandon();
+            return;
+        }
+        try {
+            leaveAll();
+            clearStatuses();
+        } catch (Hangs stays) {
+            scene.stage.abandon();
+        } catch (Breakdown down) {
+            breakDown(down);
+            scene.stage.abandon();
+        }
+    }
+
+    private void leaveAll() {
+        long limit = System.nanoTime() + LONGEST_CLEARING;
+        for (int round = 0; !allOut(round > ROUNDS_BEFORE_INTERRUPTS); round++) {
+            forceAll();
+            if (System.nanoTime() > limit) {
+                throw new Hangs("somebody stays inside");
+            }
+            Thread.yield();
         }
     }
 
@@ -139,22 +162,22 @@ final class Play {
     }
 
     private void forceAll() {
-        for (int phaser = 0; phaser < scene.view.length; phaser++) {
+        for (int phaser = 0; phaser < scene.program.phasers.size(); phaser++) {
             if (scene.root(phaser) == phaser) {
-                await(scene.stage.thread(Stage.LOOKER).tell(Request.of(Method.FORCE_TERMINATION, phaser)));
+                await(scene.stage.thread(Stage.LOOKER), Request.of(Method.FORCE_TERMINATION, phaser));
             }
         }
     }
 
     private void clearStatuses() {
         for (ProgramThread thread : scene.threads) {
-            await(scene.real(thread).tell(Request.of(Method.INTERRUPTED, 0)));
+            await(scene.real(thread), Request.of(Method.INTERRUPTED, 0));
         }
     }
 
-    private static void await(Call call) {
-        if (!RealThread.done(call, LONGEST_CLEARING)) {
-            throw new Hangs(call.request.words());
+    private static void await(RealThread thread, Request request) {
+        if (!thread.done(thread.tell(request), LONGEST_CLEARING)) {
+            throw new Hangs(request.words());
         }
     }
 }

@@ -3,6 +3,7 @@ package kit.player;
 import java.io.IOException;
 import java.nio.file.Files;
 import java.nio.file.Path;
+import java.util.ArrayList;
 import java.util.List;
 import java.util.stream.Stream;
 
@@ -10,13 +11,14 @@ import java.util.stream.Stream;
 public final class Player {
     private final Options options;
     private final Vuthgal vuthgal;
-    private int same;
-    private int different;
-    private int leftOut;
+
+    /** A program that has its schedule beside it, and the name by which it is told. */
+    private record Named(String name, Path file) {
+    }
 
     private Player(Options options) {
         this.options = options;
-        vuthgal = new Vuthgal(options.vuthgal);
+        vuthgal = new Vuthgal(options.vuthgal());
     }
 
     public static void main(String[] words) throws Exception {
@@ -29,69 +31,75 @@ public final class Player {
     }
 
     private int run() throws IOException, Options.Wrong {
+        BurstOrder bursts = options.bursts();
+        if (bursts != null) {
+            return playBursts(bursts);
+        }
+        if (options.random() > 0) {
+            return playRandom();
+        }
+        return options.schedule() != null ? playOne() : playAll();
+    }
+
+    private int playBursts(BurstOrder bursts) throws IOException, Options.Wrong {
         Stage stage = options.stage();
         try {
-            if (options.random > 0) {
-                return playRandom(stage);
-            }
-            Judge judge = new Judge(stage, vuthgal, options.known ? KnownDifferences.ALL : KnownDifferences.NONE).warm();
-            if (options.schedule != null) {
-                Case single = Case.of(vuthgal, options.programs.get(0).toString(), options.programs.get(0), options.schedule);
-                return tell(judge.judge(single));
-            }
-            return playAll(judge);
+            return bursts.play(stage, System.out);
         } finally {
             stage.close();
         }
     }
 
-    private int tell(Verdict verdict) throws IOException {
-        System.out.println(verdict.words());
+    private int playOne() throws IOException, Options.Wrong {
+        Path program = options.programs().get(0);
+        Judge judge = options.judges(vuthgal).get(0).warm();
+        Played played = Played.of(judge, Case.of(vuthgal, program.toString(), program, options.schedule()));
+        judge.close();
+        Verdict verdict = played.verdict();
+        System.out.println(verdict.words() + verdict.triesInWords());
         System.out.println(verdict.notes().sums());
-        if (verdict.tries() > 1) {
-            System.out.println("played " + verdict.tries() + " times, each with more patience");
-        }
         verdict.notes().lines().forEach(System.out::println);
-        if (options.trace != null) {
-            Files.writeString(options.trace, verdict.trace());
+        if (options.trace() != null) {
+            Files.writeString(options.trace(), verdict.trace());
         }
-        return verdict.isSame() ? 0 : 1;
+        Report report = new Report();
+        report.add(played);
+        return end(report, verdict.isSame() ? 0 : verdict.differs() ? 1 : 2);
     }
 
-    private int playRandom(Stage stage) throws IOException {
-        Judge judge = new Judge(stage, vuthgal, KnownDifferences.ALL).warm();
-        RandomCases cases = new RandomCases(vuthgal, judge, options.keep);
-        cases.play(options.seed, options.random, System.out);
-        return cases.different() == 0 ? 0 : 1;
+    private int playRandom() throws IOException, Options.Wrong {
+        Tally tally = new Tally(options.random(), options.keepGoing(), System.out);
+        RandomCases cases = new RandomCases(vuthgal, tally, options.keep(), System.out);
+        cases.play(options.judges(vuthgal), options.seed(), options.random());
+        return end(tally.report(), tally.status());
     }
 
-    private int playAll(Judge judge) throws IOException {
-        Sums sums = new Sums();
-        for (Path place : options.programs) {
-            for (Path file : programsBelow(place)) {
-                String name = file.equals(place) ? file.toString() : place.relativize(file).toString();
-                Case each = Case.of(vuthgal, name, file);
-                Verdict verdict = judge.judge(each);
-                sums.add(verdict.notes());
-                count(name, verdict);
-            }
+    private int playAll() throws IOException, Options.Wrong {
+        List<Named> programs = new ArrayList<>();
+        for (Path place : options.programs()) {
+            programs.addAll(named(place));
         }
-        System.out.println(sums.line());
-        System.out.println(same + " same, " + different + " different, " + leftOut + " left out");
-        return different == 0 ? 0 : 1;
+        Tally tally = new Tally(programs.size(), options.keepGoing(), System.out);
+        new Jobs<>(programs, (judge, each) -> Played.of(judge, Case.of(vuthgal, each.name(), each.file())))
+            .run(options.judges(vuthgal), tally::add);
+        tally.tell();
+        return end(tally.report(), tally.status());
     }
 
-    private void count(String name, Verdict verdict) {
-        switch (verdict.kind()) {
-            case SAME -> same++;
-            case DIFFERS -> different++;
-            case LEFT_OUT -> leftOut++;
+    private static List<Named> named(Path place) throws IOException {
+        List<Path> files = programsBelow(place);
+        if (files.isEmpty()) {
+            throw new Vuthgal.Refused("there is no case in " + place + ": no NAME.asm with NAME.schedule beside it");
         }
-        if (!verdict.isSame() || verdict.tries() > 1) {
-            String again = verdict.tries() > 1 ? " (played " + verdict.tries() + " times, each with more patience)" : "";
-            String odd = verdict.notes().firstOddWords();
-            System.out.println(name + " " + verdict.words() + (odd.isEmpty() ? "" : ", " + odd) + again);
+        return files.stream()
+            .map(file -> new Named(file.equals(place) ? file.toString() : place.relativize(file).toString(), file)).toList();
+    }
+
+    private int end(Report report, int status) throws IOException {
+        if (options.report() != null) {
+            report.write(options.report());
         }
+        return status;
     }
 
     /** The programs that have a schedule beside them, in a folder and below, or the one that is named. */

@@ -1,12 +1,11 @@
 package kit.player;
 
-import java.io.BufferedReader;
 import java.io.BufferedWriter;
 import java.io.IOException;
-import java.io.InputStreamReader;
 import java.io.OutputStreamWriter;
 import java.nio.charset.StandardCharsets;
 import java.util.Map;
+import java.util.Set;
 import java.util.concurrent.BlockingQueue;
 import java.util.concurrent.ConcurrentHashMap;
 import java.util.concurrent.LinkedBlockingQueue;
@@ -14,24 +13,41 @@ import java.util.concurrent.TimeUnit;
 
 /** A port's process, and the lines that it is told and tells (docs/FORMATS.md, "Port protocol"). */
 final class PortProcess {
-    private static final long LONGEST_COMMAND = 10;
+    private static final long SECOND = 1_000_000_000L;
+    /** How long the first answer may take, since a start takes its time. */
+    private static final long LONGEST_START = 4 * SECOND;
+    /** A port that isn't at rest is waited for so many times as long. */
+    private static final int TIMES_FOR_THE_BUSY = 4;
 
     private final Process process;
+    private final Thread reader = new Thread(this::read, "port reader");
     private final BufferedWriter into;
-    private final BlockingQueue<String> replies = new LinkedBlockingQueue<>();
+    private final BoundedLines from;
+    /** The answers to commands for objects; null where the port has broken down. */
+    private final BlockingQueue<Reply> replies = new LinkedBlockingQueue<>();
     private final Map<Integer, PortThread> threads = new ConcurrentHashMap<>();
     /** What the overridden onAdvance of each phaser does. */
     private final Map<Integer, Stage.Advance> advances = new ConcurrentHashMap<>();
-    private volatile String fault;
+    /** The barriers whose action asks the player. */
+    private final Set<Integer> actions = ConcurrentHashMap.newKeySet();
+    private volatile boolean asked;
+    private volatile boolean answered;
+    private volatile Breakdown breakdown;
+    private long longestAnswer;
+    private Tasks tasks;
+
+    /** The answer to a command for objects; {@code said} is null where no more answers come. */
+    private record Reply(PortLine said) {
+    }
 
     PortProcess(String command) {
         try {
-            process = new ProcessBuilder("bash", "-c", command).redirectError(ProcessBuilder.Redirect.INHERIT).start();
+            process = LivingPorts.start(command);
         } catch (IOException failed) {
-            throw new Hangs("the port can't be started: " + failed.getMessage());
+            throw new PortEnded("the port can't be started: " + failed.getMessage(), true);
         }
         into = new BufferedWriter(new OutputStreamWriter(process.getOutputStream(), StandardCharsets.US_ASCII));
-        Thread reader = new Thread(this::read, "port reader");
+        from = new BoundedLines(process.getInputStream());
         reader.setDaemon(true);
         reader.start();
     }
@@ -40,31 +56,66 @@ final class PortProcess {
         return threads.computeIfAbsent(number, fresh -> new PortThread(fresh, this));
     }
 
+    /** What the onAdvance of this phaser does; null where it isn't overridden. */
+    Stage.Advance advance(int phaser) {
+        return advances.get(phaser);
+    }
+
     /** A new case begins. */
-    void begin() {
+    void begin(Patience patience) {
+        longestAnswer = answered ? patience.bound() : Math.max(patience.bound(), LONGEST_START);
+        tasks = null;
         advances.clear();
+        actions.clear();
         order("case");
+    }
+
+    /** Whether none of its threads runs now. */
+    boolean isAtRest() {
+        if (tasks == null) {
+            tasks = new Tasks(process);
+        }
+        return tasks.areAtRest();
     }
 
     void overrides(int phaser, Stage.Advance advance) {
         advances.put(phaser, advance);
     }
 
+    void asksAction(int barrier) {
+        actions.add(barrier);
+    }
+
+    boolean hasAction(int barrier) {
+        return actions.contains(barrier);
+    }
+
     /** A command for objects, which is answered at once. */
     void order(String command) {
+        asked = true;
         write(command);
-        String reply = null;
-        try {
-            reply = replies.poll(LONGEST_COMMAND, TimeUnit.SECONDS);
-        } catch (InterruptedException never) {
-            throw new IllegalStateException(never);
+        Reply reply = reply();
+        for (int time = 1; reply == null && time < TIMES_FOR_THE_BUSY && !new Tasks(process).stayAtRest(); time++) {
+            reply = reply();
+        }
+        if (reply == null) {
+            reply = replies.poll();     // the look at its threads took its time
         }
         check();
         if (reply == null) {
-            throw new Hangs("the port doesn't answer: " + command);
+            throw new Hangs("the port doesn't answer: " + command + from.unfinished(), !answered);
         }
-        if (!reply.equals("ok")) {
-            throw new Unplayable(reply.startsWith("no ") ? reply.substring(3) : reply);
+        if (reply.said().kind() == PortLine.Kind.NO) {
+            throw new Unplayable(Excerpt.of(reply.said().reason()));
+        }
+    }
+
+    /** The next answer; null where none comes for as long as one may take. */
+    private Reply reply() {
+        try {
+            return replies.poll(longestAnswer, TimeUnit.NANOSECONDS);
+        } catch (InterruptedException never) {
+            throw new IllegalStateException(never);
         }
     }
 
@@ -75,79 +126,84 @@ final class PortProcess {
             into.write('\n');
             into.flush();
         } catch (IOException closed) {
-            throw new Hangs("the port has ended");
+            if (Thread.currentThread() == reader) {
+                return;     // it reads on, and comes to the reason
+            }
+            awaitBreakdown();
+            check();
+            throw new PortEnded("the port has closed its input", !answered);
+        }
+    }
+
+    /** Who can't write to it any more waits until the reader says why. */
+    private void awaitBreakdown() {
+        long limit = System.nanoTime() + 2 * SECOND;
+        while (breakdown == null && System.nanoTime() < limit) {
+            Thread.onSpinWait();
         }
     }
 
     /** Throws where the port has ended, or has written what no port writes. */
     void check() {
-        if (fault != null) {
-            throw new Hangs(fault);
+        if (breakdown != null) {
+            LivingPorts.check();
+            throw breakdown;
         }
+    }
+
+    /** What has come of a line that hasn't ended, in words. */
+    String unfinished() {
+        return from.unfinished();
     }
 
     void kill() {
-        process.descendants().forEach(ProcessHandle::destroyForcibly);
-        process.destroyForcibly();
+        LivingPorts.kill(process);
     }
 
     private void read() {
-        fault = readToTheEnd();
-        replies.add("");        // whoever waits for a reply looks at the fault
+        breakdown = readToTheEnd();
+        replies.add(new Reply(null));
     }
 
     /** Takes lines as long as they come; answers why no more do. */
-    private String readToTheEnd() {
-        InputStreamReader output = new InputStreamReader(process.getInputStream(), StandardCharsets.US_ASCII);
-        try (BufferedReader from = new BufferedReader(output)) {
-            for (String line = from.readLine(); line != null; line = from.readLine()) {
-                take(line);
-            }
-            return "the port has ended";
-        } catch (IOException closed) {
-            return "the port has ended";
-        } catch (Hangs hangs) {
-            return hangs.getMessage();
-        } catch (IllegalArgumentException wrong) {
-            return "the port wrote what isn't in the protocol: " + wrong.getMessage();
-        }
-    }
-
-    private void take(String line) {
-        String[] words = line.split(" ");
-        if (words[0].equals("ok") || words[0].equals("no")) {
-            replies.add(line);
-            return;
-        }
+    private Breakdown readToTheEnd() {
         try {
-            PortThread thread = thread(Integer.parseInt(words[0]));
-            switch (words[1]) {
-                case "=" -> thread.answered(Answer.value(Integer.parseInt(words[2])));
-                case "ok" -> thread.answered(Answer.NOTHING);
-                case "throw" -> thread.answered(Answer.thrown(Integer.parseInt(words[2])));
-                case "through" -> thread.answered(Answer.through(Integer.parseInt(words[2])));
-                case "fault" -> thread.answered(Answer.fault(line));
-                case "enter" -> enter(thread, words);
-                default -> throw new IllegalArgumentException(line);
+            for (String line = from.next(); line != null; line = from.next()) {
+                take(PortLine.of(line));
             }
-        } catch (NumberFormatException | ArrayIndexOutOfBoundsException | NullPointerException wrong) {
-            throw new IllegalArgumentException(line, wrong);
+            return new PortEnded(howItEnded() + from.unfinished(), !answered);
+        } catch (IOException closed) {
+            return new PortEnded(howItEnded(), !answered);
+        } catch (Breakdown down) {
+            return down;
         }
     }
 
-    private void enter(PortThread thread, String[] words) {
-        int object = Integer.parseInt(words[3]);
-        if (words[2].equals("barrier")) {
-            thread.entered(Entered.action(object));
+    private void take(PortLine said) {
+        if (said.ofObjects()) {
+            if (!asked) {
+                throw said.fault("no command for objects wants an answer now");
+            }
+            asked = false;
+            answered = true;
+            replies.add(new Reply(said));
             return;
         }
-        int phase = Integer.parseInt(words[4]);
-        int parties = Integer.parseInt(words[5]);
-        Boolean known = advances.get(object).decide(phase, parties);
-        if (known == null) {
-            thread.entered(Entered.onAdvance(object, phase, parties));
-        } else {
-            thread.sendEnd(known ? 1 : 0, false);
+        PortThread thread = threads.get(said.thread());
+        if (thread == null) {
+            throw said.fault("thread " + said.thread() + " was never named");
         }
+        thread.take(said);
+    }
+
+    private String howItEnded() {
+        try {
+            if (!process.waitFor(1, TimeUnit.SECONDS)) {
+                return "the port has closed its output";
+            }
+        } catch (InterruptedException never) {
+            throw new IllegalStateException(never);
+        }
+        return "the port has ended" + (answered ? ", " : " before its first answer, ") + ExitStatus.words(process.exitValue());
     }
 }

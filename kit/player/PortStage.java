@@ -10,11 +10,11 @@ final class PortStage implements Stage {
     }
 
     @Override
-    public void begin() {
+    public void begin(Patience patience) {
         if (process == null) {
             process = new PortProcess(command);
         }
-        process.begin();
+        process.begin(patience);
     }
 
     @Override
@@ -28,13 +28,16 @@ final class PortStage implements Stage {
 
     @Override
     public void barrier(int number, int parties, boolean withAction) {
+        if (withAction) {
+            process.asksAction(number);
+        }
         process.order("barrier " + number + " " + parties + (withAction ? " asked" : " none"));
     }
 
     @Override
     public RealThread thread(int number) {
         if (process == null) {
-            throw new Hangs("there is no port");
+            throw new PortEnded("there is no port", true);
         }
         return process.thread(number);
     }

@@ -2,6 +2,8 @@ package kit.player;
 
 /** A thread of a port's process. */
 final class PortThread extends RealThread {
+    private static final int LAST_EXCEPTION = Answer.TIMEOUT;
+
     private final int number;
     private final PortProcess process;
 
@@ -25,20 +27,99 @@ final class PortThread extends RealThread {
         process.write("interrupt " + number);
     }
 
-    /** Nothing can be seen of it, so time alone says that it is blocked. */
+    /** Nothing can be seen of it alone. */
     @Override
     protected boolean mayBeBlocked() {
-        process.check();
         return true;
     }
 
-    /** It stands at the beginning of a routine or an action. */
-    void entered(Entered where) {
-        innermost().enter(where);
+    @Override
+    protected boolean isAtRest() {
+        return process.isAtRest();
     }
 
-    /** Its innermost call has this answer. */
-    void answered(Answer answer) {
-        finish(innermost(), answer);
+    @Override
+    protected void check() {
+        process.check();
+    }
+
+    @Override
+    protected String unfinished() {
+        return process.unfinished();
+    }
+
+    /** The port wrote this line of it, which has to fit the call that it is inside of. */
+    void take(PortLine said) {
+        Call call = innermost();
+        if (call == null) {
+            throw said.fault("thread " + number + " is in no call");
+        }
+        if (call.inside()) {
+            throw said.fault("thread " + number + " stands in an onAdvance or an action, and wasn't told to end it");
+        }
+        Method method = call.request.method();
+        switch (said.kind()) {
+            case VALUE -> finish(call, value(said, method));
+            case VOID -> finish(call, nothing(said, method));
+            case THROWN -> finish(call, thrown(said));
+            case THROUGH -> finish(call, through(said, call));
+            case FAULT -> finish(call, Answer.fault(Excerpt.of(said.line())));
+            case ENTERS_ROUTINE -> enterRoutine(said, call);
+            case ENTERS_ACTION -> enterAction(said, call);
+            default -> throw new AssertionError(said);
+        }
+    }
+
+    private static Answer value(PortLine said, Method method) {
+        if (!method.hasValue()) {
+            throw said.fault(method.word + " has no value");
+        }
+        if (method.isTruth() && (said.number(0) < 0 || said.number(0) > 1)) {
+            throw said.fault(method.word + " answers 1 for true, or 0 for false");
+        }
+        return Answer.value(said.number(0));
+    }
+
+    private static Answer nothing(PortLine said, Method method) {
+        if (method.hasValue()) {
+            throw said.fault(method.word + " has a value");
+        }
+        return Answer.NOTHING;
+    }
+
+    private static Answer thrown(PortLine said) {
+        if (said.number(0) < 1 || said.number(0) > LAST_EXCEPTION) {
+            throw said.fault("the exceptions of calls have the numbers 1 to " + LAST_EXCEPTION);
+        }
+        return Answer.thrown(said.number(0));
+    }
+
+    private static Answer through(PortLine said, Call call) {
+        if (!call.wasToldToThrow(said.number(0))) {
+            throw said.fault("no onAdvance or action of this call was told to throw that");
+        }
+        return Answer.through(said.number(0));
+    }
+
+    private void enterRoutine(PortLine said, Call call) {
+        int phaser = said.number(0);
+        Stage.Advance advance = process.advance(phaser);
+        if (!call.request.method().ofPhaser() || advance == null) {
+            throw said.fault("its call asks no onAdvance of such a phaser");
+        }
+        Boolean known = advance.decide(said.number(1), said.number(2));
+        if (known == null) {
+            call.enter(Entered.onAdvance(phaser, said.number(1), said.number(2)));
+        } else {
+            sendEnd(known ? 1 : 0, false);
+        }
+    }
+
+    private void enterAction(PortLine said, Call call) {
+        boolean itsBarrier = call.request.method().waitsAtBarrier() && call.request.object() == said.number(0);
+        if (!itsBarrier || !process.hasAction(said.number(0))) {
+            throw said.fault("its call asks no action of such a barrier");
+        }
+        call.enter(Entered.action(said.number(0)));
     }
 }

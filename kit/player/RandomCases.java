@@ -2,64 +2,58 @@ package kit.player;
 
 import java.io.IOException;
 import java.io.PrintStream;
+import java.io.UncheckedIOException;
 import java.nio.file.Files;
 import java.nio.file.Path;
 import java.nio.file.StandardCopyOption;
-import java.util.Map;
-import java.util.TreeMap;
+import java.util.List;
+import java.util.stream.LongStream;
 
 /** Plays random scenarios, and keeps as cases those that differ. */
 final class RandomCases {
     private final Vuthgal vuthgal;
-    private final Judge judge;
+    private final Tally tally;
     private final Path keep;
-    private final Sums sums = new Sums();
-    private final Map<String, Integer> differences = new TreeMap<>();
-    private int same;
-    private int different;
-    private int leftOut;
-    private int again;
+    private final PrintStream to;
+    private Path room;
 
-    RandomCases(Vuthgal vuthgal, Judge judge, Path keep) {
+    /** Where {@code keep} is null nothing is written. */
+    RandomCases(Vuthgal vuthgal, Tally tally, Path keep, PrintStream to) {
         this.vuthgal = vuthgal;
-        this.judge = judge;
+        this.tally = tally;
         this.keep = keep;
-    }
-
-    int same() {
-        return same;
-    }
-
-    int different() {
-        return different;
+        this.to = to;
     }
 
     /** Plays the scenarios of so many seeds, and tells what differs, and the sums. */
-    void play(long firstSeed, int count, PrintStream to) throws IOException {
-        Path room = Files.createTempDirectory("vuthgal");
-        for (long seed = firstSeed; seed < firstSeed + count; seed++) {
-            Path file = Scenario.of(seed).write(room);
-            play(Case.of(vuthgal, "random-" + seed, file), to);
-            Files.delete(Case.beside(file, ".schedule"));
-            Files.delete(file);
-        }
-        Files.delete(room);
-        tell(to);
+    void play(List<Judge> judges, long firstSeed, int count) throws IOException {
+        room = Files.createTempDirectory("vuthgal");
+        List<Long> seeds = LongStream.range(firstSeed, firstSeed + count).boxed().toList();
+        new Jobs<>(seeds, this::play).run(judges, this::take);
+        Files.deleteIfExists(room);
+        tally.tell();
     }
 
-    private void play(Case scenario, PrintStream to) throws IOException {
-        Verdict verdict = judge.judge(scenario);
-        sums.add(verdict.notes());
-        verdict.notes().differences().forEach((program, count) -> differences.merge(program, count, Integer::sum));
-        again += verdict.tries() > 1 ? 1 : 0;
-        switch (verdict.kind()) {
-            case SAME -> same++;
-            case LEFT_OUT -> leftOut++;
-            case DIFFERS -> {
-                different++;
-                to.println(scenario.name() + " " + verdict.words() + ", kept in " + keep(scenario));
-            }
+    private Played play(Judge judge, long seed) {
+        try {
+            return Played.of(judge, Case.of(vuthgal, "random-" + seed, Scenario.of(seed).write(room)));
+        } catch (IOException failed) {
+            throw new UncheckedIOException(failed);
         }
+    }
+
+    private boolean take(Played played) {
+        boolean goesOn = tally.add(played);
+        try {
+            if (played.verdict().differs()) {
+                to.println("  " + (keep != null ? "kept as " + keep(played.each()) : "--keep FOLDER writes it"));
+            }
+            Files.delete(Case.beside(played.each().file(), ".schedule"));
+            Files.delete(played.each().file());
+        } catch (IOException failed) {
+            throw new UncheckedIOException(failed);
+        }
+        return goesOn;
     }
 
     private Path keep(Case scenario) throws IOException {
@@ -70,12 +64,5 @@ final class RandomCases {
             StandardCopyOption.REPLACE_EXISTING);
         Files.writeString(Case.beside(file, ".trace"), scenario.wanted());
         return file;
-    }
-
-    private void tell(PrintStream to) {
-        to.println(sums.line());
-        differences.forEach((program, count) -> to.println("  " + count + " told over as in differences/" + program));
-        to.println(same + " same, " + different + " different, " + leftOut + " left out; "
-            + again + " played again with more patience");
     }
 }

@@ -18,10 +18,17 @@ abstract class RealThread {
         BLOCKED
     }
 
+    /** What a routine or an action throws that is still open at a case's end. */
+    private static final int LEAVES = -99;
+
     private final Deque<Call> open = new ConcurrentLinkedDeque<>();
 
     final Call tell(Request request) {
-        Call call = new Call(request);
+        return tell(request, CallWatcher.NOBODY);
+    }
+
+    final Call tell(Request request, CallWatcher watcher) {
+        Call call = new Call(request, watcher);
         open.addLast(call);
         send(call);
         return call;
@@ -29,13 +36,13 @@ abstract class RealThread {
 
     /** The routine or action in which it stands returns {@code number}. */
     final void answer(int number) {
-        open.getLast().leave();
+        open.getLast().leave(null);
         sendEnd(number, false);
     }
 
     /** The routine or action in which it stands throws {@code number}. */
     final void fail(int number) {
-        open.getLast().leave();
+        open.getLast().leave(number);
         sendEnd(number, true);
     }
 
@@ -48,6 +55,20 @@ abstract class RealThread {
     /** Whether it may be blocked now, as far as can be seen. */
     protected abstract boolean mayBeBlocked();
 
+    /** Whether none of the real side's threads runs now, as far as can be seen. */
+    protected boolean isAtRest() {
+        return true;
+    }
+
+    /** Throws where the real side has broken down. */
+    protected void check() {
+    }
+
+    /** What it has begun to say and not ended, in words; empty where there is nothing. */
+    protected String unfinished() {
+        return "";
+    }
+
     /** The innermost call that has no answer, or null. */
     protected final Call innermost() {
         return open.peekLast();
@@ -59,36 +80,36 @@ abstract class RealThread {
         call.finish(answer);
     }
 
-    /** Waits until the call is done, enters, or has been blocked without a break as long as the patience goes. */
-    final Outcome settle(Call call, Patience patience) {
+    /** What the call has come to; as long as it isn't done and enters nothing, that is no more than blocked. */
+    static Outcome outcome(Call call) {
+        return call.done() ? Outcome.DONE : call.hasEntered() ? Outcome.ENTERED : Outcome.BLOCKED;
+    }
+
+    /** Waits until it has stood still for so long without a break, until the limit, or until the call comes to something. */
+    final void standStill(Call call, long nanoseconds, long limit) {
         long since = 0;
-        long limit = System.nanoTime() + patience.bound();
-        for (int round = 0;; round++) {
-            if (call.done()) {
-                return Outcome.DONE;
-            }
-            if (call.hasEntered()) {
-                return Outcome.ENTERED;
-            }
+        for (int round = 0; outcome(call) == Outcome.BLOCKED; round++) {
+            check();
             long now = System.nanoTime();
             if (!mayBeBlocked()) {
                 since = 0;
             } else if (since == 0) {
                 since = now;
-            } else if (now - since > patience.settle()) {
-                return call.done() ? Outcome.DONE : call.hasEntered() ? Outcome.ENTERED : Outcome.BLOCKED;
+            } else if (now - since > nanoseconds) {
+                return;
             }
             if (now > limit) {
-                return Outcome.BLOCKED;
+                return;
             }
             pause(round);
         }
     }
 
     /** Waits until the call is done, for so long at most. */
-    static boolean done(Call call, long nanoseconds) {
+    final boolean done(Call call, long nanoseconds) {
         long limit = System.nanoTime() + nanoseconds;
         for (int round = 0; !call.done(); round++) {
+            check();
             if (System.nanoTime() > limit) {
                 return false;
             }
@@ -118,6 +139,4 @@ abstract class RealThread {
         }
         return false;
     }
-
-    private static final int LEAVES = -99;
 }

@@ -5,6 +5,8 @@ import java.util.List;
 
 /** What the parts of one play share: the program's threads, and its objects as far as the player has to follow them. */
 final class Scene {
+    private static final int MOST_PARTIES = 65535;
+
     final Program program;
     final Stage stage;
     final Plan plan;
@@ -16,21 +18,19 @@ final class Scene {
     final Holds holds = new Holds();
     final List<ProgramThread> threads = new ArrayList<>();
     final int[] cells = new int[32];
-    /** The view of each root as it was after the last choice. */
-    final int[] view;
-    /** How often each barrier's generation has ended. */
-    final int[] generation;
-    /** Who runs each barrier's action, or null. */
-    final ProgramThread[] runner;
-    /** The choice that is played, from 0. */
-    int step;
-    /** The mark of this choice, or null. */
-    String mark;
-    /** Whether this choice had to do with the real side, so that something may have changed there. */
-    boolean reached;
 
+    private final Settling settling;
     private final int[] root;
+    /** The view of each root as it was after the last choice. */
+    private final int[] view;
     private final boolean[] routineRuns;
+    /** How often each barrier's generation has ended. */
+    private final int[] generation;
+    /** Who runs each barrier's action, or null. */
+    private final ProgramThread[] runner;
+    private int step;
+    private String mark;
+    private boolean reached;
 
     Scene(Program program, Stage stage, Plan plan, Patience patience, KnownDifferences known, boolean first) {
         this.program = program;
@@ -39,6 +39,7 @@ final class Scene {
         this.patience = patience;
         this.known = known;
         this.first = first;
+        settling = new Settling(stage, patience);
         int phasers = program.phasers.size();
         root = new int[phasers];
         view = new int[phasers];
@@ -52,7 +53,7 @@ final class Scene {
 
     /** Makes the real objects. */
     void build() {
-        stage.begin();
+        stage.begin(patience);
         for (int phaser = 0; phaser < root.length; phaser++) {
             Program.PhaserDeclaration declared = program.phasers.get(phaser);
             root[phaser] = program.root(phaser);
@@ -66,6 +67,7 @@ final class Scene {
         for (int phaser = 0; phaser < root.length; phaser++) {
             view[phaser] = look(Method.GET_PHASE, root[phaser]);
         }
+        settling.roundTrip();
     }
 
     private Stage.Advance advance(int phaser, Policy policy) {
@@ -88,6 +90,73 @@ final class Scene {
         return stage.thread(thread.number);
     }
 
+    /** What this call of the thread has come to, once it is done, enters, or is blocked. */
+    RealThread.Outcome settle(ProgramThread thread, Call call) {
+        return settling.settle(real(thread), call);
+    }
+
+    /** The same of a call that never waits. */
+    RealThread.Outcome comeBack(ProgramThread thread, Call call) {
+        return settling.comeBack(real(thread), call);
+    }
+
+    /** How long the real side has taken of late to answer a question. */
+    long roundTrip() {
+        return settling.lately();
+    }
+
+    /** The choice that is played, from 0. */
+    int step() {
+        return step;
+    }
+
+    void nextStep() {
+        step++;
+    }
+
+    /** The mark of this choice, or null. */
+    String mark() {
+        return mark;
+    }
+
+    /** A choice begins. Until it is told that the choice has nothing to do with the real side, something may change there. */
+    void beginChoice() {
+        mark = null;
+        reached = true;
+    }
+
+    void reachesNothing() {
+        reached = false;
+    }
+
+    boolean reached() {
+        return reached;
+    }
+
+    /** The view of a root as it was after the last choice. */
+    int view(int root) {
+        return view[root];
+    }
+
+    /** How often the generation of a barrier has ended. */
+    int generation(int barrier) {
+        return generation[barrier];
+    }
+
+    /** Who runs the action of a barrier, or null. */
+    ProgramThread runner(int barrier) {
+        return runner[barrier];
+    }
+
+    void actionBegins(int barrier, ProgramThread thread) {
+        runner[barrier] = thread;
+    }
+
+    void actionEnds(int barrier) {
+        runner[barrier] = null;
+        holds.freed(Holds.Cause.action(barrier), step);
+    }
+
     void note(Notes.Kind kind, String what) {
         notes.add(kind, step + 1, what);
     }
@@ -98,12 +167,17 @@ final class Scene {
 
     /** Asks an object, by the player's own thread. */
     int look(Method method, int object) {
-        Call call = stage.thread(Stage.LOOKER).tell(Request.of(method, object));
-        if (!RealThread.done(call, patience.bound())) {
-            throw new Hangs(method.word + " of " + object + " doesn't answer");
+        return ask(stage.thread(Stage.LOOKER), Request.of(method, object));
+    }
+
+    /** Asks a real thread, which is free, for something that has a value and never waits. */
+    int ask(RealThread thread, Request request) {
+        Call call = thread.tell(request);
+        if (!thread.done(call, patience.bound())) {
+            throw new Hangs("the call " + request.words() + " doesn't answer" + thread.unfinished());
         }
         if (call.answer().kind() != Answer.Kind.VALUE) {
-            throw new Hangs(method.word + " of " + object + " answers " + call.answer());
+            throw new ProtocolFault("the call " + request.words() + " has a value, and " + call.answer().told());
         }
         return call.answer().number();
     }
@@ -181,8 +255,6 @@ final class Scene {
         }
         return false;
     }
-
-    private static final int MOST_PARTIES = 65535;
 
     private boolean tooMany(int phaser, int parties) {
         long more = parties;

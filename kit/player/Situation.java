@@ -20,12 +20,12 @@ record Situation(Scene scene, ProgramThread thread, Method method, int object, i
     }
 
     boolean insideOwnAction() {
-        return thread != null && method.ofBarrier() && scene.runner[object] == thread;
+        return thread != null && method.ofBarrier() && scene.runner(object) == thread;
     }
 
     /** The view of the tree after the choice before this one. */
     int viewBefore() {
-        return scene.view[root()];
+        return scene.view(root());
     }
 
     boolean terminatedBefore() {

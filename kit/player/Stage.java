@@ -12,7 +12,7 @@ interface Stage {
     }
 
     /** A new case begins: all objects are forgotten. */
-    void begin();
+    void begin(Patience patience);
 
     /** Makes the next phaser. {@code parent} is -1 for a root; {@code advance} is null where the class's own is kept. */
     void phaser(int number, int parent, int parties, int firstPhase, Advance advance);
@@ -25,6 +25,11 @@ interface Stage {
 
     /** Some thread didn't come out of its call: whatever is needed so that the next case meets fresh threads. */
     void abandon();
+
+    /** Whether its threads are threads of this JVM, which run a call's watcher themselves. */
+    default boolean isHere() {
+        return false;
+    }
 
     /** How long to wait, first and then at each further try. */
     Patience[] patience();

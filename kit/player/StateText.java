@@ -12,7 +12,7 @@ final class StateText {
     }
 
     String write(int effectiveSteps) {
-        text.append("state ").append(scene.step).append(' ').append(effectiveSteps).append(' ').append(word()).append('\n');
+        text.append("state ").append(scene.step()).append(' ').append(effectiveSteps).append(' ').append(word()).append('\n');
         for (ProgramThread thread : scene.threads) {
             text.append(thread.line(interruptedStatus(thread)));
         }
@@ -58,11 +58,7 @@ final class StateText {
     /** A real thread that is free is asked; of one inside a call the player tells what the rules say. */
     private int interruptedStatus(ProgramThread thread) {
         if (thread.pending == null) {
-            Call call = scene.real(thread).tell(Request.of(Method.IS_INTERRUPTED, 0));
-            if (RealThread.done(call, scene.patience.bound()) && call.answer().kind() == Answer.Kind.VALUE) {
-                return call.answer().number();
-            }
-            throw new Hangs("isInterrupted doesn't answer");
+            return scene.ask(scene.real(thread), Request.of(Method.IS_INTERRUPTED, 0));
         }
         return thread.interrupted ? 1 : 0;
     }
@@ -81,7 +77,7 @@ final class StateText {
 
     private void writeBarrier(int barrier) {
         text.append('b').append(barrier).append(' ');
-        if (scene.runner[barrier] == null) {
+        if (scene.runner(barrier) == null) {
             text.append(scene.look(Method.GET_NUMBER_WAITING, barrier)).append(' ');
             text.append(scene.look(Method.IS_BROKEN, barrier)).append('\n');
             return;
@@ -93,7 +89,7 @@ final class StateText {
 
     private static boolean waitsAt(ProgramThread thread, int barrier) {
         Pending pending = thread.pending;
-        return thread.status == ProgramThread.Status.WAITS && !pending.call.done() && pending.method().waitsAtBarrier()
+        return thread.status == ProgramThread.Status.WAITS && !pending.call().done() && pending.method().waitsAtBarrier()
             && pending.object() == barrier;
     }
 }

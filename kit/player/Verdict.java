@@ -1,7 +1,8 @@
 package kit.player;
 
-/** What came of playing a case. */
-record Verdict(Kind kind, int line, String trace, Notes notes, Plan plan, int tries, String why) {
+/** What came of playing a case. {@code before} is what the tries before came to. */
+record Verdict(Kind kind, int line, String trace, Notes notes, Plan plan, Breakdown breakdown, int tries, String before,
+        String why) {
     enum Kind {
         /** Byte for byte Vuthgal's trace, and nothing odd happened. */
         SAME,
@@ -12,11 +13,25 @@ record Verdict(Kind kind, int line, String trace, Notes notes, Plan plan, int tr
     }
 
     static Verdict leftOut(String why) {
-        return new Verdict(Kind.LEFT_OUT, 0, "", new Notes(), new Plan(), 1, why);
+        return new Verdict(Kind.LEFT_OUT, 0, "", new Notes(), new Plan(), null, 1, "", why);
     }
 
     boolean isSame() {
         return kind == Kind.SAME;
+    }
+
+    boolean differs() {
+        return kind == Kind.DIFFERS;
+    }
+
+    /** Whether a try with more patience may come to something else. */
+    boolean mayBeSlowness() {
+        return differs() && (breakdown == null || breakdown.mayBeSlowness() && tries == 1);
+    }
+
+    /** Whether a run of such verdicts has no end in sight. */
+    boolean isEndless() {
+        return breakdown != null && breakdown.isEndless();
     }
 
     /** The verdict as it is told: {@code same}, {@code differs LINE}, or that the case was left out. */
@@ -26,5 +41,22 @@ record Verdict(Kind kind, int line, String trace, Notes notes, Plan plan, int tr
             case DIFFERS -> "differs " + line;
             case LEFT_OUT -> "left out: " + why;
         };
+    }
+
+    /** With what was odd. */
+    String wordsWithOdd() {
+        String odd = notes.firstOddWords();
+        return words() + (odd.isEmpty() ? "" : ", " + odd);
+    }
+
+    /** How often it was played, and what came of that, where that was more than once; else empty. */
+    String triesInWords() {
+        return tries > 1 ? " (played " + tries + " times, each with more patience; before: " + before + ")" : "";
+    }
+
+    /** This one, with the try before it. */
+    Verdict behind(Verdict earlier) {
+        String told = earlier.before.isEmpty() ? earlier.wordsWithOdd() : earlier.before + "; " + earlier.wordsWithOdd();
+        return new Verdict(kind, line, trace, notes, plan, breakdown, earlier.tries + 1, told, why);
     }
 }

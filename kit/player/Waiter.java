@@ -17,14 +17,14 @@ final class Waiter {
             scene.note(Notes.Kind.EARLY, pending.method().word);
             return "idle";
         }
-        if (!pending.call.done()) {
+        if (!pending.call().done()) {
             if (!leavesByInterrupt(pending)) {
                 return "idle";
             }
-            pending.owesInterrupt = false;
+            pending.setOwesInterrupt(false);
             scene.real(thread).interrupt();
-            scene.holds.called(scene.step);
-            if (!RealThread.done(pending.call, scene.patience.bound())) {
+            scene.holds.called(scene.step());
+            if (!scene.real(thread).done(pending.call(), scene.patience.bound())) {
                 scene.odd("an interrupt doesn't end " + pending.method().word);
                 return "idle";
             }
@@ -35,17 +35,17 @@ final class Waiter {
 
     /** Whether its turn ends the wait by an interrupt. While an action runs nobody leaves the barrier. */
     private boolean leavesByInterrupt(Pending pending) {
-        return pending.owesInterrupt && !actionRuns(pending);
+        return pending.owesInterrupt() && !actionRuns(pending);
     }
 
     private boolean actionRuns(Pending pending) {
-        return pending.method().ofBarrier() && scene.runner[pending.object()] != null;
+        return pending.method().ofBarrier() && scene.runner(pending.object()) != null;
     }
 
     boolean canExpire(ProgramThread thread) {
         Pending pending = thread.pending;
         return thread.status == ProgramThread.Status.WAITS && pending.method().timed()
-            && (!pending.call.done() || pending.expiredByItself()) && !pending.owesInterrupt && !actionRuns(pending);
+            && (!pending.call().done() || pending.expiredByItself()) && !pending.owesInterrupt() && !actionRuns(pending);
     }
 
     /**
@@ -55,16 +55,17 @@ final class Waiter {
     String expire(ProgramThread thread) {
         Pending pending = thread.pending;
         if (scene.first) {
-            scene.plan.expires(thread, scene.step);
+            scene.plan.expires(thread, scene.step());
             scene.real(thread).interrupt();
-            if (RealThread.done(pending.call, scene.patience.bound()) && pending.call.answer().isThrown(Answer.INTERRUPTED)) {
-                pending.call.finish(Answer.thrown(Answer.TIMEOUT));
+            boolean out = scene.real(thread).done(pending.call(), scene.patience.bound());
+            if (out && pending.call().answer().isThrown(Answer.INTERRUPTED)) {
+                pending.call().finish(Answer.thrown(Answer.TIMEOUT));
             }
-        } else if (!pending.expires) {
+        } else if (!pending.expires()) {
             scene.odd("an expiry that the first play hasn't seen");
             return "idle";
         }
-        if (!RealThread.done(pending.call, pending.time + scene.patience.bound())) {
+        if (!scene.real(thread).done(pending.call(), pending.time() + scene.patience.bound())) {
             scene.odd(pending.method().word + " doesn't expire");
             return "idle";
         }
@@ -74,7 +75,7 @@ final class Waiter {
     /** A turn of a thread inside a call that was held, or locked out by an action, when it began. */
     String heldTurn(ProgramThread thread) {
         Pending pending = thread.pending;
-        switch (scene.real(thread).settle(pending.call, scene.patience)) {
+        switch (scene.settle(thread, pending.call())) {
             case ENTERED -> {
                 return caller.enter(thread, pending);
             }
@@ -103,9 +104,9 @@ final class Waiter {
         }
         thread.interrupted = true;
         Pending pending = thread.pending;
-        boolean waits = thread.status == ProgramThread.Status.WAITS && !pending.call.done();
+        boolean waits = thread.status == ProgramThread.Status.WAITS && !pending.call().done();
         if (waits && pending.method().interruptible() && !actionRuns(pending)) {
-            pending.owesInterrupt = true;
+            pending.setOwesInterrupt(true);
         } else {
             scene.real(thread).interrupt();
         }
@@ -115,7 +116,7 @@ final class Waiter {
     void followReleases() {
         for (ProgramThread thread : scene.threads) {
             Pending pending = thread.pending;
-            if (pending != null && !pending.released) {
+            if (pending != null && !pending.released()) {
                 followRelease(thread, pending);
             }
         }
@@ -123,7 +124,7 @@ final class Waiter {
 
     private void followRelease(ProgramThread thread, Pending pending) {
         boolean waits = thread.status == ProgramThread.Status.WAITS;
-        if (!pending.call.done()) {
+        if (!pending.call().done()) {
             if (!mustComeOut(pending, waits)) {
                 return;
             }
@@ -131,9 +132,9 @@ final class Waiter {
                 followRegistration(thread, pending);
                 return;
             }
-            if (!RealThread.done(pending.call, scene.patience.bound())) {
+            if (!scene.real(thread).done(pending.call(), scene.patience.bound())) {
                 scene.odd("t" + thread.number + " is never released from " + pending.method().word);
-                pending.released = true;
+                pending.release();
                 return;
             }
         }
@@ -149,29 +150,29 @@ final class Waiter {
             return true;        // it was slow, and looked as if it waited
         }
         if (method.ofPhaser()) {
-            return scene.view[scene.root(pending.object())] != pending.awaited;
+            return scene.view(scene.root(pending.object())) != pending.awaited();
         }
         if (actionRuns(pending)) {
             return false;
         }
-        return waits ? scene.generation[pending.object()] != pending.generation : !method.waitsAtBarrier();
+        return waits ? scene.generation(pending.object()) != pending.generation() : !method.waitsAtBarrier();
     }
 
     /** A held registration goes on when a phase has ended, but another phase end may hold it again. */
     private void followRegistration(ProgramThread thread, Pending pending) {
-        if (scene.real(thread).settle(pending.call, scene.patience) != RealThread.Outcome.DONE) {
-            pending.awaited = scene.view[scene.root(pending.object())];
+        if (scene.settle(thread, pending.call()) != RealThread.Outcome.DONE) {
+            pending.awaits(scene.view(scene.root(pending.object())));
         }
     }
 
     private void comesOut(ProgramThread thread) {
         Pending pending = thread.pending;
-        pending.released = true;
+        pending.release();
         if (pending.method().waitsForPhase()) {
-            pending.viewAtRelease = scene.look(Method.GET_PHASE, scene.root(pending.object()));
+            pending.releasedAt(scene.look(Method.GET_PHASE, scene.root(pending.object())));
         }
-        if (pending.owesInterrupt) {
-            pending.owesInterrupt = false;
+        if (pending.owesInterrupt()) {
+            pending.setOwesInterrupt(false);
             scene.real(thread).interrupt();
         }
     }
@@ -180,8 +181,8 @@ final class Waiter {
     boolean isReady(ProgramThread thread) {
         Pending pending = thread.pending;
         if (thread.status == ProgramThread.Status.WAITS) {
-            return pending.call.done() || leavesByInterrupt(pending) || canExpire(thread);
+            return pending.call().done() || leavesByInterrupt(pending) || canExpire(thread);
         }
-        return pending.call.done() || !pending.method().registers() && !actionRuns(pending);
+        return pending.call().done() || !pending.method().registers() && !actionRuns(pending);
     }
 }

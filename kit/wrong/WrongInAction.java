@@ -19,6 +19,12 @@ abstract class WrongInAction extends WrongFactory {
         final boolean anothersActionRuns() {
             return runner != null && !ownActionRuns();
         }
+
+        void actionBegins() {
+        }
+
+        void actionEnds() {
+        }
     }
 
     private Running last;
@@ -37,9 +43,11 @@ abstract class WrongInAction extends WrongFactory {
         Running[] barrier = new Running[1];
         super.barrier(parties, action == null ? null : () -> {
             barrier[0].runner = Thread.currentThread();
+            barrier[0].actionBegins();
             try {
                 action.run();
             } finally {
+                barrier[0].actionEnds();
                 barrier[0].runner = null;
             }
         });

@@ -1,4 +1,5 @@
 ; Cyclic barrier, Waiters: while the action runs no time runs out: the waiter answers its index
+; (no real time is over here: the burst time-during-the-action can fail)
 .barrier gate 2 action act
 .thread hurried hurries
 .thread last lasts

@@ -1,4 +1,5 @@
 ; Cyclic barrier, Waiters: a waiter that a trip released answers its index, also where the barrier has broken since
+; (in lock-step the waiter is out by then: a burst of this name can fail)
 .barrier gate 2
 .thread waiter comes
 .thread last main

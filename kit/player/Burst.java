@@ -1,0 +1,64 @@
+package kit.player;
+
+import java.util.ArrayList;
+import java.util.List;
+
+/** What is played in one round: the objects, and the steps of each thread, which all run at once. */
+record Burst(String kind, long seed, long round, List<Phaser> phasers, List<Barrier> barriers, List<List<BurstStep>> threads,
+        Request closer, List<BurstStep> pokes, BurstClaim claim) {
+
+    /**
+     * Whose {@code onAdvance} answers by {@code policy} after {@code lasts} nanoseconds; the class's own is kept where the
+     * policy is DEFAULT.
+     */
+    record Phaser(int parent, int parties, Policy policy, long lasts) {
+        boolean asks() {
+            return policy.kind() != Policy.Kind.DEFAULT;
+        }
+    }
+
+    /** {@code lasts} is how long the action runs, in nanoseconds; {@code fails}: it throws. */
+    record Barrier(int parties, boolean withAction, long lasts, boolean fails) {
+    }
+
+    /** The exception that a failing action throws. */
+    static final int FAILURE = 77;
+
+    boolean hasInterrupts() {
+        return threads.stream().flatMap(List::stream).anyMatch(BurstStep::interrupts);
+    }
+
+    int root(int phaser) {
+        int parent = phasers.get(phaser).parent();
+        return parent < 0 ? phaser : root(parent);
+    }
+
+    /** A model of its objects, for its threads and the looker behind them. */
+    Model model() {
+        Model model = new Model(threads.size() + 1);
+        phasers.forEach(phaser -> model.addPhaser(phaser.parent(), phaser.parties(), 0));
+        barriers.forEach(barrier -> model.addBarrier(barrier.parties(), barrier.withAction()));
+        return model;
+    }
+
+    /** The number of the looker in the model. */
+    int looker() {
+        return threads.size();
+    }
+
+    /** What is looked at when all threads are through. */
+    List<Request> looks() {
+        List<Request> looks = new ArrayList<>();
+        for (int phaser = 0; phaser < phasers.size(); phaser++) {
+            for (Method method : List.of(Method.GET_PHASE, Method.IS_TERMINATED, Method.GET_REGISTERED_PARTIES,
+                    Method.GET_ARRIVED_PARTIES, Method.GET_UNARRIVED_PARTIES)) {
+                looks.add(Request.of(method, phaser));
+            }
+        }
+        for (int barrier = 0; barrier < barriers.size(); barrier++) {
+            looks.add(Request.of(Method.IS_BROKEN, barrier));
+            looks.add(Request.of(Method.GET_NUMBER_WAITING, barrier));
+        }
+        return looks;
+    }
+}

@@ -1,0 +1,94 @@
+package kit.player;
+
+import java.util.ArrayList;
+import java.util.List;
+
+/**
+ * A call or an interrupt as it was seen in a burst. {@code begin} and {@code end} are numbers of one clock that all threads
+ * advance: what ended before something else began has the lower number.
+ */
+final class BurstEntry {
+    private final int thread;
+    private final BurstStep step;
+    private final long begin;
+    private final long beganAt;
+    private final List<Entered> entered = new ArrayList<>(1);
+    private volatile Answer answer;
+    private volatile long end = Long.MAX_VALUE;
+    private volatile long endedAt = Long.MAX_VALUE;
+
+    BurstEntry(int thread, BurstStep step, long begin) {
+        this.thread = thread;
+        this.step = step;
+        beganAt = System.nanoTime();
+        this.begin = begin;
+    }
+
+    int thread() {
+        return thread;
+    }
+
+    BurstStep step() {
+        return step;
+    }
+
+    Request request() {
+        return step.request();
+    }
+
+    long begin() {
+        return begin;
+    }
+
+    /** The largest number where it has no answer. */
+    long end() {
+        return end;
+    }
+
+    /** When it ended, in nanoseconds. */
+    long endedAt() {
+        return endedAt;
+    }
+
+    long lasted() {
+        return endedAt - beganAt;
+    }
+
+    /** When its time is over, in nanoseconds; its time is taken to begin when the call does. */
+    long isLateAt() {
+        long time = Math.max(request().nanoseconds(), 0);
+        return time > Long.MAX_VALUE - beganAt ? Long.MAX_VALUE : beganAt + time;
+    }
+
+    /** Its thread stands in an action. */
+    void enters(Entered where) {
+        entered.add(where);
+    }
+
+    /** The actions that it ran. */
+    List<Entered> entered() {
+        return entered;
+    }
+
+    void finish(Answer answer, long end) {
+        endedAt = System.nanoTime();
+        this.answer = answer;
+        this.end = end;
+    }
+
+    /** Null where it has none. */
+    Answer answer() {
+        return answer;
+    }
+
+    boolean isOpen() {
+        return end == Long.MAX_VALUE;
+    }
+
+    String words() {
+        if (step.interrupts()) {
+            return "interrupt of thread " + step.target();
+        }
+        return "thread " + thread + ": " + step.request().words() + (answer == null ? " has no answer" : " " + answer.told());
+    }
+}

@@ -1,0 +1,77 @@
+package kit.player;
+
+import java.util.ArrayList;
+import java.util.Comparator;
+import java.util.List;
+import java.util.Queue;
+import java.util.concurrent.ConcurrentLinkedQueue;
+import java.util.concurrent.atomic.AtomicLong;
+
+/** All calls and interrupts of one burst, and how {@code onAdvance} was asked. */
+final class BurstHistory {
+    private final Burst burst;
+    private final AtomicLong clock = new AtomicLong();
+    private final Queue<BurstEntry> entries = new ConcurrentLinkedQueue<>();
+    private final Queue<Entered> asked = new ConcurrentLinkedQueue<>();
+
+    BurstHistory(Burst burst) {
+        this.burst = burst;
+    }
+
+    Burst burst() {
+        return burst;
+    }
+
+    BurstEntry begin(int thread, BurstStep step) {
+        BurstEntry entry = new BurstEntry(thread, step, clock.incrementAndGet());
+        entries.add(entry);
+        return entry;
+    }
+
+    void end(BurstEntry entry, Answer answer) {
+        entry.finish(answer, clock.incrementAndGet());
+    }
+
+    /** The {@code onAdvance} of a phaser was asked. */
+    void asks(Entered where) {
+        asked.add(where);
+    }
+
+    boolean wasAsked(Entered where) {
+        return asked.contains(where);
+    }
+
+    /** How {@code onAdvance} was asked, one after the other. */
+    List<Entered> asked() {
+        return new ArrayList<>(asked);
+    }
+
+    /** In the order in which they began. */
+    List<BurstEntry> entries() {
+        return entries.stream().sorted(Comparator.comparingLong(BurstEntry::begin)).toList();
+    }
+
+    boolean hasOpen() {
+        return entries.stream().anyMatch(BurstEntry::isOpen);
+    }
+
+    /**
+     * What goes on one after the other: a line for each thread, one for each interrupt. An interrupt of a port's thread may
+     * take effect after the next call of its sender has begun.
+     */
+    List<List<BurstEntry>> lines() {
+        List<List<BurstEntry>> lines = new ArrayList<>();
+        for (int thread = 0; thread <= burst.looker(); thread++) {
+            lines.add(new ArrayList<>());
+        }
+        for (BurstEntry entry : entries()) {
+            if (entry.step().interrupts()) {
+                lines.add(List.of(entry));
+            } else {
+                lines.get(entry.thread()).add(entry);
+            }
+        }
+        lines.removeIf(List::isEmpty);
+        return lines;
+    }
+}

@@ -1,0 +1,190 @@
+package kit.player;
+
+import java.util.ArrayList;
+import java.util.Comparator;
+import java.util.List;
+import java.util.concurrent.BlockingQueue;
+import java.util.concurrent.LinkedBlockingQueue;
+import java.util.concurrent.TimeUnit;
+
+/** Plays bursts on a real side: tells all threads to begin, lets them run freely, and looks when all are through. */
+final class BurstPlayer {
+    private static final long MILLISECOND = 1_000_000;
+    /** So often it looks whether the real side has broken down. */
+    private static final long LOOK = 20 * MILLISECOND;
+
+    /** What the player is told by the threads. */
+    private record Event(BurstRunner finished, RealThread standing, Burst.Barrier at) {
+    }
+
+    private final Stage stage;
+    private final long bound;
+
+    /** What takes longer than {@code bound}, in nanoseconds, is taken to wait for ever. */
+    BurstPlayer(Stage stage, long bound) {
+        this.stage = stage;
+        this.bound = bound;
+    }
+
+    /** Its history; calls that wait for ever have no answer in it. Unplayable where the real side can't make the objects. */
+    BurstHistory play(Burst burst) {
+        BurstHistory history = new BurstHistory(burst);
+        build(burst, history);
+        BlockingQueue<Event> events = new LinkedBlockingQueue<>();
+        List<RealThread> threads = new ArrayList<>();
+        for (int thread = 0; thread < burst.threads().size(); thread++) {
+            threads.add(stage.thread(thread));
+        }
+        List<BurstRunner> runners = new ArrayList<>();
+        for (int thread = 0; thread < threads.size(); thread++) {
+            runners.add(new BurstRunner(history, thread, threads, burst.threads().get(thread), stage.isHere()) {
+                @Override
+                protected void finished() {
+                    events.add(new Event(this, null, null));
+                }
+
+                @Override
+                protected void stands(RealThread real, Burst.Barrier at) {
+                    events.add(new Event(null, real, at));
+                }
+            });
+        }
+        start(runners);
+        if (!follow(burst, history, events, runners.size()) || !look(burst, history, runners)) {
+            stage.abandon();
+        }
+        return history;
+    }
+
+    private void build(Burst burst, BurstHistory history) {
+        stage.begin(stage.patience()[0]);
+        for (int number = 0; number < burst.phasers().size(); number++) {
+            Burst.Phaser phaser = burst.phasers().get(number);
+            int at = number;
+            Stage.Advance advance = !phaser.asks() ? null : (phase, parties) -> {
+                history.asks(Entered.onAdvance(at, phase, parties));
+                BurstGate.pauseUntil(System.nanoTime() + phaser.lasts());
+                return phaser.policy().decide(phase, parties);
+            };
+            stage.phaser(number, phaser.parent(), phaser.parties(), 0, advance);
+        }
+        for (int number = 0; number < burst.barriers().size(); number++) {
+            stage.barrier(number, burst.barriers().get(number).parties(), burst.barriers().get(number).withAction());
+        }
+    }
+
+    /** Threads of this JVM meet at a gate first; those of a port are told in the order of their delays. */
+    private void start(List<BurstRunner> runners) {
+        if (stage.isHere()) {
+            BurstGate gate = new BurstGate(runners.size());
+            runners.forEach(runner -> runner.startAt(gate));
+            return;
+        }
+        long from = System.nanoTime();
+        List<BurstRunner> inOrder = new ArrayList<>(runners);
+        inOrder.sort(Comparator.comparingLong(BurstRunner::firstDelay));
+        for (BurstRunner runner : inOrder) {
+            BurstGate.pauseUntil(from + runner.firstDelay());
+            runner.goOn();
+        }
+    }
+
+    /** Until all threads are through: ends actions, and closes and pokes where the burst wants it. */
+    private boolean follow(Burst burst, BurstHistory history, BlockingQueue<Event> events, int count) {
+        int running = count;
+        long limit = System.nanoTime() + bound;
+        long nextClosing = System.nanoTime() + MILLISECOND;
+        long pause = MILLISECOND;
+        while (running > 0) {
+            boolean pokes = !burst.pokes().isEmpty();
+            long until = burst.closer() != null ? Math.min(nextClosing, limit) : limit;
+            Event event = next(events, pokes ? MILLISECOND / 4 : until - System.nanoTime());
+            if (event != null && event.finished() != null) {
+                running--;
+            } else if (event != null) {
+                BurstGate.pauseUntil(System.nanoTime() + event.at().lasts());
+                BurstRunner.endAction(event.standing(), event.at());
+            } else if (System.nanoTime() > limit) {
+                return false;
+            } else if (pokes) {
+                burst.pokes().forEach(poke -> ask(poke.request()));
+            } else if (burst.closer() != null && System.nanoTime() > nextClosing) {
+                close(burst, history);
+                pause *= 2;
+                nextClosing = System.nanoTime() + pause;
+            }
+        }
+        return true;
+    }
+
+    /** What comes next; null where nothing comes for so long. */
+    private <T> T next(BlockingQueue<T> events, long nanoseconds) {
+        long limit = System.nanoTime() + nanoseconds;
+        try {
+            while (true) {
+                stage.thread(Stage.LOOKER).check();
+                long left = limit - System.nanoTime();
+                T event = events.poll(Math.min(left, LOOK), TimeUnit.NANOSECONDS);
+                if (event != null || left <= LOOK) {
+                    return event;
+                }
+            }
+        } catch (InterruptedException never) {
+            throw new IllegalStateException(never);
+        }
+    }
+
+    private void close(Burst burst, BurstHistory history) {
+        BurstEntry entry = history.begin(burst.looker(), BurstStep.call(burst.closer()));
+        RealThread looker = stage.thread(Stage.LOOKER);
+        Call call = looker.tell(burst.closer());
+        if (looker.done(call, bound)) {
+            history.end(entry, call.answer());
+        }
+    }
+
+    private void ask(Request request) {
+        RealThread looker = stage.thread(Stage.LOOKER);
+        looker.done(looker.tell(request), bound);
+    }
+
+    /** The looks of a player when all is quiet, and each thread's interrupted status; false where one hangs. */
+    private boolean look(Burst burst, BurstHistory history, List<BurstRunner> runners) {
+        BlockingQueue<Boolean> looked = new LinkedBlockingQueue<>();
+        List<BurstStep> looks = burst.looks().stream().map(BurstStep::call).toList();
+        List<RealThread> looker = List.of(stage.thread(Stage.LOOKER));
+        new BurstRunner(history, burst.looker(), looker, looks, stage.isHere()) {
+            @Override
+            protected void finished() {
+                looked.add(true);
+            }
+
+            @Override
+            protected void stands(RealThread real, Burst.Barrier at) {
+                throw new IllegalStateException("a getter runs an action");
+            }
+        }.goOn();
+        if (next(looked, bound) == null) {
+            return false;
+        }
+        runners.forEach(BurstRunner::interruptsAreIn);
+        return !burst.hasInterrupts() || askStatuses(history, runners);
+    }
+
+    private boolean askStatuses(BurstHistory history, List<BurstRunner> runners) {
+        List<Call> calls = new ArrayList<>();
+        List<BurstEntry> entries = new ArrayList<>();
+        Request status = Request.of(Method.INTERRUPTED, 0);
+        for (int thread = 0; thread < runners.size(); thread++) {
+            entries.add(history.begin(thread, BurstStep.call(status)));
+            calls.add(stage.thread(thread).tell(status));
+        }
+        for (int thread = 0; thread < calls.size(); thread++) {
+            if (!stage.thread(thread).done(calls.get(thread), bound)) {
+                return false;
+            }
+            history.end(entries.get(thread), calls.get(thread).answer());
+        }
+        return true;
+    }
+}

@@ -1,0 +1,83 @@
+package kit.player;
+
+import java.util.ArrayList;
+import java.util.Collections;
+import java.util.List;
+import java.util.Locale;
+
+/** A burst that fails, in words: what is wrong, its objects and calls, and the answer that no order explains. */
+final class BurstReport {
+    /** How the first line of a kept burst begins; the seed and the round follow. */
+    static final String HEAD = "burst";
+
+    private final BurstHistory history;
+    private final BurstJudge.Finding finding;
+    private final StringBuilder text = new StringBuilder();
+
+    BurstReport(BurstHistory history, BurstJudge.Finding finding) {
+        this.history = history;
+        this.finding = finding;
+    }
+
+    /** The first line of a kept burst, without its end. */
+    static String head(Burst burst) {
+        return HEAD + " " + burst.seed() + " " + burst.round() + " " + burst.kind();
+    }
+
+    String text() {
+        Burst burst = history.burst();
+        line(head(burst));
+        line("  " + finding.words());
+        objects(burst);
+        line("  in the order in which they began, each with its begin and its end:");
+        history.entries().forEach(this::entry);
+        history.asked().forEach(where -> line("    onAdvance of phaser " + where.object() + " was asked: phase "
+            + where.phase() + ", parties " + where.parties()));
+        if (!history.hasOpen() && !finding.overtaken()) {
+            unexplained();
+        }
+        return text.toString();
+    }
+
+    private void objects(Burst burst) {
+        for (int number = 0; number < burst.phasers().size(); number++) {
+            Burst.Phaser phaser = burst.phasers().get(number);
+            line("  phaser " + number + ": " + phaser.parties() + " parties"
+                + (phaser.parent() < 0 ? "" : ", child of " + phaser.parent())
+                + (phaser.asks() ? ", onAdvance overridden: " + phaser.policy().kind().name().toLowerCase(Locale.ROOT)
+                    + (phaser.policy().kind() == Policy.Kind.UNTIL ? " " + phaser.policy().argument() : "") : ""));
+        }
+        for (int number = 0; number < burst.barriers().size(); number++) {
+            Burst.Barrier barrier = burst.barriers().get(number);
+            line("  barrier " + number + ": " + barrier.parties() + " parties"
+                + (!barrier.withAction() ? "" : barrier.fails() ? ", with an action that throws" : ", with an action")
+                + (barrier.lasts() > 0 ? " that takes " + barrier.lasts() / 1_000 + " us" : ""));
+        }
+    }
+
+    private void entry(BurstEntry entry) {
+        line("    " + entry.begin() + ".." + (entry.isOpen() ? "" : entry.end()) + " " + entry.words()
+            + (entry.entered().isEmpty() ? "" : ", ran the action"));
+    }
+
+    private void unexplained() {
+        BurstEntry first = LegalHistory.firstUnexplained(history);
+        if (first == null) {
+            return;
+        }
+        line("  what ended before " + first.end() + " is explained by this order:");
+        List<BurstEntry> order = new ArrayList<>(LegalHistory.orderBefore(history, first));
+        Collections.reverse(order);
+        List<BurstEntry> told = new ArrayList<>();
+        for (BurstEntry entry : order) {
+            String part = Collections.frequency(order, entry) == 1 ? "" : told.contains(entry) ? ", its end" : ", its beginning";
+            line("    " + entry.words() + part);
+            told.add(entry);
+        }
+        line("  no order explains, with these, " + first.words());
+    }
+
+    private void line(String words) {
+        text.append(words).append('\n');
+    }
+}

@@ -1,0 +1,179 @@
+package kit.player;
+
+import java.io.File;
+import java.io.IOException;
+import java.nio.charset.StandardCharsets;
+import java.nio.file.Files;
+import java.nio.file.Path;
+import java.util.ArrayList;
+import java.util.List;
+import java.util.concurrent.TimeUnit;
+import java.util.stream.Stream;
+
+/** Whether the command {@code kit/play} says the right words, and leaves nothing behind, where it can't simply play. */
+final class CommandChecks {
+    /** A port on the JVM that has barriers alone. */
+    public static final class BarriersAlone implements Factory {
+        @Override
+        public PhaserUnderTest phaser(PhaserUnderTest parent, int parties, int firstPhase, OnAdvance onAdvance) {
+            throw new UnsupportedOperationException("it makes no phaser");
+        }
+
+        @Override
+        public BarrierUnderTest barrier(int parties, Runnable action) {
+            return new JdkFactory().barrier(parties, action);
+        }
+    }
+
+    /** The words of a command, its status, and what has to come in what it says. */
+    private record Check(int status, String says, String... words) {
+    }
+
+    private static final String NO_NUMBER = " wants a number from ";
+    private static final long LONGEST_SECONDS = 60;
+    private static final int INTERRUPT = 2;
+
+    private final Path kit;
+    private final Path vuthgal;
+    private final Taker to;
+    private final Path room;
+
+    CommandChecks(Path kit, Path vuthgal, Taker to) throws IOException {
+        this.kit = kit.toAbsolutePath().normalize();
+        this.vuthgal = vuthgal.toAbsolutePath();
+        this.to = to;
+        room = Files.createTempDirectory("vuthgal-commands");
+    }
+
+    /** What is no command, and what can't be played to its end. */
+    void checkWords() throws IOException {
+        String reset = folder("reset");
+        String one = reset + "/a-timed-wait";
+        List<Check> checks = List.of(
+            new Check(2, "there is no case in", room.toString()),
+            new Check(2, "there is no case in", reset, room.toString()),
+            new Check(2, "--random" + NO_NUMBER, "--random", "-5"),
+            new Check(2, "--random" + NO_NUMBER, "--random", "0"),
+            new Check(2, "--random" + NO_NUMBER, "--random", "5000000000"),
+            new Check(2, "--seed" + NO_NUMBER, "--random", "1", "--seed", "-1"),
+            new Check(2, "--seed" + NO_NUMBER, "--random", "1", "--seed", "9223372036854775807"),
+            new Check(2, "--jobs" + NO_NUMBER, "--jobs", "0", reset),
+            new Check(2, "--jobs wants --port", "--jobs", "2", reset),
+            new Check(2, "--patience wants a factor", "--patience", "NaN", reset),
+            new Check(2, "--keep wants --random or --burst", "--keep", room.toString(), reset),
+            new Check(2, "--burst" + NO_NUMBER, "--burst", "0"),
+            new Check(2, "there is no ./nosuch.burst", "--burst", "./nosuch.burst"),
+            new Check(2, "with --burst go only", "--burst", "1", "--jobs", "2", "--port", "./nosuch"),
+            new Check(2, "--round wants --burst", "--round", "1", reset),
+            new Check(1, "burst 1 0 meetings\n  the port has ended before its first answer",
+                "--burst", "1", "--port", "./nosuch"),
+            new Check(1, "with status 127 (no such command)", "--port", "./nosuch", reset),
+            new Check(1, "the run ends here, since there is no answer in 3 cases in a row", "--port", "./nosuch", reset),
+            new Check(1, " different, 0 left out\n", "--keep-going", "--port", "./nosuch", reset),
+            new Check(1, "the port doesn't answer: case", "--port", "exec sleep 600", one + ".asm", one + ".schedule"),
+            new Check(0, "2 left out: it makes no phaser\n", "--factory", BarriersAlone.class.getName(), folder("action")),
+            new Check(2, "nothing was compared\n", "--factory", BarriersAlone.class.getName(), folder("policies")));
+        checks.parallelStream().forEach(this::check);
+        checkNothingIsWritten();
+    }
+
+    /** What a port that isn't whole, or that has to be killed, comes to. */
+    void checkPorts(String python) throws IOException, InterruptedException {
+        String port = python + " '" + kit.resolve("faults/port.py") + "' ";
+        List<Check> checks = List.of(
+            new Check(0, "2 left out: it makes no phaser\n", "--port", port + "without phaser", folder("action")),
+            new Check(2, "nothing was compared\n", "--port", port + "without barrier", folder("reset")),
+            new Check(2, "nothing was compared\n", "--port", port + "without case", folder("reset")),
+            new Check(1, "--keep FOLDER writes it\n", "--random", "1", "--port", port + "'64 = ' 'say 64 = x\\n'"),
+            new Check(1, "burst 1 0 meetings\n  the port has ended, with status 3\n",
+                "--burst", "1", "--port", port + "'0 = ' 'exit 3'"),
+            new Check(1, "  the port wrote `0 = x`: `x` is no int\n", "--burst", "1", "--port", port + "'0 = ' 'say 0 = x\\n'"),
+            new Check(0, "15 kinds left out: it makes no barrier\n", "--burst", "37", "--port", port + "without barrier"),
+            new Check(2, "nothing was compared\n", "--burst", "37", "--port", port + "without case"));
+        checks.parallelStream().forEach(this::check);
+        checkNothingIsWritten();
+        checkEnd(port, "TERM");
+        if (!ignoresInterrupts()) {
+            checkEnd(port, "INT");
+        }
+    }
+
+    private String folder(String rule) {
+        return kit.resolve("cases").resolve(rule).toString();
+    }
+
+    private void checkNothingIsWritten() throws IOException {
+        try (Stream<Path> written = Files.list(room)) {
+            to.take("kit/play without --keep", written.findAny().isEmpty(), "it has written something");
+        }
+    }
+
+    private void check(Check check) {
+        try {
+            Path told = Files.createTempFile("vuthgal", ".told");
+            Process process = start(told, check.words());
+            boolean ended = process.waitFor(LONGEST_SECONDS, TimeUnit.SECONDS);
+            process.destroy();
+            String text = Files.readString(told, StandardCharsets.ISO_8859_1);
+            Files.delete(told);
+            boolean passes = ended && process.exitValue() == check.status() && text.contains(check.says());
+            String what = (ended ? "status " + process.exitValue() : "no end") + ", it says:\n" + text;
+            take("kit/play " + String.join(" ", check.words()), passes, what);
+        } catch (IOException | InterruptedException failed) {
+            throw new IllegalStateException(failed);
+        }
+    }
+
+    private synchronized void take(String name, boolean passes, String what) {
+        to.take(name, passes, what);
+    }
+
+    /** Ends the player by a signal while a port with a child hangs: neither stays behind. */
+    private void checkEnd(String port, String signal) throws IOException, InterruptedException {
+        Path told = Files.createTempFile("vuthgal", ".told");
+        Process player = start(told, "--patience", "100", "--port", port + "ok child; sleep 600", folder("reset"));
+        List<ProcessHandle> below = List.of();
+        for (int wait = 0; wait < 200 && !hasChild(below); wait++) {
+            Thread.sleep(50);
+            below = player.descendants().toList();
+        }
+        boolean played = hasChild(below);
+        new ProcessBuilder("kill", "-" + signal, Long.toString(player.pid())).start().waitFor();
+        player.waitFor(LONGEST_SECONDS, TimeUnit.SECONDS);
+        Thread.sleep(100);
+        List<ProcessHandle> left = below.stream().filter(CommandChecks::lives).toList();
+        to.take("kit/play ended by SIG" + signal, played && left.isEmpty(), "of " + below + " these live on: " + left);
+        left.forEach(ProcessHandle::destroyForcibly);
+        Files.delete(told);
+    }
+
+    private static boolean hasChild(List<ProcessHandle> processes) {
+        return processes.stream().anyMatch(each -> each.info().commandLine().orElse("").endsWith("sleep 87654"));
+    }
+
+    /** Whether this process was started so, as a shell starts what runs in the background: the player would ignore them, too. */
+    private static boolean ignoresInterrupts() throws IOException {
+        String ignored = Files.readAllLines(Path.of("/proc/self/status")).stream()
+            .filter(line -> line.startsWith("SigIgn:")).findFirst().orElse("SigIgn: 0");
+        return (Long.parseUnsignedLong(ignored.substring("SigIgn:".length()).strip(), 16) & 1 << (INTERRUPT - 1)) != 0;
+    }
+
+    /** Whether it is there, and not only its entry until somebody asks how it ended. */
+    private static boolean lives(ProcessHandle process) {
+        try {
+            return process.isAlive() && !Files.readString(Path.of("/proc/" + process.pid() + "/stat")).contains(") Z ");
+        } catch (IOException gone) {
+            return false;
+        }
+    }
+
+    private Process start(Path told, String... words) throws IOException {
+        String java = Path.of(System.getProperty("java.home"), "bin", "java").toString();
+        List<String> command = new ArrayList<>(List.of(java, "-XX:+UseSerialGC", "--add-opens",
+            "java.base/java.util.concurrent=ALL-UNNAMED", "-cp", System.getProperty("java.class.path"), Player.class.getName(),
+            "--vuthgal", vuthgal.toString()));
+        command.addAll(List.of(words));
+        File output = told.toFile();
+        return new ProcessBuilder(command).directory(room.toFile()).redirectErrorStream(true).redirectOutput(output).start();
+    }
+}

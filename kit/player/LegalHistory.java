@@ -1,0 +1,266 @@
+package kit.player;
+
+import java.util.ArrayList;
+import java.util.Comparator;
+import java.util.HashSet;
+import java.util.List;
+import java.util.Set;
+
+/**
+ * Looks for one order of all calls of a burst that explains their answers: it keeps each thread's order, puts no call before
+ * one that had ended before it began, and gives each call the answer of the model. A search that tries what can come next
+ * and remembers where it has been (after Wing and Gong, and Lowe).
+ */
+final class LegalHistory {
+    private final BurstHistory history;
+    private final List<List<BurstEntry>> lines;
+    /**
+     * Whether an interrupt may win over the end of a phase that came before it: who waits for a phase looks at the phase and
+     * then at its status, and between these two looks both may come.
+     */
+    private final boolean twoLooks;
+    /** What ended later than this is taken to be still open: any answer will do, or none. */
+    private final long until;
+    private final Set<List<Integer>> seen = new HashSet<>();
+    private final List<BurstEntry> order = new ArrayList<>();
+
+    private LegalHistory(BurstHistory history, boolean twoLooks, long until) {
+        this.history = history;
+        this.twoLooks = twoLooks;
+        this.until = until;
+        lines = history.lines();
+        lines.sort(Comparator.comparingLong(line -> line.get(0).end()));
+    }
+
+    /** Whether there is such an order. */
+    static boolean explains(BurstHistory history, boolean twoLooks) {
+        return new LegalHistory(history, twoLooks, Long.MAX_VALUE - 1).explains();
+    }
+
+    /** The first answer, in the order in which they came, that no order explains. */
+    static BurstEntry firstUnexplained(BurstHistory history) {
+        List<BurstEntry> answered = history.entries().stream().filter(entry -> !entry.isOpen())
+            .sorted(Comparator.comparingLong(BurstEntry::end)).toList();
+        for (BurstEntry entry : answered) {
+            if (!new LegalHistory(history, true, entry.end()).explains()) {
+                return entry;
+            }
+        }
+        return null;
+    }
+
+    /** An order of what ended before this entry did, the last first, with what has to come between. */
+    static List<BurstEntry> orderBefore(BurstHistory history, BurstEntry entry) {
+        LegalHistory before = new LegalHistory(history, true, entry.end() - 1);
+        before.explains();
+        return before.order;
+    }
+
+    private boolean explains() {
+        return goesOn(new HistoryPoint(history.burst().model(), lines.size()));
+    }
+
+    private boolean goesOn(HistoryPoint at) {
+        if (isThrough(at)) {
+            return true;
+        }
+        if (!seen.add(at.key())) {
+            return false;
+        }
+        int[] lineOrder = at.byEnd(lines);
+        for (int line : lineOrder) {
+            HistoryPoint next = silent(at, line);
+            if (next != null) {
+                return steps(next, at.present(lines, line));
+            }
+        }
+        for (int line : lineOrder) {
+            BurstEntry entry = at.present(lines, line);
+            if (at.hasBegun(line) ? ends(at, line, entry) : begins(at, line, entry)) {
+                return true;
+            }
+        }
+        return false;
+    }
+
+    /**
+     * The point behind a step with the right answer that changes nothing for others, a look or the end of a released wait; null
+     * where there is none. Such a step is taken as soon as it can be: whatever order there is, there is one with it here.
+     */
+    private HistoryPoint silent(HistoryPoint at, int line) {
+        BurstEntry entry = at.present(lines, line);
+        if (entry.step().interrupts() || isOpen(entry)) {
+            return null;
+        }
+        if (at.hasBegun(line)) {
+            return at.model().inside(entry.thread()) == null ? released(at, line, entry) : null;
+        }
+        if (!entry.request().method().looks() || !at.mayBegin(lines, entry)) {
+            return null;
+        }
+        HistoryPoint next = at.copy();
+        ModelOutcome outcome = next.model().begin(entry.thread(), entry.request());
+        if (outcome.kind() != ModelOutcome.Kind.ANSWERS || !matches(next.model(), entry, outcome.answer())) {
+            return null;
+        }
+        next.passes(line);
+        return next;
+    }
+
+    private boolean isOpen(BurstEntry entry) {
+        return entry.end() > until;
+    }
+
+    private boolean isThrough(HistoryPoint at) {
+        for (int line = 0; line < lines.size(); line++) {
+            BurstEntry entry = at.present(lines, line);
+            if (entry != null && !isOpen(entry)) {
+                return false;
+            }
+        }
+        return true;
+    }
+
+    /** Takes a further step; where that leads to an end the entry is part of the order. */
+    private boolean steps(HistoryPoint next, BurstEntry entry) {
+        if (!goesOn(next)) {
+            return false;
+        }
+        order.add(entry);
+        return true;
+    }
+
+    // ---- beginnings
+
+    private boolean begins(HistoryPoint at, int line, BurstEntry entry) {
+        if (!at.mayBegin(lines, entry)) {
+            return false;
+        }
+        HistoryPoint next = at.copy();
+        if (entry.step().interrupts()) {
+            next.model().interrupt(entry.step().target());
+            next.passes(line);
+            return steps(next, entry);
+        }
+        return follows(next, line, entry, next.model().begin(entry.thread(), entry.request()), false);
+    }
+
+    /** What the model makes of a call's beginning, or of the end of its routine or action. */
+    private boolean follows(HistoryPoint next, int line, BurstEntry entry, ModelOutcome outcome, boolean wasInside) {
+        boolean ran = !isOpen(entry) && !entry.entered().isEmpty();
+        boolean possible = switch (outcome.kind()) {
+            case HELD -> false;
+            case ANSWERS -> (wasInside || !ran) && matches(next.model(), entry, outcome.answer());
+            case ENTERS -> wasEntered(entry, outcome.entered());
+            case WAITS -> (wasInside || !ran) && mayCome(next.model().waitsFor(entry.thread()), entry);
+        };
+        if (!possible) {
+            return false;
+        }
+        if (outcome.kind() == ModelOutcome.Kind.ANSWERS) {
+            next.passes(line);
+        } else {
+            next.begins(line);
+        }
+        return steps(next, entry);
+    }
+
+    /** Whether the answer may come of this wait: an arrival index is known when it begins. */
+    private boolean mayCome(ModelWait wait, BurstEntry entry) {
+        return isOpen(entry) || !wait.method().ofBarrier() || entry.answer().kind() != Answer.Kind.VALUE
+            || entry.answer().number() == wait.number();
+    }
+
+    /** Whether the routine was asked with just these numbers, or the action ran. */
+    private boolean wasEntered(BurstEntry entry, Entered where) {
+        if (isOpen(entry)) {
+            return true;
+        }
+        if (!where.ofPhaser()) {
+            return entry.entered().equals(List.of(where));
+        }
+        return !history.burst().phasers().get(where.object()).asks() || history.wasAsked(where);
+    }
+
+    // ---- ends
+
+    private boolean ends(HistoryPoint at, int line, BurstEntry entry) {
+        int thread = entry.thread();
+        Model model = at.model();
+        Entered inside = model.inside(thread);
+        if (inside != null) {
+            HistoryPoint next = at.copy();
+            return follows(next, line, entry, endInside(next.model(), thread, inside), true);
+        }
+        return leavesInterrupted(at, line, entry) || leavesLate(at, line, entry);
+    }
+
+    private ModelOutcome endInside(Model model, int thread, Entered inside) {
+        if (inside.ofPhaser()) {
+            Burst.Phaser phaser = history.burst().phasers().get(inside.object());
+            return model.end(thread, phaser.policy().decide(inside.phase(), inside.parties()) ? 1 : 0, false);
+        }
+        boolean fails = history.burst().barriers().get(inside.object()).fails();
+        return model.end(thread, fails ? Burst.FAILURE : 0, fails);
+    }
+
+    /** The point behind the end of a released wait; null where it wasn't released, or has another answer. */
+    private HistoryPoint released(HistoryPoint at, int line, BurstEntry entry) {
+        if (!at.model().isReleased(entry.thread())) {
+            return null;
+        }
+        HistoryPoint next = at.copy();
+        ModelWait wait = next.model().waitsFor(entry.thread());
+        Answer answer = next.model().release(entry.thread());
+        if (!matches(next.model(), entry, answer) && !isPlainNumber(next.model(), entry, wait)) {
+            return null;
+        }
+        next.passes(line);
+        return next;
+    }
+
+    private boolean leavesInterrupted(HistoryPoint at, int line, BurstEntry entry) {
+        Model model = at.model();
+        boolean told = isOpen(entry) || entry.answer().isThrown(Answer.INTERRUPTED);
+        boolean secondLook = twoLooks && entry.request().method().ofPhaser();
+        if (!told || !model.hearsInterrupt(entry.thread()) || !secondLook && !model.mayLeave(entry.thread())) {
+            return false;
+        }
+        HistoryPoint next = at.copy();
+        next.model().leaveInterrupted(entry.thread());
+        next.passes(line);
+        return steps(next, entry);
+    }
+
+    private boolean leavesLate(HistoryPoint at, int line, BurstEntry entry) {
+        boolean told = entry.request().method().timed() && (isOpen(entry) || entry.answer().isThrown(Answer.TIMEOUT));
+        if (!told || !at.model().mayLeave(entry.thread()) || !at.mayBeLate(lines, entry)) {
+            return false;
+        }
+        HistoryPoint next = at.copy();
+        next.model().leaveLate(entry.thread());
+        next.passes(line);
+        return steps(next, entry);
+    }
+
+    // ---- answers
+
+    private boolean matches(Model model, BurstEntry entry, Answer answer) {
+        return isOpen(entry) || answer.equals(entry.answer()) || isMeaningless(model, entry);
+    }
+
+    /** Counts after a termination are called meaningless in the Java documentation. */
+    private static boolean isMeaningless(Model model, BurstEntry entry) {
+        return switch (entry.request().method()) {
+            case GET_REGISTERED_PARTIES, GET_ARRIVED_PARTIES, GET_UNARRIVED_PARTIES ->
+                model.isTerminated(entry.request().object()) && entry.answer().kind() == Answer.Kind.VALUE;
+            default -> false;
+        };
+    }
+
+    /** The documented difference {@code last-arrive-and-await}: who ends the last phase may get the plain next number. */
+    private static boolean isPlainNumber(Model model, BurstEntry entry, ModelWait wait) {
+        return wait.endedItself() && model.isTerminated(wait.object())
+            && entry.answer().isValue(wait.number() + 1 & Integer.MAX_VALUE);
+    }
+}

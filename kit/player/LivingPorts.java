@@ -1,0 +1,50 @@
+package kit.player;
+
+import java.io.IOException;
+import java.util.HashSet;
+import java.util.List;
+import java.util.Set;
+
+/** The processes of ports that live now. None of them outlives the player, however that is ended. */
+final class LivingPorts {
+    private static final Set<Process> LIVING = new HashSet<>();
+    private static boolean ending;
+
+    static {
+        Runtime.getRuntime().addShutdownHook(new Thread(LivingPorts::killAll, "end of the ports"));
+    }
+
+    private LivingPorts() {
+    }
+
+    static synchronized Process start(String command) throws IOException {
+        check();
+        Process process = new ProcessBuilder("bash", "-c", command).redirectError(ProcessBuilder.Redirect.INHERIT).start();
+        LIVING.add(process);
+        return process;
+    }
+
+    /** Ends a process, and all that it has started. */
+    static synchronized void kill(Process process) {
+        List<ProcessHandle> below = process.descendants().toList();
+        process.destroyForcibly();
+        below.forEach(ProcessHandle::destroyForcibly);
+        LIVING.remove(process);
+    }
+
+    private static synchronized void killAll() {
+        ending = true;
+        List.copyOf(LIVING).forEach(LivingPorts::kill);
+    }
+
+    /** Stops whoever comes here once the player is ended: what its ports do then is told to nobody. */
+    static synchronized void check() {
+        while (ending) {
+            try {
+                LivingPorts.class.wait();
+            } catch (InterruptedException goesOnWaiting) {
+                continue;
+            }
+        }
+    }
+}

@@ -1,0 +1,150 @@
+package kit.player;
+
+import java.util.ArrayList;
+import java.util.List;
+
+/** Bursts in which the parties of one phaser meet, come, and leave. */
+final class MeetingBursts {
+    static final List<BurstKind> KINDS = List.of(
+        new BurstKind("meetings", MeetingBursts::meetings),
+        new BurstKind("meetings-with-an-audience", MeetingBursts::audience),
+        new BurstKind("meetings-and-departures", MeetingBursts::departures),
+        new BurstKind("meetings-until-the-last", MeetingBursts::untilTheLast),
+        new BurstKind("registration-while-a-phase-ends", MeetingBursts::registration),
+        new BurstKind("bulk-registration-while-a-phase-ends", MeetingBursts::bulkRegistration),
+        new BurstKind("looks-at-a-phaser", MeetingBursts::manyLooks),
+        new BurstKind("arrivals-that-nobody-awaits", MeetingBursts::arrivals));
+
+    private MeetingBursts() {
+    }
+
+    private static BurstStep meet(int phaser) {
+        return BurstMaker.call(Method.ARRIVE_AND_AWAIT_ADVANCE, phaser);
+    }
+
+    /** All parties meet some times, each back at once. */
+    private static void meetings(BurstMaker make) {
+        int parties = make.between(2, BurstMaker.MOST_THREADS);
+        int phaser = make.root(parties, make.of(50) ? Policy.DEFAULT : BurstMaker.NEVER);
+        int often = make.between(1, 4);
+        for (int party = 0; party < parties; party++) {
+            make.thread(BurstMaker.times(often, meet(phaser)));
+        }
+        make.claims(BurstClaim.MEETS);
+    }
+
+    /** The same before others, who await each phase. */
+    private static void audience(BurstMaker make) {
+        int parties = make.between(1, 3);
+        int phaser = make.root(parties, make.of(50) ? Policy.DEFAULT : BurstMaker.NEVER);
+        int often = make.between(2, 4);
+        for (int party = 0; party < parties; party++) {
+            make.thread(BurstMaker.times(often, meet(phaser)));
+        }
+        for (int other = make.between(1, 3); other > 0; other--) {
+            List<BurstStep> steps = new ArrayList<>();
+            for (int phase = 0; phase < often; phase++) {
+                Method method = make.any(List.of(Method.AWAIT_ADVANCE, Method.AWAIT_ADVANCE_INTERRUPTIBLY));
+                steps.add(BurstMaker.call(method, phaser, phase));
+            }
+            make.thread(steps);
+        }
+        make.claims(BurstClaim.MEETS);
+    }
+
+    /** Some meet more often than others, and each leaves at its end. */
+    private static void departures(BurstMaker make) {
+        int parties = make.between(2, 6);
+        int phaser = make.root(parties, make.of(50) ? Policy.DEFAULT : BurstMaker.NEVER);
+        for (int party = 0; party < parties; party++) {
+            List<BurstStep> steps = new ArrayList<>(BurstMaker.times(make.between(0, 3), meet(phaser)));
+            steps.add(BurstMaker.call(Method.ARRIVE_AND_DEREGISTER, phaser));
+            if (make.of(30)) {
+                steps.add(BurstMaker.call(Method.GET_PHASE, phaser));
+            }
+            make.thread(steps);
+        }
+    }
+
+    /** A phaser that terminates with a phase, while all go on to meet. */
+    private static void untilTheLast(BurstMaker make) {
+        int parties = make.between(2, 5);
+        int last = make.between(0, 2);
+        int phaser = make.root(parties, new Policy(Policy.Kind.UNTIL, last));
+        for (int party = 0; party < parties; party++) {
+            List<BurstStep> steps = new ArrayList<>(BurstMaker.times(last + make.between(1, 2), meet(phaser)));
+            steps.add(BurstMaker.call(Method.IS_TERMINATED, phaser));
+            make.thread(steps);
+        }
+        make.thread(BurstMaker.call(Method.AWAIT_ADVANCE, phaser, last));
+    }
+
+    /** Others come and go again while the parties meet. */
+    private static void registration(BurstMaker make) {
+        int parties = make.between(1, 3);
+        int phaser = make.root(parties, BurstMaker.NEVER);
+        for (int party = 0; party < parties; party++) {
+            make.thread(meet(phaser));
+        }
+        for (int other = make.between(1, 4); other > 0; other--) {
+            List<BurstStep> steps = new ArrayList<>();
+            for (int often = make.between(1, 2); often > 0; often--) {
+                steps.add(BurstMaker.call(Method.REGISTER, phaser));
+                steps.add(BurstMaker.call(Method.ARRIVE_AND_DEREGISTER, phaser));
+            }
+            make.thread(steps);
+        }
+        looks(make, phaser);
+    }
+
+    /** Looks at the counts while many come and go. */
+    private static void manyLooks(BurstMaker make) {
+        int phaser = make.root(1);
+        for (int other = make.between(2, 4); other > 0; other--) {
+            List<BurstStep> steps = new ArrayList<>();
+            for (int often = make.between(1, 3); often > 0; often--) {
+                steps.add(BurstMaker.call(Method.REGISTER, phaser));
+                steps.add(BurstMaker.call(Method.ARRIVE_AND_DEREGISTER, phaser));
+            }
+            make.thread(steps);
+        }
+        for (int looker = make.between(1, 3); looker > 0; looker--) {
+            Method getter = make.any(List.of(Method.GET_ARRIVED_PARTIES, Method.GET_UNARRIVED_PARTIES));
+            make.thread(BurstMaker.times(make.between(2, 5), BurstMaker.call(getter, phaser)));
+        }
+    }
+
+    private static void bulkRegistration(BurstMaker make) {
+        int phaser = make.root(1, BurstMaker.NEVER);
+        make.thread(BurstMaker.times(make.between(1, 6), BurstMaker.call(Method.ARRIVE, phaser)));
+        for (int other = make.between(1, 3); other > 0; other--) {
+            int count = make.between(0, 2);
+            List<BurstStep> steps = new ArrayList<>();
+            steps.add(BurstMaker.call(Method.BULK_REGISTER, phaser, count));
+            steps.addAll(BurstMaker.times(count, BurstMaker.call(Method.ARRIVE_AND_DEREGISTER, phaser)));
+            make.thread(steps);
+        }
+        looks(make, phaser);
+    }
+
+    /** Threads that arrive and go, some of them in the place of others, and who awaits the end. */
+    private static void arrivals(BurstMaker make) {
+        int parties = make.between(2, 5);
+        int phaser = make.root(parties, make.of(50) ? Policy.DEFAULT : BurstMaker.NEVER);
+        for (int party = 0; party < parties; party++) {
+            make.thread(BurstMaker.times(make.of(10) ? 2 : 1, BurstMaker.call(Method.ARRIVE, phaser)));
+        }
+        make.thread(BurstMaker.call(Method.AWAIT_ADVANCE, phaser, 0));
+        looks(make, phaser);
+    }
+
+    private static void looks(BurstMaker make, int phaser) {
+        List<Method> getters = List.of(Method.GET_PHASE, Method.GET_REGISTERED_PARTIES, Method.GET_ARRIVED_PARTIES,
+            Method.GET_UNARRIVED_PARTIES, Method.IS_TERMINATED);
+        List<BurstStep> steps = new ArrayList<>();
+        for (int look = make.between(2, 8); look > 0; look--) {
+            steps.add(BurstMaker.call(make.any(getters), phaser));
+        }
+        make.thread(steps);
+    }
+}

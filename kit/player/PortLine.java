@@ -1,0 +1,101 @@
+package kit.player;
+
+import java.util.regex.Pattern;
+
+/** A line that a port wrote, taken apart (docs/FORMATS.md, "Port protocol"). */
+record PortLine(Kind kind, int thread, int[] numbers, String line) {
+    enum Kind {
+        /** A command for objects was carried out, or can't be. */
+        OK, NO,
+        /** A call has come to this. */
+        VALUE, VOID, THROWN, THROUGH, FAULT,
+        /** A call stands at the beginning of an onAdvance or an action. */
+        ENTERS_ROUTINE, ENTERS_ACTION
+    }
+
+    private static final int[] NONE = {};
+    private static final Pattern NUMBER = Pattern.compile("-?[0-9]{1,10}");
+
+    static PortLine of(String line) {
+        String[] words = line.split(" ", -1);
+        if (line.equals("ok")) {
+            return new PortLine(Kind.OK, 0, NONE, line);
+        }
+        if (words[0].equals("no")) {
+            return new PortLine(Kind.NO, 0, NONE, line);
+        }
+        if (words.length < 2) {
+            throw fault(line, "it is no answer");
+        }
+        int thread = number(line, words[0]);
+        if (thread < 0 || thread > Stage.LOOKER) {
+            throw fault(line, "threads have the numbers 0 to " + Stage.LOOKER);
+        }
+        return ofThread(line, thread, words);
+    }
+
+    private static PortLine ofThread(String line, int thread, String[] words) {
+        return switch (words[1]) {
+            case "=" -> of(Kind.VALUE, thread, line, words, 2, 1);
+            case "ok" -> of(Kind.VOID, thread, line, words, 2, 0);
+            case "throw" -> of(Kind.THROWN, thread, line, words, 2, 1);
+            case "through" -> of(Kind.THROUGH, thread, line, words, 2, 1);
+            case "fault" -> new PortLine(Kind.FAULT, thread, NONE, line);
+            case "enter" -> switch (words.length > 2 ? words[2] : "") {
+                case "phaser" -> of(Kind.ENTERS_ROUTINE, thread, line, words, 3, 3);
+                case "barrier" -> of(Kind.ENTERS_ACTION, thread, line, words, 3, 1);
+                default -> throw fault(line, "a thread enters a phaser's onAdvance or a barrier's action");
+            };
+            default -> throw fault(line, "no answer has the word `" + Excerpt.of(words[1]) + "` there");
+        };
+    }
+
+    /** The numbers begin at word {@code first}, and are so many. */
+    private static PortLine of(Kind kind, int thread, String line, String[] words, int first, int count) {
+        if (words.length != first + count) {
+            throw fault(line, countWords(count) + " to follow, behind one space each");
+        }
+        int[] numbers = new int[count];
+        for (int at = 0; at < count; at++) {
+            numbers[at] = number(line, words[first + at]);
+        }
+        return new PortLine(kind, thread, numbers, line);
+    }
+
+    private static String countWords(int count) {
+        return count == 0 ? "no number has" : count == 1 ? "one number has" : count + " numbers have";
+    }
+
+    private static int number(String line, String word) {
+        if (NUMBER.matcher(word).matches()) {
+            long number = Long.parseLong(word);
+            if (number == (int) number) {
+                return (int) number;
+            }
+        }
+        throw fault(line, "`" + Excerpt.of(word) + "` is no int");
+    }
+
+    private static ProtocolFault fault(String line, String why) {
+        return new ProtocolFault("the port wrote `" + Excerpt.of(line) + "`: " + why);
+    }
+
+    /** This line has no place where it came, for this reason. */
+    ProtocolFault fault(String why) {
+        return fault(line, why);
+    }
+
+    /** Whether it answers a command for objects. */
+    boolean ofObjects() {
+        return kind == Kind.OK || kind == Kind.NO;
+    }
+
+    /** Why the port can't do it. */
+    String reason() {
+        return line.length() > 3 ? line.substring(3) : "it gives no reason";
+    }
+
+    int number(int at) {
+        return numbers[at];
+    }
+}

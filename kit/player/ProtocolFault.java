@@ -1,0 +1,20 @@
+package kit.player;
+
+/** The real side did what no port does: it wrote a line that isn't in the protocol, or its factory threw an exception. */
+final class ProtocolFault extends Breakdown {
+    private static final long serialVersionUID = 1;
+
+    ProtocolFault(String what) {
+        super(what, false);
+    }
+
+    @Override
+    boolean mayBeSlowness() {
+        return false;
+    }
+
+    @Override
+    boolean isEndless() {
+        return false;
+    }
+}

@@ -1,0 +1,66 @@
+package kit.player;
+
+/**
+ * Whether a call is done, enters a routine or an action, or is blocked. Of a blocked thread there is nothing to be seen but
+ * that it stands still, and on a busy machine so does one that waits for a processor. So the time for which it has to stand
+ * still counts from when a round trip of the looker, begun after the call, has come back; it is longer where that trip was
+ * long; the real side has to be at rest behind it; and one more trip, which mustn't be longer than that time, comes last.
+ */
+final class Settling {
+    private static final int TRIPS = 3;
+    /** A real side that isn't at rest after so many times is one that spins while it waits. */
+    private static final int MOST_ROUNDS = 10;
+
+    private final Stage stage;
+    private final Patience patience;
+    private long trip;
+
+    Settling(Stage stage, Patience patience) {
+        this.stage = stage;
+        this.patience = patience;
+    }
+
+    /** What has become of a call that may wait. */
+    RealThread.Outcome settle(RealThread thread, Call call) {
+        long limit = System.nanoTime() + patience.bound();
+        thread.standStill(call, patience.settle() / 4, limit);      // most calls are done by then
+        if (RealThread.outcome(call) != RealThread.Outcome.BLOCKED) {
+            return RealThread.outcome(call);
+        }
+        long last = roundTrip();
+        for (int round = 1;; round++) {
+            long still = Math.max(patience.settle(), TRIPS * last);
+            thread.standStill(call, still, limit);
+            boolean rests = round >= MOST_ROUNDS || thread.isAtRest();
+            last = roundTrip();
+            boolean settled = rests && last <= still || System.nanoTime() > limit;
+            if (settled || RealThread.outcome(call) != RealThread.Outcome.BLOCKED) {
+                return RealThread.outcome(call);
+            }
+        }
+    }
+
+    /** What has become of a call that never waits. */
+    RealThread.Outcome comeBack(RealThread thread, Call call) {
+        thread.standStill(call, patience.bound(), System.nanoTime() + patience.bound());
+        return RealThread.outcome(call);
+    }
+
+    /** How long the looker takes to answer now. */
+    long roundTrip() {
+        RealThread looker = stage.thread(Stage.LOOKER);
+        long begun = System.nanoTime();
+        Call call = looker.tell(Request.of(Method.IS_INTERRUPTED, 0));
+        if (!looker.done(call, patience.bound())) {
+            throw new Hangs("isInterrupted of the looker doesn't answer" + looker.unfinished());
+        }
+        long took = System.nanoTime() - begun;
+        trip = Math.max(took, trip / 2);
+        return took;
+    }
+
+    /** How long a round trip has taken of late. */
+    long lately() {
+        return trip;
+    }
+}

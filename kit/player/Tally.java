@@ -1,0 +1,91 @@
+package kit.player;
+
+import java.io.PrintStream;
+import java.util.Map;
+import java.util.TreeMap;
+
+/** Counts verdicts, tells those that aren't simply the same, and knows when to end a run that has no end in sight. */
+final class Tally {
+    private static final int MOST_ENDLESS_IN_A_ROW = 3;
+
+    private final int cases;
+    private final boolean keepsGoing;
+    private final PrintStream to;
+    private final Report report = new Report();
+    private final Sums sums = new Sums();
+    private final Map<String, Integer> whyLeftOut = new TreeMap<>();
+    private final Map<String, Integer> differences = new TreeMap<>();
+    private int same;
+    private int different;
+    private int leftOut;
+    private int again;
+    private int endlessInARow;
+
+    /** Of so many cases. */
+    Tally(int cases, boolean keepsGoing, PrintStream to) {
+        this.cases = cases;
+        this.keepsGoing = keepsGoing;
+        this.to = to;
+    }
+
+    /** Takes one more; answers whether to go on. */
+    boolean add(Played played) {
+        Verdict verdict = played.verdict();
+        report.add(played);
+        sums.add(verdict.notes());
+        verdict.notes().differences().forEach((program, count) -> differences.merge(program, count, Integer::sum));
+        again += verdict.tries() > 1 ? 1 : 0;
+        switch (verdict.kind()) {
+            case SAME -> same++;
+            case DIFFERS -> different++;
+            case LEFT_OUT -> {
+                leftOut++;
+                whyLeftOut.merge(verdict.why(), 1, Integer::sum);
+            }
+        }
+        if (verdict.differs() || verdict.tries() > 1) {
+            to.println(played.line());
+        }
+        endlessInARow = verdict.isEndless() ? endlessInARow + 1 : 0;
+        return keepsGoing || endlessInARow < MOST_ENDLESS_IN_A_ROW;
+    }
+
+    /** The sums, in some lines. */
+    void tell() {
+        int notPlayed = cases - same - different - leftOut;
+        if (notPlayed > 0) {
+            to.println("the run ends here, since there is no answer in " + endlessInARow
+                + " cases in a row (--keep-going goes on)");
+        }
+        whyLeftOut.forEach((why, count) -> to.println(count + " left out: " + why));
+        to.println(sums.line());
+        differences.forEach((program, count) -> to.println("  " + count + " told over as in differences/" + program));
+        if (same + different == 0) {
+            to.println("nothing was compared");
+        }
+        to.println(same + " same, " + different + " different, " + leftOut + " left out"
+            + (notPlayed > 0 ? ", " + notPlayed + " not played" : "")
+            + (again > 0 ? "; " + again + " played again with more patience" : ""));
+    }
+
+    Report report() {
+        return report;
+    }
+
+    int same() {
+        return same;
+    }
+
+    int different() {
+        return different;
+    }
+
+    int leftOut() {
+        return leftOut;
+    }
+
+    /** The exit status: 0 where all is the same, 1 where something differs, 2 where nothing was compared. */
+    int status() {
+        return same + different == 0 ? 2 : different == 0 ? 0 : 1;
+    }
+}

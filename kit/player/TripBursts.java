@@ -1,0 +1,109 @@
+package kit.player;
+
+import java.util.ArrayList;
+import java.util.List;
+
+/** Bursts in which barriers trip, and what comes right behind a trip. */
+final class TripBursts {
+    static final List<BurstKind> KINDS = List.of(
+        new BurstKind("trips", TripBursts::trips),
+        new BurstKind("barging", TripBursts::barging),
+        new BurstKind("released-and-then-broken", TripBursts::releasedAndBroken),
+        new BurstKind("released-and-then-reset", TripBursts::releasedAndReset),
+        new BurstKind("interrupt-behind-the-trip", TripBursts::interruptBehind),
+        new BurstKind("time-at-the-trip", TripBursts::timeAtTheTrip),
+        new BurstKind("time-during-the-action", TripBursts::timeDuringTheAction),
+        new BurstKind("the-longest-time-at-a-barrier", TripBursts::longestTime));
+
+    private TripBursts() {
+    }
+
+    private static BurstStep await(int barrier) {
+        return BurstMaker.call(Method.AWAIT, barrier);
+    }
+
+    private static BurstStep awaitFor(int barrier, long nanoseconds) {
+        return BurstMaker.timed(Method.AWAIT_FOR, barrier, 0, nanoseconds);
+    }
+
+    private static void others(BurstMaker make, int barrier, int count) {
+        for (int other = 0; other < count; other++) {
+            make.thread(await(barrier));
+        }
+    }
+
+    /** As many threads as parties, each back at once. */
+    private static void trips(BurstMaker make) {
+        int parties = make.between(2, BurstMaker.MOST_THREADS);
+        int barrier = make.barrier(parties, make.of(40), 0, false);
+        int often = make.between(1, 5);
+        for (int party = 0; party < parties; party++) {
+            make.thread(BurstMaker.times(often, await(barrier)));
+        }
+        make.claims(BurstClaim.TRIPS);
+    }
+
+    /** More threads than parties, so that each may come in the generation of others. */
+    private static void barging(BurstMaker make) {
+        int parties = make.between(2, 3);
+        int barrier = make.barrier(parties, make.of(30), 0, false);
+        for (int thread = 0; thread < parties + make.between(1, 3); thread++) {
+            make.thread(BurstMaker.times(make.between(1, 3), await(barrier)));
+        }
+        make.closes(Request.of(Method.RESET, barrier));
+    }
+
+    private static void releasedAndBroken(BurstMaker make) {
+        int parties = make.between(2, 4);
+        int barrier = make.barrier(parties);
+        others(make, barrier, parties - 1);
+        make.thread(await(barrier).after(make.time(0, 1_000)), awaitFor(barrier, -make.between(0, 1)),
+            BurstMaker.call(Method.IS_BROKEN, barrier));
+    }
+
+    private static void releasedAndReset(BurstMaker make) {
+        int parties = make.between(2, 4);
+        int barrier = make.barrier(parties);
+        others(make, barrier, parties - 1);
+        make.thread(await(barrier).after(make.time(0, 1_000)), BurstMaker.call(Method.RESET, barrier));
+    }
+
+    private static void interruptBehind(BurstMaker make) {
+        int parties = make.between(2, 4);
+        int barrier = make.barrier(parties, make.of(30), 0, false);
+        others(make, barrier, parties - 1);
+        int thread = make.thread(await(barrier).after(make.time(0, 1_000)));
+        for (int other = 0; other < parties - 1; other++) {
+            make.then(thread, BurstStep.interrupt(other));
+        }
+        make.then(thread, BurstMaker.call(Method.IS_BROKEN, barrier));
+    }
+
+    private static void timeAtTheTrip(BurstMaker make) {
+        int parties = make.between(2, 3);
+        int barrier = make.barrier(parties, make.of(30), 0, false);
+        long time = make.time(1_000, 2_000);
+        for (int other = 0; other < parties - 1; other++) {
+            make.thread(awaitFor(barrier, time));
+        }
+        make.thread(await(barrier).after(Math.max(time - make.time(-200, 600), 0)));
+    }
+
+    /** The time of a waiter is over while the action runs. */
+    private static void timeDuringTheAction(BurstMaker make) {
+        int parties = make.between(2, 3);
+        long time = make.time(2_000, 4_000);
+        int barrier = make.barrier(parties, true, time * 2, false);
+        for (int other = 0; other < parties - 1; other++) {
+            make.thread(awaitFor(barrier, time));
+        }
+        make.thread(await(barrier));
+    }
+
+    private static void longestTime(BurstMaker make) {
+        int barrier = make.barrier(2);
+        make.thread(awaitFor(barrier, Long.MAX_VALUE - make.between(0, 1) * make.between(0, 1_000)));
+        List<BurstStep> steps = new ArrayList<>(List.of(await(barrier).after(make.time(300, 1_000))));
+        make.thread(steps);
+    }
+}

@@ -1,0 +1,34 @@
+package kit.wrong.burst;
+
+import java.util.concurrent.BrokenBarrierException;
+
+/** The action runs without the lock: nobody else comes in, but whose time is over meanwhile leaves. */
+public final class ActionRunsWithoutTheLock extends LockedFactory {
+    @Override
+    LockedBarrier lockedBarrier(int parties, Runnable action) {
+        return new LockedBarrier(parties, action) {
+            private boolean runs;
+
+            @Override
+            void meets(Generation present) throws BrokenBarrierException {
+                while (runs) {
+                    sleepUninterruptibly();
+                }
+                super.meets(present());
+            }
+
+            @Override
+            void act() {
+                runs = true;
+                unlock();
+                try {
+                    super.act();
+                } finally {
+                    lock();
+                    runs = false;
+                    wakeAll();
+                }
+            }
+        };
+    }
+}

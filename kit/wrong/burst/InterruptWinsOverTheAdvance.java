@@ -1,0 +1,16 @@
+package kit.wrong.burst;
+
+/** Who wakes up looks at its interrupted status first, though its phase has ended before the interrupt. */
+public final class InterruptWinsOverTheAdvance extends LockedFactory {
+    @Override
+    LockedPhaser phaser(int parties, OnAdvance asked) {
+        return new LockedPhaser(parties, asked) {
+            @Override
+            void wakesUp(boolean timed, long left) throws InterruptedException {
+                if (Thread.interrupted()) {
+                    throw new InterruptedException();
+                }
+            }
+        };
+    }
+}

@@ -1,0 +1,17 @@
+package kit.wrong.burst;
+
+/** Who wakes up looks at its interrupted status first, though its generation has tripped before the interrupt. */
+public final class InterruptWinsOverTheTrip extends LockedFactory {
+    @Override
+    LockedBarrier lockedBarrier(int parties, Runnable action) {
+        return new LockedBarrier(parties, action) {
+            @Override
+            void wakesUp(boolean timed, long left) throws InterruptedException {
+                if (Thread.interrupted()) {
+                    breakIt();
+                    throw new InterruptedException();
+                }
+            }
+        };
+    }
+}

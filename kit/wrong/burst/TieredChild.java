@@ -1,0 +1,166 @@
+package kit.wrong.burst;
+
+import java.util.concurrent.TimeoutException;
+import kit.player.PhaserUnderTest;
+
+/** A child over a lock of its own, which follows its root's phase when it is next called; a wrong one overrides a look. */
+class TieredChild implements PhaserUnderTest {
+    private static final int MOST_PARTIES = 65535;
+
+    private final PhaserUnderTest parent;
+    private int parties;
+    private volatile int unarrived;
+    private int seen;
+
+    TieredChild(PhaserUnderTest parent, int parties) {
+        this.parent = parent;
+        this.parties = parties;
+        unarrived = parties;
+        seen = parties > 0 ? parent.register() : parent.getPhase();
+    }
+
+    /** Whether the arrival that left so many unarrived was the last; the lock isn't held any more. */
+    boolean isComplete(int left) {
+        return left == 0;
+    }
+
+    final int unarrived() {
+        return unarrived;
+    }
+
+    private void follow() {
+        int now = parent.getPhase();
+        if (now != seen) {
+            seen = now;
+            unarrived = parties;
+        }
+    }
+
+    @Override
+    public int register() {
+        return bulkRegister(1);
+    }
+
+    @Override
+    public int bulkRegister(int count) {
+        if (count < 0) {
+            throw new IllegalArgumentException();
+        }
+        for (;;) {
+            int turnedIn;
+            synchronized (this) {
+                follow();
+                if (count == 0 || seen < 0) {
+                    return seen;
+                }
+                if (parties + (long) count > MOST_PARTIES) {
+                    throw new IllegalStateException();
+                }
+                if (parties == 0 || unarrived > 0) {
+                    seen = parties == 0 ? parent.register() : seen;
+                    parties += count;
+                    unarrived += count;
+                    return seen;
+                }
+                turnedIn = seen;
+            }
+            parent.awaitAdvance(turnedIn);
+        }
+    }
+
+    @Override
+    public int arrive() {
+        return arrive(false);
+    }
+
+    @Override
+    public int arriveAndDeregister() {
+        return arrive(true);
+    }
+
+    private int arrive(boolean leaves) {
+        int left;
+        int staying;
+        int phase;
+        synchronized (this) {
+            follow();
+            if (seen < 0) {
+                return seen;
+            }
+            if (unarrived == 0) {
+                throw new IllegalStateException();
+            }
+            left = unarrived - 1;
+            unarrived = left;
+            parties -= leaves ? 1 : 0;
+            staying = parties;
+            phase = seen;
+        }
+        if (!isComplete(left)) {
+            return phase;
+        }
+        return staying == 0 ? parent.arriveAndDeregister() : parent.arrive();
+    }
+
+    @Override
+    public int arriveAndAwaitAdvance() {
+        return awaitAdvance(arrive());
+    }
+
+    @Override
+    public int awaitAdvance(int phase) {
+        return parent.awaitAdvance(phase);
+    }
+
+    @Override
+    public int awaitAdvanceInterruptibly(int phase) throws InterruptedException {
+        return parent.awaitAdvanceInterruptibly(phase);
+    }
+
+    @Override
+    public int awaitAdvanceInterruptibly(int phase, long nanoseconds) throws InterruptedException, TimeoutException {
+        return parent.awaitAdvanceInterruptibly(phase, nanoseconds);
+    }
+
+    @Override
+    public void forceTermination() {
+        parent.forceTermination();
+    }
+
+    @Override
+    public int getPhase() {
+        return parent.getPhase();
+    }
+
+    @Override
+    public synchronized int getRegisteredParties() {
+        return parties;
+    }
+
+    @Override
+    public synchronized int getArrivedParties() {
+        follow();
+        return parties - unarrived;
+    }
+
+    @Override
+    public synchronized int getUnarrivedParties() {
+        follow();
+        return unarrived;
+    }
+
+    @Override
+    public boolean isTerminated() {
+        return parent.isTerminated();
+    }
+
+    @Override
+    public PhaserUnderTest getParent() {
+        return parent;
+    }
+
+    @Override
+    public PhaserUnderTest getRoot() {
+        return parent.getRoot();
+    }
+}

@@ -1,0 +1,16 @@
+package kit.wrong.burst;
+
+import java.util.concurrent.BrokenBarrierException;
+
+/** Who comes out asks whether the barrier is broken now, and not whether its own generation was. */
+public final class WaiterLooksAtThePresentGeneration extends LockedFactory {
+    @Override
+    LockedBarrier lockedBarrier(int parties, Runnable action) {
+        return new LockedBarrier(parties, action) {
+            @Override
+            int comesOut(Generation mine, int index) throws BrokenBarrierException {
+                return super.comesOut(present(), index);
+            }
+        };
+    }
+}
