@@ -8,6 +8,7 @@ use Rattle.row_code.specs.FaultNumber.{image_number}
 use Rattle.loader.specs.FaultNumber.{load_number}
 use Rattle.assembler.proofs.ReadLines.{one_image}
 use Rattle.schedule_reader.specs.FaultNumber.{schedule_number}
+use Rattle.schedule_reader.specs.declared.fault.ScheduleFault.{ScheduleFault}
 use Rattle.schedule_reader.specs.Schedule.{Schedule, finished_schedule, open_schedule, choices_of}
 use Rattle.trace_compare.specs.RunText.{GivesOnAndOn, HasRun, HasRunInPart, HasRunSoFar, HasRunToFault, IsTraceOf}
 use Rattle.trace_compare.specs.Trace.{lines_of}

@@ -17,7 +17,8 @@ use Rattle.trace_compare.specs.Start.{IsRefused}
 use Rattle.trace_compare.specs.Trace.{lines_of}
 use Rattle.workbench.specs.declared.fault.Fault.{Fault}
 use Rattle.workbench.specs.declared.fault.Fault.TheVariants as fault
-use Rattle.workbench.specs.Both.{AreRefusedFor, IsTraceOf, IsTracedAtMost}
+use Rattle.workbench.specs.Both.{AreRefusedFor, HasTracedTheSame, IsTraceOf, IsTracedAtMost}
+use Rattle.workbench.specs.Input.{GivesAll}
 use Rattle.workbench.specs.Fault.{status_of}
 use Rattle.workbench.specs.RunLine.{program_part, schedule_part}
 
@@ -39,6 +40,15 @@ whole-traced (Ok x) image text schedule after output_before output_after is stan
     sym (append-nil bytes) ∙ ap (λ rest. bytes ++ rest) (sym end) ∙ sym consumed ∙ is in
     (trace, ((image, (stands, subst (λ given. run.IsTraceOf image given trace) whole traced)), appended))
 whole-traced (Err e) image text schedule after output_before output_after is stands run = run
+
+-- a comparison finds what was written of a whole text the same
+pub text-same : {A : Type 0} (result : Result A Fault) (text : List ℕ) (input_before input_after output_before output_after : Option (List ℕ))
+    → GivesAll input_before input_after text
+    → OnOk result ((image : Image) × (StandsFor (program_part text) image × run.HasWrittenTheSame image output_before output_after))
+    → OnOk result (HasTracedTheSame input_before input_after output_before output_after)
+text-same (Ok x) text input_before input_after output_before output_after gives (image, (stands, same)) =
+    (text, (image, (gives, stands, same)))
+text-same (Err e) text input_before input_after output_before output_after gives same = same
 
 -- how the program of a whole text stands in the end
 pub whole-ends : (result : Result Standing Fault) (image : Image) (text schedule after : List ℕ)
