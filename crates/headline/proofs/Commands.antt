@@ -13,7 +13,7 @@ use Rattle.workbench.specs.Both.{HasTraced}
 use Rattle.workbench.specs.Debug.{Finished, HasDebugged}
 use Rattle.workbench.specs.Live.{HasLived}
 use Rattle.workbench.specs.Run.{HasRunFile}
-use Rattle.workbench.specs.RunLine.{program_part}
+use Rattle.workbench.specs.RunLine.{program_part, schedule_part}
 use Rattle.headline.specs.Headline.{HasDebuggedFile, HasShownFile, HasShownLive, HasShownText, ShowsTheRows}
 
 -- what follows where the result is Ok
@@ -31,7 +31,7 @@ pub text-shown : (input_before input_after output_before output_after : Option (
     → HasTraced input_before input_after output_before output_after
     → HasShownText input_before input_after output_before output_after
 text-shown input_before input_after output_before output_after (text, (shown, (gives, (image, (stands, traced)), appends))) =
-    let all = rows image _ shown traced in
+    let all = rows image (schedule_part text) shown traced in
     (text, (image, (shown, (gives, (stands, all.0), all.1, appends))))
 
 pub file-shown : (file_before file_after schedule_before schedule_after output_before output_after : Option (List ℕ))
@@ -60,9 +60,9 @@ live-shown limit file_before file_after output_before output_after
     (file, (image, (schedule, (shown, (gives, (is, loads), (first, (last, (begins, replay))), all.1, appends)))))
 
 -- a text whose program has a fault isn't shown
-pub never-shown : (text : List ℕ) (image : Image) (why : LoadFault) (left before after : Option (List ℕ))
-    → StandsFor (program_part text) image → first_fault image ≡ Some why → HasShownText (Some text) left before after → ⊥
-never-shown text image why (Some left) before after stands fault
+pub never-shown : (text : List ℕ) (image : Image) (why : LoadFault) (left : List ℕ) (before after : Option (List ℕ))
+    → StandsFor (program_part text) image → first_fault image ≡ Some why → HasShownText (Some text) (Some left) before after → ⊥
+never-shown text image why left before after stands fault
     (all, (other, (shown, ((consumed, end, few), (spells, loads), traced, appends)))) =
     let whole : all ≡ text = sym (append-nil all) ∙ ap (λ rest. all ++ rest) (sym end) ∙ sym consumed in
     let same : other ≡ image =

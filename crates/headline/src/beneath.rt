@@ -1,5 +1,5 @@
 //! What the machine and the shared phaser promise, each by the call in which it is seen.
-ghost use Rattle.std.specs.Prelude.{◌≡◌, IfOk};
+ghost use Rattle.std.specs.Prelude.{◌≡◌, IfOk, false};
 ghost use Rattle.shared_phaser.specs.Known.{EndsAs, phaser_of};
 ghost use Rattle.shared_phaser.specs.declared.history.Call.TheVariants.{Arrive};
 ghost use Rattle.shared_phaser.specs.declared.history.Answer.TheVariants.{Replied};

@@ -19,7 +19,7 @@ pub fn back_restores()
 
 /// A text whose program the loader refuses is never shown, as an empty thread's that runs past its last row.
 pub fn what_is_refused_is_never_shown()
-    ensures { (text : List ℕ) (image : Image) (why : LoadFault) (left before after : Option (List ℕ))
+    ensures { (text : List ℕ) (image : Image) (why : LoadFault) (left : List ℕ) (before after : Option (List ℕ))
         → StandsFor (program_part text) image → first_fault image ≡ Some why
-        → HasShownText (Some text) left before after → ⊥ }
+        → HasShownText (Some text) (Some left) before after → ⊥ }
 {}

@@ -1,5 +1,5 @@
 use Rattle.headline.proofs.Commands.{file-debugged, where_ok}
 use Rattle.headline.proofs.shown.debug.Goals as goal
 
-pub returns-clause-debugged : goal.returns-clause-debugged
-returns-clause-debugged g c = where_ok c.debug.result (file-debugged _ _ _ _ _ _) c.debug.ensures.done
+pub returns : goal.returns
+returns g c = record { debugged = where_ok c.debug.result (file-debugged _ _ _ _ _ _) c.debug.ensures.done }
