@@ -18,9 +18,8 @@ pub reported : {E : Type 0} (result : Result ℕ E) (image : Image) (program : P
     → AreOutcomesFrom (first_world program asked.limit) asked outcomes → IsMostFrequentFirst outcomes
     → IfOk result (λ status. status ≡ status_by asked.expected outcomes) → OnOk result (Appends before after (report outcomes))
     → IfOk result (λ status. HasReported image asked status before after)
-reported (Ok status) image program asked outcomes before after loads is came sorted by written =
-    (
-      first_world program asked.limit,
-      (outcomes, (loads, is_first image program asked.limit is, came, sorted, by, written)),
-    )
+reported (Ok status) image program asked outcomes before after loads is came sorted by written = (
+  first_world program asked.limit,
+  (outcomes, (loads, is_first image program asked.limit is, came, sorted, by, written)),
+)
 reported (Err fault) image program asked outcomes before after loads is came sorted by written = written
