@@ -13,7 +13,7 @@ use Rattle.workbench.specs.ProgramFile.{IsProgramFile}
 -- the program of a file that has names, and of one that has none
 pub named_file : (file : List ℕ) (image : Image) (symbols : SymbolTable) → IsNamedProgram file image symbols
     → IsProgramFile file image
-named_file file image symbols (inl (is, (same, none))) = inl (is, same)
+named_file file image symbols (inl (is, ((same, fits), none))) = inl (is, same, fits)
 named_file file image symbols (inr (is, (stands, names))) = inr (is, stands)
 
 pub drawing_in_file : (width : ℕ) (program schedule text : List ℕ) (image : Image) (symbols : SymbolTable) (world : World)

@@ -2,6 +2,7 @@
 use Rattle.std.specs.Prelude.{◌≡◌, ◌⊎◌, ℕ, true, false, List, [], Ok}
 use Rattle.assembler.specs.Meaning.{StandsFor}
 use Rattle.assembler.specs.Symbols.{SymbolTable, symbols_in}
+use Rattle.row_code.specs.Image.{IsImage}
 use Rattle.row_code.specs.Reading.{image_of}
 use Rattle.row_code.specs.declared.image.Image.{Image}
 use Rattle.run_drawing.specs.Picture.{IsPictureOf}
@@ -15,7 +16,7 @@ no_names = record { names = []; rows = [] }
 
 abbrev pub IsNamedProgram : List ℕ → Image → SymbolTable → Type 0
 IsNamedProgram file image symbols =
-    ((is_image_file file ≡ true) × ((image_of file ≡ Ok image) × (symbols ≡ no_names)))
+    ((is_image_file file ≡ true) × (((image_of file ≡ Ok image) × IsImage image) × (symbols ≡ no_names)))
     ⊎ ((is_image_file file ≡ false) × (StandsFor file image × (symbols_in file ≡ Ok symbols)))
 
 -- the drawing, at most so wide
