@@ -75,26 +75,23 @@ impl<S> LinesSeen<S> {
 
     /// The line of this number, without its LF, if it is remembered and isn't empty behind the last LF.
     pub fn line(&self, number: u64) -> Option<&[u8]> {
-        let mut rest = self.held.as_slice();
+        let held = self.held.as_slice();
         let mut at = self.first;
-        loop {
-            let end = rest
-                .iter()
-                .position(|byte| *byte == b'\n')
-                .unwrap_or(rest.len());
-            if at == number {
-                let few = end.min(MOST_BYTES);
-                return if end == rest.len() && end == 0 {
-                    None
-                } else {
-                    Some(&rest[..few])
-                };
+        let mut start = 0;
+        for (end, byte) in held.iter().enumerate() {
+            if *byte == b'\n' {
+                if at == number {
+                    return held.get(start..end);
+                }
+                at = at.saturating_add(1);
+                start = end + 1;
             }
-            if end == rest.len() {
-                return None;
-            }
-            rest = &rest[end + 1..];
-            at = at.saturating_add(1);
+        }
+        match held.get(start..) {
+            Some(rest) if at == number && !rest.is_empty() => Some(
+                &rest[..rest.len().min(MOST_BYTES)],
+            ),
+            _ => None,
         }
     }
 }
