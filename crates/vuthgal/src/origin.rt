@@ -2,4 +2,4 @@
 
 /// The version, the kit whose logic proves it, and the sum of the sources but for this file.
 pub const VERSION: &str =
-    "0.1.0\nkit rattle-kit-13f logic dac8208d650f15bf\nsources e355d15d26a94439ad72cb473e5896e2fcbb177d4b2a197df183da630073c5a4";
+    "0.1.0\nkit rattle-kit-13f logic dac8208d650f15bf\nsources 99c5bba0da3b3abdf728c656fc8ea2039dcca720d020c605327d61eaa1511690";
