@@ -85,7 +85,7 @@ final class CommandChecks {
             new Check(2, "nothing was compared\n", "--port", port + "without barrier", folder("reset")),
             new Check(2, "nothing was compared\n", "--port", port + "without case", folder("reset")),
             new Check(1, "--keep FOLDER writes it\n", "--random", "1", "--port", port + "'64 = ' 'say 64 = x\\n'"),
-            new Check(1, "burst 1 0 meetings\n  the port has ended, with status 3\n",
+            new Check(1, "burst 1 0 meetings\n  the port has ended, with status 3",
                 "--burst", "1", "--port", port + "'0 = ' 'exit 3'"),
             new Check(1, "  the port wrote `0 = x`: `x` is no int\n", "--burst", "1", "--port", port + "'0 = ' 'say 0 = x\\n'"),
             new Check(0, "15 kinds left out: it makes no barrier\n", "--burst", "37", "--port", port + "without barrier"),
