@@ -15,8 +15,8 @@ final class BarrierCalls {
         this.chances = chances;
     }
 
-    void declare() {
-        int count = chances.of(55) ? chances.between(1, 2) : 0;
+    /** So many barriers. */
+    void declare(int count) {
         for (int number = 0; number < count; number++) {
             int parties = chances.between(1, 3);
             maker.sketch.gates.add(new Sketch.Gate(number, parties));

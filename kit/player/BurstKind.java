@@ -18,9 +18,14 @@ record BurstKind(String name, Consumer<BurstMaker> maker) {
         return List.copyOf(all);
     }
 
-    /** The burst of a round; the kinds come in turn. */
+    /** The kind of a round; they come in turn. */
+    static BurstKind of(long round) {
+        return ALL.get((int) Math.floorMod(round, (long) ALL.size()));
+    }
+
+    /** The burst of a round. */
     static Burst burst(long seed, long round, long unit) {
-        BurstKind kind = ALL.get((int) Math.floorMod(round, (long) ALL.size()));
+        BurstKind kind = of(round);
         BurstMaker maker = new BurstMaker(kind.name, seed, round, unit);
         kind.maker.accept(maker);
         return maker.burst();

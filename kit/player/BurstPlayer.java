@@ -12,6 +12,8 @@ final class BurstPlayer {
     private static final long MILLISECOND = 1_000_000;
     /** So often it looks whether the real side has broken down. */
     private static final long LOOK = 20 * MILLISECOND;
+    /** Closing lets a thread go on by one call, so it mustn't become rare where many are left. */
+    private static final long LONGEST_PAUSE = 8 * MILLISECOND;
 
     /** What the player is told by the threads. */
     private record Event(BurstRunner finished, RealThread standing, Burst.Barrier at) {
@@ -110,7 +112,7 @@ final class BurstPlayer {
                 burst.pokes().forEach(poke -> ask(poke.request()));
             } else if (burst.closer() != null && System.nanoTime() > nextClosing) {
                 close(burst, history);
-                pause *= 2;
+                pause = Math.min(2 * pause, LONGEST_PAUSE);
                 nextClosing = System.nanoTime() + pause;
             }
         }

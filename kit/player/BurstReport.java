@@ -70,11 +70,15 @@ final class BurstReport {
         Collections.reverse(order);
         List<BurstEntry> told = new ArrayList<>();
         for (BurstEntry entry : order) {
-            String part = Collections.frequency(order, entry) == 1 ? "" : told.contains(entry) ? ", its end" : ", its beginning";
-            line("    " + entry.words() + part);
+            line("    " + entry.words() + part(entry, first, Collections.frequency(order, entry) > 1, told.contains(entry)));
             told.add(entry);
         }
         line("  no order explains, with these, " + first.words());
+    }
+
+    /** A wait is two parts of an order; of one that hasn't ended before {@code first} did only its beginning may be there. */
+    private static String part(BurstEntry entry, BurstEntry first, boolean twice, boolean toldBefore) {
+        return toldBefore ? ", its end" : twice ? ", its beginning" : entry.end() < first.end() ? "" : " (not yet answered)";
     }
 
     private void line(String words) {

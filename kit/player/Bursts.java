@@ -28,6 +28,7 @@ final class Bursts {
     private final BurstPlayer player;
     private final Path keep;
     private final PrintStream to;
+    private final Set<String> kindsPlayed = new HashSet<>();
     private final Set<String> kindsLeftOut = new HashSet<>();
     private final Map<String, Integer> whyLeftOut = new TreeMap<>();
     private int rounds;
@@ -105,7 +106,7 @@ final class Bursts {
             BurstJudge.Finding finding = history == null ? null : judge(history);
             return finding == null ? null : new BurstReport(history, finding).text();
         } catch (Breakdown broken) {
-            rounds++;
+            countRound(burst);
             stage.abandon();
             return BurstReport.head(burst) + "\n  " + broken.getMessage() + "\n";
         }
@@ -118,7 +119,7 @@ final class Bursts {
         }
         try {
             BurstHistory history = player.play(burst);
-            rounds++;
+            countRound(burst);
             calls += history.entries().size();
             return history;
         } catch (Unplayable why) {
@@ -126,6 +127,11 @@ final class Bursts {
             whyLeftOut.merge(why.getMessage(), 1, Integer::sum);
             return null;
         }
+    }
+
+    private void countRound(Burst burst) {
+        rounds++;
+        kindsPlayed.add(burst.kind());
     }
 
     /** Null where the history is right. */
@@ -151,8 +157,9 @@ final class Bursts {
         if (rounds == 0) {
             to.println("nothing was compared");
         }
-        to.println(rounds + " bursts of " + (BurstKind.ALL.size() - kindsLeftOut.size()) + " kinds, " + calls
-            + " calls and interrupts: " + findings + " found" + (findings == 0 ? "" : ", the first in round " + firstFound)
+        String kinds = kindsPlayed.size() == 1 ? " kind, " : " kinds, ";
+        to.println(rounds + " bursts of " + kindsPlayed.size() + kinds + calls + " calls and interrupts: "
+            + findings + " found" + (findings == 0 ? "" : ", the first in round " + firstFound)
             + (overtaken == 0 ? "" : "; an interrupt won over the end of a phase " + overtaken + " times"));
     }
 

@@ -10,12 +10,16 @@ import java.util.concurrent.BlockingQueue;
 import java.util.concurrent.ConcurrentHashMap;
 import java.util.concurrent.LinkedBlockingQueue;
 import java.util.concurrent.TimeUnit;
+import java.util.concurrent.locks.LockSupport;
 
 /** A port's process, and the lines that it is told and tells (docs/FORMATS.md, "Port protocol"). */
 final class PortProcess {
     private static final long SECOND = 1_000_000_000L;
     /** How long the first answer may take, since a start takes its time. */
     private static final long LONGEST_START = 4 * SECOND;
+    /** How long its output may be read once it has ended. */
+    private static final long LONGEST_END = 30 * SECOND;
+    private static final long LOOK = SECOND / 1_000;
     /** A port that isn't at rest is waited for so many times as long. */
     private static final int TIMES_FOR_THE_BUSY = 4;
 
@@ -135,11 +139,11 @@ final class PortProcess {
         }
     }
 
-    /** Who can't write to it any more waits until the reader says why. */
+    /** Who can't write to it any more waits until the reader says why, which takes longer where the machine is busy. */
     private void awaitBreakdown() {
-        long limit = System.nanoTime() + 2 * SECOND;
-        while (breakdown == null && System.nanoTime() < limit) {
-            Thread.onSpinWait();
+        long begun = System.nanoTime();
+        while (breakdown == null && System.nanoTime() - begun < (process.isAlive() ? LONGEST_START : LONGEST_END)) {
+            LockSupport.parkNanos(LOOK);
         }
     }
 

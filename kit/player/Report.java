@@ -17,10 +17,11 @@ final class Report {
         suites.computeIfAbsent(folder(played.each()), fresh -> new ArrayList<>()).add(played);
     }
 
-    /** The folder names the rule, as {@code tiers} does. */
+    /** The folder of a program names the rule, as {@code tiers} does; a scenario of the player's own lies in none. */
     private static String folder(Case each) {
-        Path above = Path.of(each.name()).getParent();
-        return above == null ? each.name().replaceAll("-[0-9]+$", "") : above.toString().replace('/', '.');
+        boolean ownScenario = !each.name().endsWith(".asm");
+        Path folder = each.file().toAbsolutePath().normalize().getParent().getFileName();
+        return ownScenario || folder == null ? each.name().replaceAll("-[0-9]+$", "") : folder.toString();
     }
 
     void write(Path file) throws IOException {

@@ -26,6 +26,7 @@ final class ScenarioMaker {
     private final StringBuilder schedule = new StringBuilder();
     private final boolean watchedClosely;
     private final boolean interrupts;
+    private final boolean barriersAlone;
     private ScenarioThread driver;
     private ScenarioThread watcher;
 
@@ -37,6 +38,7 @@ final class ScenarioMaker {
         strays = chances.of(12);
         watchedClosely = chances.of(50);
         interrupts = chances.of(60);
+        barriersAlone = chances.of(10);
     }
 
     /** Whether this is the thread that never waits. */
@@ -45,8 +47,10 @@ final class ScenarioMaker {
     }
 
     Scenario make() {
-        phaserCalls.declare();
-        barrierCalls.declare();
+        if (!barriersAlone) {
+            phaserCalls.declare();
+        }
+        barrierCalls.declare(barriersAlone || chances.of(55) ? chances.between(1, 2) : 0);
         int threads = chances.between(2, 5);
         for (int number = 0; number < threads; number++) {
             workers.add(new ScenarioThread(number));
@@ -181,11 +185,15 @@ final class ScenarioMaker {
         if (!part.isFree()) {
             return;
         }
-        if (!sketch.gates.isEmpty() && chances.of(35)) {
+        if (turnsToBarriers()) {
             barrierCalls.call(part, chances.any(sketch.gates));
         } else {
             phaserCalls.call(part);
         }
+    }
+
+    private boolean turnsToBarriers() {
+        return barriersAlone || !sketch.gates.isEmpty() && chances.of(35);
     }
 
     private void expire(List<ScenarioThread> waiting) {
@@ -230,8 +238,7 @@ final class ScenarioMaker {
     private void look() {
         int looks = watchedClosely ? chances.between(1, 3) : chances.of(8) ? 1 : 0;
         for (int look = 0; look < looks; look++) {
-            boolean gate = !sketch.gates.isEmpty() && chances.of(35);
-            if (gate) {
+            if (turnsToBarriers()) {
                 Sketch.Gate at = chances.any(sketch.gates);
                 if (at.actionRuns) {
                     continue;

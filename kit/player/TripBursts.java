@@ -43,12 +43,13 @@ final class TripBursts {
         make.claims(BurstClaim.TRIPS);
     }
 
-    /** More threads than parties, so that each may come in the generation of others. */
+    /** More threads than parties, so that each may come in the generation of others; now and then over many generations. */
     private static void barging(BurstMaker make) {
         int parties = make.between(2, 3);
         int barrier = make.barrier(parties, make.of(30), 0, false);
-        for (int thread = 0; thread < parties + make.between(1, 3); thread++) {
-            make.thread(BurstMaker.times(make.between(1, 3), await(barrier)));
+        int most = make.of(25) ? 12 : 3;
+        for (int thread = parties + make.between(1, 3); thread > 0; thread--) {
+            make.thread(BurstMaker.times(make.between(1, most), await(barrier)));
         }
         make.closes(Request.of(Method.RESET, barrier));
     }

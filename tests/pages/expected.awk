@@ -37,7 +37,7 @@ BEGIN { mark = 0 }
   mark = $0 ~ / [+-][pb][0-9]/ ? 1 : 0
   refused = $0 ~ / (none|limit)$/
 }
-/^state / { thread_count = phaser_count = barrier_count = 0; outputs = "" }
+/^state / { thread_count = phaser_count = barrier_count = 0; outputs = next_line = "" }
 /^t[0-9]/ {
   split($3, word, ":")
   status[thread_count] = word[1]
@@ -53,5 +53,5 @@ BEGIN { mark = 0 }
   phaser[phaser_count++] = "p " view " " $4 " of " $3 " dots " $4 " of " $3
 }
 /^b[0-9]/ { barrier[barrier_count++] = "b " $2 " dots " $2 ($3 == 1 ? " broken" : "") }
-/^next/ { next_line = $0 }
+/^next / { next_line = next_line " " $3 }
 END { moment_ends() }

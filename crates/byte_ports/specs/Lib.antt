@@ -3,3 +3,4 @@ pub mod FailAt
 pub mod MemorySource
 pub mod MemorySink
 pub mod BlockPort
+pub mod SourceLines

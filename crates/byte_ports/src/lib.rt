@@ -20,6 +20,9 @@ pub mod source;
 pub mod block_port;
 pub mod block_source;
 
+// Lines.
+pub mod source_lines;
+
 // Ports over bytes in memory.
 mod fail_at;
 pub mod memory_sink;
@@ -39,4 +42,5 @@ pub use memory_source::MemorySource;
 pub use read_port::ReadPort;
 pub use sink::Sink;
 pub use source::Source;
+pub use source_lines::{LineEnded, SourceLines};
 pub use write_port::WritePort;

@@ -10,15 +10,16 @@ use Rattle.thread_machine.proofs.Firsts.{is_first}
 use Rattle.live_runs.specs.declared.command.Asked.{Asked}
 use Rattle.live_runs.specs.declared.end_state.EndState.{EndState}
 use Rattle.live_runs.specs.declared.outcomes.Outcome.{Outcome}
-use Rattle.live_runs.specs.Outcomes.{IsMostFrequentFirst, report, status_by}
+use Rattle.workbench.specs.declared.done.Done.{Done}
+use Rattle.live_runs.specs.Outcomes.{IsMostFrequentFirst, report, done_by}
 use Rattle.live_runs.specs.Runs.{AreOutcomesFrom, HasReported}
 
-pub reported : {E : Type 0} (result : Result ℕ E) (image : Image) (program : Program) (asked : Asked)
+pub reported : {E : Type 0} (result : Result Done E) (image : Image) (program : Program) (asked : Asked)
     (outcomes : List (EndState × Outcome)) (before after : Option (List ℕ)) → first_fault image ≡ None → IsProgramOf image program
     → AreOutcomesFrom (first_world program asked.limit) asked outcomes → IsMostFrequentFirst outcomes
-    → IfOk result (λ status. status ≡ status_by asked.expected outcomes) → OnOk result (Appends before after (report outcomes))
-    → IfOk result (λ status. HasReported image asked status before after)
-reported (Ok status) image program asked outcomes before after loads is came sorted by written = (
+    → IfOk result (λ d. d ≡ done_by asked.expected outcomes) → OnOk result (Appends before after (report outcomes))
+    → IfOk result (λ d. HasReported image asked d before after)
+reported (Ok d) image program asked outcomes before after loads is came sorted by written = (
   first_world program asked.limit,
   (outcomes, (loads, is_first image program asked.limit is, came, sorted, by, written)),
 )

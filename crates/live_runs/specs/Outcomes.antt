@@ -12,6 +12,8 @@ use Rattle.thread_runner.specs.Replay.{IsReplayOfText}
 use Rattle.live_runs.specs.declared.end_state.EndState.{EndState}
 use Rattle.live_runs.specs.declared.outcomes.Outcome.{Outcome}
 use Rattle.live_runs.specs.Ends.{end_text, ending_word}
+use Rattle.workbench.specs.declared.done.Done.{Done}
+use Rattle.workbench.specs.declared.done.Done.TheVariants as done
 
 -- a run that is over: its schedule, how it ended, and the state that it ended in
 pub record Ended : Type 0 where
@@ -80,6 +82,6 @@ abbrev pub are_as_expected : Option Standing → List (EndState × Outcome) → 
 are_as_expected expected outcomes =
     list_all (λ (outcome : EndState × Outcome). is_as_expected expected outcome.1.ending) outcomes
 
--- the exit status: 0 where all did
-abbrev pub status_by : Option Standing → List (EndState × Outcome) → ℕ
-status_by expected outcomes = if are_as_expected expected outcomes then 0 else 1
+-- what the command comes to by it
+abbrev pub done_by : Option Standing → List (EndState × Outcome) → Done
+done_by expected outcomes = if are_as_expected expected outcomes then done.AsAsked else done.Unlike

@@ -4,16 +4,16 @@ ghost use Rattle.std.specs.Io.KnownBytes.{Appends};
 ghost use Rattle.loader.specs.declared.load_fault.LoadFault.{LoadFault};
 ghost use Rattle.trace_compare.specs.Start.{IsRefused};
 ghost use Rattle.workbench.specs.declared.fault.Fault.{Fault};
-ghost use Rattle.workbench.specs.Fault.{HasTold, status_of};
+ghost use Rattle.workbench.specs.Fault.{status_of};
 ghost use Rattle.workbench.specs.Input.{GivesTooMuch};
 ghost use Rattle.workbench.specs.Run.{HasNoRun};
 ghost use Rattle.thread_machine.specs.World.{first_world};
-ghost use Rattle.live_runs.specs.Outcomes.{IsMostFrequentFirst, report, status_by};
+ghost use Rattle.live_runs.specs.Outcomes.{IsMostFrequentFirst, report, done_by};
 ghost use Rattle.live_runs.specs.Runs.{AreOutcomesFrom, HasReported, HasReportedFile};
 
 use crate::outcomes::{Outcomes, sort};
 use crate::pauses::Pauses;
-use crate::report::{report, status_by};
+use crate::report::{done_by, report};
 use crate::runs::add_runs;
 use byte_ports::{Sink, Source};
 use loader::{LoadFault, Loaded, load};
@@ -23,6 +23,7 @@ use std::sync::Wait;
 use std::thread::Threads;
 use thread_machine::Standing;
 use thread_runner::Gate;
+use workbench::done::Done;
 use workbench::fault::Fault;
 use workbench::program_file::read_program;
 
@@ -40,58 +41,19 @@ pub struct Asked {
 
 /// Plays the program in `file`, an image or a text, on real threads as often as it is asked for, and writes to `output` a line
 /// for each state that a run ended in, the most frequent first: how often one did, `all`, `stuck` or `live`, and the schedule
-/// of the first that did. Answers the exit status, 0 where all went well, and 1 where a run ended otherwise than is expected.
-/// For any other status one line stands on `errors`: `refused asm LINE KIND`, `refused image KIND [PLACE]` or `refused load
-/// KIND [PLACE]` (3), `memory` or `spawn` (4), or `read` or `write` (5). What `errors` makes of that line changes no status.
-/// Nothing is written before all runs are over. The threads of each run pass `gate` behind their pauses, as in
-/// `live_through_cmd`.
-pub fn runs_cmd<R: Threads + Wait + Sync, G: Gate + Sync, F: Source, K: Sink, E: Sink>(
-    threads: &R,
-    alloc: Global,
-    asked: &Asked,
-    gate: &G,
-    file: &mut F,
-    output: &mut K,
-    errors: &mut E,
-) -> u8
-    requires limit { asked.now.limit ≤ 1000000000 }
-    requires count { asked.now.runs ≤ 100000 }
-    ensures statuses { (result ≡ 0) ⊎ ((result ≡ 1) ⊎ ((result ≡ 3) ⊎ ((result ≡ 4) ⊎ (result ≡ 5)))) }
-    ensures done { (result ≡ 0) ⊎ (result ≡ 1) → HasReportedFile asked.now result (F.left file.old) (F.left file.new)
-        (K.written output.old) (K.written output.new) }
-    ensures told { (((result ≡ 0) ⊎ (result ≡ 1)) × (E.written errors.new ≡ E.written errors.old))
-        ⊎ ((fault : Fault) × ((result ≡ status_of fault)
-        × (HasTold fault (E.has_failed errors.new) (E.written errors.old) (E.written errors.new)
-        × (result ≡ 3 → HasNoRun fault (F.left file.old) (F.left file.new)
-        (K.written output.old) (K.written output.new))
-        × (fault ≡ Fault.Read → K.written output.new ≡ K.written output.old)))) }
-    ensures unchanged { result ≡ 4 → K.written output.new ≡ K.written output.old }
-    ensures port { result ≡ 5 → (IsTrue (F.has_failed file.new)
-        ⊎ GivesTooMuch (F.left file.old) (F.left file.new))
-        ⊎ IsTrue (K.has_failed output.new) }
-{
-    match reported(threads, alloc, asked, gate, file, output) {
-        Ok(status) => status,
-        Err(fault) => {
-            let _ = fault.tell(errors);
-            fault.status()
-        }
-    }
-}
-
-/// The same with the fault that decides the status.
-fn reported<R: Threads + Wait + Sync, G: Gate + Sync, F: Source, K: Sink>(
+/// of the first that did. Nothing is written before all runs are over. The threads of each run pass `gate` behind their
+/// pauses, as in `workbench::live::live`.
+pub fn report_runs<R: Threads + Wait + Sync, G: Gate + Sync, F: Source, K: Sink>(
     rt: &R,
     alloc: Global,
     asked: &Asked,
     gate: &G,
     file: &mut F,
     output: &mut K,
-) -> Result<u8, Fault>
+) -> Result<Done, Fault>
     requires limit { asked.now.limit ≤ 1000000000 }
     requires count { asked.now.runs ≤ 100000 }
-    ensures statuses { IfOk result (λ status. (status ≡ 0) ⊎ (status ≡ 1)) }
-    ensures done { IfOk result (λ status. HasReportedFile asked.now status (F.left file.old) (F.left file.new)
+    ensures done { IfOk result (λ done. HasReportedFile asked.now done (F.left file.old) (F.left file.new)
         (K.written output.old) (K.written output.new)) }
     ensures refused { IfErr result (λ fault. status_of fault ≡ 3
         → HasNoRun fault (F.left file.old) (F.left file.new) (K.written output.old) (K.written output.new)) }
@@ -116,11 +78,10 @@ fn report_image<R: Threads + Wait + Sync, G: Gate + Sync, K: Sink>(
     gate: &G,
     image: Image,
     output: &mut K,
-) -> Result<u8, Fault>
+) -> Result<Done, Fault>
     requires limit { asked.now.limit ≤ 1000000000 }
     requires count { asked.now.runs ≤ 100000 }
-    ensures statuses { IfOk result (λ status. (status ≡ 0) ⊎ (status ≡ 1)) }
-    ensures done { IfOk result (λ status. HasReported image asked.now status
+    ensures done { IfOk result (λ done. HasReported image asked.now done
         (K.written output.old) (K.written output.new)) }
     ensures load { (fault : LoadFault) → result ≡ Err (Fault.Load fault) → IsRefused fault image }
     ensures fault { IfErr result (λ fault. ((other : LoadFault) × (fault ≡ Fault.Load other))
@@ -169,14 +130,14 @@ fn outcomes_of<R: Threads + Wait + Sync, G: Gate + Sync>(
     }
 }
 
-/// Writes what the runs came to, in one piece, and answers the exit status.
+/// Writes what the runs came to, in one piece, and answers whether they ended as expected.
 fn push_report<K: Sink>(
     alloc: Global,
     expected: Option<Standing>,
     outcomes: &Outcomes,
     output: &mut K,
-) -> Result<u8, Fault>
-    ensures status { IfOk result (λ status. status ≡ status_by expected outcomes.now.entries) }
+) -> Result<Done, Fault>
+    ensures by { IfOk result (λ done. done ≡ done_by expected outcomes.now.entries) }
     ensures report { OnOk result (Appends (K.written output.old) (K.written output.new) (report outcomes.now.entries)) }
     ensures fault { IfErr result (λ fault. (fault ≡ Fault.Memory) ⊎ (fault ≡ Fault.Write)) }
     ensures unchanged { result ≡ Err Fault.Memory → K.written output.new ≡ K.written output.old }
@@ -186,7 +147,7 @@ fn push_report<K: Sink>(
         return Err(Fault::Memory);
     };
     match output.push(text.as_slice()) {
-        Ok(()) => Ok(status_by(expected, outcomes)),
+        Ok(()) => Ok(done_by(expected, outcomes)),
         Err(_) => Err(Fault::Write),
     }
 }

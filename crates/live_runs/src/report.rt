@@ -1,7 +1,7 @@
 //! What several runs came to, in lines.
 ghost use Rattle.std.specs.Prelude.{◌≡◌, ◌++◌, IfOk, OnOk};
 ghost use Rattle.live_runs.specs.Ends.{ending_word};
-ghost use Rattle.live_runs.specs.Outcomes.{are_as_expected, is_as_expected, outcome_line, report, status_by};
+ghost use Rattle.live_runs.specs.Outcomes.{are_as_expected, is_as_expected, outcome_line, report, done_by};
 
 use crate::end_state::word_of;
 use crate::outcomes::{Outcome, Outcomes};
@@ -9,7 +9,7 @@ use itoa::Buffer;
 use std::alloc::{AllocError, Global};
 use thread_machine::Standing;
 use thread_runner::Ending;
-use workbench::fault::{DONE, UNLIKE};
+use workbench::done::Done;
 
 /// The line of an outcome.
 #[tactic(auto, using(crate::proofs::Reports::text_steps))]
@@ -63,13 +63,13 @@ fn are_as_expected(expected: Option<Standing>, outcomes: &Outcomes) -> bool
     true
 }
 
-/// The exit status by the outcomes: 0 where all runs ended as they were expected to.
-pub fn status_by(expected: Option<Standing>, outcomes: &Outcomes) -> u8
-    ensures { result ≡ status_by expected outcomes.now.entries }
+/// What the outcomes come to: whether all runs ended as they were expected to.
+pub fn done_by(expected: Option<Standing>, outcomes: &Outcomes) -> Done
+    ensures { result ≡ done_by expected outcomes.now.entries }
 {
     if are_as_expected(expected, outcomes) {
-        DONE
+        Done::AsAsked
     } else {
-        UNLIKE
+        Done::Unlike
     }
 }

@@ -1,9 +1,9 @@
 -- What the commands read and write, whatever the picture: IsPicture program schedule bytes says which bytes are one.
-use Rattle.std.specs.Prelude.{◌⊎◌, ℕ, Bool, IsTrue, if◌then◌else◌, List, [], Option}
+use Rattle.std.specs.Prelude.{ℕ, if◌then◌else◌, List, [], Option}
 use Rattle.std.specs.Io.KnownBytes.{Appends}
-use Rattle.picture_commands.specs.declared.fault.PictureFault.{PictureFault}
-use Rattle.picture_commands.specs.Fault.{line_for}
 use Rattle.picture_commands.specs.Picture.{HaveNoPicture}
+use Rattle.workbench.specs.declared.fault.Fault.{Fault}
+use Rattle.workbench.specs.declared.fault.PictureKind.{PictureKind}
 use Rattle.workbench.specs.Input.{GivesAll}
 use Rattle.workbench.specs.ProgramFile.{is_image_file}
 use Rattle.workbench.specs.RunLine.{program_part, schedule_part}
@@ -14,11 +14,6 @@ program_of file = if is_image_file file then file else program_part file
 
 abbrev pub schedule_behind : List ℕ → List ℕ
 schedule_behind file = if is_image_file file then [] else schedule_part file
-
--- the line that tells a fault was written, unless the port failed
-abbrev pub HasToldOf : (too_long : List ℕ) → PictureFault → Bool → (errors_before errors_after : Option (List ℕ)) → Type 0
-HasToldOf too_long fault has_failed errors_before errors_after =
-    IsTrue has_failed ⊎ Appends errors_before errors_after (line_for too_long fault)
 
 -- one such picture was written
 abbrev pub HasWritten : (IsPicture : List ℕ → Type 0) → (output_before output_after : Option (List ℕ)) → Type 0
@@ -34,10 +29,10 @@ HasMade IsPicture file_before file_after schedule_before schedule_after output_b
     × HasWritten (IsPicture file schedule) output_before output_after))
 
 -- they were read to their ends, and have no picture for this reason
-abbrev pub HaveNone : PictureFault → (file_before file_after schedule_before schedule_after : Option (List ℕ)) → Type 0
-HaveNone fault file_before file_after schedule_before schedule_after =
+abbrev pub HaveNone : PictureKind → Fault → (file_before file_after schedule_before schedule_after : Option (List ℕ)) → Type 0
+HaveNone kind fault file_before file_after schedule_before schedule_after =
     (file : List ℕ) × ((schedule : List ℕ) × (GivesAll file_before file_after file
-    × GivesAll schedule_before schedule_after schedule × HaveNoPicture fault file schedule))
+    × GivesAll schedule_before schedule_after schedule × HaveNoPicture kind fault file schedule))
 
 -- the same of a file that holds both
 abbrev pub HasMadeOfBoth : (IsPicture : List ℕ → List ℕ → List ℕ → Type 0)
@@ -46,7 +41,7 @@ HasMadeOfBoth IsPicture file_before file_after output_before output_after =
     (file : List ℕ) × (GivesAll file_before file_after file
     × HasWritten (IsPicture (program_of file) (schedule_behind file)) output_before output_after)
 
-abbrev pub HaveNoneOfBoth : PictureFault → (file_before file_after : Option (List ℕ)) → Type 0
-HaveNoneOfBoth fault file_before file_after =
+abbrev pub HaveNoneOfBoth : PictureKind → Fault → (file_before file_after : Option (List ℕ)) → Type 0
+HaveNoneOfBoth kind fault file_before file_after =
     (file : List ℕ) × (GivesAll file_before file_after file
-    × HaveNoPicture fault (program_of file) (schedule_behind file))
+    × HaveNoPicture kind fault (program_of file) (schedule_behind file))

@@ -1,12 +1,12 @@
 -- The drawing of a program and a schedule.
-use Rattle.std.specs.Prelude.{◌≡◌, ◌⊎◌, ℕ, true, false, List, [], Ok}
+use Rattle.std.specs.Prelude.{◌≡◌, ◌⊎◌, ◌≤◌, ℕ, true, false, List, [], length, Ok}
 use Rattle.assembler.specs.Meaning.{StandsFor}
 use Rattle.assembler.specs.Symbols.{SymbolTable, symbols_in}
 use Rattle.row_code.specs.Image.{IsImage}
 use Rattle.row_code.specs.Reading.{image_of}
 use Rattle.row_code.specs.declared.image.Image.{Image}
 use Rattle.run_drawing.specs.Picture.{IsPictureOf}
-use Rattle.run_page.specs.Page.{AreChoicesOf}
+use Rattle.run_page.specs.Page.{AreChoicesOf, most_choices}
 use Rattle.thread_machine.specs.declared.choice.Choice.{Choice}
 use Rattle.workbench.specs.ProgramFile.{is_image_file}
 
@@ -19,9 +19,9 @@ IsNamedProgram file image symbols =
     ((is_image_file file ≡ true) × (((image_of file ≡ Ok image) × IsImage image) × (symbols ≡ no_names)))
     ⊎ ((is_image_file file ≡ false) × (StandsFor file image × (symbols_in file ≡ Ok symbols)))
 
--- the drawing, at most so wide
+-- the drawing, at most so wide, of no more choices than a picture shows
 abbrev pub IsDrawingIn : (width : ℕ) → (program schedule text : List ℕ) → Type 0
 IsDrawingIn width program schedule text =
     (image : Image) × ((symbols : SymbolTable) × ((choices : List Choice)
-    × (IsNamedProgram program image symbols × AreChoicesOf schedule choices
+    × (IsNamedProgram program image symbols × AreChoicesOf schedule choices × (length choices ≤ most_choices)
     × IsPictureOf image width symbols choices text)))

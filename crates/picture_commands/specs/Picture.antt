@@ -1,21 +1,28 @@
 -- Which programs and schedules have no picture.
 use Rattle.std.specs.Prelude.{◌≡◌, ◌<◌, ℕ, List, Some, None, length}
-use Rattle.picture_commands.specs.declared.fault.PictureFault.{PictureFault}
-use Rattle.picture_commands.specs.declared.fault.PictureFault.TheVariants as none
+use Rattle.loader.specs.declared.load_fault.LoadFault.{LoadFault}
 use Rattle.row_code.specs.declared.image.Image.{Image}
 use Rattle.run_page.specs.Page.{most_choices}
 use Rattle.schedule_reader.specs.Schedule.{choices_of, finished_schedule}
 use Rattle.trace_compare.specs.Start.{IsRefused}
+use Rattle.workbench.specs.declared.fault.Fault.{Fault}
 use Rattle.workbench.specs.declared.fault.Fault.TheVariants as fault
+use Rattle.workbench.specs.declared.fault.PictureKind.{PictureKind}
 use Rattle.workbench.specs.ProgramFile.{IsNoProgramFor, IsProgramFile}
 
--- why a program and a schedule have none, by the fault that is told: the program is none, or isn't loaded; the schedule has
--- this fault, or more choices than a picture shows
-abbrev pub HaveNoPicture : PictureFault → (program schedule : List ℕ) → Type 0
-HaveNoPicture (none.Any (fault.Load f)) program schedule =
+-- the program in a file is loaded
+abbrev pub IsLoadable : List ℕ → Type 0
+IsLoadable program =
+    (image : Image) × (IsProgramFile program image × ((fault : LoadFault) → IsRefused fault image → ⊥))
+
+-- why a program and a schedule have no picture of a kind, by the fault that is told: the program is none, or isn't loaded; or
+-- it is, and the schedule has this fault, or more choices than such a picture shows
+abbrev pub HaveNoPicture : PictureKind → Fault → (program schedule : List ℕ) → Type 0
+HaveNoPicture kind (fault.Load f) program schedule =
     (image : Image) × (IsProgramFile program image × IsRefused f image)
-HaveNoPicture (none.Any (fault.Schedule f)) program schedule = (finished_schedule schedule).fault ≡ Some f
-HaveNoPicture (none.Any f) program schedule = IsNoProgramFor f program
-HaveNoPicture none.Choices program schedule =
-    ((finished_schedule schedule).fault ≡ None)
-    × (most_choices < length (choices_of (finished_schedule schedule).runs))
+HaveNoPicture kind (fault.Schedule f) program schedule =
+    IsLoadable program × ((finished_schedule schedule).fault ≡ Some f)
+HaveNoPicture kind (fault.TooLong k) program schedule =
+    (k ≡ kind) × (IsLoadable program × (((finished_schedule schedule).fault ≡ None)
+    × (most_choices < length (choices_of (finished_schedule schedule).runs))))
+HaveNoPicture kind f program schedule = IsNoProgramFor f program

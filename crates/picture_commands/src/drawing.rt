@@ -1,13 +1,13 @@
 //! A picture as text.
 ghost use Rattle.std.specs.Prelude.{◌≡◌, ◌≢◌, ◌≤◌, Err, IfErr, IfOk, length};
 ghost use Rattle.picture_commands.specs.Drawing.{IsDrawingIn, IsNamedProgram};
-ghost use Rattle.picture_commands.specs.Fault.{picture_status};
 ghost use Rattle.picture_commands.specs.Picture.{HaveNoPicture};
+ghost use Rattle.workbench.specs.declared.fault.PictureKind.TheVariants as picture;
 ghost use Rattle.workbench.specs.Fault.{status_of};
 ghost use Rattle.workbench.specs.Input.{most_bytes};
 ghost use Rattle.workbench.specs.ProgramFile.{IsNoProgramFor};
 
-use crate::fault::{PictureFault, fault_of, start_fault};
+use crate::fault::{fault_of, start_fault};
 use crate::picture::Picture;
 use assembler::{Symbols, assemble_named};
 use row_code::{Image, is_image_file, read_image};
@@ -15,7 +15,7 @@ use run_drawing::picture::picture;
 use run_page::choices::choices_in;
 use std::alloc::Global;
 use trace_compare::start::first_machine;
-use workbench::fault::Fault;
+use workbench::fault::{Fault, PictureKind};
 
 /// A drawing whose lines have at most `width` columns: a thread a column, a line for each choice.
 #[derive(Clone, Copy)]
@@ -27,7 +27,7 @@ pub struct Drawing {
 fn named_program(alloc: Global, file: &[u8]) -> Result<(Image, Symbols<'_>), Fault>
     ensures program { IfOk result (λ both. IsNamedProgram file.now both.0 both.1) }
     ensures refused { IfErr result (λ fault. status_of fault ≡ 3 → IsNoProgramFor fault file.now) }
-    ensures ports { (result ≢ Err Fault.Read) × (result ≢ Err Fault.Write) }
+    ensures other { (result ≢ Err Fault.Read) × (result ≢ Err Fault.Write) × (result ≢ Err Fault.Spawn) }
 {
     if is_image_file(file) {
         match read_image(alloc, file) {
@@ -43,16 +43,11 @@ fn named_program(alloc: Global, file: &[u8]) -> Result<(Image, Symbols<'_>), Fau
 }
 
 /// The drawing of a program and a schedule.
-fn drawing_of(
-    alloc: Global,
-    width: u16,
-    program: &[u8],
-    schedule: &[u8],
-) -> Result<Vec<u8>, PictureFault>
+fn drawing_of(alloc: Global, width: u16, program: &[u8], schedule: &[u8]) -> Result<Vec<u8>, Fault>
     requires { length schedule.now ≤ most_bytes }
     ensures drawing { IfOk result (λ text. IsDrawingIn width program.now schedule.now text.items) }
-    ensures refused { IfErr result (λ fault. picture_status fault ≡ 3 → HaveNoPicture fault program.now schedule.now) }
-    ensures ports { (result ≢ Err (PictureFault.Any Fault.Read)) × (result ≢ Err (PictureFault.Any Fault.Write)) }
+    ensures refused { IfErr result (λ fault. status_of fault ≡ 3 → HaveNoPicture picture.Drawing fault program.now schedule.now) }
+    ensures other { (result ≢ Err Fault.Read) × (result ≢ Err Fault.Write) × (result ≢ Err Fault.Spawn) }
 {
     let (image, symbols) = named_program(alloc, program)?;
     let mut machine = match first_machine(alloc, image) {
@@ -61,27 +56,23 @@ fn drawing_of(
     };
     let choices = match choices_in(alloc, schedule) {
         Ok(choices) => choices,
-        Err(fault) => return Err(fault_of(fault)),
+        Err(fault) => return Err(fault_of(fault, PictureKind::Drawing)),
     };
     match picture(alloc, &mut machine, &symbols, width, choices.as_slice()) {
         Ok(text) => Ok(text),
-        Err(_) => Err(PictureFault::Any(Fault::Memory)),
+        Err(_) => Err(Fault::Memory),
     }
 }
 
 impl Picture for Drawing {
-    ghost use Rattle.std.specs.Prelude.{codes};
+    ghost use Rattle.workbench.specs.declared.fault.PictureKind.TheVariants as picture;
     ghost use Rattle.picture_commands.specs.Drawing.{IsDrawingIn};
 
     ghost is_picture = { λ self program schedule text. IsDrawingIn self.width program schedule text };
 
-    ghost too_long = { λ self. codes "refused draw 2000\n" };
+    ghost kind = { picture.Drawing };
 
-    fn too_long(&self) -> &[u8] {
-        b"refused draw 2000\n"
-    }
-
-    fn of(&self, alloc: Global, program: &[u8], schedule: &[u8]) -> Result<Vec<u8>, PictureFault> {
+    fn of(&self, alloc: Global, program: &[u8], schedule: &[u8]) -> Result<Vec<u8>, Fault> {
         drawing_of(alloc, self.width, program, schedule)
     }
 }

@@ -1,5 +1,5 @@
 //! The command.
-ghost use Rattle.std.specs.Prelude.{◌≡◌, ◌⊎◌, ℕ, IsTrue};
+ghost use Rattle.std.specs.Prelude.{◌≡◌, ◌⊎◌, ℕ, Err, IfErr, IsTrue, OnOk};
 ghost use Rattle.std.specs.Io.KnownBytes.{Appends};
 ghost use Rattle.packed_phaser.specs.Word.{record_of};
 ghost use Rattle.race.specs.declared.fault.RaceFault.{RaceFault};
@@ -35,39 +35,33 @@ pub fn race_cmd<R: Threads + Wait + Sync, K: Sink, E: Sink>(
     ensures unchanged { result ≡ 4 → K.written output.new ≡ K.written output.old }
     ensures port { result ≡ 5 → IsTrue (K.has_failed output.new) }
 {
-    race_paced_cmd(rt, alloc, parties, rounds, &NoPace, output, errors)
+    match write_race(rt, alloc, parties, rounds, &NoPace, output) {
+        Ok(()) => 0,
+        Err(fault) => {
+            let _ = fault.tell(errors);
+            fault.status()
+        }
+    }
 }
 
-/// The same, where each thread tells `pace` of each meeting.
-pub fn race_paced_cmd<R: Threads + Wait + Sync, P: Pace + Sync, K: Sink, E: Sink>(
+/// The same with the fault that decides the status. Each thread tells `pace` of each meeting.
+pub fn write_race<R: Threads + Wait + Sync, P: Pace + Sync, K: Sink>(
     rt: &R,
     alloc: Global,
     parties: u16,
     rounds: u32,
     pace: &P,
     output: &mut K,
-    errors: &mut E,
-) -> u8
-    ensures statuses { (result ≡ 0) ⊎ ((result ≡ 4) ⊎ (result ≡ 5)) }
-    ensures done { result ≡ 0 → (word : ℕ) × (IsFinal parties rounds word
-        × Appends (K.written output.old) (K.written output.new) (line_of (record_of word))) }
-    ensures told { ((result ≡ 0) × (E.written errors.new ≡ E.written errors.old))
-        ⊎ ((fault : RaceFault) × ((result ≡ status_of fault)
-        × HasTold fault (E.has_failed errors.new) (E.written errors.old) (E.written errors.new))) }
-    ensures unchanged { result ≡ 4 → K.written output.new ≡ K.written output.old }
-    ensures port { result ≡ 5 → IsTrue (K.has_failed output.new) }
+) -> Result<(), RaceFault>
+    ensures done { OnOk result ((word : ℕ) × (IsFinal parties rounds word
+        × Appends (K.written output.old) (K.written output.new) (line_of (record_of word)))) }
+    ensures unchanged { IfErr result (λ fault. (fault ≡ RaceFault.Write)
+        ⊎ (K.written output.new ≡ K.written output.old)) }
+    ensures write { result ≡ Err RaceFault.Write → IsTrue (K.has_failed output.new) }
 {
-    match race(rt, alloc, parties, rounds, pace) {
-        Ok(word) => match push_line(output, word) {
-            Ok(()) => 0,
-            Err(_) => {
-                let _ = RaceFault::Write.tell(errors);
-                RaceFault::Write.status()
-            }
-        },
-        Err(fault) => {
-            let _ = fault.tell(errors);
-            fault.status()
-        }
+    let word = race(rt, alloc, parties, rounds, pace)?;
+    match push_line(output, word) {
+        Ok(()) => Ok(()),
+        Err(_) => Err(RaceFault::Write),
     }
 }

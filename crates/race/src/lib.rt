@@ -7,7 +7,7 @@ mod line;
 mod meeting;
 mod pace;
 
-pub use command::{race_cmd, race_paced_cmd};
+pub use command::{race_cmd, write_race};
 pub use fault::RaceFault;
 pub use meeting::race;
 pub use pace::{NoPace, Pace};

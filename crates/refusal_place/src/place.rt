@@ -1,5 +1,6 @@
 //! The place of a refusal, and its words.
 
+use crate::about::question_about;
 use crate::kinds::called;
 use crate::names::{first_line, nearest};
 use crate::shown::{push_file, push_line, push_marked, push_shown};
@@ -14,9 +15,10 @@ use line_reader::label::{before_last, is_label};
 use line_reader::words::{before_comment, is_blank};
 use loader::{LoadFault, Place};
 use refusal_words::entry::Entry;
-use refusal_words::question::{Question, question_of};
+use refusal_words::question::Question;
 use refusal_words::subject::Subject;
 use std::alloc::{AllocError, Global};
+use workbench::fault::Fault;
 
 /// A file, by its name, and what it holds.
 #[derive(Clone, Copy)]
@@ -264,15 +266,6 @@ fn push_schedule_place<E: Sink>(
     }
 }
 
-/// The words of a line that was told.
-fn told_words<'a>(alloc: Global, told: &'a str) -> Result<Vec<&'a str>, AllocError> {
-    let mut words = Vec::new(alloc);
-    for word in told.split_ascii_whitespace() {
-        words.push(word)?;
-    }
-    Ok(words)
-}
-
 /// Where a question's place is in the files, and what helps there, where that is more than its entry says.
 fn push_found<E: Sink>(
     alloc: Global,
@@ -307,19 +300,15 @@ fn push_found<E: Sink>(
     Ok(None)
 }
 
-/// Writes where the place is that a line told, if it is one of a program's text or of a schedule, and then the words of its
-/// entry.
+/// Writes where the place of a fault is, if it is one of a program's text or of a schedule, and then the words of its entry.
 pub fn push_place<E: Sink>(
     alloc: Global,
-    told: &str,
+    fault: Fault,
     program: ProgramFile<'_>,
     schedule: Option<Named<'_>>,
     errors: &mut E,
 ) -> Result<(), Unshown> {
-    let words = told_words(alloc, told)?;
-    let Some(question) = question_of(words.as_slice()) else {
-        return Ok(());
-    };
+    let question = question_about(fault);
     let helps = push_found(alloc, errors, question, program, schedule)?;
     let subject = question.subject;
     let entry = subject.entry();

@@ -1,7 +1,9 @@
 -- What `explain` writes.
-use Rattle.std.specs.Prelude.{◌≡◌, ◌⊎◌, ℕ, List, [], Option}
+use Rattle.std.specs.Prelude.{◌≡◌, ◌⊎◌, ◌++◌, ℕ, List, [], Option, codes}
 use Rattle.std.specs.Io.KnownBytes.{Appends}
 use Rattle.refusal_words.specs.declared.entry.Entry.{Entry}
+use Rattle.refusal_words.specs.declared.explain.Unexplained.{Unexplained}
+use Rattle.refusal_words.specs.declared.explain.Unexplained.TheVariants as why
 use Rattle.refusal_words.specs.declared.question.Question.{Question}
 use Rattle.refusal_words.specs.Entry.{place_line, text_of}
 use Rattle.refusal_words.specs.Question.{AsksFor}
@@ -17,3 +19,12 @@ HasAnswer q before after =
 abbrev pub HasExplained : List ℕ → List (List ℕ) → Option (List ℕ) → Option (List ℕ) → Type 0
 HasExplained questions words before after =
     ((words ≡ []) × Appends before after questions) ⊎ ((q : Question) × AsksFor words q × HasAnswer q before after)
+
+-- the exit status of what isn't explained, and what is told of it
+abbrev pub unexplained_status : Unexplained → ℕ
+unexplained_status why.NoLine = 2
+unexplained_status why.Write = 5
+
+abbrev pub unexplained_text : (no_line questions : List ℕ) → Unexplained → List ℕ
+unexplained_text no_line questions why.NoLine = no_line ++ questions
+unexplained_text no_line questions why.Write = codes "write\n"

@@ -1,8 +1,8 @@
 //! The command.
-ghost use Rattle.std.specs.Prelude.{◌≡◌, ◌⊎◌, ◌++◌, IsTrue, OnErr, OnOk, codes, map};
+ghost use Rattle.std.specs.Prelude.{◌≡◌, ◌++◌, Err, IsTrue, OnErr, OnOk, map};
 ghost use Rattle.std.specs.Io.KnownBytes.{Appends};
 ghost use Rattle.refusal_words.specs.declared.question.Question.{Question};
-ghost use Rattle.refusal_words.specs.Explained.{HasAnswer, HasExplained};
+ghost use Rattle.refusal_words.specs.Explained.{HasAnswer, HasExplained, unexplained_status, unexplained_text};
 ghost use Rattle.refusal_words.specs.Question.{AsksFor};
 
 use crate::question::{Question, question_of};
@@ -46,18 +46,8 @@ fn push_answer<W: Sink>(output: &mut W, question: Question) -> Result<(), Failed
         .push(output, subject.place_word(), question.place)
 }
 
-/// Tells that the output failed. Answers the exit status.
-fn told_write<E: Sink>(errors: &mut E) -> u8
-    ensures status { result ≡ 5 }
-    ensures line { IsTrue (E.has_failed errors.new)
-        ⊎ Appends (E.written errors.old) (E.written errors.new) (codes "write\n") }
-{
-    let _ = errors.push(b"write\n");
-    5
-}
-
-/// Tells that no line has the words, and what can be asked.
-fn push_refused<E: Sink>(errors: &mut E) -> Result<(), Failed>
+/// Writes that no line has the words, and what can be asked.
+fn push_no_line<E: Sink>(errors: &mut E) -> Result<(), Failed>
     ensures bytes { OnOk result (Appends (E.written errors.old) (E.written errors.new) (NO_LINE.now ++ QUESTIONS.now)) }
     ensures failed { OnErr result (IsTrue (E.has_failed errors.new)) }
 {
@@ -65,48 +55,60 @@ fn push_refused<E: Sink>(errors: &mut E) -> Result<(), Failed>
     push_questions(errors)
 }
 
-/// The same, with the exit status.
-fn told_refused<E: Sink>(errors: &mut E) -> u8
-    ensures status { result ≡ 2 }
-    ensures line { IsTrue (E.has_failed errors.new)
-        ⊎ Appends (E.written errors.old) (E.written errors.new) (NO_LINE.now ++ QUESTIONS.now) }
-{
-    let _ = push_refused(errors);
-    2
+/// Why nothing is explained.
+#[derive(Clone, Copy, Debug, PartialEq, Eq)]
+pub enum Unexplained {
+    /// No line on standard error has these words.
+    NoLine,
+    /// The output failed.
+    Write,
+}
+
+impl Unexplained {
+    /// The exit status.
+    pub fn status(self) -> u8
+        ensures { result ≡ unexplained_status self }
+    {
+        match self {
+            Unexplained::NoLine => 2,
+            Unexplained::Write => 5,
+        }
+    }
+
+    /// Tells it: where no line has the words, with what can be asked.
+    pub fn tell<E: Sink>(self, errors: &mut E) -> Result<(), Failed>
+        ensures bytes { OnOk result (Appends (E.written errors.old) (E.written errors.new)
+            (unexplained_text NO_LINE.now QUESTIONS.now self)) }
+        ensures failed { OnErr result (IsTrue (E.has_failed errors.new)) }
+    {
+        match self {
+            Unexplained::NoLine => push_no_line(errors),
+            Unexplained::Write => errors.push(b"write\n"),
+        }
+    }
 }
 
 /// Writes the entry that the words ask for, the words being those of a line on standard error, or what can be asked where
-/// there are none. Words of no line are told to `errors`, with what can be asked. Answers the exit status: 0, 2 for words of
-/// no line, 5 with the line `write` on `errors` where the output failed.
-pub fn explain_cmd<W: Sink, E: Sink>(words: &[&str], output: &mut W, errors: &mut E) -> u8
-    ensures statuses { (result ≡ 0) ⊎ ((result ≡ 2) ⊎ (result ≡ 5)) }
-
+/// there are none.
+pub fn explain<W: Sink>(words: &[&str], output: &mut W) -> Result<(), Unexplained>
     // The entry of the question that the words ask for is written, and nothing else; without words, what can be asked.
-    ensures told { result ≡ 0 → HasExplained QUESTIONS.now (map (λ w. w.now) words.now) (W.written output.old) (W.written output.new) }
-    ensures quiet { result ≡ 0 → E.written errors.new ≡ E.written errors.old }
+    ensures told { OnOk result (HasExplained QUESTIONS.now (map (λ w. w.now) words.now) (W.written output.old) (W.written output.new)) }
 
-    // Words of no line: that is told with what can be asked, and nothing is written.
-    ensures none { result ≡ 2 → (q : Question) → AsksFor (map (λ w. w.now) words.now) q → ⊥ }
-    ensures untold { result ≡ 2 → W.written output.new ≡ W.written output.old }
-    ensures refused { result ≡ 2 → IsTrue (E.has_failed errors.new)
-        ⊎ Appends (E.written errors.old) (E.written errors.new) (NO_LINE.now ++ QUESTIONS.now) }
-
-    // The output failed: that alone is told.
-    ensures port { result ≡ 5 → IsTrue (W.has_failed output.new) }
-    ensures failed { result ≡ 5 → IsTrue (E.has_failed errors.new)
-        ⊎ Appends (E.written errors.old) (E.written errors.new) (codes "write\n") }
+    // Words of no line: nothing is written.
+    ensures none { result ≡ Err Unexplained.NoLine → (q : Question) → AsksFor (map (λ w. w.now) words.now) q → ⊥ }
+    ensures untold { result ≡ Err Unexplained.NoLine → W.written output.new ≡ W.written output.old }
+    ensures failed { result ≡ Err Unexplained.Write → IsTrue (W.has_failed output.new) }
 {
-    if words.is_empty() {
-        return match push_questions(output) {
-            Ok(()) => 0,
-            Err(_) => told_write(errors),
-        };
-    }
-    match question_of(words) {
-        Some(question) => match push_answer(output, question) {
-            Ok(()) => 0,
-            Err(_) => told_write(errors),
-        },
-        None => told_refused(errors),
+    let pushed = if words.is_empty() {
+        push_questions(output)
+    } else {
+        match question_of(words) {
+            Some(question) => push_answer(output, question),
+            None => return Err(Unexplained::NoLine),
+        }
+    };
+    match pushed {
+        Ok(()) => Ok(()),
+        Err(_) => Err(Unexplained::Write),
     }
 }

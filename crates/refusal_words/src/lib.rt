@@ -21,8 +21,3 @@ pub mod question;
 
 // The command.
 pub mod explain;
-
-// A port that keeps what it told last.
-pub mod told_line;
-
-pub use explain::explain_cmd;

@@ -1,7 +1,7 @@
 ghost use Rattle.std.specs.Prelude.{◌≡◌, ◌≢◌, ◌⊎◌, Err, IsTrue, IfErr, IfOk, OnOk};
 ghost use Rattle.row_listing.specs.Rows.{HasListedRows, IsRowListing};
 ghost use Rattle.workbench.specs.declared.fault.Fault.{Fault};
-ghost use Rattle.workbench.specs.Fault.{HasTold, status_of};
+ghost use Rattle.workbench.specs.Fault.{status_of};
 ghost use Rattle.workbench.specs.Input.{GivesTooMuch};
 ghost use Rattle.workbench.specs.ProgramFile.{IsNoProgramFor};
 ghost use Rattle.workbench.specs.Run.{GivesNoProgram};
@@ -11,45 +11,17 @@ use crate::text_rows::listed_text;
 use byte_ports::{Sink, Source};
 use row_code::is_image_file;
 use std::alloc::Global;
-use workbench::fault::{DONE, Fault};
+use workbench::fault::Fault;
 use workbench::input::read_all;
 
 /// Writes the rows of the program in `file`, an image or a text, to `output`, a line each: the row's number, of a text the
 /// number of its line and the line without the blanks round it, of an image the row's canonical text. Whether the program
-/// can be loaded is not looked at. Answers the exit status, 0 where all went well. For any other status one line stands on
-/// `errors`: `refused asm LINE KIND` or `refused image KIND [PLACE]` (3), `memory` (4), or `read` or `write` (5). What
-/// `errors` makes of that line changes no status. The listing is written in one piece.
-pub fn rows_cmd<F: Source, K: Sink, E: Sink>(
+/// can be loaded is not looked at. The listing is written in one piece.
+pub fn list_rows<F: Source, K: Sink>(
     alloc: Global,
     file: &mut F,
     output: &mut K,
-    errors: &mut E,
-) -> u8
-    ensures statuses { (result ≡ 0) ⊎ ((result ≡ 3) ⊎ ((result ≡ 4) ⊎ (result ≡ 5))) }
-    ensures done { result ≡ 0 → HasListedRows (F.left file.old) (F.left file.new)
-        (K.written output.old) (K.written output.new) }
-    ensures told { ((result ≡ 0) × (E.written errors.new ≡ E.written errors.old))
-        ⊎ ((fault : Fault) × ((result ≡ status_of fault)
-        × (HasTold fault (E.has_failed errors.new) (E.written errors.old) (E.written errors.new)
-        × (result ≡ 3 → GivesNoProgram (F.left file.old) (F.left file.new) fault)
-        × (fault ≢ Fault.Spawn)
-        × (fault ≡ Fault.Read → K.written output.new ≡ K.written output.old)))) }
-    ensures unchanged { (result ≡ 3) ⊎ (result ≡ 4) → K.written output.new ≡ K.written output.old }
-    ensures port { result ≡ 5 → IsTrue (F.has_failed file.new)
-        ⊎ (GivesTooMuch (F.left file.old) (F.left file.new)
-        ⊎ IsTrue (K.has_failed output.new)) }
-{
-    match list_rows(alloc, file, output) {
-        Ok(()) => DONE,
-        Err(fault) => {
-            let _ = fault.tell(errors);
-            fault.status()
-        }
-    }
-}
-
-/// The same with the fault that decides the status.
-fn list_rows<F: Source, K: Sink>(alloc: Global, file: &mut F, output: &mut K) -> Result<(), Fault>
+) -> Result<(), Fault>
     ensures done { OnOk result (HasListedRows (F.left file.old) (F.left file.new)
         (K.written output.old) (K.written output.new)) }
     ensures refused { IfErr result (λ fault. status_of fault ≡ 3

@@ -1,8 +1,11 @@
 
 // ---- the elements of a picture
-const HUES = ["#0072b2", "#d55e00", "#009e73", "#b5588f", "#8a6d00", "#2aa0d8", "#7a5195", "#555555"];
-const LANES = ["off", "run", "held", "wait", "free", "throw"];
-const hueOf = t => HUES[t % HUES.length];
+const LANES = ["off", "run", "held", "wait", "free", "throw"], HUES = 8, LETTERS = 12;
+const hueOf = t => "var(--h" + t % HUES + ")";
+// a thread's name in a place for so many letters: a longer one is cut, with its number behind it
+const shortName = (t, most) => threadName(t).length <= most ? threadName(t) : threadName(t).slice(0, most - 5) + "\u2026 t" + t;
+// the whole of it, with its number
+const threadTitle = t => threadName(t) + (names.T[t] ? " (t" + t + ")" : "");
 
 function add(parent, tag, kind, text) {
   const element = document.createElement(tag);
@@ -17,27 +20,56 @@ function head(parent, scope, kind, text) {
   return cell;
 }
 // a thread's name in a frame of its colour
-function chip(parent, t, s) {
+function chip(parent, t, s, most) {
   const status = s && s.threads[t].status, over = status === "ended" || status === "died";
-  const element = add(parent, "span", "who" + (over ? " over" : status === "waits" ? " wait" : ""), threadName(t));
+  const element = add(parent, "span", "who" + (over ? " over" : status === "waits" ? " wait" : ""), shortName(t, most || LETTERS));
   element.style.setProperty("--hue", hueOf(t));
+  element.title = threadTitle(t);
   return element;
 }
+// the colours of what is painted: those of the page, which are others in the dark and where the reader forces them
+let colours = {};
 
-// ---- the timeline: a column for each thread, a line for each choice. Where the columns are wide, a choice's words stand in
-// its thread's column; where they are narrow, in one column behind all. Of a long run only the lines in view are there.
+function readColours() {
+  const style = getComputedStyle(document.documentElement), of = name => style.getPropertyValue("--" + name).trim();
+  colours = { ink: of("ink"), paper: of("paper"), mark: of("map-mark"), lanes: LANES.map(lane => of("map-" + lane)), hues: [] };
+  for (let k = 0; k < HUES; k++) colours.hues.push(of("h" + k));
+  hatch = null;
+}
+
+// ---- the timeline: a column for each thread, a line for each choice; idle choices behind one another may have one line
+// together. Where the columns are wide, a choice's words stand in its thread's column; where they are narrow, in one column
+// behind all. Of a long run only the lines in view are there.
 const WIDE = 6, WHOLE = 3000, MARGIN = 20;
 let isNarrow = false, lineOf = new Map(), drawn = { from: 0, to: 0 };
+// the moments that have a line, each the last of its line, and the number of each moment's line
+let shown = [], lineNumber = [];
 
 const isWhole = () => moments.length * threads.length <= WHOLE;
 const timeBox = () => id("time").querySelector(".scroll");
+const isIdle = i => i > 0 && i < moments.length && moments[i].event.what === "idle";
+const firstOf = k => k ? shown[k - 1] + 1 : 0;
+
+function fold() {
+  shown = [];
+  moments.forEach((_, i) => {
+    lineNumber[i] = shown.length;
+    if (!(id("fold").checked && isIdle(i) && isIdle(i + 1))) shown.push(i);
+  });
+}
+// whose turns the moments of a line are, and how many
+function turnsOf(k) {
+  const turns = new Map();
+  for (let i = firstOf(k); i <= shown[k]; i++) turns.set(moments[i].event.thread, (turns.get(moments[i].event.thread) || 0) + 1);
+  return turns;
+}
+const isFolded = k => firstOf(k) < shown[k];
 
 function drawHead(table) {
   const line = add(add(table, "thead"), "tr");
   add(head(line, "col", "n"), "span", "unseen", "Choice");
-  if (isCrowd()) {
-    picture(head(line, "col", "crowd"), 14, pen => threads.forEach((_, t) => paintLane(pen, RUNS, t, 0, 14)));
-  } else threads.forEach((_, t) => {
+  if (isCrowd()) drawCast(head(line, "col", "crowd"));
+  else threads.forEach((_, t) => {
     const cell = head(line, "col", "t");
     chip(cell, t);
     if (names.T[t] && !isNarrow) add(cell, "span", "kind", " t" + t);
@@ -45,7 +77,7 @@ function drawHead(table) {
   if (isNarrow) add(head(line, "col", "w"), "span", "unseen", "What");
   add(head(line, "col", "m"), "span", "unseen", "Ends for all");
 }
-// the lines of these moments
+// the lines of these numbers
 function drawLines(from, to) {
   const table = id("lanes"), body = table.tBodies[0] || add(table, "tbody"), pitch = linePitch();
   body.textContent = "";
@@ -55,57 +87,88 @@ function drawLines(from, to) {
     if (count > 0) add(add(body, "tr", "gap"), "td").style.height = count * pitch + "px";
   };
   gap(from);
-  for (let i = from; i < to; i++) drawMoment(body, i);
-  gap(moments.length - to);
-  if (to === moments.length) drawClose(body);
+  for (let k = from; k < to; k++) drawMoment(body, k);
+  gap(shown.length - to);
+  if (to === shown.length) drawClose(body);
 }
 let pitch = 0;
+function rem() { return parseFloat(getComputedStyle(document.documentElement).fontSize); }
 function linePitch() {
-  if (!pitch) pitch = parseFloat(getComputedStyle(id("lanes")).getPropertyValue("--pitch")) * parseFloat(getComputedStyle(document.documentElement).fontSize);
+  if (!pitch) pitch = parseFloat(getComputedStyle(id("lanes")).getPropertyValue("--pitch")) * rem();
   return pitch;
 }
 // draws the lines in view, where they aren't there
 function drawInView() {
   if (isWhole()) return;
-  const box = timeBox(), top = box.scrollTop / linePitch(), foot = (box.scrollTop + box.clientHeight) / linePitch(), count = moments.length;
+  const box = timeBox(), top = box.scrollTop / linePitch(), foot = (box.scrollTop + box.clientHeight) / linePitch(), count = shown.length;
   if (drawn.to && (top >= drawn.from || !drawn.from) && (foot <= drawn.to || drawn.to === count)) return;
   drawLines(Math.max(0, Math.floor(top) - MARGIN), Math.min(count, Math.ceil(foot) + MARGIN));
   markLines();
 }
+// how wide the widest of some texts is as it is drawn; the longest are tried
+function widest(texts, kind) {
+  const ruler = add(id("time"), "div", "unseen"), longest = [...new Set(texts)].sort((a, b) => b.length - a.length).slice(0, 6);
+  const wide = longest.map(text => add(ruler, "span", kind, text)).reduce((most, span) => Math.max(most, span.offsetWidth), 0);
+  ruler.remove();
+  return wide;
+}
+// the width of narrow columns: they share what the words behind them leave. `--need` is what the timeline asks for
+function narrowColumn() {
+  const em = rem(), events = moments.filter(m => m.event && m.event.thread < threads.length).map(m => m.event), named = threads.map((_, t) => shortName(t, LETTERS));
+  const marks = moments.map((_, i) => wordsForAll(i));
+  const words = widest(named, "who in-line") + widest(events.map(tagText), "tag") + widest(marks, "mark") + 5.6 * em;
+  const name = widest(named, "who brief") + 2, most = isCrowd() ? 1.2 * em : Math.max(2.4 * em, name + .4 * em);
+  const least = em * (isCrowd() ? Math.max(.5, Math.min(.8, 32 / threads.length)) : name < 2.6 * em ? Math.max(1.5, name / em) : 1.5);
+  id("panes").style.setProperty("--need", Math.ceil(words + least * threads.length + 2.4 * em + id("map").offsetWidth) + "px");
+  column = Math.floor(Math.max((isCrowd() ? .5 : 1.5) * em, Math.min(most, (timeBox().clientWidth - words) / threads.length)));
+  return name <= column;
+}
 function drawColumns() {
-  const table = id("lanes"), room = timeBox().clientWidth, em = parseFloat(getComputedStyle(document.documentElement).fontSize);
+  const table = id("lanes");
   table.textContent = "";
   table.className = (isNarrow ? "narrow" : "") + (id("hide").checked ? " hiding" : "");
   table.style.removeProperty("--column");
+  id("panes").style.removeProperty("--need");
   if (isNarrow) {
-    const lane = Math.max(isCrowd() ? .5 : 1.5, Math.min(2.4, (room / em - 24) / threads.length));
-    table.style.setProperty("--column", lane + "rem");
-    column = Math.floor(lane * em);
-    table.classList.toggle("brief", threads.every((_, t) => threadName(t).length < 3));
+    table.classList.toggle("brief", narrowColumn());
+    table.style.setProperty("--column", column + "px");
   }
   pitch = 0;
   drawHead(table);
   drawn = { from: 0, to: 0 };
-  drawLines(0, isWhole() ? moments.length : Math.min(moments.length, 2 * MARGIN));
+  drawLines(0, isWhole() ? shown.length : Math.min(shown.length, 2 * MARGIN));
 }
 // with wide columns where they fit, else with narrow ones
 function drawTimeline() {
+  readColours();
+  fold();
+  drawMap();
   isNarrow = threads.length > WIDE;
   drawColumns();
-  if (isNarrow || timeBox().scrollWidth <= timeBox().clientWidth) return;
-  isNarrow = true;
-  drawColumns();
+  if (!isNarrow && timeBox().scrollWidth > timeBox().clientWidth) {
+    isNarrow = true;
+    drawColumns();
+  }
+  drawNames();
+  drawMap();
 }
-function drawLane(line, i, t, took) {
-  const e = moments[i].event, up = i ? laneOf(i - 1, t) : OVER, low = laneOf(i, t), waits = lane => lane === WAITS || lane === FREE;
-  const cell = add(line, "td", "t u-" + LANES[up] + " l-" + LANES[low]);
+// the names of all threads, where a head isn't there for each, or is short
+function drawNames() {
+  const list = id("names").querySelector("ul"), heads = id("lanes").tHead.querySelectorAll(".who, .cast span");
+  list.textContent = "";
+  id("names").hidden = heads.length === threads.length && threads.every((_, t) => shortName(t, LETTERS) === threadName(t));
+  threads.forEach((_, t) => add(list, "li", "", (names.T[t] ? "t" + t + " " : "") + threadName(t)));
+}
+function drawLane(line, k, t, took, turns) {
+  const i = shown[k], first = firstOf(k), e = moments[i].event, up = first ? laneOf(first - 1, t) : OVER, low = laneOf(i, t);
+  const waits = lane => lane === WAITS || lane === FREE, cell = add(line, "td", "t u-" + LANES[up] + " l-" + LANES[low]);
   cell.style.setProperty("--hue", hueOf(t));
   if (!waits(up) && waits(low)) cell.className += " starts";
   if (waits(up) && !waits(low)) cell.className += " stops";
   if (took) drawAcross(cell, e, t, took);
-  if (e && e.thread === t) {
+  if (turns.has(t)) {
     add(cell, "span", "dot " + e.what);
-    if (!isNarrow) add(cell, "span", "tag " + e.what, tagText(e, false));
+    if (!isNarrow) add(cell, "span", "tag " + e.what, tagText(e) + (turns.get(t) > 1 ? ", " + turns.get(t) + " times" : ""));
   } else if (i === moments.length - 1 && waits(low) && !isNarrow && stateAt(i).word === "stuck") add(cell, "span", "tag wait", "stuck");
   else if (waits(low)) add(cell, "span", "unseen", low === WAITS ? "waits" : "may go on");
 }
@@ -113,6 +176,22 @@ function drawLane(line, i, t, took) {
 const isCrowd = () => threads.length > 2 * WIDE;
 let column = 0, hatch = null;
 
+// the names above the columns: where those are too narrow for a name each, every second one, or every third
+function drawCast(cell) {
+  const cast = add(cell, "div", "cast"), first = add(cast, "span", "", shortName(0, LETTERS)), every = Math.max(1, Math.ceil(first.offsetWidth / column));
+  let tall = 0;
+  cast.style.width = column * threads.length + "px";
+  first.remove();
+  threads.forEach((_, t) => {
+    if (t % every) return;
+    const name = add(cast, "span", "", shortName(t, LETTERS));
+    name.title = threadTitle(t);
+    name.style.setProperty("--hue", hueOf(t));
+    name.style.left = (t + .5) * column - name.offsetWidth / 2 + "px";
+    tall = Math.max(tall, name.offsetHeight);
+  });
+  cast.style.height = tall + "px";
+}
 function picture(cell, height, paint) {
   const canvas = add(cell, "canvas"), scale = Math.max(1, Math.min(2, devicePixelRatio || 1)), width = column * threads.length;
   canvas.width = width * scale;
@@ -121,13 +200,15 @@ function picture(cell, height, paint) {
   canvas.style.height = height + "px";
   const pen = canvas.getContext("2d");
   pen.scale(scale, scale);
+  pen.strokeStyle = colours.ink;
   paint(pen);
 }
 function hatched() {
   if (hatch) return hatch;
   const tile = document.createElement("canvas"), pen = (tile.width = tile.height = 6, tile.getContext("2d"));
-  pen.fillStyle = "#fff";
+  pen.fillStyle = colours.paper;
   pen.fillRect(0, 0, 6, 6);
+  pen.strokeStyle = colours.ink;
   pen.lineWidth = 2;
   for (const x of [-6, 0, 6]) pen.stroke(new Path2D("M" + x + " 6 l6 -6"));
   return hatch = pen.createPattern(tile, "repeat");
@@ -136,14 +217,14 @@ function hatched() {
 function paintLane(pen, lane, t, top, height) {
   const middle = (t + .5) * column, wide = Math.min(12, column - 2);
   if (lane === OVER) return;
-  pen.fillStyle = hueOf(t);
+  pen.fillStyle = colours.hues[t % HUES];
   if (lane === RUNS) pen.fillRect(middle - 1.5, top, 3, height);
   else if (lane === HELD) for (let y = top; y < top + height; y += 6) pen.fillRect(middle - 1.5, y, 3, 3);
   else if (lane === THROWS) for (const x of [-2.5, 1.5]) pen.fillRect(middle + x, top, 1, height);
   else {
-    pen.fillStyle = lane === WAITS ? hatched() : "#fff";
+    pen.fillStyle = lane === WAITS ? hatched() : colours.paper;
     pen.fillRect(middle - wide / 2, top, wide, height);
-    pen.fillStyle = "#111";
+    pen.fillStyle = colours.ink;
     for (const x of [-wide / 2, wide / 2 - 1]) pen.fillRect(middle + x, top, 1, height);
   }
 }
@@ -154,14 +235,14 @@ function paintDiamond(pen, t, y, size, inside) {
   pen.lineWidth = 2;
   pen.stroke(path);
 }
-function paintChoice(pen, e, y) {
-  const size = Math.min(6, column / 2), x = (e.thread + .5) * column;
-  if (e.what === "throw" || e.what === "die") paintDiamond(pen, e.thread, y, size, e.what === "die" ? "#111" : "#fff");
+function paintChoice(pen, e, t, y) {
+  const size = Math.min(6, column / 2), x = (t + .5) * column;
+  if (e.what === "throw" || e.what === "die") paintDiamond(pen, t, y, size, e.what === "die" ? colours.ink : colours.paper);
   else {
     const path = new Path2D();
     if (e.what === "end") path.rect(x - size + 1, y - size + 1, 2 * size - 2, 2 * size - 2);
     else path.arc(x, y, size - 1, 0, 7);
-    pen.fillStyle = e.what === "end" ? "#111" : e.what === "idle" ? "#fff" : hueOf(e.thread);
+    pen.fillStyle = e.what === "end" ? colours.ink : e.what === "idle" ? colours.paper : colours.hues[t % HUES];
     pen.fill(path);
     pen.lineWidth = 2;
     pen.stroke(path);
@@ -169,20 +250,20 @@ function paintChoice(pen, e, y) {
 }
 function paintTook(pen, e, took, y) {
   const list = [...took], first = (Math.min(...list) + .5) * column, final = (Math.max(...list) + .5) * column;
-  pen.fillStyle = "#111";
+  pen.fillStyle = colours.ink;
   for (const x of e.mark.kind === "-b" ? [-1] : [-2.5, 1.5]) pen.fillRect(first, y + x, final - first, e.mark.kind === "-b" ? 2 : 1);
   for (let x = final; x < column * threads.length; x += 4) pen.fillRect(x, y - 1, 2, 2);
-  for (const t of took) paintDiamond(pen, t, y, Math.min(7, column / 2 + 1), "#fff");
+  for (const t of took) paintDiamond(pen, t, y, Math.min(7, column / 2 + 1), colours.paper);
 }
-function drawCrowd(line, i, took) {
-  const e = moments[i].event, height = Math.round(linePitch()), half = height / 2;
+function drawCrowd(line, k, took, turns) {
+  const i = shown[k], first = firstOf(k), e = moments[i].event, height = Math.round(linePitch()), half = height / 2;
   picture(add(line, "td", "crowd"), height, pen => {
     threads.forEach((_, t) => {
-      if (i) paintLane(pen, laneOf(i - 1, t), t, 0, half);
+      if (first) paintLane(pen, laneOf(first - 1, t), t, 0, half);
       paintLane(pen, laneOf(i, t), t, half, height - half);
     });
     if (took) paintTook(pen, e, took, half);
-    if (e && e.thread < threads.length) paintChoice(pen, e, half);
+    for (const t of turns.keys()) if (t < threads.length) paintChoice(pen, e, t, half);
   });
 }
 
@@ -194,33 +275,40 @@ function drawAcross(cell, e, t, took) {
   if (t > final) add(cell, "span", "across lead");
   if (took.has(t)) add(cell, "span", "part");
 }
-function drawMoment(body, i) {
-  const line = add(body, "tr"), e = moments[i].event, took = parts[i];
+// in one column, whose turn a line is and what it did
+function drawWords(line, k, took, turns) {
+  const cell = add(line, "td", "w"), e = moments[shown[k]].event, count = shown[k] - firstOf(k) + 1;
+  if (took) add(cell, "span", "across lead ends");
+  if (!e || e.thread >= threads.length) return;
+  if (turns.size === 1) chip(cell, e.thread).classList.add("in-line");
+  add(cell, "span", "tag " + e.what, count > 1 ? tagText(e) + ", " + count + " times" : tagText(e));
+}
+// what a choice ended for several threads, or why it is refused
+function wordsForAll(i) {
+  const e = moments[i].event;
+  if (!e) return "";
+  return parts[i] ? shortMark(e.mark, stateAt(i - 1)) : e.what === "none" ? "refused: no thread " + e.thread : e.what === "limit" ? "refused: the limit" : "";
+}
+function drawMoment(body, k) {
+  const i = shown[k], line = add(body, "tr"), e = moments[i].event, took = parts[i], turns = e ? turnsOf(k) : new Map();
   lineOf.set(i, line);
   line.setAttribute("data-i", i);
   if (i === moments.length - 1) line.className = "final";
-  head(line, "row", "n", e ? "" + e.step : "start");
-  if (isCrowd()) drawCrowd(line, i, took);
-  else threads.forEach((_, t) => drawLane(line, i, t, took));
-  if (isNarrow) {
-    const cell = add(line, "td", "w");
-    if (took) add(cell, "span", "across lead ends");
-    if (e && e.thread < threads.length) {
-      chip(cell, e.thread);
-      add(cell, "span", "tag " + e.what, tagText(e, false));
-    }
-  }
-  const cell = add(line, "td", "m");
-  if (took) {
-    add(cell, "span", "across lead ends");
-    add(cell, "span", "mark", shortMark(e.mark, stateAt(i - 1)));
-  }
-  if (e && e.what === "none") add(cell, "span", "mark", "refused: no thread " + e.thread);
-  if (e && e.what === "limit") add(cell, "span", "mark", "refused: the limit");
+  head(line, "row", "n", !e ? "start" : isFolded(k) ? moments[firstOf(k)].event.step + "-" + e.step : "" + e.step);
+  if (isCrowd()) drawCrowd(line, k, took, turns);
+  else threads.forEach((_, t) => drawLane(line, k, t, took, turns));
+  if (isNarrow) drawWords(line, k, took, turns);
+  const cell = add(line, "td", "m"), words = wordsForAll(i);
+  if (took) add(cell, "span", "across lead ends");
+  if (words) add(cell, "span", "mark", words);
+}
+// what is said behind the last line
+function closingWords() {
+  const final = moments.length - 1;
+  return moments[final].refused ? "" : { all: "all are over", stuck: "stuck", live: "the schedule ends here" }[stateAt(final).word];
 }
 function drawClose(body) {
   const count = moments.length, line = add(body, "tr", "close"), s = stateAt(count - 1);
-  const said = { all: "all are over", stuck: "stuck", live: "the schedule ends here" }[s.word];
   lineOf.set(count, line);
   head(line, "row", "n", "end");
   if (isCrowd()) add(line, "td", "crowd");
@@ -229,8 +317,8 @@ function drawClose(body) {
       waits: s.word === "stuck" ? "waits for ever" : "waits" }[thread.status];
     add(add(line, "td", "t u-off l-off"), "span", isNarrow ? "unseen" : "", word);
   });
-  if (isNarrow) add(line, "td", "w", "");
-  add(line, "td", "m", moments[count - 1].refused ? "" : said);
+  const cell = add(line, "td", isNarrow ? "w" : "m", closingWords());
+  if (isNarrow) cell.colSpan = 2;
 }
 // which lines are later than the one that is shown
 function markLines() {
@@ -243,48 +331,53 @@ function markLines() {
   }
 }
 
-// ---- the overview of a long run: a column for each thread, and all choices from top to foot
-const SHADES = [[255, 255, 255], [201, 215, 230], [226, 226, 226], [34, 34, 34], [138, 138, 138], [176, 0, 0]];
-
+// ---- the overview of a long run: a column for each thread, and all lines from top to foot
 function drawMap() {
-  const map = id("map"), canvas = map.querySelector("canvas"), count = moments.length, all = threads.length;
+  const map = id("map"), canvas = map.querySelector("canvas"), count = shown.length, all = threads.length;
   map.hidden = isWhole();
   if (map.hidden) return;
-  const lane = Math.max(2, Math.min(8, Math.floor(120 / all))), width = lane * all, height = Math.max(1, Math.min(count * 4, map.clientHeight));
-  canvas.width = width;
+  const lane = Math.max(2, Math.min(8, Math.floor(120 / all))), height = Math.max(1, Math.min(count * 4, map.clientHeight));
+  canvas.width = lane * all;
   canvas.height = height;
-  const pen = canvas.getContext("2d"), image = pen.createImageData(width, height), bytes = image.data.fill(255);
-  for (let y = 0; y < height; y++) {
-    const i = Math.floor(y * count / height);
-    for (let x = 0; x < width; x++) {
-      if (lane < 4 || x % lane) bytes.set(SHADES[laneOf(i, Math.floor(x / lane))], 4 * (y * width + x));
+  const pen = canvas.getContext("2d"), laneAt = (t, y) => laneOf(shown[Math.floor(y * count / height)], t);
+  threads.forEach((_, t) => {
+    for (let y = 0, end; y < height; y = end) {
+      const kind = laneAt(t, y);
+      for (end = y + 1; end < height && laneAt(t, end) === kind; ) end++;
+      pen.fillStyle = colours.lanes[kind];
+      pen.fillRect(t * lane, y, lane - (lane < 4 ? 0 : 1), end - y);
     }
-  }
-  pen.putImageData(image, 0, 0);
-  pen.fillStyle = "#d00000";
+  });
+  pen.fillStyle = colours.mark;
   parts.forEach((took, i) => {
     const list = [...took], first = Math.min(...list);
-    pen.fillRect(first * lane, Math.floor(i * height / count), (Math.max(...list) - first + 1) * lane, 1);
+    pen.fillRect(first * lane, Math.floor(lineNumber[i] * height / count), (Math.max(...list) - first + 1) * lane, 1);
   });
 }
 function markMap() {
-  const map = id("map"), canvas = map.querySelector("canvas"), tall = canvas.height / moments.length, box = timeBox();
+  const map = id("map"), canvas = map.querySelector("canvas"), tall = canvas.height / shown.length, box = timeBox();
   if (map.hidden) return;
-  const first = box.scrollTop / linePitch(), seen = box.clientHeight / linePitch();
+  const first = box.scrollTop / linePitch(), seen = box.clientHeight / linePitch(), later = (lineNumber[at] + 1) * tall;
   id("here").style.top = Math.max(0, first * tall) + "px";
   id("here").style.height = Math.max(4, Math.min(seen * tall, canvas.height - first * tall)) + "px";
   id("unseen").hidden = !id("hide").checked;
-  id("unseen").style.top = (at + 1) * tall + "px";
-  id("unseen").style.height = Math.max(0, canvas.height - (at + 1) * tall) + "px";
+  id("unseen").style.top = later + "px";
+  id("unseen").style.height = Math.max(0, canvas.height - later) + "px";
 }
 
 // ---- the program
 const placeOfRow = [], lineOfRow = [];
 
+// a row's line as it was written, or its call in Java behind its label
+function programText(entry) {
+  const row = rows[entry.row], call = inJava() ? callWith(row, register => register) : "", text = entry.code.trimEnd();
+  return call ? /^(\s*\S+:)?\s*/.exec(text)[0] + (row.kinds[0] === "r" ? row.operands[0] + " = " : "") + call : text;
+}
 function drawProgram() {
+  id("rows").textContent = "";
   const top = add(add(id("rows"), "thead", "unseen"), "tr"), body = add(id("rows"), "tbody");
   for (const text of ["Threads here", "Row", "Text"]) head(top, "col", "", text);
-  let list = written;
+  let list = written, most = 0;
   if (!list) {
     const all = linesOf("listing"), first = all.length - rows.length;
     list = all.map((code, k) => ({ row: k < first ? -1 : k - first, code: code, talk: "", rule: k < first }));
@@ -293,13 +386,17 @@ function drawProgram() {
     const line = add(body, "tr", entry.rule ? "rule" : ""), place = add(line, "td", "at");
     add(line, "td", "r", entry.row >= 0 ? "" + entry.row : "");
     const cell = add(line, "td", "l");
-    if (entry.code.trim()) add(cell, "code", "", entry.code.replace(/\s+$/, ""));
+    const code = entry.row >= 0 ? programText(entry) : entry.code.trimEnd();
+    if (code) add(cell, "code", "", code);
+    if (entry.row >= 0) most = Math.max(most, code.length);
     if (entry.talk) add(cell, "span", "talk" + (entry.code.trim() ? "" : " alone"), entry.talk);
     if (entry.row >= 0) {
       placeOfRow[entry.row] = place;
       lineOfRow[entry.row] = line;
     }
   }
+  // room for the longest row, behind the threads at it and its number
+  id("panes").style.setProperty("--code", most * .56 + 8.5 + "rem");
 }
 function markProgram(e, s) {
   for (const place of placeOfRow) place.textContent = "";
@@ -307,9 +404,9 @@ function markProgram(e, s) {
   const here = {};
   s.threads.forEach((thread, t) => (here[thread.row] = here[thread.row] || []).push(t));
   for (const row of Object.keys(here)) {
-    const list = here[row], place = placeOfRow[row], most = list.length > 6 ? 3 : list.length;
-    for (const t of list.slice(0, most)) chip(place, t, s);
-    if (list.length > most) add(place, "span", "more", " and " + (list.length - most) + " more");
+    const list = here[row], place = placeOfRow[row], most = list.length > 4 ? 3 : list.length;
+    for (const t of list.slice(0, most)) chip(place, t, s, 8);
+    if (list.length > most) add(place, "span", "more", " " + (list.length - most) + " more").title = listed(list.slice(most).map(threadTitle));
   }
 }
 
@@ -346,7 +443,7 @@ function drawThreads(e, s, was) {
   const body = add(grid, "tbody");
   s.threads.forEach((thread, t) => {
     const old = was.threads[t], row = add(body, "tr", e && e.thread === t ? "its" : "");
-    chip(head(row, "row"), t, s);
+    chip(head(row, "row"), t, s, 8);
     changed(add(row, "td", "num", "" + thread.row), thread.row !== old.row);
     changed(add(row, "td", "", doing(s, t)), thread.status !== old.status || thread.flag !== old.flag);
     for (const k of uses.registers) changed(add(row, "td", "num", "" + thread.regs[k]), thread.regs[k] !== old.regs[k]);
@@ -359,7 +456,7 @@ function drawOf(s, was, text, of, put) {
   s.threads.forEach((thread, t) => {
     if (!of(thread).length) return;
     const row = add(body, "tr");
-    chip(head(row, "row"), t, s);
+    chip(head(row, "row"), t, s, 8);
     const cell = add(row, "td", "all");
     changed(cell, of(thread).join(" ") !== of(was.threads[t]).join(" "));
     put(cell, of(thread));
@@ -380,12 +477,12 @@ function drawPhasers(s, was) {
   const body = title("Phasers", 0);
   for (const place of phaserOrder(-1, 0)) {
     const p = s.phasers[place.p], old = was.phasers[place.p], row = add(body, "tr");
-    head(row, "row", "", (place.depth ? "\u2514 " : "") + nameOf("P", place.p)).style.paddingLeft = .35 + 1.1 * place.depth + "rem";
+    head(row, "row", "", (place.depth ? "\u2514 " : "") + nameOf("P", place.p)).style.paddingLeft = .35 + .8 * place.depth + "rem";
     changed(add(row, "td", "line", p.view < 0 ? "terminated in phase " + phaseOf(p.view) : "phase " + p.view), p.view !== old.view);
-    const cell = add(row, "td", "line");
+    const cell = add(row, "td");
     changed(cell, p.arrived !== old.arrived || p.parties !== old.parties);
     dots(cell, p.arrived, p.parties);
-    add(row, "td", "note", p.arrived + " of " + p.parties + " arrived");
+    add(cell, "span", "note", p.arrived + " of " + p.parties + " arrived");
   }
 }
 function drawBarriers(s, was) {
@@ -394,10 +491,10 @@ function drawBarriers(s, was) {
   s.barriers.forEach((b, n) => {
     const old = was.barriers[n], row = add(body, "tr");
     head(row, "row", "", nameOf("B", n));
-    const cell = add(row, "td", "line");
+    const cell = add(row, "td");
     changed(cell, b.waiting !== old.waiting);
     dots(cell, b.waiting, barriers[n].parties);
-    add(row, "td", "note", b.waiting + " of " + barriers[n].parties + " wait");
+    add(cell, "span", "note", b.waiting + " of " + barriers[n].parties + " wait");
     changed(add(row, "td", "", b.broken ? "broken" : ""), b.broken !== old.broken);
   });
 }

@@ -97,7 +97,7 @@ const THREAD = /^t(\d+) (\d+) (runs|waits|ended|throws:-?\d+|died:-?\d+) ([01]) 
 const PHASER = /^p(\d+) (-?\d+) (\d+) (\d+) (\d+)$/;
 const BARRIER = /^b(\d+) (\d+) ([01])$/;
 const CELL = /^c(\d+) (-?\d+)$/;
-const NEXT = /^next((?: [tx]\d+)*)$/;
+const NEXT = "next ";
 
 // what a thread does in a moment: it is over, runs, runs where it can't go on, waits, waits where it can go on, throws
 const OVER = 0, RUNS = 1, HELD = 2, WAITS = 3, FREE = 4, THROWS = 5;
@@ -114,6 +114,15 @@ function eventOf(line) {
 const laneOf = (i, t) => lanes[i * threads.length + t];
 const placeOf = (i, t) => places[i * threads.length + t];
 
+// what could be next: each choice that would take a step, with the line that it would have
+function readNext(at, step, put) {
+  for (; (lines[at] || "").startsWith(NEXT); at++) {
+    const event = eventOf(lines[at].slice(NEXT.length));
+    need(event.step === step && event.thread < threads.length, "no next choice of its state: " + lines[at]);
+    put(event, lines[at]);
+  }
+  return at;
+}
 // the lines of a moment's state, from this one on; answers the line behind them
 function readMoment(i, at, event, last) {
   const count = threads.length, take = (form, n) => {
@@ -138,9 +147,12 @@ function readMoment(i, at, event, last) {
   barriers.forEach((_, n) => take(BARRIER, n));
   while (/^c/.test(lines[at])) take(CELL);
   const next = {};
-  for (const word of take(NEXT)[1].split(" ")) next[word] = true;
+  at = readNext(at, +state[1] + 1, (choice, line) => {
+    need(choice.row === placeOf(i, choice.thread), "no thread stands at this row: " + line);
+    if (!choice.expiry) next[choice.thread] = true;
+  });
   doing.forEach((lane, t) => {
-    lanes[i * count + t] = lane === RUNS && !next["t" + t] ? HELD : lane === WAITS && next["t" + t] ? FREE : lane;
+    lanes[i * count + t] = lane === RUNS && !next[t] ? HELD : lane === WAITS && next[t] ? FREE : lane;
   });
   return { at: at, threads: begins };
 }
@@ -175,9 +187,10 @@ let kept = new Map();
 
 function readState(i) {
   const s = { threads: [], phasers: [], barriers: [], cells: {}, next: {}, expire: {} };
-  for (let at = moments[i].from; ; at++) {
-    const line = lines[at], m = { s: STATE, t: THREAD, p: PHASER, b: BARRIER, c: CELL, n: NEXT }[line[0]].exec(line);
-    const words = text => text.split(" ").slice(1);
+  const words = text => text.split(" ").slice(1);
+  let at = moments[i].from;
+  for (; /^[stpbc]/.test(lines[at] || ""); at++) {
+    const line = lines[at], m = { s: STATE, t: THREAD, p: PHASER, b: BARRIER, c: CELL }[line[0]].exec(line);
     if (line[0] === "s") Object.assign(s, { choices: +m[1], word: m[3] });
     else if (line[0] === "t") {
       const status = m[3].split(":");
@@ -185,12 +198,10 @@ function readState(i) {
         stack: words(m[6]), out: words(m[7]) });
     } else if (line[0] === "p") s.phasers.push({ view: +m[2], parties: +m[3], arrived: +m[4] });
     else if (line[0] === "b") s.barriers.push({ waiting: +m[2], broken: m[3] === "1" });
-    else if (line[0] === "c") s.cells[+m[1]] = +m[2];
-    else {
-      for (const word of words(m[1])) (word[0] === "t" ? s.next : s.expire)[+word.slice(1)] = true;
-      return s;
-    }
+    else s.cells[+m[1]] = +m[2];
   }
+  readNext(at, s.choices + 1, choice => { (choice.expiry ? s.expire : s.next)[choice.thread] = choice; });
+  return s;
 }
 function stateAt(i) {
   if (moments[i].refused) i--;

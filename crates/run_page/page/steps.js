@@ -19,13 +19,16 @@ function scrollTo(box, top, foot, cover) {
   if (top - cover < box.scrollTop) box.scrollTop = Math.max(0, top - cover - 4);
   else if (foot > box.scrollTop + box.clientHeight) box.scrollTop = foot - box.clientHeight + 4;
 }
+// the same of an element in it, wherever it is nested
+function bring(box, element, cover, more) {
+  const outer = box.getBoundingClientRect(), inner = element.getBoundingClientRect(), top = inner.top - outer.top - box.clientTop + box.scrollTop;
+  scrollTo(box, top, top + inner.height * (1 + (more || 0)), cover);
+}
 function bringTimeline(i) {
-  const box = timeBox(), cover = id("lanes").tHead.offsetHeight;
-  if (isWhole()) {
-    const line = lineOf.get(i), more = i === moments.length - 1 ? 2 : 1;
-    scrollTo(box, line.offsetTop, line.offsetTop + (more + .5) * line.offsetHeight, cover);
-  } else {
-    scrollTo(box, cover + i * linePitch(), cover + (i + 3) * linePitch(), cover);
+  const box = timeBox(), cover = id("lanes").tHead.offsetHeight, k = lineNumber[i];
+  if (isWhole()) bring(box, lineOf.get(i), cover, i === moments.length - 1 ? 1.5 : .5);
+  else {
+    scrollTo(box, cover + k * linePitch(), cover + (k + 3) * linePitch(), cover);
     drawInView();
   }
   if (isCrowd()) return;
@@ -34,17 +37,60 @@ function bringTimeline(i) {
   if (cell.offsetLeft - side < box.scrollLeft) box.scrollLeft = cell.offsetLeft - side;
   else if (cell.offsetLeft + cell.offsetWidth > box.scrollLeft + box.clientWidth) box.scrollLeft = cell.offsetLeft + cell.offsetWidth - box.clientWidth;
 }
-function bringRow(row) {
-  const box = id("code").querySelector(".scroll"), line = lineOfRow[row];
-  scrollTo(box, line.offsetTop, line.offsetTop + line.offsetHeight, 0);
-}
 function bringThread() {
   const line = id("things").querySelector(".its");
-  if (line) scrollTo(id("things"), line.offsetTop, line.offsetTop + line.offsetHeight, line.offsetHeight);
+  if (line) bring(id("things"), line, line.closest("table").tHead.offsetHeight);
   else id("things").scrollTop = 0;
 }
+// ---- what could be next: each of these choices is a button, which tells what it would do
+let chosen = null;
+
+function fillNext(i, isWhole) {
+  const box = id("next");
+  box.textContent = "";
+  for (const part of moments[i].refused ? [] : nextText(i, isWhole)) {
+    if (typeof part === "string") box.appendChild(document.createTextNode(part));
+    else if (part.more) add(box, "button", "choice", part.more + " others").onclick = () => fillNext(i, true);
+    else drawChoice(box, part);
+  }
+  whatIf(null, null);
+}
+function drawChoice(box, e) {
+  const button = add(box, "button", "choice", threadName(e.thread));
+  button.style.setProperty("--hue", hueOf(e.thread));
+  button.title = "What it would do: " + threadTitle(e.thread);
+  button.onfocus = button.onclick = button.onpointerenter = () => whatIf(button, e);
+}
+function whatIf(button, e) {
+  const old = id("next").querySelector(".asked");
+  if (old) old.classList.remove("asked");
+  if (button) button.classList.add("asked");
+  chosen = e;
+  fill(id("would"), e ? whatIfText(at, e) : ["What if another went? Point at a name, or go to it by Tab."]);
+  id("if").className = e ? "" : "note";
+  id("branch").hidden = !e;
+}
+// a schedule of these choices
+function scheduleOf(events) {
+  const runs = [];
+  for (const e of events) {
+    const word = (e.expiry ? "x" : "t") + e.thread, last = runs[runs.length - 1];
+    if (last && last.word === word) last.times++;
+    else runs.push({ word: word, times: 1 });
+  }
+  return runs.map(run => run.word + (run.times > 1 ? "*" + run.times : "")).join(" ");
+}
+// copies a schedule, and shows it; where the browser doesn't copy it is marked, to copy by hand
+function copy(schedule) {
+  const box = id("copied"), mark = () => box.select();
+  box.value = schedule;
+  box.hidden = false;
+  try { navigator.clipboard.writeText(schedule).catch(mark); } catch (error) { mark(); }
+}
+const eventsTo = i => moments.slice(1, i + 1).map(moment => moment.event);
+
 function show(i) {
-  i = Math.max(0, Math.min(moments.length - 1, i));
+  i = shown[lineNumber[Math.max(0, Math.min(moments.length - 1, i))]];
   if (i === at) return;
   const s = stateAt(i), e = moments[i].event, final = moments.length - 1;
   at = i;
@@ -53,8 +99,8 @@ function show(i) {
   id("where").textContent = e ? "choice " + e.step + " of " + moments[final].event.step : "start";
   id("back").disabled = id("first").disabled = i === 0;
   id("forth").disabled = id("last").disabled = i === final;
-  fill(id("what"), sentence(i));
-  id("next").textContent = moments[i].refused ? "" : nextText(i);
+  fill(id("what"), isFolded(lineNumber[i]) ? foldedText(lineNumber[i]) : sentence(i));
+  fillNext(i, false);
   id("next").className = s.word === "stuck" ? "halt" : "";
   markProgram(e, s);
   drawState(i);
@@ -62,7 +108,7 @@ function show(i) {
   markLines();
   markMap();
   bringThread();
-  if (e && e.row >= 0) bringRow(e.row);
+  if (e && e.row >= 0) bring(id("code").querySelector(".scroll"), lineOfRow[e.row], 0);
   try { history.replaceState(null, "", "#" + (e ? e.step : 0)); } catch (error) { /* a page in a frame may not */ }
 }
 function stop() {
@@ -77,10 +123,13 @@ function play() {
     return;
   }
   if (at === moments.length - 1) show(0);
-  timer = setInterval(() => { if (at >= moments.length - 1) stop(); else show(at + 1); }, 2000);
+  timer = setInterval(() => { if (at >= moments.length - 1) stop(); else show(next(1)); }, 1000 * id("speed").value);
   id("play").textContent = "Pause";
   id("play").setAttribute("aria-pressed", "true");
 }
+// the moment of the next line, or of the one before
+const next = by => shown[Math.max(0, Math.min(shown.length - 1, lineNumber[at] + by))];
+
 function go(i) {
   stop();
   show(i);
@@ -90,34 +139,52 @@ function fromAddress() {
   const wanted = +location.hash.slice(1), first = moments.length > 1 ? moments[1].event.step : 1;
   return /^#\d+$/.test(location.hash) && wanted >= first ? wanted - first + 1 : 0;
 }
-// the columns fit the room anew
+// all of it is drawn anew: the columns fit the room
 function arrange() {
   const now = at;
+  drawProgram();
   drawTimeline();
-  drawMap();
   at = -1;
   show(now < 0 ? fromAddress() : now);
 }
+let zoom = 1;
+function resize(by) {
+  zoom = Math.max(.6, Math.min(3, zoom * by));
+  document.documentElement.style.setProperty("--zoom", zoom);
+  arrange();
+}
+function standAlone() {
+  document.body.classList.toggle("alone");
+  arrange();
+}
+// what a key does, wherever the focus is but in a box that has a use for it of its own
+function actionOf(key, on) {
+  const slides = on === id("slider"), scrolls = on.classList && on.classList.contains("scroll"), writes = on === id("speed") || on === id("copied");
+  if (key === "PageDown") return () => go(next(1));
+  if (key === "PageUp") return () => go(next(-1));
+  if (writes) return null;
+  if (key === "ArrowRight" || (key === (slides ? "ArrowUp" : "ArrowDown") && !scrolls)) return () => go(next(1));
+  if (key === "ArrowLeft" || (key === (slides ? "ArrowDown" : "ArrowUp") && !scrolls)) return () => go(next(-1));
+  if (key === " ") return slides || !/^(INPUT|BUTTON|SUMMARY)$/.test(on.tagName) ? play : null;
+  return { Home: () => go(0), End: () => go(moments.length - 1), "+": () => resize(1.1), "=": () => resize(1.1), "-": () => resize(1 / 1.1), f: standAlone }[key];
+}
 function pressed(event) {
-  if (event.altKey || event.ctrlKey || event.metaKey) return;
-  const on = event.target, key = event.key, plain = !/^(INPUT|BUTTON|SUMMARY)$/.test(on.tagName);
-  const scrolls = on.classList && on.classList.contains("scroll");
-  if (on === id("slider") && key !== " ") return;
-  if (key === "ArrowRight" || key === "PageDown" || (key === "ArrowDown" && !scrolls)) go(at + 1);
-  else if (key === "ArrowLeft" || key === "PageUp" || (key === "ArrowUp" && !scrolls)) go(at - 1);
-  else if (key === "Home") go(0);
-  else if (key === "End") go(moments.length - 1);
-  else if (key === " " && (plain || on === id("slider"))) play();
-  else return;
+  const act = event.altKey || event.ctrlKey || event.metaKey ? null : actionOf(event.key, event.target);
+  if (!act) return;
+  act();
   event.preventDefault();
 }
 function listen() {
   id("first").onclick = () => go(0);
-  id("back").onclick = () => go(at - 1);
-  id("forth").onclick = () => go(at + 1);
+  id("back").onclick = () => go(next(-1));
+  id("forth").onclick = () => go(next(1));
   id("last").onclick = () => go(moments.length - 1);
   id("play").onclick = play;
+  id("speed").onchange = () => { if (timer !== null) { stop(); play(); } };
+  id("branch").onclick = () => copy(scheduleOf(eventsTo(at).concat(chosen)));
+  id("whole").onclick = () => copy(scheduleOf(eventsTo(moments.length - 1)));
   id("slider").oninput = () => go(+id("slider").value);
+  id("fold").onchange = id("java").onchange = arrange;
   id("hide").onchange = () => {
     id("lanes").classList.toggle("hiding", id("hide").checked);
     markMap();
@@ -126,9 +193,13 @@ function listen() {
     const line = event.target.closest("tr[data-i]");
     if (line) go(+line.getAttribute("data-i"));
   };
+  // the names of the columns of a picture
+  id("lanes").onmousemove = event => {
+    if (event.target.tagName === "CANVAS") event.target.title = threadTitle(Math.min(threads.length - 1, Math.floor(event.offsetX / column)));
+  };
   id("map").onclick = event => {
     const canvas = id("map").querySelector("canvas"), box = canvas.getBoundingClientRect();
-    go(Math.floor((event.clientY - box.top) / box.height * moments.length));
+    go(shown[Math.min(shown.length - 1, Math.floor((event.clientY - box.top) / box.height * shown.length))]);
   };
   timeBox().onscroll = () => {
     drawInView();
@@ -140,8 +211,9 @@ function listen() {
     width = innerWidth;
     arrange();
   };
+  for (const way of ["(prefers-color-scheme: dark)", "(forced-colors: active)"]) matchMedia(way).onchange = arrange;
   window.onhashchange = () => go(fromAddress());
-  window.onbeforeprint = () => { if (!isWhole()) { drawLines(Math.max(0, at - 200), Math.min(moments.length, at + 200)); markLines(); } };
+  window.onbeforeprint = () => { if (!isWhole()) { drawLines(Math.max(0, lineNumber[at] - 200), Math.min(shown.length, lineNumber[at] + 200)); markLines(); } };
   document.addEventListener("keydown", pressed);
 }
 function nameThePage() {
@@ -161,10 +233,9 @@ function begin() {
   findUses();
   id("slider").max = moments.length - 1;
   id("panes").className = isCrowd() ? "crowd" : "";
-  id("tool").hidden = false;
+  id("tool").hidden = id("view").hidden = false;
   id("text").open = false;
   document.body.className = "wide";
-  drawProgram();
   listen();
   arrange();
 }
@@ -174,6 +245,6 @@ try {
 } catch (error) {
   id("why").textContent = error.message;
   id("broken").hidden = false;
-  id("tool").hidden = true;
+  id("tool").hidden = id("view").hidden = true;
   id("text").open = true;
 }

@@ -16,14 +16,15 @@ function objectOf(row) {
   const p = operandOf(row, "P"), b = operandOf(row, "B");
   return p >= 0 ? nameOf("P", p) : b >= 0 ? nameOf("B", b) : "";
 }
-// the call of Java that a row stands for, with the values that the thread's registers had
-function callOf(row, thread) {
+// the call of Java that a row stands for, with what stands for each register behind the object; nothing where it is no call
+function callWith(row, value) {
   const call = KINDS[row.word][1], object = objectOf(row);
   let at = row.kinds.indexOf("P") + row.kinds.indexOf("B") + 2;
   if (!call) return "";
-  const filled = call.replace(/\$/g, () => thread.regs[+row.operands[at++][1]]).replace("@", () => threadName(operandOf(row, "T")));
+  const filled = call.replace(/\$/g, () => value(row.operands[at++])).replace("@", () => threadName(operandOf(row, "T")));
   return (object ? object + "." : "") + filled;
 }
+const callOf = (row, thread) => callWith(row, register => thread.regs[+register[1]]);
 function rowText(row) {
   const operands = row.operands.map((operand, k) => {
     const kind = row.kinds[k], n = +operand.slice(1);
@@ -37,13 +38,24 @@ function entryText(entry) {
   return kind === "C" ? "call (back to row " + n + ")" : kind === "H" ? "handler at " + labelled(n)
     : kind === "A" ? "advance routine of " + nameOf("P", n) : "action of " + nameOf("B", n);
 }
+// a phaser whose parties have all arrived has arrived at its parent: the nearest above it that still waits for arrivals
+function nearestWaiting(p, s) {
+  let at = p, child = -1;
+  while (phasers[at].parent >= 0 && s.phasers[at].parties > 0 && s.phasers[at].arrived === s.phasers[at].parties) {
+    child = at;
+    at = phasers[at].parent;
+  }
+  return { phaser: at, child: child };
+}
 function countText(row, s) {
   const p = operandOf(row, "P"), b = operandOf(row, "B");
   const of = (n, all, one, more) => n + " of " + all + (n === 1 ? one : more);
   if (b >= 0) return of(s.barriers[b].waiting, barriers[b].parties, " waits at ", " wait at ") + nameOf("B", b) + ".";
   if (s.phasers[p].view < 0) return "";
   if (!s.phasers[p].parties) return nameOf("P", p) + " has no parties now.";
-  return of(s.phasers[p].arrived, s.phasers[p].parties, " has arrived at ", " have arrived at ") + nameOf("P", p) + ".";
+  const near = nearestWaiting(p, s), q = s.phasers[near.phaser];
+  if (near.child >= 0) return nameOf("P", near.child) + " has arrived at " + nameOf("P", near.phaser) + ": " + q.arrived + " of " + q.parties + ".";
+  return of(q.arrived, q.parties, " has arrived at ", " have arrived at ") + nameOf("P", p) + ".";
 }
 function markText(mark, was) {
   if (mark.kind === "+b") return "Barrier " + nameOf("B", mark.on) + " trips.";
@@ -67,23 +79,54 @@ function idleText(e, row, before, who) {
   if (before.status === "ended" || before.status === "died") return ["It is the turn of ", who, ", which is over: nothing happens."];
   return ["It is the turn of ", who, ", which can't go on at " + call + " yet: nothing happens."];
 }
+// a register and the number in it
+const holding = (register, thread) => register + " (" + thread.regs[+register[1]] + ")";
+
 // what a choice that gave a number did
 function valueText(e, row, before, who) {
-  const call = callOf(row, before), into = row.operands[0] || "", top = before.stack[before.stack.length - 1] || "";
-  if (before.status === "waits") return ["The wait of ", who, " at " + call + " is over: it gets ", ["" + e.value], " (in " + into + ")."];
-  if (row.word === "ret") return [who, " ends the " + entryText(top) + " and has its registers back; its call answers ", ["" + e.value], "."];
-  if (call) return [who, " calls " + call + " and gets ", ["" + e.value], " (in " + into + ")."];
-  return [who, ": " + rowText(row) + ", so " + into + " = ", ["" + e.value], "."];
+  const call = callOf(row, before), at = row.operands, into = at[0] || "", top = before.stack[before.stack.length - 1] || "", value = ["" + e.value];
+  if (before.status === "waits") return ["The wait of ", who, " at " + call + " is over: it gets ", value, " (in " + into + ")."];
+  if (row.word === "ret") return [who, " ends the " + entryText(top) + " and has its registers back; its call answers ", value, "."];
+  if (call) return [who, " calls " + call + " and gets ", value, " (in " + into + ")."];
+  if (row.word === "ldi") return [who, " puts ", value, " into " + into + "."];
+  if (row.word === "mov") return [who, " copies ", value, " from " + at[1] + " into " + into + "."];
+  if (row.word === "lds") return [who, " loads ", value, " from " + nameOf("C", operandOf(row, "C")) + " into " + into + "."];
+  if (row.word === "self") return [who, " puts its own number, ", value, ", into " + into + "."];
+  const both = row.word === "add" ? "adds " + holding(at[1], before) + " and " + holding(at[2], before)
+    : "takes " + holding(at[2], before) + " from " + holding(at[1], before);
+  return [who, " " + both + ": " + into + " = ", value, "."];
+}
+// where a branch goes, by the row that the thread stands at after it; where that isn't known, on what it depends
+const BRANCHES = { beq: ["equal", "not equal"], bne: ["not equal", "equal"], blt: ["less", "not less"] };
+
+function branchText(e, row, before, after, who) {
+  const target = operandOf(row, "L"), is = BRANCHES[row.word], below = "goes on below, at row " + (e.row + 1) + ".";
+  const compares = [who, " compares " + row.operands.slice(0, 2).map(register => holding(register, before)).join(" with ") + ": "];
+  if (!after) return compares.concat("if " + is[0] + ", it goes on at " + labelled(target) + ", else below.");
+  if (target === e.row + 1) return compares.concat("either way it " + below);
+  return compares.concat(after.row === target ? is[0] + ", so it goes on at " + labelled(target) + "." : is[1] + ", so it " + below);
 }
 // what a choice that gave no number did
 function plainText(e, row, before, after, who) {
-  const call = callOf(row, before), goes = after.row === e.row + 1 ? "." : ", and goes on at " + labelled(after.row) + ".";
+  const call = callOf(row, before), there = labelled(operandOf(row, "L")), top = before.stack[before.stack.length - 1] || "";
+  if (call) return [who, " calls " + call + "."];
+  if (BRANCHES[row.word]) return branchText(e, row, before, after, who);
   if (row.word === "sts") return [who, " stores ", ["" + before.regs[+row.operands[0][1]]], " in " + nameOf("C", operandOf(row, "C")) + "."];
-  return call ? [who, " calls " + call + "."] : [who, ": " + rowText(row) + goes];
+  return [who].concat({
+    jmp: [" goes on at " + there + "."], call: [" calls " + there + ", to come back to row " + (e.row + 1) + "."],
+    ret: [" comes back from its call, to row " + top.slice(1) + "."], endtry: [" takes its handler away."],
+    try: [" sets a handler: what is thrown from here on is caught at " + there + "."]
+  }[row.word] || [": " + rowText(row) + "."]);
 }
-// what the line of a choice says, as a list of texts; those in a list of their own are set in bold
+// what the last to arrive enters
+function entersText(row) {
+  const p = operandOf(row, "P"), root = p >= 0 ? rootOf(p) : -1, b = operandOf(row, "B");
+  return [["enters the " + entryText(p >= 0 ? "A" + root : "X" + b)], " at " + labelled(p >= 0 ? phasers[root].routine : barriers[b].action) + "."];
+}
+// what the line of a choice says, as a list of texts; those in a list of their own are set in bold. Of a choice that was only
+// tried there is no thread after it
 function eventText(e, row, before, after, who) {
-  const call = callOf(row, before), waited = before.status === "waits";
+  const call = callOf(row, before), waited = before.status === "waits", top = before.stack[before.stack.length - 1] || "";
   if (e.what === "idle") return idleText(e, row, before, who);
   if (e.what === "=") return valueText(e, row, before, who);
   if (e.what === "ok") return plainText(e, row, before, after, who);
@@ -91,9 +134,9 @@ function eventText(e, row, before, after, who) {
   if (e.what === "out") return [who, " puts out ", ["" + e.value], "."];
   if (e.what === "end") return [who, " ", ["ends"], "."];
   if (e.what === "die") return ["Nothing catches " + thrown(e.value) + ": ", who, " ", ["is dead"], "."];
-  if (e.what === "catch") return ["A handler of ", who, " ", ["catches " + thrown(e.value)], ": it goes on at " + labelled(after.row) + " with r7 = " + e.value + "."];
-  if (e.what === "unwind") return [who, ", throwing " + thrown(before.code) + ", leaves the " + entryText(before.stack[before.stack.length - 1]) + "."];
-  if (e.what === "enter") return [who, " calls " + call + ", and as the last to arrive it ", ["enters the " + entryText(after.stack[after.stack.length - 1])], " at " + labelled(after.row) + "."];
+  if (e.what === "catch") return ["A handler of ", who, " ", ["catches " + thrown(e.value)], ": it goes on at " + labelled(+top.slice(1)) + " with r7 = " + e.value + "."];
+  if (e.what === "unwind") return [who, ", throwing " + thrown(before.code) + ", leaves the " + entryText(top) + "."];
+  if (e.what === "enter") return [who, " calls " + call + ", and as the last to arrive it ", ...entersText(row)];
   if (e.expiry) return ["The time of ", who, "'s wait at " + call + " is up: it ", ["throws " + thrown(e.value)], "."];
   if (waited) return ["The wait of ", who, " at " + call + " ends: it ", ["throws " + thrown(e.value)], "."];
   return [who, call ? " calls " + call + ", which " : " ", ["throws " + thrown(e.value)], "."];
@@ -109,16 +152,30 @@ function sentence(i) {
   else if (before.status !== "waits" && (e.what === "wait" || (e.what === "=" && e.value >= 0 && ARRIVES[row.word]))) out.push(" " + countText(row, s));
   return out;
 }
-// the names of some threads; of many, the first few
-function someOf(set) {
-  const all = Object.keys(set).map(t => threadName(+t));
-  return all.length > 12 ? all.slice(0, 8).concat([all.length - 8 + " others"]) : all;
+// what the line of several idle choices says
+function foldedText(k) {
+  const turns = [...turnsOf(k)].map(([t, count]) => threadName(t) + (count > 1 ? " " + count + " times" : ""));
+  return ["Choices " + moments[firstOf(k)].event.step + " to " + moments[shown[k]].event.step + " are of " + listed(turns) + ", and nothing happens."];
 }
-function nextText(i) {
-  const s = stateAt(i), who = someOf(s.next), late = someOf(s.expire);
-  if (s.word === "all") return "All threads are over.";
-  if (s.word === "stuck") return "Stuck: no thread can ever go on.";
-  return "May go next: " + (who.length ? listed(who) : "nobody") + (late.length ? "; the wait" + (late.length > 1 ? "s" : "") + " of " + listed(late) + " may time out" : "") + ".";
+// what a choice would do that could be next
+function whatIfText(i, e) {
+  const s = stateAt(i), name = threadName(e.thread), row = rows[e.row];
+  if (e.what === "limit") return ["No more steps are allowed: a turn of " + name + " would be refused."];
+  const done = eventText(e, row, s.threads[e.thread], null, [name]);
+  if (typeof done[0] === "string") done[0] = done[0].charAt(0).toLowerCase() + done[0].slice(1);
+  if (e.mark) done.push(" ", [markText(e.mark, s)]);
+  return ["If " + (e.expiry ? "the wait of " + name + " times out" : name + " goes") + " next: ", ...done];
+}
+// texts between these, as a list of them is written
+const spread = list => list.flatMap((one, k) => k === 0 ? [one] : [k === list.length - 1 ? " and " : ", ", one]);
+
+// who may go next, as a list of texts and of choices; of many, the first few and how many there are more
+function nextText(i, isWhole) {
+  const s = stateAt(i), who = Object.values(s.next), late = Object.values(s.expire);
+  const some = list => spread(list.length > 12 && !isWhole ? list.slice(0, 8).concat({ more: list.length - 8 }) : list);
+  if (s.word === "all") return ["All threads are over."];
+  if (s.word === "stuck") return ["Stuck: no thread can ever go on."];
+  return ["May go next: "].concat(who.length ? some(who) : "nobody", late.length ? ["; the wait" + (late.length > 1 ? "s" : "") + " of "].concat(some(late), " may time out") : [], ".");
 }
 // what a thread does in a moment
 function doing(s, t) {
@@ -132,12 +189,19 @@ function doing(s, t) {
     waits: "waits" + at + (s.word === "stuck" ? " for ever" : "") }[status];
   return [plain].concat(more).join(", ");
 }
-// the few words of a choice in the timeline; `brief` leaves out the row
-function tagText(e, brief) {
-  const row = e.row < 0 ? null : rows[e.row], object = row ? only(" " + objectOf(row), "").trimEnd() : "";
-  const head = brief || !row ? "" : row.word + object + " ";
+const inJava = () => id("java").checked;
+
+// a row in the timeline: its word and its object, or Java's words
+function shortRow(row) {
+  const call = inJava() && KINDS[row.word][1], object = objectOf(row);
+  if (!call) return row.word + only(" " + object, "").trimEnd();
+  return (object && only(object + ".", "")) + call.split("(")[0].replace("@", () => threadName(operandOf(row, "T")));
+}
+// the few words of a choice in the timeline
+function tagText(e) {
+  const row = e.row < 0 ? null : rows[e.row], head = row ? shortRow(row) + " " : "";
   const said = { none: "refused", limit: "refused", idle: "can't go", end: "ends", wait: head + "waits", enter: head + "enters",
     out: "out " + e.value, "=": head + "= " + e.value, die: "dies of " + e.value, catch: "catches " + e.value, unwind: "unwinds",
-    throw: (e.expiry ? "time is up: " : "") + "throws " + e.value, ok: head.trimEnd() || (row ? row.word : "") };
+    throw: (e.expiry ? "time is up: " : "") + "throws " + e.value, ok: head.trimEnd() };
   return said[e.what];
 }

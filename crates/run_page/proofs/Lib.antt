@@ -1,3 +1,4 @@
 mod Escapes
 mod Schedules
 mod Showings
+mod WhatIfs

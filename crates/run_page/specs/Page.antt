@@ -1,15 +1,14 @@
 -- The page that shows a run: four fixed parts, and between them the program, its text, and the run moment by moment.
-use Rattle.std.specs.Prelude.{◌≡◌, ◌≤◌, ℕ, ◌==◌, ◌||◌, not, Bool, if◌then◌else◌, List, [], ◌∷◌, ◌++◌, length, codes, decimal, flat_map, is_none, None}
+use Rattle.std.specs.Prelude.{◌≡◌, ◌≤◌, ℕ, ◌==◌, ◌||◌, not, Bool, false, true, if◌then◌else◌, List, [], ◌∷◌, ◌++◌, length, codes, flat_map, is_none, None}
 use Rattle.listing.specs.Listing.{canonical}
-use Rattle.machine_scene.specs.Outcomes.{is_ready}
 use Rattle.row_code.specs.declared.image.Image.{Image}
 use Rattle.run_page.specs.declared.fixed.TheConstants.{BEFORE_RUN, BEFORE_SOURCE, HEAD, TAIL}
 use Rattle.run_page.specs.declared.frame.Frame.{Frame}
 use Rattle.schedule_reader.specs.declared.run.Run.{Run}
-use Rattle.schedule_reader.specs.Schedule.{choices_of, finished_schedule}
+use Rattle.schedule_reader.specs.Schedule.{choice_of, choices_of, finished_schedule}
 use Rattle.thread_machine.specs.declared.choice.Choice.{Choice}
 use Rattle.thread_machine.specs.Execution.{execution}
-use Rattle.thread_machine.specs.Ready.{can_expire}
+use Rattle.thread_machine.specs.Ready.{is_choice_ready}
 use Rattle.thread_machine.specs.World.{World}
 use Rattle.thread_state.specs.Thread.{ThreadState}
 use Rattle.trace_compare.specs.Start.{Begins}
@@ -29,15 +28,18 @@ escaped text = flat_map escaped_byte text
 abbrev pub is_in_no_tag : ℕ → Bool
 is_in_no_tag byte = not ((byte == 60) || (byte == 62))
 
--- which choices of a thread may take a step: its turn as `t`, the expiry of its wait as `x`
-abbrev pub ready_text : World → ℕ → ThreadState → List ℕ
-ready_text world t thread =
-    (if is_ready t world.program world.scene then codes " t" ++ decimal t else [])
-    ++ (if can_expire t world.program world.scene then codes " x" ++ decimal t else [])
+-- what a choice would do as the next one: where it may take a step, the line that it would have
+abbrev pub what_if : World → Choice → List ℕ
+what_if world choice =
+    if is_choice_ready world.program choice world.scene then codes "next " ++ lines_of world (choice ∷ []) else []
 
--- what is shown of a world: its state, and who may go next
+-- the same of a thread's turn, and of the expiry of its wait
+abbrev pub what_if_of : World → ℕ → ThreadState → List ℕ
+what_if_of world t thread = what_if world (choice_of false t) ++ what_if world (choice_of true t)
+
+-- what is shown of a world: its state, and what each choice that may take a step would do, thread by thread
 abbrev pub moment : World → List ℕ
-moment world = state_text world ++ (codes "next" ++ (numbered_texts (ready_text world) 0 world.scene.threads ++ codes "\n"))
+moment world = state_text world ++ numbered_texts (what_if_of world) 0 world.scene.threads
 
 -- of each choice its line, and the moment after it; a choice that is refused is the last, and has its line alone
 abbrev pub moments : World → List Choice → List ℕ

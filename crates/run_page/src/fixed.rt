@@ -7,13 +7,37 @@ pub const HEAD: &[u8] = br###"<!doctype html>
 <head>
 <meta charset="utf-8">
 <meta name="viewport" content="width=device-width, initial-scale=1">
-<meta http-equiv="Content-Security-Policy" content="default-src 'none'; style-src 'sha256-HPGfmfbcxcPvuOsCatWnDk7P2bliRl2KAVUPZcs9gHI='; script-src 'sha256-umXg200CuLDX/ZiL8Qc/HF3wNyTzKVL2eusrA4BPaCg='">
+<meta http-equiv="Content-Security-Policy" content="default-src 'none'; style-src 'sha256-66bwy4E//KUbaXfAo91xd9YwBt+ZvaNC8L/ckRF2E6c='; script-src 'sha256-+gaPkKMwXqQjDy0Jzn1EsUd8w76nBdmOZ+Vt2e10tuU='">
 <meta name="generator" content="vuthgal show">
 <title>A run, step by step</title>
 <style>
-:root { --ink: #111; --soft: #505050; --rule: #bbb; --now: #fff3b8; --edge: #111; --paper: #fff; --lane: .75rem; --column: 6rem }
+:root {
+  color-scheme: light;
+  --ink: #111; --soft: #505050; --faint: #666; --rule: #bbb; --line: #777; --paper: #fff; --now: #fff3b8; --edge: #111; --face: #f2f2f2; --pressed: #ddd; --focus: #0b57d0;
+  --h0: #0072b2; --h1: #d55e00; --h2: #009e73; --h3: #b5588f; --h4: #8a6d00; --h5: #2aa0d8; --h6: #7a5195; --h7: #555;
+  --map-off: #fff; --map-run: #c9d7e6; --map-held: #e2e2e2; --map-wait: #222; --map-free: #8a8a8a; --map-throw: #b00000; --map-mark: #d00000;
+  --lane: .75rem; --column: 6rem; --need: 0px; --code: 0px;
+}
+@media screen and (prefers-color-scheme: dark) {
+  :root {
+    color-scheme: dark;
+    --ink: #f0f0f0; --soft: #bdbdbd; --faint: #9a9a9a; --rule: #555; --line: #999; --paper: #17191c; --now: #4a3f00; --edge: #d8d8d8; --face: #2a2d31; --pressed: #44484e; --focus: #8ab4f8;
+    --h0: #5aaee8; --h1: #f5904a; --h2: #3ecf9c; --h3: #e392c0; --h4: #d8b32e; --h5: #86d4fa; --h6: #bf9fe0; --h7: #b5b5b5;
+    --map-off: #17191c; --map-run: #34495f; --map-held: #3c3c3c; --map-wait: #f0f0f0; --map-free: #8a8a8a; --map-throw: #ff7a6b; --map-mark: #ff5a4a;
+  }
+}
+/* where the reader forces colours there are two, and what is drawn goes by shape and pattern */
+@media (forced-colors: active) {
+  :root {
+    --ink: CanvasText; --soft: CanvasText; --faint: GrayText; --rule: CanvasText; --line: CanvasText; --paper: Canvas; --now: Canvas; --edge: CanvasText; --focus: Highlight;
+    --h0: CanvasText; --h1: CanvasText; --h2: CanvasText; --h3: CanvasText; --h4: CanvasText; --h5: CanvasText; --h6: CanvasText; --h7: CanvasText;
+    --map-off: Canvas; --map-run: Canvas; --map-held: Canvas; --map-wait: CanvasText; --map-free: GrayText; --map-throw: Highlight; --map-mark: Highlight;
+  }
+  .t::before, .t::after, .dot, .part, .across, .party, #legend i, .new, tr.now > *, .tag.throw, .tag.die, .choice.asked { forced-color-adjust: none }
+  .new, tr.now > *, .dot { color: CanvasText }
+}
 * { box-sizing: border-box }
-html { font-size: clamp(14px, .5vw + 8.6px, 26px) }
+html { font-size: calc(clamp(14px, .5vw + 8.6px, 26px) * var(--zoom, 1)) }
 body { margin: 0; padding: .6rem 1rem .8rem; color: var(--ink); background: var(--paper); font-family: system-ui, "Segoe UI", "DejaVu Sans", Arial, sans-serif; line-height: 1.35 }
 h1 { font-size: 1.45rem; line-height: 1.2; margin: 0 }
 h2 { font-size: 1rem; margin: 0 0 .35rem }
@@ -23,22 +47,33 @@ p { margin: .2rem 0 }
 code, pre { font-family: ui-monospace, "DejaVu Sans Mono", Consolas, "Liberation Mono", monospace; font-size: .92em }
 /* a long text isn't laid out where it isn't in view */
 pre { white-space: pre-wrap; overflow-wrap: anywhere; content-visibility: auto; contain-intrinsic-size: auto 20rem }
-#about { color: var(--soft); font-size: .92rem }
+header { display: flex; flex-wrap: wrap; align-items: baseline; gap: 0 1rem }
+#title { flex: 1 1 auto }
+#view { display: flex; flex-wrap: wrap; gap: 0 .9rem; font-size: .92rem }
+#about { flex: 1 0 100%; color: var(--soft); font-size: .92rem }
 .unseen { position: absolute; width: 1px; height: 1px; overflow: hidden; clip-path: inset(50%); white-space: nowrap }
 [hidden] { display: none !important }
-.alarm { border: 3px solid #111; padding: .4rem .7rem; font-weight: 700 }
+.alarm { border: 3px solid var(--ink); padding: .4rem .7rem; font-weight: 700 }
 
 /* the steps */
 #bar { display: flex; flex-wrap: wrap; gap: .35rem .55rem; align-items: center; margin: .45rem 0 .3rem }
-button { font: inherit; font-weight: 600; color: var(--ink); background: #f2f2f2; border: 2px solid var(--edge); border-radius: .35rem; padding: .15rem .65rem; cursor: pointer }
-button:hover { background: #ddd }
+button { font: inherit; font-weight: 600; color: var(--ink); background: var(--face); border: 2px solid var(--edge); border-radius: .35rem; padding: .15rem .65rem; cursor: pointer }
+button:hover { background: var(--pressed) }
 button:disabled { opacity: .4; cursor: default }
-:focus-visible { outline: 3px solid #0b57d0; outline-offset: 2px }
-#slider { flex: 1 1 10rem; min-width: 8rem; accent-color: #111; height: 1.6rem }
+:focus-visible { outline: 3px solid var(--focus); outline-offset: 2px }
+select { font: inherit; color: var(--ink); background: var(--face); border: 2px solid var(--edge); border-radius: .35rem; padding: .15rem .2rem }
+#slider { flex: 1 1 10rem; min-width: 8rem; accent-color: var(--ink); height: 1.6rem }
 #where { font-weight: 600; white-space: nowrap }
-#said { border: 2px solid var(--edge); border-left-width: .6rem; border-radius: .3rem; background: var(--now); padding: .3rem .7rem; font-size: 1.18rem; min-height: 3.9rem; margin: 0 0 .55rem }
-#next { display: block; font-size: .95rem; color: #333 }
-#next.halt { font-weight: 700; color: #111 }
+#said { border: 2px solid var(--edge); border-left-width: .6rem; border-radius: .3rem; background: var(--now); padding: .3rem .7rem; font-size: 1.18rem; min-height: 3.9rem; margin: 0 0 .25rem }
+#next { display: block; font-size: .95rem; color: var(--soft) }
+#next.halt { font-weight: 700; color: var(--ink) }
+
+.choice { border: 1px solid var(--line); border-bottom: 3px solid var(--hue, var(--line)); border-radius: .25rem; background: var(--paper); padding: 0 .3rem; font-weight: 600; line-height: 1.25 }
+.choice.asked { background: var(--ink); color: var(--paper) }
+#if { display: flex; flex-wrap: wrap; align-items: center; gap: .2rem .5rem; min-height: 2.2rem; margin: 0 0 .45rem }
+#would { flex: 1 1 20rem }
+#if button { font-size: .88rem; padding: .05rem .5rem }
+#copied { font: inherit; font-size: .88rem; width: 14rem; color: var(--ink); background: var(--paper); border: 1px solid var(--line); border-radius: .25rem; padding: .1rem .3rem }
 
 /* the panes: beside one another where there is room; with many threads the timeline has the left side to itself */
 #panes { display: grid; gap: .6rem; grid-template-columns: minmax(0, 1fr) }
@@ -47,20 +82,21 @@ button:disabled { opacity: .4; cursor: default }
 .inner .scroll { flex: 1 1 0; min-width: 0 }
 .scroll { overflow: auto; position: relative }
 @media screen {
-  #time .scroll { max-height: 70vh }
+  #time .scroll { max-height: 70vh; overflow-y: scroll }
   #map { height: 70vh }
 }
 @media screen and (min-width: 60rem) {
   .wide { display: flex; flex-direction: column; height: 100vh; overflow: hidden }
   .wide #tool { display: flex; flex-direction: column; flex: 1 1 0; min-height: 16rem }
-  .wide #panes { flex: 1 1 0; min-height: 0; grid-template-columns: minmax(0, 1.75fr) minmax(0, 1fr) minmax(0, 1.15fr); grid-template-rows: minmax(0, 1fr) }
-  .wide #panes.crowd { grid-template-columns: minmax(0, 2fr) minmax(0, 1fr); grid-template-rows: minmax(0, 2fr) minmax(0, 3fr) }
+  .wide #panes { flex: 1 1 0; min-height: 0; grid-template-columns: minmax(min(var(--need), 50%), 1.75fr) minmax(min(var(--code), 27%), 1fr) minmax(0, 1.15fr); grid-template-rows: minmax(0, 1fr) }
+  .wide #panes.crowd { grid-template-columns: minmax(min(var(--need), 72%), 2fr) minmax(0, 1fr); grid-template-rows: minmax(0, 2fr) minmax(0, 3fr) }
   .wide #panes.crowd #time { grid-row: 1 / 3 }
   .wide #panes > section { min-height: 0 }
   .wide .scroll { flex: 1 1 0; min-height: 0; max-height: none }
   .wide .inner { flex: 1 1 0 }
   .wide #map { height: auto }
   .wide #text[open] { overflow: auto; max-height: 45vh }
+  .wide #names[open] { overflow: auto; max-height: 30vh }
 }
 
 table { border-collapse: collapse }
@@ -76,64 +112,72 @@ th { text-align: left; font-weight: 600 }
 #lanes .gap td { padding: 0; height: auto }
 #lanes thead th { position: sticky; top: 0; z-index: 4; background: var(--paper); border-bottom: 2px solid var(--edge); vertical-align: bottom; padding-bottom: .15rem }
 #lanes tbody tr[data-i] { cursor: pointer }
-#lanes .n { text-align: right; color: var(--soft); font-variant-numeric: tabular-nums; width: 2.4rem; min-width: 2.4rem; font-weight: 400; position: sticky; left: 0; z-index: 5; background: var(--paper) }
+#lanes .n { text-align: right; color: var(--soft); font-variant-numeric: tabular-nums; width: 3.5rem; min-width: 3.5rem; font-weight: 400; position: sticky; left: 0; z-index: 5; background: var(--paper) }
 #lanes thead .n { z-index: 6 }
 #lanes .t { position: relative; padding-left: 1.6rem; padding-right: .2rem; min-width: var(--column) }
 #lanes thead .t { padding-left: .1rem; position: sticky }
-#lanes .m { font-size: .92rem; font-weight: 600; width: 30% }
+#lanes .m, .unseen .mark { font-size: .92rem; font-weight: 600 }
+#lanes .m { width: 30% }
 #lanes tbody .m { position: relative }
 #lanes tbody .w { position: relative }
 .narrow { --lane: calc(var(--column) / 2) }
 #lanes.narrow { width: auto }
 #lanes.narrow .t { padding: 0; width: var(--column); min-width: var(--column); max-width: var(--column) }
-#lanes.narrow .m { width: 100% }
-#lanes.narrow thead .t { vertical-align: bottom; overflow: visible }
-#lanes.narrow thead .who { writing-mode: vertical-rl; padding: .25rem 0; border-width: 2px; border-left-width: 4px; font-size: .85rem; max-height: 7rem; overflow: hidden; margin-left: calc(var(--lane) - .7rem) }
-#lanes.brief thead .who { writing-mode: horizontal-tb; padding: 0 .2rem; margin-left: 0; border-width: 2px; border-bottom-width: 4px }
-#lanes.brief thead .t { text-align: center }
+#lanes.narrow .m { width: auto }
+#lanes.narrow thead .t { text-align: center; vertical-align: bottom; padding: 0 0 .15rem }
+#lanes.narrow thead .who { writing-mode: vertical-rl; padding: .25rem 0; border-width: 2px; border-left-width: 4px; font-size: .85rem }
+#lanes.narrow .who.brief, #lanes.brief thead .who { writing-mode: horizontal-tb; padding: 0 .15rem; font-size: .85rem; border-width: 2px; border-bottom-width: 4px }
+#lanes.narrow .w { min-width: 4rem }
+/* the names of very many threads, above their columns */
+.cast { position: relative }
+.cast span { position: absolute; bottom: 0; writing-mode: vertical-rl; font-size: .75rem; line-height: 1; white-space: nowrap; border-bottom: 3px solid var(--hue) }
 /* a thread's line: the upper half of a cell by the state before the choice, the lower half by the state after it */
 .t::before, .t::after { content: ""; position: absolute; left: var(--lane); height: 50%; z-index: 1; print-color-adjust: exact; -webkit-print-color-adjust: exact }
 .t::before { top: 0 }
 .t::after { bottom: 0 }
 .u-run::before, .l-run::after { border-left: 3px solid var(--hue); margin-left: -1.5px }
 .u-held::before, .l-held::after { border-left: 3px dashed var(--hue); margin-left: -1.5px }
-.u-throw::before, .l-throw::after { border-left: 5px double #111; margin-left: -2.5px }
-.u-wait::before, .l-wait::after, .u-free::before, .l-free::after { width: .9rem; margin-left: -.45rem; border: solid #111; border-width: 0 2px }
-.u-wait::before, .l-wait::after { background: repeating-linear-gradient(135deg, #111 0 2px, #fff 2px 6px) }
-.u-free::before, .l-free::after { background: #fff }
+.u-throw::before, .l-throw::after { border-left: 5px double var(--ink); margin-left: -2.5px }
+.u-wait::before, .l-wait::after, .u-free::before, .l-free::after { width: .9rem; margin-left: -.45rem; border: solid var(--ink); border-width: 0 2px }
+.u-wait::before, .l-wait::after { background: repeating-linear-gradient(135deg, var(--ink) 0 2px, var(--paper) 2px 6px) }
+.u-free::before, .l-free::after { background: var(--paper) }
 .l-wait.starts::after { border-top-width: 2px; border-radius: .45rem .45rem 0 0 }
 .u-wait.stops::before, .u-free.stops::before { border-bottom-width: 2px; border-radius: 0 0 .45rem .45rem }
 .u-off::before, .l-off::after { display: none }
 /* a choice, on its thread's line */
-.dot { position: absolute; left: var(--lane); top: 50%; width: .85rem; height: .85rem; margin: -.425rem 0 0 -.425rem; background: var(--hue); border: 2px solid #111; border-radius: 50%; z-index: 3; print-color-adjust: exact; -webkit-print-color-adjust: exact }
-.dot.idle { background: #fff }
-.dot.end { border-radius: 0; background: #111 }
-.dot.die, .dot.throw { border-radius: 0; background: #fff; transform: rotate(45deg) }
-.dot.die { background: #111 }
-.tag { position: relative; z-index: 3; display: inline-block; background: #fff; border: 1px solid #888; border-radius: .25rem; padding: 0 .3rem; line-height: 1.35; font-size: .95rem }
-.tag.wait { border-color: #111; font-style: italic }
-.tag.idle { border-style: dotted; color: #505050 }
-.tag.throw, .tag.die { background: #111; color: #fff; border-color: #111; font-weight: 700; print-color-adjust: exact; -webkit-print-color-adjust: exact }
-.tag.end { font-weight: 700; border-color: #111 }
-.w .who { position: relative; z-index: 3; margin-right: .3rem; font-size: .92rem }
+.dot { position: absolute; left: var(--lane); top: 50%; width: .85rem; height: .85rem; margin: -.425rem 0 0 -.425rem; background: var(--hue); border: 2px solid var(--ink); border-radius: 50%; z-index: 3; print-color-adjust: exact; -webkit-print-color-adjust: exact }
+.dot.idle { background: var(--paper) }
+.dot.end { border-radius: 0; background: var(--ink) }
+.dot.die, .dot.throw { border-radius: 0; background: var(--paper); transform: rotate(45deg) }
+.dot.die { background: var(--ink) }
+.tag { vertical-align: middle; position: relative; z-index: 3; display: inline-block; background: var(--paper); border: 1px solid var(--line); border-radius: .25rem; padding: 0 .3rem; line-height: 1.35; font-size: .95rem }
+.tag.wait { border-color: var(--ink); font-style: italic }
+.tag.idle { border-style: dotted; color: var(--soft) }
+.tag.throw, .tag.die { background: var(--ink); color: var(--paper); border-color: var(--ink); font-weight: 700; print-color-adjust: exact; -webkit-print-color-adjust: exact }
+.tag.end { font-weight: 700; border-color: var(--ink) }
+.in-line { position: relative; z-index: 3; margin-right: .3rem; font-size: .92rem }
+.who.brief { padding: 0 .15rem; font-size: .85rem }
 /* what a choice ended for several threads: a line from the first to the last of them, and a lead to the words */
-.across { position: absolute; top: 50%; left: 0; right: 0; height: 0; border-top: 5px double #111; margin-top: -2.5px; z-index: 2 }
+.across { position: absolute; top: 50%; left: 0; right: 0; height: 0; border-top: 5px double var(--ink); margin-top: -2.5px; z-index: 2 }
 .across.first { left: var(--lane) }
 .across.final { right: auto; width: var(--lane) }
-.across.lead { border-top: 2px dotted #111; margin-top: -1px }
+.across.lead { border-top: 2px dotted var(--ink); margin-top: -1px }
 .across.lead.begins { left: var(--lane) }
 .m .across.lead.ends { right: auto; width: .5rem }
 .across.broke { border-top-style: dashed; border-top-width: 3px }
-.part { position: absolute; left: var(--lane); top: 50%; width: 1.15rem; height: 1.15rem; margin: -.575rem 0 0 -.575rem; border: 3px solid #111; background: #fff; transform: rotate(45deg); z-index: 2; print-color-adjust: exact; -webkit-print-color-adjust: exact }
-.mark { position: relative; z-index: 3; background: #fff; border: 2px solid #111; border-radius: .25rem; padding: .05rem .35rem; display: inline-block; line-height: 1.2 }
+.part { position: absolute; left: var(--lane); top: 50%; width: 1.15rem; height: 1.15rem; margin: -.575rem 0 0 -.575rem; border: 3px solid var(--ink); background: var(--paper); transform: rotate(45deg); z-index: 2; print-color-adjust: exact; -webkit-print-color-adjust: exact }
+.mark { position: relative; z-index: 3; background: var(--paper); border: 2px solid var(--ink); border-radius: .25rem; padding: .05rem .35rem; display: inline-block; line-height: 1.2 }
 #lanes tr.now > * { background: var(--now); border-top: 2px solid var(--edge); border-bottom: 2px solid var(--edge); print-color-adjust: exact; -webkit-print-color-adjust: exact }
-#lanes tr.now .n { color: #111; font-weight: 700 }
-#lanes tr.now .n::before { content: "\25B6"; font-size: .7rem; margin-right: .15rem }
+#lanes tr.now .n { color: var(--ink); font-weight: 700 }
+#lanes tr.now .n::before { content: "\25B6"; font-size: .7rem; position: absolute; left: 0 }
 @media screen {
-  tr.later > * { color: #666 }
-  tr.later canvas, tr.later .dot, tr.later .tag, tr.later .mark, tr.later .across, tr.later .part, tr.later .w .who, tr.later .t::before, tr.later .t::after { opacity: .38 }
+  tr.later > * { color: var(--faint) }
+  tr.later canvas, tr.later .dot, tr.later .tag, tr.later .mark, tr.later .across, tr.later .part, tr.later .in-line, tr.later .t::before, tr.later .t::after { opacity: .38 }
   tr.now:not(.final) .t::after { opacity: .38 }
   .hiding tr.later { visibility: hidden }
+  .alone #about, .alone #code, .alone #state, .alone #keys, .alone #text { display: none }
+  .alone #panes.crowd, .alone #panes { grid-template-columns: minmax(0, 1fr); grid-template-rows: minmax(0, 1fr) }
+  .alone #panes.crowd #time { grid-row: 1 }
   .hiding tr.now:not(.final) .t::after { visibility: hidden }
 }
 #lanes tr.close > * { border-top: 2px solid var(--edge); font-weight: 600 }
@@ -142,51 +186,57 @@ th { text-align: left; font-weight: 600 }
 /* the overview of a long run */
 #map { position: relative; flex: none; border: 1px solid var(--rule); cursor: pointer; overflow: hidden }
 #map canvas { display: block; image-rendering: pixelated }
-#here { position: absolute; left: 0; right: 0; border: 2px solid #0b57d0; pointer-events: none }
-#unseen { position: absolute; left: 0; right: 0; background: #fff; pointer-events: none }
+#here { position: absolute; left: 0; right: 0; border: 2px solid var(--focus); pointer-events: none }
+#unseen { position: absolute; left: 0; right: 0; background: var(--paper); pointer-events: none }
 
-.who { display: inline-block; border: 2px solid var(--hue, #111); border-bottom-width: 4px; border-radius: .3rem; padding: 0 .35rem; background: #fff; color: #111; font-weight: 700; line-height: 1.3 }
-.who.over { border-style: dotted; color: #505050 }
+.who { display: inline-block; white-space: nowrap; vertical-align: middle; border: 2px solid var(--hue, var(--ink)); border-bottom-width: 4px; border-radius: .3rem; padding: 0 .35rem; background: var(--paper); color: var(--ink); font-weight: 700; line-height: 1.3 }
+.who.over { border-style: dotted; color: var(--soft) }
 .who.wait { font-style: italic }
 .kind { color: var(--soft); font-weight: 400; font-size: .85rem }
 
 /* the program */
 #rows { width: 100% }
+#rows .l { overflow-wrap: anywhere }
 #rows td { vertical-align: top; padding: .08rem .25rem }
 #rows .at { width: 1px; min-width: 2.6rem; max-width: 9rem; text-align: right }
+.crowd #rows .at { min-width: 9.5rem; max-width: 12rem }
 #rows .at .more { font-size: .84rem; white-space: nowrap; color: var(--soft) }
 #rows .at .who { margin-left: .15rem; font-size: .84rem; line-height: 1.2 }
 #rows .r { width: 1px; text-align: right; color: var(--soft); font-variant-numeric: tabular-nums; font-size: .85rem }
-#rows code { white-space: pre; tab-size: 4; padding-right: .6rem }
+#rows code { white-space: pre-wrap; tab-size: 4; padding-right: .6rem }
 #rows .talk { color: var(--soft); font-size: .86em; font-style: italic }
 #rows tr.now > * { background: var(--now); border-top: 2px solid var(--edge); border-bottom: 2px solid var(--edge); print-color-adjust: exact; -webkit-print-color-adjust: exact }
 #rows tr.now code { font-weight: 700 }
-#rows tr.rule code { color: #333; white-space: pre-wrap }
+#rows tr.rule code { color: var(--soft) }
 
 /* the state */
 #state table { width: 100% }
-#state .grid th, #state .grid td { border-bottom: 1px solid #ddd; padding: .1rem .3rem; vertical-align: baseline }
+#state .grid th, #state .grid td { border-bottom: 1px solid var(--rule); padding: .1rem .3rem; vertical-align: baseline }
 #state .grid th, #state .grid .line { white-space: nowrap }
-#state .grid thead th { border-bottom: 2px solid var(--edge); font-size: .85rem }
+#state .grid thead th { border-bottom: 2px solid var(--edge); font-size: .85rem; position: sticky; top: 0; background: var(--paper); z-index: 1 }
 #state .grid th.num { text-align: right }
 #state .all { width: 100% }
-.new { background: var(--now); outline: 2px solid #111; outline-offset: -1px; font-weight: 700; print-color-adjust: exact; -webkit-print-color-adjust: exact }
-.party { display: inline-block; width: .85rem; height: .85rem; border: 2px solid #111; border-radius: 50%; margin: 0 .12rem -.1rem 0; background: #fff; print-color-adjust: exact; -webkit-print-color-adjust: exact }
-.party.in { background: #111 }
-.chip { display: inline-block; border: 1px solid #555; border-radius: .25rem; padding: 0 .25rem; margin: 0 .15rem .1rem 0; white-space: nowrap; font-size: .88rem }
+.new { background: var(--now); outline: 2px solid var(--ink); outline-offset: -1px; font-weight: 700; print-color-adjust: exact; -webkit-print-color-adjust: exact }
+.dots { display: inline-block; white-space: nowrap; margin-right: .35rem }
+.party { display: inline-block; width: .85rem; height: .85rem; border: 2px solid var(--ink); border-radius: 50%; margin: 0 .12rem -.1rem 0; background: var(--paper); print-color-adjust: exact; -webkit-print-color-adjust: exact }
+.party.in { background: var(--ink) }
+.chip { display: inline-block; border: 1px solid var(--line); border-radius: .25rem; padding: 0 .25rem; margin: 0 .15rem .1rem 0; white-space: nowrap; font-size: .88rem }
 .note { color: var(--soft); font-size: .85rem }
 
-#text { font-size: .88rem; color: #333; margin-top: .4rem }
+#names { font-size: .82rem; margin-top: .2rem }
+#names summary { cursor: pointer }
+#names ul { columns: 14rem; margin: .2rem 0; padding: 0; list-style: none; overflow-wrap: anywhere }
+#text { font-size: .88rem; color: var(--soft); margin-top: .4rem }
 #text summary { cursor: pointer; font-weight: 600 }
-#legend { display: flex; flex-wrap: wrap; gap: .1rem .9rem; font-size: .82rem; color: #333; margin: .35rem 0 0; padding: .3rem 0 0; border-top: 1px solid var(--rule); list-style: none }
+#legend { display: flex; flex-wrap: wrap; gap: .1rem .9rem; font-size: .82rem; color: var(--soft); margin: .35rem 0 0; padding: .3rem 0 0; border-top: 1px solid var(--rule); list-style: none }
 #legend li { display: flex; align-items: center; gap: .35rem }
-#legend i { display: inline-block; flex: none; border: solid #111; border-width: 0 2px; width: .8rem; height: 1rem; print-color-adjust: exact; -webkit-print-color-adjust: exact }
-#legend .wait { background: repeating-linear-gradient(135deg, #111 0 2px, #fff 2px 6px) }
+#legend i { display: inline-block; flex: none; border: solid var(--ink); border-width: 0 2px; width: .8rem; height: 1rem; print-color-adjust: exact; -webkit-print-color-adjust: exact }
+#legend .wait { background: repeating-linear-gradient(135deg, var(--ink) 0 2px, var(--paper) 2px 6px) }
 #legend .took { border-width: 3px; width: .75rem; height: .75rem; transform: rotate(45deg) }
-#legend .ends { background: #111; width: .75rem; height: .75rem }
+#legend .ends { background: var(--ink); width: .75rem; height: .75rem }
 #legend .hits { border-width: 2px; width: .7rem; height: .7rem; transform: rotate(45deg) }
-#keys { color: #444; font-size: .85rem; margin: .35rem 0 0 }
-kbd { border: 1px solid #777; border-bottom-width: 2px; border-radius: .2rem; padding: 0 .25rem; font: inherit; font-size: .85em }
+#keys { color: var(--soft); font-size: .85rem; margin: .35rem 0 0 }
+kbd { border: 1px solid var(--line); border-bottom-width: 2px; border-radius: .2rem; padding: 0 .25rem; font: inherit; font-size: .85em }
 @media screen and (max-width: 40rem) {
   body { padding: .5rem .5rem .8rem }
   button { padding: .2rem .5rem }
@@ -196,7 +246,7 @@ kbd { border: 1px solid #777; border-bottom-width: 2px; border-radius: .2rem; pa
   @page { margin: 12mm }
   html { font-size: 9.5pt }
   body { padding: 0 }
-  #bar, #keys, #map { display: none }
+  #bar, #view, #if, #keys, #map { display: none }
   #panes, .inner { display: block }
   #panes > section { display: block; border: 0; padding: 0; margin-top: 5mm }
   .scroll { overflow: visible !important }
@@ -212,6 +262,11 @@ kbd { border: 1px solid #777; border-bottom-width: 2px; border-radius: .2rem; pa
 <body>
 <header>
 <h1 id="title">A run, step by step</h1>
+<div id="view" role="group" aria-label="View" hidden>
+<label><input type="checkbox" id="hide"> hide what comes later</label>
+<label><input type="checkbox" id="fold"> fold idle choices</label>
+<label><input type="checkbox" id="java"> Java's words</label>
+</div>
 <p id="about" hidden></p>
 </header>
 <noscript><p class="alarm">The picture of this run needs this page's script. Without it, the run stands below as text.</p></noscript>
@@ -222,12 +277,24 @@ kbd { border: 1px solid #777; border-bottom-width: 2px; border-radius: .2rem; pa
 <button type="button" id="back" title="One choice back (left arrow)">&lt; Back</button>
 <button type="button" id="forth" title="One choice forward (right arrow)">Forward &gt;</button>
 <button type="button" id="last" title="To the end (End)" aria-label="To the end">&gt;|</button>
-<button type="button" id="play" title="A choice every two seconds (space)" aria-pressed="false">Play</button>
+<button type="button" id="play" title="A choice after another (space)" aria-pressed="false">Play</button>
+<select id="speed" aria-label="Speed of Play">
+<option value="0.5">every half second</option>
+<option value="1">every second</option>
+<option value="2" selected>every 2 seconds</option>
+<option value="4">every 4 seconds</option>
+<option value="8">every 8 seconds</option>
+</select>
 <input type="range" id="slider" min="0" value="0" step="1" aria-label="Choice">
 <output id="where" for="slider"></output>
-<label><input type="checkbox" id="hide"> hide what comes later</label>
 </div>
 <p id="said" role="status" aria-live="polite"><span id="what"></span> <span id="next"></span></p>
+<div id="if" role="group" aria-label="What if">
+<span id="would" aria-live="polite"></span>
+<button type="button" id="branch" hidden>Copy the schedule up to here with this choice</button>
+<button type="button" id="whole">Copy the schedule</button>
+<input type="text" id="copied" readonly hidden aria-label="The schedule that was copied">
+</div>
 <div id="panes">
 <section id="time" aria-label="Timeline">
 <h2>Timeline</h2>
@@ -242,15 +309,16 @@ kbd { border: 1px solid #777; border-bottom-width: 2px; border-radius: .2rem; pa
 <li><i class="hits"></i> throws</li>
 <li><i class="ends"></i> ends</li>
 </ul>
+<details id="names" hidden><summary>Names of the threads</summary><ul></ul></details>
 </section>
 <section id="code" aria-label="Program"><h2>Program</h2><div class="scroll" tabindex="0" role="region" aria-label="Program, with the row of each thread"><table id="rows"></table></div></section>
 <section id="state" aria-label="State"><h2 id="after">State</h2><div class="scroll" tabindex="0" role="region" aria-label="State after this choice" id="things"></div></section>
 </div>
-<p id="keys">Keys: <kbd>&#8594;</kbd> or <kbd>Page Down</kbd> forward, <kbd>&#8592;</kbd> or <kbd>Page Up</kbd> back, <kbd>Home</kbd>, <kbd>End</kbd>, <kbd>space</kbd> plays. A click on a line of the timeline goes there; the page's address names the choice.</p>
+<p id="keys">Keys: <kbd>&#8594;</kbd> or <kbd>Page Down</kbd> forward, <kbd>&#8592;</kbd> or <kbd>Page Up</kbd> back, <kbd>Home</kbd>, <kbd>End</kbd>, <kbd>space</kbd> plays, <kbd>+</kbd> and <kbd>-</kbd> the size, <kbd>f</kbd> the timeline alone. A click on a line goes there; the address names the choice.</p>
 </main>
 <details id="text" open>
 <summary>The text that this page draws</summary>
-<p>Written by <code>vuthgal show</code>: the program, then the state at the start, and then of each choice its line, the state after it, and who may go next. That text is the run's, word for word; the picture above is drawn from it by this page's script, which plays nothing.</p>
+<p>Written by <code>vuthgal show</code>: the program, then the state at the start, and then of each choice its line and the state after it; with each state, the line that each choice would have as the next one. That text is the run's, word for word; the picture above is drawn from it by this page's script, which plays nothing.</p>
 <h3>Program, in canonical form</h3>
 <pre id="listing">
 "###;
@@ -375,7 +443,7 @@ const THREAD = /^t(\d+) (\d+) (runs|waits|ended|throws:-?\d+|died:-?\d+) ([01]) 
 const PHASER = /^p(\d+) (-?\d+) (\d+) (\d+) (\d+)$/;
 const BARRIER = /^b(\d+) (\d+) ([01])$/;
 const CELL = /^c(\d+) (-?\d+)$/;
-const NEXT = /^next((?: [tx]\d+)*)$/;
+const NEXT = "next ";
 
 // what a thread does in a moment: it is over, runs, runs where it can't go on, waits, waits where it can go on, throws
 const OVER = 0, RUNS = 1, HELD = 2, WAITS = 3, FREE = 4, THROWS = 5;
@@ -392,6 +460,15 @@ function eventOf(line) {
 const laneOf = (i, t) => lanes[i * threads.length + t];
 const placeOf = (i, t) => places[i * threads.length + t];
 
+// what could be next: each choice that would take a step, with the line that it would have
+function readNext(at, step, put) {
+  for (; (lines[at] || "").startsWith(NEXT); at++) {
+    const event = eventOf(lines[at].slice(NEXT.length));
+    need(event.step === step && event.thread < threads.length, "no next choice of its state: " + lines[at]);
+    put(event, lines[at]);
+  }
+  return at;
+}
 // the lines of a moment's state, from this one on; answers the line behind them
 function readMoment(i, at, event, last) {
   const count = threads.length, take = (form, n) => {
@@ -416,9 +493,12 @@ function readMoment(i, at, event, last) {
   barriers.forEach((_, n) => take(BARRIER, n));
   while (/^c/.test(lines[at])) take(CELL);
   const next = {};
-  for (const word of take(NEXT)[1].split(" ")) next[word] = true;
+  at = readNext(at, +state[1] + 1, (choice, line) => {
+    need(choice.row === placeOf(i, choice.thread), "no thread stands at this row: " + line);
+    if (!choice.expiry) next[choice.thread] = true;
+  });
   doing.forEach((lane, t) => {
-    lanes[i * count + t] = lane === RUNS && !next["t" + t] ? HELD : lane === WAITS && next["t" + t] ? FREE : lane;
+    lanes[i * count + t] = lane === RUNS && !next[t] ? HELD : lane === WAITS && next[t] ? FREE : lane;
   });
   return { at: at, threads: begins };
 }
@@ -453,9 +533,10 @@ let kept = new Map();
 
 function readState(i) {
   const s = { threads: [], phasers: [], barriers: [], cells: {}, next: {}, expire: {} };
-  for (let at = moments[i].from; ; at++) {
-    const line = lines[at], m = { s: STATE, t: THREAD, p: PHASER, b: BARRIER, c: CELL, n: NEXT }[line[0]].exec(line);
-    const words = text => text.split(" ").slice(1);
+  const words = text => text.split(" ").slice(1);
+  let at = moments[i].from;
+  for (; /^[stpbc]/.test(lines[at] || ""); at++) {
+    const line = lines[at], m = { s: STATE, t: THREAD, p: PHASER, b: BARRIER, c: CELL }[line[0]].exec(line);
     if (line[0] === "s") Object.assign(s, { choices: +m[1], word: m[3] });
     else if (line[0] === "t") {
       const status = m[3].split(":");
@@ -463,12 +544,10 @@ function readState(i) {
         stack: words(m[6]), out: words(m[7]) });
     } else if (line[0] === "p") s.phasers.push({ view: +m[2], parties: +m[3], arrived: +m[4] });
     else if (line[0] === "b") s.barriers.push({ waiting: +m[2], broken: m[3] === "1" });
-    else if (line[0] === "c") s.cells[+m[1]] = +m[2];
-    else {
-      for (const word of words(m[1])) (word[0] === "t" ? s.next : s.expire)[+word.slice(1)] = true;
-      return s;
-    }
+    else s.cells[+m[1]] = +m[2];
   }
+  readNext(at, s.choices + 1, choice => { (choice.expiry ? s.expire : s.next)[choice.thread] = choice; });
+  return s;
 }
 function stateAt(i) {
   if (moments[i].refused) i--;
@@ -526,14 +605,15 @@ function objectOf(row) {
   const p = operandOf(row, "P"), b = operandOf(row, "B");
   return p >= 0 ? nameOf("P", p) : b >= 0 ? nameOf("B", b) : "";
 }
-// the call of Java that a row stands for, with the values that the thread's registers had
-function callOf(row, thread) {
+// the call of Java that a row stands for, with what stands for each register behind the object; nothing where it is no call
+function callWith(row, value) {
   const call = KINDS[row.word][1], object = objectOf(row);
   let at = row.kinds.indexOf("P") + row.kinds.indexOf("B") + 2;
   if (!call) return "";
-  const filled = call.replace(/\$/g, () => thread.regs[+row.operands[at++][1]]).replace("@", () => threadName(operandOf(row, "T")));
+  const filled = call.replace(/\$/g, () => value(row.operands[at++])).replace("@", () => threadName(operandOf(row, "T")));
   return (object ? object + "." : "") + filled;
 }
+const callOf = (row, thread) => callWith(row, register => thread.regs[+register[1]]);
 function rowText(row) {
   const operands = row.operands.map((operand, k) => {
     const kind = row.kinds[k], n = +operand.slice(1);
@@ -547,13 +627,24 @@ function entryText(entry) {
   return kind === "C" ? "call (back to row " + n + ")" : kind === "H" ? "handler at " + labelled(n)
     : kind === "A" ? "advance routine of " + nameOf("P", n) : "action of " + nameOf("B", n);
 }
+// a phaser whose parties have all arrived has arrived at its parent: the nearest above it that still waits for arrivals
+function nearestWaiting(p, s) {
+  let at = p, child = -1;
+  while (phasers[at].parent >= 0 && s.phasers[at].parties > 0 && s.phasers[at].arrived === s.phasers[at].parties) {
+    child = at;
+    at = phasers[at].parent;
+  }
+  return { phaser: at, child: child };
+}
 function countText(row, s) {
   const p = operandOf(row, "P"), b = operandOf(row, "B");
   const of = (n, all, one, more) => n + " of " + all + (n === 1 ? one : more);
   if (b >= 0) return of(s.barriers[b].waiting, barriers[b].parties, " waits at ", " wait at ") + nameOf("B", b) + ".";
   if (s.phasers[p].view < 0) return "";
   if (!s.phasers[p].parties) return nameOf("P", p) + " has no parties now.";
-  return of(s.phasers[p].arrived, s.phasers[p].parties, " has arrived at ", " have arrived at ") + nameOf("P", p) + ".";
+  const near = nearestWaiting(p, s), q = s.phasers[near.phaser];
+  if (near.child >= 0) return nameOf("P", near.child) + " has arrived at " + nameOf("P", near.phaser) + ": " + q.arrived + " of " + q.parties + ".";
+  return of(q.arrived, q.parties, " has arrived at ", " have arrived at ") + nameOf("P", p) + ".";
 }
 function markText(mark, was) {
   if (mark.kind === "+b") return "Barrier " + nameOf("B", mark.on) + " trips.";
@@ -577,23 +668,54 @@ function idleText(e, row, before, who) {
   if (before.status === "ended" || before.status === "died") return ["It is the turn of ", who, ", which is over: nothing happens."];
   return ["It is the turn of ", who, ", which can't go on at " + call + " yet: nothing happens."];
 }
+// a register and the number in it
+const holding = (register, thread) => register + " (" + thread.regs[+register[1]] + ")";
+
 // what a choice that gave a number did
 function valueText(e, row, before, who) {
-  const call = callOf(row, before), into = row.operands[0] || "", top = before.stack[before.stack.length - 1] || "";
-  if (before.status === "waits") return ["The wait of ", who, " at " + call + " is over: it gets ", ["" + e.value], " (in " + into + ")."];
-  if (row.word === "ret") return [who, " ends the " + entryText(top) + " and has its registers back; its call answers ", ["" + e.value], "."];
-  if (call) return [who, " calls " + call + " and gets ", ["" + e.value], " (in " + into + ")."];
-  return [who, ": " + rowText(row) + ", so " + into + " = ", ["" + e.value], "."];
+  const call = callOf(row, before), at = row.operands, into = at[0] || "", top = before.stack[before.stack.length - 1] || "", value = ["" + e.value];
+  if (before.status === "waits") return ["The wait of ", who, " at " + call + " is over: it gets ", value, " (in " + into + ")."];
+  if (row.word === "ret") return [who, " ends the " + entryText(top) + " and has its registers back; its call answers ", value, "."];
+  if (call) return [who, " calls " + call + " and gets ", value, " (in " + into + ")."];
+  if (row.word === "ldi") return [who, " puts ", value, " into " + into + "."];
+  if (row.word === "mov") return [who, " copies ", value, " from " + at[1] + " into " + into + "."];
+  if (row.word === "lds") return [who, " loads ", value, " from " + nameOf("C", operandOf(row, "C")) + " into " + into + "."];
+  if (row.word === "self") return [who, " puts its own number, ", value, ", into " + into + "."];
+  const both = row.word === "add" ? "adds " + holding(at[1], before) + " and " + holding(at[2], before)
+    : "takes " + holding(at[2], before) + " from " + holding(at[1], before);
+  return [who, " " + both + ": " + into + " = ", value, "."];
+}
+// where a branch goes, by the row that the thread stands at after it; where that isn't known, on what it depends
+const BRANCHES = { beq: ["equal", "not equal"], bne: ["not equal", "equal"], blt: ["less", "not less"] };
+
+function branchText(e, row, before, after, who) {
+  const target = operandOf(row, "L"), is = BRANCHES[row.word], below = "goes on below, at row " + (e.row + 1) + ".";
+  const compares = [who, " compares " + row.operands.slice(0, 2).map(register => holding(register, before)).join(" with ") + ": "];
+  if (!after) return compares.concat("if " + is[0] + ", it goes on at " + labelled(target) + ", else below.");
+  if (target === e.row + 1) return compares.concat("either way it " + below);
+  return compares.concat(after.row === target ? is[0] + ", so it goes on at " + labelled(target) + "." : is[1] + ", so it " + below);
 }
 // what a choice that gave no number did
 function plainText(e, row, before, after, who) {
-  const call = callOf(row, before), goes = after.row === e.row + 1 ? "." : ", and goes on at " + labelled(after.row) + ".";
+  const call = callOf(row, before), there = labelled(operandOf(row, "L")), top = before.stack[before.stack.length - 1] || "";
+  if (call) return [who, " calls " + call + "."];
+  if (BRANCHES[row.word]) return branchText(e, row, before, after, who);
   if (row.word === "sts") return [who, " stores ", ["" + before.regs[+row.operands[0][1]]], " in " + nameOf("C", operandOf(row, "C")) + "."];
-  return call ? [who, " calls " + call + "."] : [who, ": " + rowText(row) + goes];
+  return [who].concat({
+    jmp: [" goes on at " + there + "."], call: [" calls " + there + ", to come back to row " + (e.row + 1) + "."],
+    ret: [" comes back from its call, to row " + top.slice(1) + "."], endtry: [" takes its handler away."],
+    try: [" sets a handler: what is thrown from here on is caught at " + there + "."]
+  }[row.word] || [": " + rowText(row) + "."]);
 }
-// what the line of a choice says, as a list of texts; those in a list of their own are set in bold
+// what the last to arrive enters
+function entersText(row) {
+  const p = operandOf(row, "P"), root = p >= 0 ? rootOf(p) : -1, b = operandOf(row, "B");
+  return [["enters the " + entryText(p >= 0 ? "A" + root : "X" + b)], " at " + labelled(p >= 0 ? phasers[root].routine : barriers[b].action) + "."];
+}
+// what the line of a choice says, as a list of texts; those in a list of their own are set in bold. Of a choice that was only
+// tried there is no thread after it
 function eventText(e, row, before, after, who) {
-  const call = callOf(row, before), waited = before.status === "waits";
+  const call = callOf(row, before), waited = before.status === "waits", top = before.stack[before.stack.length - 1] || "";
   if (e.what === "idle") return idleText(e, row, before, who);
   if (e.what === "=") return valueText(e, row, before, who);
   if (e.what === "ok") return plainText(e, row, before, after, who);
@@ -601,9 +723,9 @@ function eventText(e, row, before, after, who) {
   if (e.what === "out") return [who, " puts out ", ["" + e.value], "."];
   if (e.what === "end") return [who, " ", ["ends"], "."];
   if (e.what === "die") return ["Nothing catches " + thrown(e.value) + ": ", who, " ", ["is dead"], "."];
-  if (e.what === "catch") return ["A handler of ", who, " ", ["catches " + thrown(e.value)], ": it goes on at " + labelled(after.row) + " with r7 = " + e.value + "."];
-  if (e.what === "unwind") return [who, ", throwing " + thrown(before.code) + ", leaves the " + entryText(before.stack[before.stack.length - 1]) + "."];
-  if (e.what === "enter") return [who, " calls " + call + ", and as the last to arrive it ", ["enters the " + entryText(after.stack[after.stack.length - 1])], " at " + labelled(after.row) + "."];
+  if (e.what === "catch") return ["A handler of ", who, " ", ["catches " + thrown(e.value)], ": it goes on at " + labelled(+top.slice(1)) + " with r7 = " + e.value + "."];
+  if (e.what === "unwind") return [who, ", throwing " + thrown(before.code) + ", leaves the " + entryText(top) + "."];
+  if (e.what === "enter") return [who, " calls " + call + ", and as the last to arrive it ", ...entersText(row)];
   if (e.expiry) return ["The time of ", who, "'s wait at " + call + " is up: it ", ["throws " + thrown(e.value)], "."];
   if (waited) return ["The wait of ", who, " at " + call + " ends: it ", ["throws " + thrown(e.value)], "."];
   return [who, call ? " calls " + call + ", which " : " ", ["throws " + thrown(e.value)], "."];
@@ -619,16 +741,30 @@ function sentence(i) {
   else if (before.status !== "waits" && (e.what === "wait" || (e.what === "=" && e.value >= 0 && ARRIVES[row.word]))) out.push(" " + countText(row, s));
   return out;
 }
-// the names of some threads; of many, the first few
-function someOf(set) {
-  const all = Object.keys(set).map(t => threadName(+t));
-  return all.length > 12 ? all.slice(0, 8).concat([all.length - 8 + " others"]) : all;
+// what the line of several idle choices says
+function foldedText(k) {
+  const turns = [...turnsOf(k)].map(([t, count]) => threadName(t) + (count > 1 ? " " + count + " times" : ""));
+  return ["Choices " + moments[firstOf(k)].event.step + " to " + moments[shown[k]].event.step + " are of " + listed(turns) + ", and nothing happens."];
 }
-function nextText(i) {
-  const s = stateAt(i), who = someOf(s.next), late = someOf(s.expire);
-  if (s.word === "all") return "All threads are over.";
-  if (s.word === "stuck") return "Stuck: no thread can ever go on.";
-  return "May go next: " + (who.length ? listed(who) : "nobody") + (late.length ? "; the wait" + (late.length > 1 ? "s" : "") + " of " + listed(late) + " may time out" : "") + ".";
+// what a choice would do that could be next
+function whatIfText(i, e) {
+  const s = stateAt(i), name = threadName(e.thread), row = rows[e.row];
+  if (e.what === "limit") return ["No more steps are allowed: a turn of " + name + " would be refused."];
+  const done = eventText(e, row, s.threads[e.thread], null, [name]);
+  if (typeof done[0] === "string") done[0] = done[0].charAt(0).toLowerCase() + done[0].slice(1);
+  if (e.mark) done.push(" ", [markText(e.mark, s)]);
+  return ["If " + (e.expiry ? "the wait of " + name + " times out" : name + " goes") + " next: ", ...done];
+}
+// texts between these, as a list of them is written
+const spread = list => list.flatMap((one, k) => k === 0 ? [one] : [k === list.length - 1 ? " and " : ", ", one]);
+
+// who may go next, as a list of texts and of choices; of many, the first few and how many there are more
+function nextText(i, isWhole) {
+  const s = stateAt(i), who = Object.values(s.next), late = Object.values(s.expire);
+  const some = list => spread(list.length > 12 && !isWhole ? list.slice(0, 8).concat({ more: list.length - 8 }) : list);
+  if (s.word === "all") return ["All threads are over."];
+  if (s.word === "stuck") return ["Stuck: no thread can ever go on."];
+  return ["May go next: "].concat(who.length ? some(who) : "nobody", late.length ? ["; the wait" + (late.length > 1 ? "s" : "") + " of "].concat(some(late), " may time out") : [], ".");
 }
 // what a thread does in a moment
 function doing(s, t) {
@@ -642,20 +778,30 @@ function doing(s, t) {
     waits: "waits" + at + (s.word === "stuck" ? " for ever" : "") }[status];
   return [plain].concat(more).join(", ");
 }
-// the few words of a choice in the timeline; `brief` leaves out the row
-function tagText(e, brief) {
-  const row = e.row < 0 ? null : rows[e.row], object = row ? only(" " + objectOf(row), "").trimEnd() : "";
-  const head = brief || !row ? "" : row.word + object + " ";
+const inJava = () => id("java").checked;
+
+// a row in the timeline: its word and its object, or Java's words
+function shortRow(row) {
+  const call = inJava() && KINDS[row.word][1], object = objectOf(row);
+  if (!call) return row.word + only(" " + object, "").trimEnd();
+  return (object && only(object + ".", "")) + call.split("(")[0].replace("@", () => threadName(operandOf(row, "T")));
+}
+// the few words of a choice in the timeline
+function tagText(e) {
+  const row = e.row < 0 ? null : rows[e.row], head = row ? shortRow(row) + " " : "";
   const said = { none: "refused", limit: "refused", idle: "can't go", end: "ends", wait: head + "waits", enter: head + "enters",
     out: "out " + e.value, "=": head + "= " + e.value, die: "dies of " + e.value, catch: "catches " + e.value, unwind: "unwinds",
-    throw: (e.expiry ? "time is up: " : "") + "throws " + e.value, ok: head.trimEnd() || (row ? row.word : "") };
+    throw: (e.expiry ? "time is up: " : "") + "throws " + e.value, ok: head.trimEnd() };
   return said[e.what];
 }
 
 // ---- the elements of a picture
-const HUES = ["#0072b2", "#d55e00", "#009e73", "#b5588f", "#8a6d00", "#2aa0d8", "#7a5195", "#555555"];
-const LANES = ["off", "run", "held", "wait", "free", "throw"];
-const hueOf = t => HUES[t % HUES.length];
+const LANES = ["off", "run", "held", "wait", "free", "throw"], HUES = 8, LETTERS = 12;
+const hueOf = t => "var(--h" + t % HUES + ")";
+// a thread's name in a place for so many letters: a longer one is cut, with its number behind it
+const shortName = (t, most) => threadName(t).length <= most ? threadName(t) : threadName(t).slice(0, most - 5) + "\u2026 t" + t;
+// the whole of it, with its number
+const threadTitle = t => threadName(t) + (names.T[t] ? " (t" + t + ")" : "");
 
 function add(parent, tag, kind, text) {
   const element = document.createElement(tag);
@@ -670,27 +816,56 @@ function head(parent, scope, kind, text) {
   return cell;
 }
 // a thread's name in a frame of its colour
-function chip(parent, t, s) {
+function chip(parent, t, s, most) {
   const status = s && s.threads[t].status, over = status === "ended" || status === "died";
-  const element = add(parent, "span", "who" + (over ? " over" : status === "waits" ? " wait" : ""), threadName(t));
+  const element = add(parent, "span", "who" + (over ? " over" : status === "waits" ? " wait" : ""), shortName(t, most || LETTERS));
   element.style.setProperty("--hue", hueOf(t));
+  element.title = threadTitle(t);
   return element;
 }
+// the colours of what is painted: those of the page, which are others in the dark and where the reader forces them
+let colours = {};
 
-// ---- the timeline: a column for each thread, a line for each choice. Where the columns are wide, a choice's words stand in
-// its thread's column; where they are narrow, in one column behind all. Of a long run only the lines in view are there.
+function readColours() {
+  const style = getComputedStyle(document.documentElement), of = name => style.getPropertyValue("--" + name).trim();
+  colours = { ink: of("ink"), paper: of("paper"), mark: of("map-mark"), lanes: LANES.map(lane => of("map-" + lane)), hues: [] };
+  for (let k = 0; k < HUES; k++) colours.hues.push(of("h" + k));
+  hatch = null;
+}
+
+// ---- the timeline: a column for each thread, a line for each choice; idle choices behind one another may have one line
+// together. Where the columns are wide, a choice's words stand in its thread's column; where they are narrow, in one column
+// behind all. Of a long run only the lines in view are there.
 const WIDE = 6, WHOLE = 3000, MARGIN = 20;
 let isNarrow = false, lineOf = new Map(), drawn = { from: 0, to: 0 };
+// the moments that have a line, each the last of its line, and the number of each moment's line
+let shown = [], lineNumber = [];
 
 const isWhole = () => moments.length * threads.length <= WHOLE;
 const timeBox = () => id("time").querySelector(".scroll");
+const isIdle = i => i > 0 && i < moments.length && moments[i].event.what === "idle";
+const firstOf = k => k ? shown[k - 1] + 1 : 0;
+
+function fold() {
+  shown = [];
+  moments.forEach((_, i) => {
+    lineNumber[i] = shown.length;
+    if (!(id("fold").checked && isIdle(i) && isIdle(i + 1))) shown.push(i);
+  });
+}
+// whose turns the moments of a line are, and how many
+function turnsOf(k) {
+  const turns = new Map();
+  for (let i = firstOf(k); i <= shown[k]; i++) turns.set(moments[i].event.thread, (turns.get(moments[i].event.thread) || 0) + 1);
+  return turns;
+}
+const isFolded = k => firstOf(k) < shown[k];
 
 function drawHead(table) {
   const line = add(add(table, "thead"), "tr");
   add(head(line, "col", "n"), "span", "unseen", "Choice");
-  if (isCrowd()) {
-    picture(head(line, "col", "crowd"), 14, pen => threads.forEach((_, t) => paintLane(pen, RUNS, t, 0, 14)));
-  } else threads.forEach((_, t) => {
+  if (isCrowd()) drawCast(head(line, "col", "crowd"));
+  else threads.forEach((_, t) => {
     const cell = head(line, "col", "t");
     chip(cell, t);
     if (names.T[t] && !isNarrow) add(cell, "span", "kind", " t" + t);
@@ -698,7 +873,7 @@ function drawHead(table) {
   if (isNarrow) add(head(line, "col", "w"), "span", "unseen", "What");
   add(head(line, "col", "m"), "span", "unseen", "Ends for all");
 }
-// the lines of these moments
+// the lines of these numbers
 function drawLines(from, to) {
   const table = id("lanes"), body = table.tBodies[0] || add(table, "tbody"), pitch = linePitch();
   body.textContent = "";
@@ -708,57 +883,88 @@ function drawLines(from, to) {
     if (count > 0) add(add(body, "tr", "gap"), "td").style.height = count * pitch + "px";
   };
   gap(from);
-  for (let i = from; i < to; i++) drawMoment(body, i);
-  gap(moments.length - to);
-  if (to === moments.length) drawClose(body);
+  for (let k = from; k < to; k++) drawMoment(body, k);
+  gap(shown.length - to);
+  if (to === shown.length) drawClose(body);
 }
 let pitch = 0;
+function rem() { return parseFloat(getComputedStyle(document.documentElement).fontSize); }
 function linePitch() {
-  if (!pitch) pitch = parseFloat(getComputedStyle(id("lanes")).getPropertyValue("--pitch")) * parseFloat(getComputedStyle(document.documentElement).fontSize);
+  if (!pitch) pitch = parseFloat(getComputedStyle(id("lanes")).getPropertyValue("--pitch")) * rem();
   return pitch;
 }
 // draws the lines in view, where they aren't there
 function drawInView() {
   if (isWhole()) return;
-  const box = timeBox(), top = box.scrollTop / linePitch(), foot = (box.scrollTop + box.clientHeight) / linePitch(), count = moments.length;
+  const box = timeBox(), top = box.scrollTop / linePitch(), foot = (box.scrollTop + box.clientHeight) / linePitch(), count = shown.length;
   if (drawn.to && (top >= drawn.from || !drawn.from) && (foot <= drawn.to || drawn.to === count)) return;
   drawLines(Math.max(0, Math.floor(top) - MARGIN), Math.min(count, Math.ceil(foot) + MARGIN));
   markLines();
 }
+// how wide the widest of some texts is as it is drawn; the longest are tried
+function widest(texts, kind) {
+  const ruler = add(id("time"), "div", "unseen"), longest = [...new Set(texts)].sort((a, b) => b.length - a.length).slice(0, 6);
+  const wide = longest.map(text => add(ruler, "span", kind, text)).reduce((most, span) => Math.max(most, span.offsetWidth), 0);
+  ruler.remove();
+  return wide;
+}
+// the width of narrow columns: they share what the words behind them leave. `--need` is what the timeline asks for
+function narrowColumn() {
+  const em = rem(), events = moments.filter(m => m.event && m.event.thread < threads.length).map(m => m.event), named = threads.map((_, t) => shortName(t, LETTERS));
+  const marks = moments.map((_, i) => wordsForAll(i));
+  const words = widest(named, "who in-line") + widest(events.map(tagText), "tag") + widest(marks, "mark") + 5.6 * em;
+  const name = widest(named, "who brief") + 2, most = isCrowd() ? 1.2 * em : Math.max(2.4 * em, name + .4 * em);
+  const least = em * (isCrowd() ? Math.max(.5, Math.min(.8, 32 / threads.length)) : name < 2.6 * em ? Math.max(1.5, name / em) : 1.5);
+  id("panes").style.setProperty("--need", Math.ceil(words + least * threads.length + 2.4 * em + id("map").offsetWidth) + "px");
+  column = Math.floor(Math.max((isCrowd() ? .5 : 1.5) * em, Math.min(most, (timeBox().clientWidth - words) / threads.length)));
+  return name <= column;
+}
 function drawColumns() {
-  const table = id("lanes"), room = timeBox().clientWidth, em = parseFloat(getComputedStyle(document.documentElement).fontSize);
+  const table = id("lanes");
   table.textContent = "";
   table.className = (isNarrow ? "narrow" : "") + (id("hide").checked ? " hiding" : "");
   table.style.removeProperty("--column");
+  id("panes").style.removeProperty("--need");
   if (isNarrow) {
-    const lane = Math.max(isCrowd() ? .5 : 1.5, Math.min(2.4, (room / em - 24) / threads.length));
-    table.style.setProperty("--column", lane + "rem");
-    column = Math.floor(lane * em);
-    table.classList.toggle("brief", threads.every((_, t) => threadName(t).length < 3));
+    table.classList.toggle("brief", narrowColumn());
+    table.style.setProperty("--column", column + "px");
   }
   pitch = 0;
   drawHead(table);
   drawn = { from: 0, to: 0 };
-  drawLines(0, isWhole() ? moments.length : Math.min(moments.length, 2 * MARGIN));
+  drawLines(0, isWhole() ? shown.length : Math.min(shown.length, 2 * MARGIN));
 }
 // with wide columns where they fit, else with narrow ones
 function drawTimeline() {
+  readColours();
+  fold();
+  drawMap();
   isNarrow = threads.length > WIDE;
   drawColumns();
-  if (isNarrow || timeBox().scrollWidth <= timeBox().clientWidth) return;
-  isNarrow = true;
-  drawColumns();
+  if (!isNarrow && timeBox().scrollWidth > timeBox().clientWidth) {
+    isNarrow = true;
+    drawColumns();
+  }
+  drawNames();
+  drawMap();
 }
-function drawLane(line, i, t, took) {
-  const e = moments[i].event, up = i ? laneOf(i - 1, t) : OVER, low = laneOf(i, t), waits = lane => lane === WAITS || lane === FREE;
-  const cell = add(line, "td", "t u-" + LANES[up] + " l-" + LANES[low]);
+// the names of all threads, where a head isn't there for each, or is short
+function drawNames() {
+  const list = id("names").querySelector("ul"), heads = id("lanes").tHead.querySelectorAll(".who, .cast span");
+  list.textContent = "";
+  id("names").hidden = heads.length === threads.length && threads.every((_, t) => shortName(t, LETTERS) === threadName(t));
+  threads.forEach((_, t) => add(list, "li", "", (names.T[t] ? "t" + t + " " : "") + threadName(t)));
+}
+function drawLane(line, k, t, took, turns) {
+  const i = shown[k], first = firstOf(k), e = moments[i].event, up = first ? laneOf(first - 1, t) : OVER, low = laneOf(i, t);
+  const waits = lane => lane === WAITS || lane === FREE, cell = add(line, "td", "t u-" + LANES[up] + " l-" + LANES[low]);
   cell.style.setProperty("--hue", hueOf(t));
   if (!waits(up) && waits(low)) cell.className += " starts";
   if (waits(up) && !waits(low)) cell.className += " stops";
   if (took) drawAcross(cell, e, t, took);
-  if (e && e.thread === t) {
+  if (turns.has(t)) {
     add(cell, "span", "dot " + e.what);
-    if (!isNarrow) add(cell, "span", "tag " + e.what, tagText(e, false));
+    if (!isNarrow) add(cell, "span", "tag " + e.what, tagText(e) + (turns.get(t) > 1 ? ", " + turns.get(t) + " times" : ""));
   } else if (i === moments.length - 1 && waits(low) && !isNarrow && stateAt(i).word === "stuck") add(cell, "span", "tag wait", "stuck");
   else if (waits(low)) add(cell, "span", "unseen", low === WAITS ? "waits" : "may go on");
 }
@@ -766,6 +972,22 @@ function drawLane(line, i, t, took) {
 const isCrowd = () => threads.length > 2 * WIDE;
 let column = 0, hatch = null;
 
+// the names above the columns: where those are too narrow for a name each, every second one, or every third
+function drawCast(cell) {
+  const cast = add(cell, "div", "cast"), first = add(cast, "span", "", shortName(0, LETTERS)), every = Math.max(1, Math.ceil(first.offsetWidth / column));
+  let tall = 0;
+  cast.style.width = column * threads.length + "px";
+  first.remove();
+  threads.forEach((_, t) => {
+    if (t % every) return;
+    const name = add(cast, "span", "", shortName(t, LETTERS));
+    name.title = threadTitle(t);
+    name.style.setProperty("--hue", hueOf(t));
+    name.style.left = (t + .5) * column - name.offsetWidth / 2 + "px";
+    tall = Math.max(tall, name.offsetHeight);
+  });
+  cast.style.height = tall + "px";
+}
 function picture(cell, height, paint) {
   const canvas = add(cell, "canvas"), scale = Math.max(1, Math.min(2, devicePixelRatio || 1)), width = column * threads.length;
   canvas.width = width * scale;
@@ -774,13 +996,15 @@ function picture(cell, height, paint) {
   canvas.style.height = height + "px";
   const pen = canvas.getContext("2d");
   pen.scale(scale, scale);
+  pen.strokeStyle = colours.ink;
   paint(pen);
 }
 function hatched() {
   if (hatch) return hatch;
   const tile = document.createElement("canvas"), pen = (tile.width = tile.height = 6, tile.getContext("2d"));
-  pen.fillStyle = "#fff";
+  pen.fillStyle = colours.paper;
   pen.fillRect(0, 0, 6, 6);
+  pen.strokeStyle = colours.ink;
   pen.lineWidth = 2;
   for (const x of [-6, 0, 6]) pen.stroke(new Path2D("M" + x + " 6 l6 -6"));
   return hatch = pen.createPattern(tile, "repeat");
@@ -789,14 +1013,14 @@ function hatched() {
 function paintLane(pen, lane, t, top, height) {
   const middle = (t + .5) * column, wide = Math.min(12, column - 2);
   if (lane === OVER) return;
-  pen.fillStyle = hueOf(t);
+  pen.fillStyle = colours.hues[t % HUES];
   if (lane === RUNS) pen.fillRect(middle - 1.5, top, 3, height);
   else if (lane === HELD) for (let y = top; y < top + height; y += 6) pen.fillRect(middle - 1.5, y, 3, 3);
   else if (lane === THROWS) for (const x of [-2.5, 1.5]) pen.fillRect(middle + x, top, 1, height);
   else {
-    pen.fillStyle = lane === WAITS ? hatched() : "#fff";
+    pen.fillStyle = lane === WAITS ? hatched() : colours.paper;
     pen.fillRect(middle - wide / 2, top, wide, height);
-    pen.fillStyle = "#111";
+    pen.fillStyle = colours.ink;
     for (const x of [-wide / 2, wide / 2 - 1]) pen.fillRect(middle + x, top, 1, height);
   }
 }
@@ -807,14 +1031,14 @@ function paintDiamond(pen, t, y, size, inside) {
   pen.lineWidth = 2;
   pen.stroke(path);
 }
-function paintChoice(pen, e, y) {
-  const size = Math.min(6, column / 2), x = (e.thread + .5) * column;
-  if (e.what === "throw" || e.what === "die") paintDiamond(pen, e.thread, y, size, e.what === "die" ? "#111" : "#fff");
+function paintChoice(pen, e, t, y) {
+  const size = Math.min(6, column / 2), x = (t + .5) * column;
+  if (e.what === "throw" || e.what === "die") paintDiamond(pen, t, y, size, e.what === "die" ? colours.ink : colours.paper);
   else {
     const path = new Path2D();
     if (e.what === "end") path.rect(x - size + 1, y - size + 1, 2 * size - 2, 2 * size - 2);
     else path.arc(x, y, size - 1, 0, 7);
-    pen.fillStyle = e.what === "end" ? "#111" : e.what === "idle" ? "#fff" : hueOf(e.thread);
+    pen.fillStyle = e.what === "end" ? colours.ink : e.what === "idle" ? colours.paper : colours.hues[t % HUES];
     pen.fill(path);
     pen.lineWidth = 2;
     pen.stroke(path);
@@ -822,20 +1046,20 @@ function paintChoice(pen, e, y) {
 }
 function paintTook(pen, e, took, y) {
   const list = [...took], first = (Math.min(...list) + .5) * column, final = (Math.max(...list) + .5) * column;
-  pen.fillStyle = "#111";
+  pen.fillStyle = colours.ink;
   for (const x of e.mark.kind === "-b" ? [-1] : [-2.5, 1.5]) pen.fillRect(first, y + x, final - first, e.mark.kind === "-b" ? 2 : 1);
   for (let x = final; x < column * threads.length; x += 4) pen.fillRect(x, y - 1, 2, 2);
-  for (const t of took) paintDiamond(pen, t, y, Math.min(7, column / 2 + 1), "#fff");
+  for (const t of took) paintDiamond(pen, t, y, Math.min(7, column / 2 + 1), colours.paper);
 }
-function drawCrowd(line, i, took) {
-  const e = moments[i].event, height = Math.round(linePitch()), half = height / 2;
+function drawCrowd(line, k, took, turns) {
+  const i = shown[k], first = firstOf(k), e = moments[i].event, height = Math.round(linePitch()), half = height / 2;
   picture(add(line, "td", "crowd"), height, pen => {
     threads.forEach((_, t) => {
-      if (i) paintLane(pen, laneOf(i - 1, t), t, 0, half);
+      if (first) paintLane(pen, laneOf(first - 1, t), t, 0, half);
       paintLane(pen, laneOf(i, t), t, half, height - half);
     });
     if (took) paintTook(pen, e, took, half);
-    if (e && e.thread < threads.length) paintChoice(pen, e, half);
+    for (const t of turns.keys()) if (t < threads.length) paintChoice(pen, e, t, half);
   });
 }
 
@@ -847,33 +1071,40 @@ function drawAcross(cell, e, t, took) {
   if (t > final) add(cell, "span", "across lead");
   if (took.has(t)) add(cell, "span", "part");
 }
-function drawMoment(body, i) {
-  const line = add(body, "tr"), e = moments[i].event, took = parts[i];
+// in one column, whose turn a line is and what it did
+function drawWords(line, k, took, turns) {
+  const cell = add(line, "td", "w"), e = moments[shown[k]].event, count = shown[k] - firstOf(k) + 1;
+  if (took) add(cell, "span", "across lead ends");
+  if (!e || e.thread >= threads.length) return;
+  if (turns.size === 1) chip(cell, e.thread).classList.add("in-line");
+  add(cell, "span", "tag " + e.what, count > 1 ? tagText(e) + ", " + count + " times" : tagText(e));
+}
+// what a choice ended for several threads, or why it is refused
+function wordsForAll(i) {
+  const e = moments[i].event;
+  if (!e) return "";
+  return parts[i] ? shortMark(e.mark, stateAt(i - 1)) : e.what === "none" ? "refused: no thread " + e.thread : e.what === "limit" ? "refused: the limit" : "";
+}
+function drawMoment(body, k) {
+  const i = shown[k], line = add(body, "tr"), e = moments[i].event, took = parts[i], turns = e ? turnsOf(k) : new Map();
   lineOf.set(i, line);
   line.setAttribute("data-i", i);
   if (i === moments.length - 1) line.className = "final";
-  head(line, "row", "n", e ? "" + e.step : "start");
-  if (isCrowd()) drawCrowd(line, i, took);
-  else threads.forEach((_, t) => drawLane(line, i, t, took));
-  if (isNarrow) {
-    const cell = add(line, "td", "w");
-    if (took) add(cell, "span", "across lead ends");
-    if (e && e.thread < threads.length) {
-      chip(cell, e.thread);
-      add(cell, "span", "tag " + e.what, tagText(e, false));
-    }
-  }
-  const cell = add(line, "td", "m");
-  if (took) {
-    add(cell, "span", "across lead ends");
-    add(cell, "span", "mark", shortMark(e.mark, stateAt(i - 1)));
-  }
-  if (e && e.what === "none") add(cell, "span", "mark", "refused: no thread " + e.thread);
-  if (e && e.what === "limit") add(cell, "span", "mark", "refused: the limit");
+  head(line, "row", "n", !e ? "start" : isFolded(k) ? moments[firstOf(k)].event.step + "-" + e.step : "" + e.step);
+  if (isCrowd()) drawCrowd(line, k, took, turns);
+  else threads.forEach((_, t) => drawLane(line, k, t, took, turns));
+  if (isNarrow) drawWords(line, k, took, turns);
+  const cell = add(line, "td", "m"), words = wordsForAll(i);
+  if (took) add(cell, "span", "across lead ends");
+  if (words) add(cell, "span", "mark", words);
+}
+// what is said behind the last line
+function closingWords() {
+  const final = moments.length - 1;
+  return moments[final].refused ? "" : { all: "all are over", stuck: "stuck", live: "the schedule ends here" }[stateAt(final).word];
 }
 function drawClose(body) {
   const count = moments.length, line = add(body, "tr", "close"), s = stateAt(count - 1);
-  const said = { all: "all are over", stuck: "stuck", live: "the schedule ends here" }[s.word];
   lineOf.set(count, line);
   head(line, "row", "n", "end");
   if (isCrowd()) add(line, "td", "crowd");
@@ -882,8 +1113,8 @@ function drawClose(body) {
       waits: s.word === "stuck" ? "waits for ever" : "waits" }[thread.status];
     add(add(line, "td", "t u-off l-off"), "span", isNarrow ? "unseen" : "", word);
   });
-  if (isNarrow) add(line, "td", "w", "");
-  add(line, "td", "m", moments[count - 1].refused ? "" : said);
+  const cell = add(line, "td", isNarrow ? "w" : "m", closingWords());
+  if (isNarrow) cell.colSpan = 2;
 }
 // which lines are later than the one that is shown
 function markLines() {
@@ -896,48 +1127,53 @@ function markLines() {
   }
 }
 
-// ---- the overview of a long run: a column for each thread, and all choices from top to foot
-const SHADES = [[255, 255, 255], [201, 215, 230], [226, 226, 226], [34, 34, 34], [138, 138, 138], [176, 0, 0]];
-
+// ---- the overview of a long run: a column for each thread, and all lines from top to foot
 function drawMap() {
-  const map = id("map"), canvas = map.querySelector("canvas"), count = moments.length, all = threads.length;
+  const map = id("map"), canvas = map.querySelector("canvas"), count = shown.length, all = threads.length;
   map.hidden = isWhole();
   if (map.hidden) return;
-  const lane = Math.max(2, Math.min(8, Math.floor(120 / all))), width = lane * all, height = Math.max(1, Math.min(count * 4, map.clientHeight));
-  canvas.width = width;
+  const lane = Math.max(2, Math.min(8, Math.floor(120 / all))), height = Math.max(1, Math.min(count * 4, map.clientHeight));
+  canvas.width = lane * all;
   canvas.height = height;
-  const pen = canvas.getContext("2d"), image = pen.createImageData(width, height), bytes = image.data.fill(255);
-  for (let y = 0; y < height; y++) {
-    const i = Math.floor(y * count / height);
-    for (let x = 0; x < width; x++) {
-      if (lane < 4 || x % lane) bytes.set(SHADES[laneOf(i, Math.floor(x / lane))], 4 * (y * width + x));
+  const pen = canvas.getContext("2d"), laneAt = (t, y) => laneOf(shown[Math.floor(y * count / height)], t);
+  threads.forEach((_, t) => {
+    for (let y = 0, end; y < height; y = end) {
+      const kind = laneAt(t, y);
+      for (end = y + 1; end < height && laneAt(t, end) === kind; ) end++;
+      pen.fillStyle = colours.lanes[kind];
+      pen.fillRect(t * lane, y, lane - (lane < 4 ? 0 : 1), end - y);
     }
-  }
-  pen.putImageData(image, 0, 0);
-  pen.fillStyle = "#d00000";
+  });
+  pen.fillStyle = colours.mark;
   parts.forEach((took, i) => {
     const list = [...took], first = Math.min(...list);
-    pen.fillRect(first * lane, Math.floor(i * height / count), (Math.max(...list) - first + 1) * lane, 1);
+    pen.fillRect(first * lane, Math.floor(lineNumber[i] * height / count), (Math.max(...list) - first + 1) * lane, 1);
   });
 }
 function markMap() {
-  const map = id("map"), canvas = map.querySelector("canvas"), tall = canvas.height / moments.length, box = timeBox();
+  const map = id("map"), canvas = map.querySelector("canvas"), tall = canvas.height / shown.length, box = timeBox();
   if (map.hidden) return;
-  const first = box.scrollTop / linePitch(), seen = box.clientHeight / linePitch();
+  const first = box.scrollTop / linePitch(), seen = box.clientHeight / linePitch(), later = (lineNumber[at] + 1) * tall;
   id("here").style.top = Math.max(0, first * tall) + "px";
   id("here").style.height = Math.max(4, Math.min(seen * tall, canvas.height - first * tall)) + "px";
   id("unseen").hidden = !id("hide").checked;
-  id("unseen").style.top = (at + 1) * tall + "px";
-  id("unseen").style.height = Math.max(0, canvas.height - (at + 1) * tall) + "px";
+  id("unseen").style.top = later + "px";
+  id("unseen").style.height = Math.max(0, canvas.height - later) + "px";
 }
 
 // ---- the program
 const placeOfRow = [], lineOfRow = [];
 
+// a row's line as it was written, or its call in Java behind its label
+function programText(entry) {
+  const row = rows[entry.row], call = inJava() ? callWith(row, register => register) : "", text = entry.code.trimEnd();
+  return call ? /^(\s*\S+:)?\s*/.exec(text)[0] + (row.kinds[0] === "r" ? row.operands[0] + " = " : "") + call : text;
+}
 function drawProgram() {
+  id("rows").textContent = "";
   const top = add(add(id("rows"), "thead", "unseen"), "tr"), body = add(id("rows"), "tbody");
   for (const text of ["Threads here", "Row", "Text"]) head(top, "col", "", text);
-  let list = written;
+  let list = written, most = 0;
   if (!list) {
     const all = linesOf("listing"), first = all.length - rows.length;
     list = all.map((code, k) => ({ row: k < first ? -1 : k - first, code: code, talk: "", rule: k < first }));
@@ -946,13 +1182,17 @@ function drawProgram() {
     const line = add(body, "tr", entry.rule ? "rule" : ""), place = add(line, "td", "at");
     add(line, "td", "r", entry.row >= 0 ? "" + entry.row : "");
     const cell = add(line, "td", "l");
-    if (entry.code.trim()) add(cell, "code", "", entry.code.replace(/\s+$/, ""));
+    const code = entry.row >= 0 ? programText(entry) : entry.code.trimEnd();
+    if (code) add(cell, "code", "", code);
+    if (entry.row >= 0) most = Math.max(most, code.length);
     if (entry.talk) add(cell, "span", "talk" + (entry.code.trim() ? "" : " alone"), entry.talk);
     if (entry.row >= 0) {
       placeOfRow[entry.row] = place;
       lineOfRow[entry.row] = line;
     }
   }
+  // room for the longest row, behind the threads at it and its number
+  id("panes").style.setProperty("--code", most * .56 + 8.5 + "rem");
 }
 function markProgram(e, s) {
   for (const place of placeOfRow) place.textContent = "";
@@ -960,9 +1200,9 @@ function markProgram(e, s) {
   const here = {};
   s.threads.forEach((thread, t) => (here[thread.row] = here[thread.row] || []).push(t));
   for (const row of Object.keys(here)) {
-    const list = here[row], place = placeOfRow[row], most = list.length > 6 ? 3 : list.length;
-    for (const t of list.slice(0, most)) chip(place, t, s);
-    if (list.length > most) add(place, "span", "more", " and " + (list.length - most) + " more");
+    const list = here[row], place = placeOfRow[row], most = list.length > 4 ? 3 : list.length;
+    for (const t of list.slice(0, most)) chip(place, t, s, 8);
+    if (list.length > most) add(place, "span", "more", " " + (list.length - most) + " more").title = listed(list.slice(most).map(threadTitle));
   }
 }
 
@@ -999,7 +1239,7 @@ function drawThreads(e, s, was) {
   const body = add(grid, "tbody");
   s.threads.forEach((thread, t) => {
     const old = was.threads[t], row = add(body, "tr", e && e.thread === t ? "its" : "");
-    chip(head(row, "row"), t, s);
+    chip(head(row, "row"), t, s, 8);
     changed(add(row, "td", "num", "" + thread.row), thread.row !== old.row);
     changed(add(row, "td", "", doing(s, t)), thread.status !== old.status || thread.flag !== old.flag);
     for (const k of uses.registers) changed(add(row, "td", "num", "" + thread.regs[k]), thread.regs[k] !== old.regs[k]);
@@ -1012,7 +1252,7 @@ function drawOf(s, was, text, of, put) {
   s.threads.forEach((thread, t) => {
     if (!of(thread).length) return;
     const row = add(body, "tr");
-    chip(head(row, "row"), t, s);
+    chip(head(row, "row"), t, s, 8);
     const cell = add(row, "td", "all");
     changed(cell, of(thread).join(" ") !== of(was.threads[t]).join(" "));
     put(cell, of(thread));
@@ -1033,12 +1273,12 @@ function drawPhasers(s, was) {
   const body = title("Phasers", 0);
   for (const place of phaserOrder(-1, 0)) {
     const p = s.phasers[place.p], old = was.phasers[place.p], row = add(body, "tr");
-    head(row, "row", "", (place.depth ? "\u2514 " : "") + nameOf("P", place.p)).style.paddingLeft = .35 + 1.1 * place.depth + "rem";
+    head(row, "row", "", (place.depth ? "\u2514 " : "") + nameOf("P", place.p)).style.paddingLeft = .35 + .8 * place.depth + "rem";
     changed(add(row, "td", "line", p.view < 0 ? "terminated in phase " + phaseOf(p.view) : "phase " + p.view), p.view !== old.view);
-    const cell = add(row, "td", "line");
+    const cell = add(row, "td");
     changed(cell, p.arrived !== old.arrived || p.parties !== old.parties);
     dots(cell, p.arrived, p.parties);
-    add(row, "td", "note", p.arrived + " of " + p.parties + " arrived");
+    add(cell, "span", "note", p.arrived + " of " + p.parties + " arrived");
   }
 }
 function drawBarriers(s, was) {
@@ -1047,10 +1287,10 @@ function drawBarriers(s, was) {
   s.barriers.forEach((b, n) => {
     const old = was.barriers[n], row = add(body, "tr");
     head(row, "row", "", nameOf("B", n));
-    const cell = add(row, "td", "line");
+    const cell = add(row, "td");
     changed(cell, b.waiting !== old.waiting);
     dots(cell, b.waiting, barriers[n].parties);
-    add(row, "td", "note", b.waiting + " of " + barriers[n].parties + " wait");
+    add(cell, "span", "note", b.waiting + " of " + barriers[n].parties + " wait");
     changed(add(row, "td", "", b.broken ? "broken" : ""), b.broken !== old.broken);
   });
 }
@@ -1094,13 +1334,16 @@ function scrollTo(box, top, foot, cover) {
   if (top - cover < box.scrollTop) box.scrollTop = Math.max(0, top - cover - 4);
   else if (foot > box.scrollTop + box.clientHeight) box.scrollTop = foot - box.clientHeight + 4;
 }
+// the same of an element in it, wherever it is nested
+function bring(box, element, cover, more) {
+  const outer = box.getBoundingClientRect(), inner = element.getBoundingClientRect(), top = inner.top - outer.top - box.clientTop + box.scrollTop;
+  scrollTo(box, top, top + inner.height * (1 + (more || 0)), cover);
+}
 function bringTimeline(i) {
-  const box = timeBox(), cover = id("lanes").tHead.offsetHeight;
-  if (isWhole()) {
-    const line = lineOf.get(i), more = i === moments.length - 1 ? 2 : 1;
-    scrollTo(box, line.offsetTop, line.offsetTop + (more + .5) * line.offsetHeight, cover);
-  } else {
-    scrollTo(box, cover + i * linePitch(), cover + (i + 3) * linePitch(), cover);
+  const box = timeBox(), cover = id("lanes").tHead.offsetHeight, k = lineNumber[i];
+  if (isWhole()) bring(box, lineOf.get(i), cover, i === moments.length - 1 ? 1.5 : .5);
+  else {
+    scrollTo(box, cover + k * linePitch(), cover + (k + 3) * linePitch(), cover);
     drawInView();
   }
   if (isCrowd()) return;
@@ -1109,17 +1352,60 @@ function bringTimeline(i) {
   if (cell.offsetLeft - side < box.scrollLeft) box.scrollLeft = cell.offsetLeft - side;
   else if (cell.offsetLeft + cell.offsetWidth > box.scrollLeft + box.clientWidth) box.scrollLeft = cell.offsetLeft + cell.offsetWidth - box.clientWidth;
 }
-function bringRow(row) {
-  const box = id("code").querySelector(".scroll"), line = lineOfRow[row];
-  scrollTo(box, line.offsetTop, line.offsetTop + line.offsetHeight, 0);
-}
 function bringThread() {
   const line = id("things").querySelector(".its");
-  if (line) scrollTo(id("things"), line.offsetTop, line.offsetTop + line.offsetHeight, line.offsetHeight);
+  if (line) bring(id("things"), line, line.closest("table").tHead.offsetHeight);
   else id("things").scrollTop = 0;
 }
+// ---- what could be next: each of these choices is a button, which tells what it would do
+let chosen = null;
+
+function fillNext(i, isWhole) {
+  const box = id("next");
+  box.textContent = "";
+  for (const part of moments[i].refused ? [] : nextText(i, isWhole)) {
+    if (typeof part === "string") box.appendChild(document.createTextNode(part));
+    else if (part.more) add(box, "button", "choice", part.more + " others").onclick = () => fillNext(i, true);
+    else drawChoice(box, part);
+  }
+  whatIf(null, null);
+}
+function drawChoice(box, e) {
+  const button = add(box, "button", "choice", threadName(e.thread));
+  button.style.setProperty("--hue", hueOf(e.thread));
+  button.title = "What it would do: " + threadTitle(e.thread);
+  button.onfocus = button.onclick = button.onpointerenter = () => whatIf(button, e);
+}
+function whatIf(button, e) {
+  const old = id("next").querySelector(".asked");
+  if (old) old.classList.remove("asked");
+  if (button) button.classList.add("asked");
+  chosen = e;
+  fill(id("would"), e ? whatIfText(at, e) : ["What if another went? Point at a name, or go to it by Tab."]);
+  id("if").className = e ? "" : "note";
+  id("branch").hidden = !e;
+}
+// a schedule of these choices
+function scheduleOf(events) {
+  const runs = [];
+  for (const e of events) {
+    const word = (e.expiry ? "x" : "t") + e.thread, last = runs[runs.length - 1];
+    if (last && last.word === word) last.times++;
+    else runs.push({ word: word, times: 1 });
+  }
+  return runs.map(run => run.word + (run.times > 1 ? "*" + run.times : "")).join(" ");
+}
+// copies a schedule, and shows it; where the browser doesn't copy it is marked, to copy by hand
+function copy(schedule) {
+  const box = id("copied"), mark = () => box.select();
+  box.value = schedule;
+  box.hidden = false;
+  try { navigator.clipboard.writeText(schedule).catch(mark); } catch (error) { mark(); }
+}
+const eventsTo = i => moments.slice(1, i + 1).map(moment => moment.event);
+
 function show(i) {
-  i = Math.max(0, Math.min(moments.length - 1, i));
+  i = shown[lineNumber[Math.max(0, Math.min(moments.length - 1, i))]];
   if (i === at) return;
   const s = stateAt(i), e = moments[i].event, final = moments.length - 1;
   at = i;
@@ -1128,8 +1414,8 @@ function show(i) {
   id("where").textContent = e ? "choice " + e.step + " of " + moments[final].event.step : "start";
   id("back").disabled = id("first").disabled = i === 0;
   id("forth").disabled = id("last").disabled = i === final;
-  fill(id("what"), sentence(i));
-  id("next").textContent = moments[i].refused ? "" : nextText(i);
+  fill(id("what"), isFolded(lineNumber[i]) ? foldedText(lineNumber[i]) : sentence(i));
+  fillNext(i, false);
   id("next").className = s.word === "stuck" ? "halt" : "";
   markProgram(e, s);
   drawState(i);
@@ -1137,7 +1423,7 @@ function show(i) {
   markLines();
   markMap();
   bringThread();
-  if (e && e.row >= 0) bringRow(e.row);
+  if (e && e.row >= 0) bring(id("code").querySelector(".scroll"), lineOfRow[e.row], 0);
   try { history.replaceState(null, "", "#" + (e ? e.step : 0)); } catch (error) { /* a page in a frame may not */ }
 }
 function stop() {
@@ -1152,10 +1438,13 @@ function play() {
     return;
   }
   if (at === moments.length - 1) show(0);
-  timer = setInterval(() => { if (at >= moments.length - 1) stop(); else show(at + 1); }, 2000);
+  timer = setInterval(() => { if (at >= moments.length - 1) stop(); else show(next(1)); }, 1000 * id("speed").value);
   id("play").textContent = "Pause";
   id("play").setAttribute("aria-pressed", "true");
 }
+// the moment of the next line, or of the one before
+const next = by => shown[Math.max(0, Math.min(shown.length - 1, lineNumber[at] + by))];
+
 function go(i) {
   stop();
   show(i);
@@ -1165,34 +1454,52 @@ function fromAddress() {
   const wanted = +location.hash.slice(1), first = moments.length > 1 ? moments[1].event.step : 1;
   return /^#\d+$/.test(location.hash) && wanted >= first ? wanted - first + 1 : 0;
 }
-// the columns fit the room anew
+// all of it is drawn anew: the columns fit the room
 function arrange() {
   const now = at;
+  drawProgram();
   drawTimeline();
-  drawMap();
   at = -1;
   show(now < 0 ? fromAddress() : now);
 }
+let zoom = 1;
+function resize(by) {
+  zoom = Math.max(.6, Math.min(3, zoom * by));
+  document.documentElement.style.setProperty("--zoom", zoom);
+  arrange();
+}
+function standAlone() {
+  document.body.classList.toggle("alone");
+  arrange();
+}
+// what a key does, wherever the focus is but in a box that has a use for it of its own
+function actionOf(key, on) {
+  const slides = on === id("slider"), scrolls = on.classList && on.classList.contains("scroll"), writes = on === id("speed") || on === id("copied");
+  if (key === "PageDown") return () => go(next(1));
+  if (key === "PageUp") return () => go(next(-1));
+  if (writes) return null;
+  if (key === "ArrowRight" || (key === (slides ? "ArrowUp" : "ArrowDown") && !scrolls)) return () => go(next(1));
+  if (key === "ArrowLeft" || (key === (slides ? "ArrowDown" : "ArrowUp") && !scrolls)) return () => go(next(-1));
+  if (key === " ") return slides || !/^(INPUT|BUTTON|SUMMARY)$/.test(on.tagName) ? play : null;
+  return { Home: () => go(0), End: () => go(moments.length - 1), "+": () => resize(1.1), "=": () => resize(1.1), "-": () => resize(1 / 1.1), f: standAlone }[key];
+}
 function pressed(event) {
-  if (event.altKey || event.ctrlKey || event.metaKey) return;
-  const on = event.target, key = event.key, plain = !/^(INPUT|BUTTON|SUMMARY)$/.test(on.tagName);
-  const scrolls = on.classList && on.classList.contains("scroll");
-  if (on === id("slider") && key !== " ") return;
-  if (key === "ArrowRight" || key === "PageDown" || (key === "ArrowDown" && !scrolls)) go(at + 1);
-  else if (key === "ArrowLeft" || key === "PageUp" || (key === "ArrowUp" && !scrolls)) go(at - 1);
-  else if (key === "Home") go(0);
-  else if (key === "End") go(moments.length - 1);
-  else if (key === " " && (plain || on === id("slider"))) play();
-  else return;
+  const act = event.altKey || event.ctrlKey || event.metaKey ? null : actionOf(event.key, event.target);
+  if (!act) return;
+  act();
   event.preventDefault();
 }
 function listen() {
   id("first").onclick = () => go(0);
-  id("back").onclick = () => go(at - 1);
-  id("forth").onclick = () => go(at + 1);
+  id("back").onclick = () => go(next(-1));
+  id("forth").onclick = () => go(next(1));
   id("last").onclick = () => go(moments.length - 1);
   id("play").onclick = play;
+  id("speed").onchange = () => { if (timer !== null) { stop(); play(); } };
+  id("branch").onclick = () => copy(scheduleOf(eventsTo(at).concat(chosen)));
+  id("whole").onclick = () => copy(scheduleOf(eventsTo(moments.length - 1)));
   id("slider").oninput = () => go(+id("slider").value);
+  id("fold").onchange = id("java").onchange = arrange;
   id("hide").onchange = () => {
     id("lanes").classList.toggle("hiding", id("hide").checked);
     markMap();
@@ -1201,9 +1508,13 @@ function listen() {
     const line = event.target.closest("tr[data-i]");
     if (line) go(+line.getAttribute("data-i"));
   };
+  // the names of the columns of a picture
+  id("lanes").onmousemove = event => {
+    if (event.target.tagName === "CANVAS") event.target.title = threadTitle(Math.min(threads.length - 1, Math.floor(event.offsetX / column)));
+  };
   id("map").onclick = event => {
     const canvas = id("map").querySelector("canvas"), box = canvas.getBoundingClientRect();
-    go(Math.floor((event.clientY - box.top) / box.height * moments.length));
+    go(shown[Math.min(shown.length - 1, Math.floor((event.clientY - box.top) / box.height * shown.length))]);
   };
   timeBox().onscroll = () => {
     drawInView();
@@ -1215,8 +1526,9 @@ function listen() {
     width = innerWidth;
     arrange();
   };
+  for (const way of ["(prefers-color-scheme: dark)", "(forced-colors: active)"]) matchMedia(way).onchange = arrange;
   window.onhashchange = () => go(fromAddress());
-  window.onbeforeprint = () => { if (!isWhole()) { drawLines(Math.max(0, at - 200), Math.min(moments.length, at + 200)); markLines(); } };
+  window.onbeforeprint = () => { if (!isWhole()) { drawLines(Math.max(0, lineNumber[at] - 200), Math.min(shown.length, lineNumber[at] + 200)); markLines(); } };
   document.addEventListener("keydown", pressed);
 }
 function nameThePage() {
@@ -1236,10 +1548,9 @@ function begin() {
   findUses();
   id("slider").max = moments.length - 1;
   id("panes").className = isCrowd() ? "crowd" : "";
-  id("tool").hidden = false;
+  id("tool").hidden = id("view").hidden = false;
   id("text").open = false;
   document.body.className = "wide";
-  drawProgram();
   listen();
   arrange();
 }
@@ -1249,7 +1560,7 @@ try {
 } catch (error) {
   id("why").textContent = error.message;
   id("broken").hidden = false;
-  id("tool").hidden = true;
+  id("tool").hidden = id("view").hidden = true;
   id("text").open = true;
 }
 })();

@@ -1,8 +1,8 @@
 //! A page that shows a run: one HTML file that any browser opens, with no network.
 //!
 //! Between four fixed parts stand three texts: the program's canonical listing, the program as it was written, and the run,
-//! which is the state at the start, and then of each choice its line, the state after it, and who may go next. The page's
-//! script draws what stands there; it plays nothing. `page` promises that these are the texts of just this program under just
+//! which is the state at the start, and then of each choice its line and the state after it; with each state stands what each
+//! choice that may take a step would do there, played and taken back. The page's script draws what stands there; it plays nothing. `page` promises that these are the texts of just this program under just
 //! this schedule, and a law that none of their bytes can end the element that it stands in. What the script draws of them is
 //! tested (`tests/page`).
 //!
@@ -16,5 +16,6 @@ pub mod frame;
 mod law;
 mod moment;
 pub mod page;
+mod what_if;
 
 pub use law::an_escaped_text_ends_no_element;

@@ -45,9 +45,10 @@ impl From<AllocError> for PageFault {
     }
 }
 
-/// Adds what is shown of a machine.
-fn add_moment(alloc: Global, page: &mut Vec<u8>, machine: &Machine) -> Result<(), AllocError>
-    ensures { OnOk result (page.new.items ≡ page.old.items ++ escaped (moment (world_of machine.now))) }
+/// Adds what is shown of a machine, which is the same after it.
+fn add_moment(alloc: Global, page: &mut Vec<u8>, machine: &mut Machine) -> Result<(), AllocError>
+    ensures text { OnOk result (page.new.items ≡ page.old.items ++ escaped (moment (world_of machine.old))) }
+    ensures machine { machine.new ≡ machine.old }
 {
     let text = moment::moment(alloc, machine)?;
     add_escaped(page, text.as_slice())

@@ -3,3 +3,4 @@ pub mod Reading
 pub mod Places
 pub mod Text
 pub mod FaultNumber
+pub mod Joined

@@ -5,7 +5,8 @@
 //! it comes: after each piece the list has got just the runs that the definitions of
 //! `specs/Schedule.antt` give for the bytes so far, and a fault stands exactly where they have one.
 //! It keeps numbers alone, no bytes, and takes memory for the list alone. `write_schedule` is the
-//! way back: a text that is read as just these runs.
+//! way back: a text that is read as just these runs. `push_joined` makes runs of choices that come
+//! one by one.
 #![tactic(auto)]
 
 mod fault;
@@ -16,5 +17,5 @@ mod writing;
 
 pub use fault::ScheduleFault;
 pub use reader::Reader;
-pub use run::Run;
+pub use run::{Run, push_joined};
 pub use writing::write_schedule;

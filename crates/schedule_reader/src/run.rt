@@ -1,4 +1,12 @@
+ghost use Rattle.std.specs.Prelude.{◌≡◌, ◌≤◌, ◌<◌, ◌+◌, ◌++◌, ◌∷◌, [], All, MatchOption};
+ghost use Rattle.std.specs.Vec.{vec_len, vec_capacity};
+ghost use Rattle.schedule_reader.specs.Joined.{AreJoined};
+ghost use Rattle.schedule_reader.specs.Schedule.{IsRun, choices_of, run_of};
+
 use thread_machine::Choice;
+
+/// How often a run names its choice at most.
+const MOST_TIMES: u32 = 1_000_000_000;
 
 /// One token of a schedule: a choice, and how often it is made.
 #[derive(Clone, Copy, Debug, PartialEq, Eq)]
@@ -6,4 +14,51 @@ pub struct Run {
     pub choice: Choice,
     /// 1 to 1,000,000,000.
     pub times: u32,
+}
+
+impl Run {
+    /// One choice.
+    pub fn once(choice: Choice) -> Run
+        ensures { result ≡ run_of choice 1 }
+    {
+        Run { choice, times: 1 }
+    }
+
+    /// The run with this choice once more, where it is of this choice and can have it.
+    pub fn with(self, choice: Choice) -> Option<Run>
+        requires { self.times ≤ 1000000000 }
+        ensures { MatchOption result (self.choice ≡ choice → self.times ≡ 1000000000)
+            (λ more. (self.choice ≡ choice) × (self.times < 1000000000) × (more ≡ run_of choice (self.times + 1))) }
+    {
+        if self.choice.thread != choice.thread || self.choice.expiry != choice.expiry {
+            return None;
+        }
+        if self.times == MOST_TIMES {
+            return None;
+        }
+        Some(Run {
+            choice,
+            times: self.times + 1,
+        })
+    }
+}
+
+/// One choice more behind runs: the last run once more, or a run of its own. There is room for it.
+pub fn push_joined(runs: &mut Vec<Run>, choice: Choice)
+    requires room { vec_len runs.old < vec_capacity runs.old }
+    requires thread { choice.thread ≤ 63 }
+    requires runs { All IsRun runs.old.items }
+    ensures choices { choices_of runs.new.items ≡ choices_of runs.old.items ++ choice ∷ [] }
+    ensures runs { All IsRun runs.new.items }
+    ensures joined { AreJoined runs.old.items → AreJoined runs.new.items }
+{
+    let count = runs.len();
+    if count > 0 {
+        let last = runs[count - 1];
+        if let Some(more) = last.with(choice) {
+            runs[count - 1] = more;
+            return;
+        }
+    }
+    runs.push_reserved(Run::once(choice));
 }

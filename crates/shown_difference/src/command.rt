@@ -10,8 +10,9 @@ ghost use Rattle.trace_compare.specs.RunText.{GivesOnAndOn};
 ghost use Rattle.trace_compare.specs.Start.{IsRefused};
 ghost use Rattle.trace_compare.specs.declared.compare.Verdict.{Verdict};
 ghost use Rattle.workbench.specs.declared.fault.Fault.{Fault};
-ghost use Rattle.workbench.specs.Compare.{verdict_line, verdict_status};
-ghost use Rattle.workbench.specs.Fault.{HasTold, status_of};
+ghost use Rattle.workbench.specs.declared.fault.PictureKind.{PictureKind};
+ghost use Rattle.workbench.specs.Compare.{verdict_line};
+ghost use Rattle.workbench.specs.Fault.{status_of};
 ghost use Rattle.workbench.specs.Input.{GivesTooMuch};
 ghost use Rattle.workbench.specs.Run.{HasNoRun};
 ghost use Rattle.shown_difference.specs.Showing.{HasShown};
@@ -23,48 +24,13 @@ use row_code::Image;
 use std::alloc::Global;
 use trace_compare::compare::{CompareFault, Judged, Verdict, compare_shown};
 use workbench::compare::push_verdict;
-use workbench::fault::{DONE, Fault, UNLIKE};
+use workbench::fault::Fault;
 use workbench::program_file::read_program;
 
-/// `compare_cmd`, which shows the lines behind a verdict that isn't `same`: behind `differs LINE` the lines `trace ..` and `run
-/// ..`, where a word stands alone if there is no such line; behind `not a trace LINE` the line `trace ..`, and what a line has
-/// to be. Statuses, faults and the first line are those of `compare_cmd`.
-pub fn compare_shown_cmd<F: Source, S: Source, K: Sink, E: Sink>(
-    alloc: Global,
-    file: &mut F,
-    trace: &mut LinesSeen<S>,
-    output: &mut K,
-    errors: &mut E,
-) -> u8
-    ensures statuses { (result ≡ 0) ⊎ ((result ≡ 1) ⊎ ((result ≡ 3) ⊎ ((result ≡ 4) ⊎ (result ≡ 5)))) }
-    ensures done { (result ≡ 0) ⊎ (result ≡ 1) → (verdict : Verdict) × ((result ≡ verdict_status verdict)
-        × HasShown verdict (F.left file.old) (F.left file.new)
-        (S.left trace.old) (S.left trace.new) (K.written output.old) (K.written output.new)) }
-    ensures told { (((result ≡ 0) ⊎ (result ≡ 1)) × (E.written errors.new ≡ E.written errors.old))
-        ⊎ ((fault : Fault) × ((result ≡ status_of fault)
-        × (HasTold fault (E.has_failed errors.new) (E.written errors.old) (E.written errors.new)
-        × (result ≡ 3 → HasNoRun fault (F.left file.old) (F.left file.new) (S.left trace.old) (S.left trace.new))
-        × (fault ≢ Fault.Spawn)
-        × (fault ≡ Fault.Read → K.written output.new ≡ K.written output.old)))) }
-    ensures unchanged { (result ≡ 3) ⊎ (result ≡ 4) → K.written output.new ≡ K.written output.old }
-    ensures port { result ≡ 5 → (IsTrue (F.has_failed file.new)
-        ⊎ GivesTooMuch (F.left file.old) (F.left file.new))
-        ⊎ ((IsTrue (S.has_failed trace.new)
-        ⊎ GivesOnAndOn (S.left trace.old) (S.left trace.new))
-        ⊎ IsTrue (K.has_failed output.new)) }
-{
-    match compared(alloc, file, trace, output) {
-        Ok(Verdict::Same) => DONE,
-        Ok(Verdict::Differs { .. } | Verdict::NotATrace { .. }) => UNLIKE,
-        Err(fault) => {
-            let _ = fault.tell(errors);
-            fault.status()
-        }
-    }
-}
-
-/// The same with the verdict, or the fault, that decides the status. Nothing is written before the lines are known.
-fn compared<F: Source, S: Source, K: Sink>(
+/// Compares as `compare_cmd` does, and shows the lines behind a verdict that isn't `same`: behind `differs LINE` the lines `trace
+/// ..` and `run ..`, where a word stands alone if there is no such line; behind `not a trace LINE` the line `trace ..`, and what
+/// a line has to be. Faults and the first line are those of `compare_cmd`. Nothing is written before the lines are known.
+pub fn show_comparison<F: Source, S: Source, K: Sink>(
     alloc: Global,
     file: &mut F,
     trace: &mut LinesSeen<S>,
@@ -116,6 +82,7 @@ fn judged_on<S: Source>(
     ensures other { ((fault : AsmFault) → result ≢ Err (Fault.Asm fault))
         × ((fault : ImageFault) → result ≢ Err (Fault.Image fault))
         × ((fault : ScheduleFault) → result ≢ Err (Fault.Schedule fault))
+        × ((kind : PictureKind) → result ≢ Err (Fault.TooLong kind))
         × (result ≢ Err Fault.Spawn)
         × (result ≢ Err Fault.Write) }
 {

@@ -1,4 +1,3 @@
 pub mod Threads
 pub mod Choosing
 pub mod Replays
-pub mod Runs

@@ -1,5 +1,4 @@
 ghost use Rattle.std.specs.Prelude.{◌≡◌, ◌≢◌, ◌↔◌, ◌+◌, ◌<◌, ◌≤◌, ◌++◌, ◌∷◌, [], length, All, IfOk, IfErr, OnOk, OnErr, Err, true, false, Some, None};
-ghost use Rattle.std.specs.Vec.{vec_len, vec_capacity};
 ghost use Rattle.std.specs.String.{string_bytes};
 ghost use Rattle.thread_machine.specs.World.{world_of, first_world};
 ghost use Rattle.thread_machine.specs.Ready.{is_choice_ready};
@@ -14,13 +13,10 @@ ghost use Rattle.thread_runner.specs.Waiting.{has_finished};
 use crate::ending::Ending;
 use crate::fault::TakeFault;
 use loader::Loaded;
-use schedule_reader::{Run, write_schedule};
+use schedule_reader::{Run, push_joined, write_schedule};
 use std::alloc::{AllocError, Global};
 use std::marker::Model;
 use thread_machine::{Choice, Event, Machine, Status};
-
-/// How often one run of a record names its choice at most.
-const MOST_TIMES: u32 = 1_000_000_000;
 
 /// A machine and the choices that led to it, each of them a step.
 #[derive(Drop)]
@@ -47,37 +43,6 @@ impl Model for Journaled {
       first = first_world journaled.machine.program journaled.machine.limit;
       choices = choices_of journaled.runs.items;
     }) (world_of journaled.machine) × All IsRun journaled.runs.items };
-}
-
-/// One choice more in a record: the last run once more, or a run of its own.
-fn note(runs: &mut Vec<Run>, choice: Choice)
-    requires room { vec_len runs.old < vec_capacity runs.old }
-    requires thread { choice.thread ≤ 63 }
-    requires runs { All IsRun runs.old.items }
-    ensures choices { choices_of runs.new.items ≡ choices_of runs.old.items ++ choice ∷ [] }
-    ensures runs { All IsRun runs.new.items }
-{
-    let count = runs.len();
-    if count > 0 {
-        let last = runs[count - 1];
-        if is_again(last, choice) {
-            runs[count - 1] = Run {
-                choice,
-                times: last.times + 1,
-            };
-            return;
-        }
-    }
-    runs.push_reserved(Run { choice, times: 1 });
-}
-
-/// Whether the run can have its choice once more, and this is it.
-fn is_again(run: Run, choice: Choice) -> bool
-    ensures { result ≡ true → (run.choice ≡ choice) × (run.times < 1000000000) }
-{
-    run.choice.thread == choice.thread
-        && run.choice.expiry == choice.expiry
-        && run.times < MOST_TIMES
 }
 
 impl Journaled {
@@ -156,7 +121,7 @@ impl Journaled {
         }
         match self.machine.step(choice) {
             Ok(event) => {
-                note(&mut self.runs, choice);
+                push_joined(&mut self.runs, choice);
                 Ok(event)
             }
             Err(_) => Err(TakeFault::Memory),

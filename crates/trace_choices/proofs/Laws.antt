@@ -20,8 +20,12 @@ use Rattle.trace_compare.proofs.StateLines.{parts_text, state-is_state, state-li
 use Rattle.trace_compare.proofs.WholeLines.{split-line}
 use Rattle.trace_choices.specs.declared.line_names.LineNames.{LineNames}
 use Rattle.trace_choices.specs.declared.line_names.LineNames.TheVariants as names
-use Rattle.trace_choices.specs.Naming.{choices_by, choices_from, named, with_named}
+use Rattle.trace_choices.specs.Naming.{Naming, behind_choices, choices_named, choices_or_line, ended, named, naming_by, naming_from}
 use Rattle.trace_choices.specs.Shown.{behind, shown}
+
+-- choices, and a state behind them
+abbrev whole : List Choice → Naming
+whole choices = record { choices = choices; no_line = None }
 
 -- what a line names, by its parts
 state_by : (long state : Bool) (choice : Option Choice) → long ≡ false → state ≡ true
@@ -37,25 +41,25 @@ choice_by false true named_is choice short isnt is = let no : ⊥ = cc in absurd
 choice_by false false named_is choice short isnt is = ap named is
 
 -- the state line
-states-named : (world : World) (n : ℕ) → choices_from n (slice_split is_line_end (state_text world)) ≡ Ok []
+states-named : (world : World) (n : ℕ) → naming_from n (slice_split is_line_end (state_text world)) ≡ ended None
 states-named world n =
     let first = state-line world in
     let rest = parts_text world in
     let is : state_text world ≡ (first.line ++ 10 ∷ []) ++ rest = first.is ∙ sym (append_assoc first.line (10 ∷ []) rest) in
     let few : length first.line ≤ 141 = first.part.few in
     let short : is_too_long first.line ≡ false = le-ltb 65536 (length first.line) (omega (arith, few)) in
-    ap (λ text. choices_from n (slice_split is_line_end text)) is
-    ∙ ap (choices_from n) (split-line first.line rest first.part.within)
-    ∙ ap (λ (l : LineNames). choices_by l n (choices_from (n + 1) (slice_split is_line_end rest)))
+    ap (λ text. naming_from n (slice_split is_line_end text)) is
+    ∙ ap (naming_from n) (split-line first.line rest first.part.within)
+    ∙ ap (λ (l : LineNames). naming_by l n (naming_from (n + 1) (slice_split is_line_end rest)))
     (state_by _ _ (choice_in first.line) short (state-is_state world))
 
 -- the line of a choice
 line-named : (choice : Choice) (text rest : List ℕ) (n : ℕ) → IsOwnLine choice text
-    → choices_from n (slice_split is_line_end (text ++ rest)) ≡ with_named choice (choices_from (n + 1) (slice_split is_line_end rest))
+    → naming_from n (slice_split is_line_end (text ++ rest)) ≡ behind_choices (choice ∷ []) (naming_from (n + 1) (slice_split is_line_end rest))
 line-named choice text rest n own =
-    ap (λ t. choices_from n (slice_split is_line_end (t ++ rest))) own.is
-    ∙ ap (choices_from n) (split-line own.line rest own.within)
-    ∙ ap (λ (l : LineNames). choices_by l n (choices_from (n + 1) (slice_split is_line_end rest)))
+    ap (λ t. naming_from n (slice_split is_line_end (t ++ rest))) own.is
+    ∙ ap (naming_from n) (split-line own.line rest own.within)
+    ∙ ap (λ (l : LineNames). naming_by l n (naming_from (n + 1) (slice_split is_line_end rest)))
     (choice_by _ _ (choice_in own.line) choice own.short own.no_state own.names)
 
 -- an execution of one choice, by whether it was refused
@@ -80,25 +84,30 @@ one-world world choice none = world_by (refusal_of world choice) world choice no
 rest_by : (refusal : Option StepFault) (world : World) (choice : Choice) (choices : List Choice) (n : ℕ)
     → refusal_of world choice ≡ refusal → world.choices ≤ 1000000000000
     → ((after : World) → after.choices ≤ 1000000000000
-    → choices_from n (slice_split is_line_end (trace_of after choices)) ≡ Ok (shown after choices))
-    → choices_from n (slice_split is_line_end (left_by (is_none refusal) (execution world (choice ∷ [])).world choices))
-    ≡ Ok (behind refusal world choice (λ after. shown after choices))
+    → naming_from n (slice_split is_line_end (trace_of after choices)) ≡ whole (shown after choices))
+    → naming_from n (slice_split is_line_end (left_by (is_none refusal) (execution world (choice ∷ [])).world choices))
+    ≡ whole (behind refusal world choice (λ after. shown after choices))
 rest_by None world choice choices n is few rest =
     let after = (execution world (choice ∷ [])).world in
     rest after (counted world choice few (one-refusal world choice ∙ is))
-    ∙ ap (λ (w : World). Ok (shown w choices)) (one-world world choice is)
+    ∙ ap (λ (w : World). whole (shown w choices)) (one-world world choice is)
 rest_by (Some fault) world choice choices n is few rest = states-named (execution world (choice ∷ [])).world n
 
-pub trace-named : (choices : List Choice) (world : World) (n : ℕ) → world.choices ≤ 1000000000000 → All IsNamed choices
-    → choices_from n (slice_split is_line_end (trace_of world choices)) ≡ Ok (shown world choices)
+trace-named : (choices : List Choice) (world : World) (n : ℕ) → world.choices ≤ 1000000000000 → All IsNamed choices
+    → naming_from n (slice_split is_line_end (trace_of world choices)) ≡ whole (shown world choices)
 trace-named [] world n few there = states-named world n
 trace-named (choice ∷ choices) world n few there =
     let refusal = refusal_of world choice in
     let rest = left_by (is_none refusal) (execution world (choice ∷ [])).world choices in
-    ap (λ text. choices_from n (slice_split is_line_end text)) (sym (after_choice world choice choices refusal (one-refusal world choice)))
+    ap (λ text. naming_from n (slice_split is_line_end text)) (sym (after_choice world choice choices refusal (one-refusal world choice)))
     ∙ line-named choice (lines_of world (choice ∷ [])) rest n (own-line world choice few (All-head IsNamed choice choices there))
-    ∙ ap (with_named choice) (rest_by refusal world choice choices (n + 1) refl few
+    ∙ ap (behind_choices (choice ∷ [])) (rest_by refusal world choice choices (n + 1) refl few
     (λ after more. trace-named choices after (n + 1) more (All-tail IsNamed choice choices there)))
+
+pub trace-choices : (choices : List Choice) (world : World) → world.choices ≤ 1000000000000 → All IsNamed choices
+    → choices_named (trace_of world choices) ≡ Ok (shown world choices)
+trace-choices choices world few there =
+    ap (λ (naming : Naming). choices_or_line naming.choices naming.no_line) (trace-named choices world 1 few there)
 
 -- where none is refused
 all_by : (refusal : Option StepFault) (world : World) (choice : Choice) (choices : List Choice)

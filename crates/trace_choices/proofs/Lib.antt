@@ -1,4 +1,3 @@
-pub mod Threads
-pub mod Runs
-pub mod LinesNamed
+pub mod Lines
 pub mod Laws
+pub mod WrittenRuns

@@ -1,4 +1,5 @@
 pub mod Naming
-pub mod Joined
+pub mod Lines
 pub mod Named
 pub mod Shown
+pub mod Writing

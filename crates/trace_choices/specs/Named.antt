@@ -4,7 +4,7 @@ use Rattle.schedule_reader.specs.Schedule.{IsRun, choices_of}
 use Rattle.thread_machine.specs.declared.choice.Choice.{Choice}
 use Rattle.trace_choices.specs.declared.naming.Named.{Named}
 use Rattle.trace_choices.specs.declared.naming.Named.TheVariants as found
-use Rattle.trace_choices.specs.Joined.{AreJoined}
+use Rattle.schedule_reader.specs.Joined.{AreJoined}
 
 -- its choices, or the number of the line
 abbrev pub named_by : Named → Result (List Choice) ℕ

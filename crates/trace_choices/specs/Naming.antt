@@ -19,32 +19,55 @@ line_names line =
     if is_too_long line then names.Nothing
     else (if is_state_line line then names.State else named (choice_in line))
 
--- a choice before those of the lines behind it
-abbrev pub with_named : Choice → Result (List Choice) ℕ → Result (List Choice) ℕ
-with_named choice (Ok choices) = Ok (choice ∷ choices)
-with_named choice (Err line) = Err line
+-- the choices of the lines up to the state line, or up to the first line that is none of a trace, which has this number
+pub record Naming : Type 0 where
+  pub choices : List Choice
+  pub no_line : Option ℕ
+
+-- no line more names one
+abbrev pub ended : Option ℕ → Naming
+ended no_line = record { choices = []; no_line = no_line }
+
+-- choices before those of the lines behind them
+abbrev pub behind_choices : List Choice → Naming → Naming
+behind_choices choices rest = record { choices = choices ++ rest.choices; no_line = rest.no_line }
 
 -- what a line names, and those behind it
-abbrev pub choices_by : LineNames → ℕ → Result (List Choice) ℕ → Result (List Choice) ℕ
-choices_by names.Nothing n rest = Err n
-choices_by names.State n rest = Ok []
-choices_by (names.Made choice) n rest = with_named choice rest
+abbrev pub naming_by : LineNames → ℕ → Naming → Naming
+naming_by names.Nothing n rest = ended (Some n)
+naming_by names.State n rest = ended None
+naming_by (names.Made choice) n rest = behind_choices (choice ∷ []) rest
 
--- the choices that lines name, up to the state line, or the number of the first line that is none of a trace; the first of
--- these lines has this number
-abbrev pub choices_from : ℕ → List (List ℕ) → Result (List Choice) ℕ
-choices_from n [] = Err n
-choices_from n (line ∷ lines) = choices_by (line_names line) n (choices_from (n + 1) lines)
+-- what lines name, of which the first has this number
+abbrev pub naming_from : ℕ → List (List ℕ) → Naming
+naming_from n [] = ended (Some n)
+naming_from n (line ∷ lines) = naming_by (line_names line) n (naming_from (n + 1) lines)
 
--- the same of a whole trace; its last line is what follows the last LF
+-- what a whole trace names; its last line is what follows the last LF
+abbrev pub naming_of : List ℕ → Naming
+naming_of trace = naming_from 1 (slice_split is_line_end trace)
+
+-- its choices, or the number of the line
+abbrev pub choices_or_line : List Choice → Option ℕ → Result (List Choice) ℕ
+choices_or_line choices None = Ok choices
+choices_or_line choices (Some line) = Err line
+
+-- the choices that a trace names
 abbrev pub choices_named : List ℕ → Result (List Choice) ℕ
-choices_named trace = choices_from 1 (slice_split is_line_end trace)
+choices_named trace = choices_or_line (naming_of trace).choices (naming_of trace).no_line
 
--- a trace that begins with these bytes names this: it ends with them, or whatever comes after them makes no difference
-abbrev pub Names : List ℕ → Option (List ℕ) → Result (List Choice) ℕ → Type 0
-Names bytes left is =
-    (IsAtEnd left × (choices_named bytes ≡ is)) ⊎ ((rest : List ℕ) → choices_named (bytes ++ rest) ≡ is)
+-- lines that begin with these bytes name this, the first with this number: they end with them, or whatever comes after them
+-- makes no difference
+abbrev pub Names : ℕ → List ℕ → Option (List ℕ) → Naming → Type 0
+Names n bytes left is =
+    (IsAtEnd left × (naming_from n (slice_split is_line_end bytes) ≡ is))
+    ⊎ ((rest : List ℕ) → naming_from n (slice_split is_line_end (bytes ++ rest)) ≡ is)
 
 -- a trace was read as far as it has to be, and names this
+abbrev pub HasRead : Option (List ℕ) → Option (List ℕ) → Naming → Type 0
+HasRead before after is = (bytes : List ℕ) × (Consumes before after bytes × Names 1 bytes after is)
+
+-- the same of its choices, or the number of the line
 abbrev pub HasNamed : Option (List ℕ) → Option (List ℕ) → Result (List Choice) ℕ → Type 0
-HasNamed before after is = (bytes : List ℕ) × (Consumes before after bytes × Names bytes after is)
+HasNamed before after is =
+    (naming : Naming) × (HasRead before after naming × (is ≡ choices_or_line naming.choices naming.no_line))

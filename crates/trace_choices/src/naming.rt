@@ -1,18 +1,33 @@
 // The choices of a trace that comes as a stream.
-ghost use Rattle.std.specs.Prelude.{◌≡◌, ◌⊎◌, ◌↔◌, Err, IsTrue, IfOk};
+ghost use Rattle.std.specs.Prelude.{◌≡◌, ◌≢◌, ◌⊎◌, ◌≤◌, ◌+◌, ◌∷◌, [], ℕ, Ok, Err, IsTrue, IfOk, OnErr};
+ghost use Rattle.std.specs.Io.KnownBytes.{Consumes, prepend_known};
+ghost use Rattle.thread_machine.specs.declared.choice.Choice.{Choice};
 ghost use Rattle.trace_compare.specs.RunText.{GivesOnAndOn};
+ghost use Rattle.trace_choices.specs.Lines.{HasEnded, HasGone, HasTaken, last_naming, next_by};
 ghost use Rattle.trace_choices.specs.Naming.{HasNamed};
 ghost use Rattle.trace_choices.specs.Named.{AreRuns, named_by};
 
-use crate::joined::push;
 use crate::line_names::{LineNames, line_names};
-use byte_ports::Source;
-use schedule_reader::Run;
-use source_lines::{LineEnded, LineFault, SourceLines};
+use byte_ports::{Failed, LineEnded, Source, SourceLines};
+use schedule_reader::{Run, push_joined};
 use std::alloc::Global;
+use thread_machine::Choice;
 
 /// How many lines are read at most: a trace has no more choices than 1,000,000,000,000.
-const MOST_LINES: u64 = 1_000_000_000_001;
+pub const MOST_LINES: u64 = 1_000_000_000_001;
+
+/// What a trace's next line names.
+#[derive(Clone, Copy, Debug, PartialEq, Eq)]
+pub enum NextName {
+    /// A choice, and a line stands behind it, if only an empty one.
+    Made(Choice),
+    /// The state, which ends the choices.
+    State,
+    /// Nothing: it is no line of a trace.
+    NotATrace,
+    /// A choice, but the trace ends with this line: no state follows.
+    CutOff(Choice),
+}
 
 /// What a trace names.
 #[derive(Drop)]
@@ -32,11 +47,35 @@ pub enum NamingFault {
     Read,
 }
 
-/// Whether a line is the last there is.
-fn is_at_end(ended: LineEnded) -> bool
-    ensures { IsTrue result ↔ (ended ≡ LineEnded.AtEnd) }
+/// What comes next, by what a line names and how it ended.
+fn next_by(named: LineNames, ended: LineEnded) -> NextName
+    ensures { result ≡ next_by named ended }
 {
-    matches!(ended, LineEnded::AtEnd)
+    match named {
+        LineNames::Nothing => NextName::NotATrace,
+        LineNames::State => NextName::State,
+        LineNames::Made(choice) => match ended {
+            LineEnded::AtEnd => NextName::CutOff(choice),
+            _ => NextName::Made(choice),
+        },
+    }
+}
+
+/// Reads the next line and answers what it names.
+pub fn next_name<S: Source>(lines: &mut SourceLines, trace: &mut S) -> Result<NextName, Failed>
+    ensures thread { (choice : Choice) → (result ≡ Ok (NextName.Made choice)) ⊎ (result ≡ Ok (NextName.CutOff choice))
+        → choice.thread ≤ 63 }
+    ensures made { (choice : Choice) → result ≡ Ok (NextName.Made choice) → (n : ℕ)
+        → HasTaken n (choice ∷ []) (n + 1) lines.old lines.new (S.left trace.old) (S.left trace.new) }
+    ensures last { (name : NextName) → result ≡ Ok name → ((choice : Choice) → name ≢ NextName.Made choice) → (n : ℕ)
+        → HasEnded n (last_naming name n) lines.old lines.new (S.left trace.old) (S.left trace.new) }
+    ensures failed { OnErr result (IsTrue (S.has_failed trace.new) ⊎ ((lines.new.reads ≡ 1000000000)
+        × HasGone [] lines.old lines.new (S.left trace.old) (S.left trace.new))) }
+    ensures kept { OnErr result (Consumes (prepend_known lines.old.held (S.left trace.old))
+        (prepend_known lines.new.held (S.left trace.new)) []) }
+{
+    let ended = lines.read_line(trace)?;
+    Ok(next_by(line_names(lines.line()), ended))
 }
 
 /// The choices that a trace's lines name, up to the line of its state, or the first line that is no line of a trace. What
@@ -47,26 +86,22 @@ pub fn choices_in<S: Source>(alloc: Global, trace: &mut S) -> Result<Named, Nami
     ensures read { result ≡ Err NamingFault.Read → IsTrue (S.has_failed trace.new)
         ⊎ GivesOnAndOn (S.left trace.old) (S.left trace.new) }
 {
-    let mut lines = SourceLines::new();
-    let mut line = Vec::new(alloc);
+    let Ok(mut lines) = SourceLines::new(alloc) else {
+        return Err(NamingFault::Memory);
+    };
     let mut runs = Vec::new(alloc);
     for before in 0..MOST_LINES {
-        let ended = match lines.read_line(trace, &mut line) {
-            Ok(ended) => ended,
-            Err(LineFault::Memory) => return Err(NamingFault::Memory),
-            Err(LineFault::Read) => return Err(NamingFault::Read),
-        };
-        match line_names(line.as_slice()) {
-            LineNames::Nothing => return Ok(Named::NotATrace { line: before + 1 }),
-            LineNames::State => return Ok(Named::Choices(runs)),
-            LineNames::Made(choice) => {
-                if is_at_end(ended) {
-                    return Ok(Named::NotATrace { line: before + 2 });
-                }
-                if push(&mut runs, choice).is_err() {
+        match next_name(&mut lines, trace) {
+            Ok(NextName::Made(choice)) => {
+                if runs.reserve(1).is_err() {
                     return Err(NamingFault::Memory);
                 }
+                push_joined(&mut runs, choice);
             }
+            Ok(NextName::State) => return Ok(Named::Choices(runs)),
+            Ok(NextName::NotATrace) => return Ok(Named::NotATrace { line: before + 1 }),
+            Ok(NextName::CutOff(_)) => return Ok(Named::NotATrace { line: before + 2 }),
+            Err(_) => return Err(NamingFault::Read),
         }
     }
     Err(NamingFault::Read)

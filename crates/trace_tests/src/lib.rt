@@ -1,7 +1,9 @@
-//! Tests of traces by the public calls: programs and schedules with their whole traces, and traces with what a comparison says
-//! of them. They stand in a crate of their own, above the assembler.
+//! Tests of traces by the public calls: programs and schedules with their whole traces, traces with what a comparison says of
+//! them, and with their schedules. They stand in a crate of their own, above the assembler.
 #![tactic(auto)]
 
+#[cfg(test)]
+mod choices;
 #[cfg(test)]
 mod comparisons;
 #[cfg(test)]

@@ -1,18 +1,19 @@
 //! Whether a run ended as it was expected to.
 ghost use Rattle.std.specs.Prelude.{◌≡◌, ◌≢◌, Option, Some, None};
 ghost use Rattle.thread_machine.specs.declared.standing.Standing.{Standing};
+ghost use Rattle.workbench.specs.declared.done.Done.TheVariants as done;
 
 use thread_machine::Standing;
-use workbench::fault::{DONE, UNLIKE};
+use workbench::done::Done;
 
-/// The status of a command whose run ended so: 1 where it was expected to end otherwise.
-pub fn as_expected(expected: Option<Standing>, standing: Standing) -> u8
-    ensures open { expected ≡ None → result ≡ 0 }
-    ensures met { expected ≡ Some standing → result ≡ 0 }
-    ensures unlike { (other : Standing) → expected ≡ Some other → other ≢ standing → result ≡ 1 }
+/// What a command comes to whose run ended so.
+pub fn as_expected(expected: Option<Standing>, standing: Standing) -> Done
+    ensures open { expected ≡ None → result ≡ done.AsAsked }
+    ensures met { expected ≡ Some standing → result ≡ done.AsAsked }
+    ensures unlike { (other : Standing) → expected ≡ Some other → other ≢ standing → result ≡ done.Unlike }
 {
     match expected {
-        Some(expected) if expected != standing => UNLIKE,
-        _ => DONE,
+        Some(expected) if expected != standing => Done::Unlike,
+        _ => Done::AsAsked,
     }
 }

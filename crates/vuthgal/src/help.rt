@@ -1,12 +1,14 @@
 //! The words that follow what is told, where standard error is a terminal: a person's help alone.
 
+use crate::printable;
 use byte_ports::{Sink, WritePort};
 use command_line::request::Request;
 use refusal_place::place::{Named, ProgramFile, push_place};
-use std::alloc::Global;
+use std::alloc::AllocError;
 use std::fmt::Display;
 use std::fs;
 use std::io::IsTerminal;
+use workbench::fault::Fault;
 use workbench::run_line::split_at_run;
 
 /// How long a file is that is read again.
@@ -73,37 +75,41 @@ fn program_file<'a>(name: &'a str, bytes: &'a [u8]) -> ProgramFile<'a> {
     }
 }
 
-/// Shows where the refusal is that a line told, and says what it means.
-pub fn push_refusal(rt: &HostRuntime, line: &[u8], files: Files<'_>) {
-    let Ok(told) = str::from_utf8(line) else {
-        return;
-    };
+/// Shows where a fault is, and says what it means.
+pub fn push_help(rt: &HostRuntime, fault: Fault, files: Files<'_>) {
     if !rt.stderr().is_terminal() {
         return;
     }
     let program = contents(rt, files.program);
     let program = program_file(files.program, program.as_slice());
-    let mut errors = WritePort::new(rt.stderr());
+    let mut errors = WritePort::new(printable::errors(rt));
     let _ = match files.schedule {
-        None => push_place(rt.alloc(), told, program, None, &mut errors),
+        None => push_place(rt.alloc(), fault, program, None, &mut errors),
         Some(name) => {
             let schedule = contents(rt, name);
             let schedule = Named {
                 name,
                 bytes: schedule.as_slice(),
             };
-            push_place(rt.alloc(), told, program, Some(schedule), &mut errors)
+            push_place(rt.alloc(), fault, program, Some(schedule), &mut errors)
         }
     };
 }
 
+/// Writes a text to standard error, if there was memory for it.
+pub fn push_text(rt: &HostRuntime, text: Result<String, AllocError>) {
+    if let Ok(text) = text {
+        let _ = WritePort::new(printable::errors(rt)).push(text.as_bytes());
+    }
+}
+
 /// Says which file can't be opened and why, and what the line means.
-pub fn push_reason<R: Display>(rt: &HostRuntime, told: &str, path: &str, reason: &R) {
+pub fn push_reason<R: Display>(rt: &HostRuntime, fault: Fault, path: &str, reason: &R) {
     if rt.stderr().is_terminal() {
-        let _ = eprintln!(rt; "{path}: {reason}");
+        push_text(rt, format!(in rt.alloc(); "{path}: {reason}\n"));
         let nothing = program_file(path, &[]);
-        let mut errors = WritePort::new(rt.stderr());
-        let _ = push_place(rt.alloc(), told, nothing, None, &mut errors);
+        let mut errors = WritePort::new(printable::errors(rt));
+        let _ = push_place(rt.alloc(), fault, nothing, None, &mut errors);
     }
 }
 
@@ -114,11 +120,12 @@ pub fn push_file_hint(rt: &HostRuntime, words: &[String]) {
     };
     let path = word.as_str();
     if fs::metadata(rt, path).is_ok() {
-        let _ = eprintln!(rt;
-            "{path} is a file: `vuthgal < {path}` plays a text with its schedule,"
-        );
-        let _ = eprintln!(rt;
-            "`vuthgal run {path} SCHEDULE` a program under a schedule of its own"
+        push_text(
+            rt,
+            format!(in rt.alloc();
+                "{path} is a file: `vuthgal < {path}` plays a text with its schedule,\n\
+             `vuthgal run {path} SCHEDULE` a program under a schedule of its own\n"
+            ),
         );
     }
 }

@@ -1,12 +1,14 @@
 //! Why no command is begun.
 
-use crate::ending::told;
-use crate::help::{push_file_hint, push_reason};
+use crate::help::{push_file_hint, push_reason, push_text};
+use byte_ports::WritePort;
 use clap::Error as WordsError;
 use clap::error::ErrorKind;
 use std::io;
+use std::io::IsTerminal;
 use thiserror::Error;
-use workbench::fault::{DONE, Fault};
+use workbench::done::{Done, settled};
+use workbench::fault::Fault;
 
 /// The status where the words are wrong.
 const WRONG_WORDS: u8 = 2;
@@ -28,6 +30,11 @@ pub enum NoCommand<'a> {
     OneFile(&'a str),
 }
 
+/// Tells a fault that comes before a command.
+fn told(rt: &HostRuntime, fault: Fault) -> u8 {
+    settled(Err(fault), &mut WritePort::new(rt.stderr()))
+}
+
 impl<'a> NoCommand<'a> {
     /// The exit status: of what a command would tell too, that command's.
     fn status(&self) -> u8 {
@@ -37,7 +44,7 @@ impl<'a> NoCommand<'a> {
             NoCommand::Words(error) if error.kind() == ErrorKind::OutOfMemory =>
                 Fault::Memory.status(),
             NoCommand::Words(error) if error.use_stderr() => WRONG_WORDS,
-            NoCommand::Words(_) => DONE,
+            NoCommand::Words(_) => Done::AsAsked.status(),
             NoCommand::Unread(_, _) => Fault::Read.status(),
             NoCommand::Unwritten(_, _) | NoCommand::OneFile(_) => Fault::Write.status(),
         }
@@ -48,7 +55,9 @@ impl<'a> NoCommand<'a> {
         if error.kind() == ErrorKind::OutOfMemory {
             return told(rt, Fault::Memory);
         }
-        if error.print(rt).is_err() && self.status() == DONE {
+        if error.use_stderr() && rt.stderr().is_terminal() {
+            push_text(rt, format!(in rt.alloc(); "{error}"));
+        } else if error.print(rt).is_err() && self.status() == Done::AsAsked.status() {
             return told(rt, Fault::Write);
         }
         if error.kind() == ErrorKind::InvalidSubcommand {
@@ -64,11 +73,11 @@ impl<'a> NoCommand<'a> {
         }
         let _ = eprintln!(rt; "{self}");
         match self {
-            NoCommand::Unread(path, error) => push_reason(rt, "read", path, error),
-            NoCommand::Unwritten(path, error) => push_reason(rt, "write", path, error),
+            NoCommand::Unread(path, error) => push_reason(rt, Fault::Read, path, error),
+            NoCommand::Unwritten(path, error) => push_reason(rt, Fault::Write, path, error),
             NoCommand::OneFile(path) => push_reason(
                 rt,
-                "write",
+                Fault::Write,
                 path,
                 &"it is the file that is read",
             ),

@@ -2,4 +2,4 @@
 
 /// The version, the kit whose logic proves it, and the sum of the sources but for this file.
 pub const VERSION: &str =
-    "0.1.0\nkit rattle-kit-13f logic dac8208d650f15bf\nsources 99c5bba0da3b3abdf728c656fc8ea2039dcca720d020c605327d61eaa1511690";
+    "0.1.0\nkit rattle-kit-13b logic dac8208d650f15bf\nsources c507e1478bd29e2cbcc951b699ac2fa9b6eb33ec0d01f01724e124936ce3abdf";

@@ -8,10 +8,11 @@ ghost use Rattle.std.specs.Prelude.{◌≡◌, ◌≤◌, ◌+◌, IfOk, length}
 ghost use Rattle.std.specs.Io.KnownBytes.{ReadConsumes};
 ghost use Rattle.byte_ports.specs.Port.{FailsForGood};
 
-use byte_ports::{Failed, Source};
+use byte_ports::{BlockPort, Failed, Source, WritePort};
 use race::Pace;
+use std::alloc::AllocError;
 use std::io;
-use std::io::{IsTerminal, Write};
+use std::io::{IsTerminal, Stdout, Write};
 use std::sync::atomic::{AtomicU64, Ordering};
 use std::time::Instant;
 use thread_runner::Gate;
@@ -123,6 +124,16 @@ impl<'a, W: Write> Write for ShownWriter<'a, W> {
         }
         self.writer.flush()
     }
+}
+
+/// Standard output, for a trace.
+pub fn trace_port<'a>(
+    rt: &'a HostRuntime,
+) -> Result<BlockPort<WritePort<ShownWriter<'a, Stdout>>>, AllocError> {
+    BlockPort::new(
+        rt.alloc(),
+        WritePort::new(ShownWriter::new(rt, rt.stdout())),
+    )
 }
 
 /// A source that shows how far a trace was read.

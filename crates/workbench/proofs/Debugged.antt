@@ -5,11 +5,15 @@ use Rattle.row_code.specs.declared.image.Image.{Image}
 use Rattle.thread_machine.specs.World.{StoredWorld, world_of}
 use Rattle.trace_compare.specs.Start.{Begins}
 use Rattle.debugger.specs.Session.{Session}
+use Rattle.debugger.specs.Command.{Go}
+use Rattle.debugger.specs.Reply.{Replies}
+use Rattle.schedule_reader.specs.declared.run.Run.{Run}
+use Rattle.std.specs.Io.KnownBytes.{Appends}
 use Rattle.workbench.specs.declared.fault.Fault.{Fault}
 use Rattle.workbench.specs.declared.fault.Fault.TheVariants as fault
 use Rattle.workbench.specs.Fault.{status_of}
 use Rattle.workbench.specs.Run.{GivesProgram}
-use Rattle.workbench.specs.Debug.{Ending, Finished, HasConversed, HasDebugged, Unanswered, first_session}
+use Rattle.workbench.specs.Debug.{Ending, Finished, HasConversed, HasDebugged, HasDebuggedBehind, Unanswered, first_session}
 
 -- the session is that of an image's program
 abbrev pub IsFirst : Image → Session → Type 0
@@ -43,3 +47,12 @@ without_memory (Err f) image session f0 f1 c0 c1 o0 o1 first program (inr (inl i
     λ status. absurd (four f fault.Read is refl status)
 without_memory (Err f) image session f0 f1 c0 c1 o0 o1 first program (inr (inr is)) memory =
     λ status. absurd (four f fault.Write is refl status)
+
+-- the conversation behind runs that were played as `g` plays them
+pub behind : (result : Result (Unit {0}) Fault) (image : Image) (session now : Session) (runs : List Run) (reply : List ℕ)
+    (f0 f1 c0 c1 o0 om o1 : Option (List ℕ)) → IsFirst image session → GivesProgram f0 f1 image
+    → Replies session (Go runs) now reply → Appends o0 om reply → OnOk result (HasConversed Finished now c0 c1 om o1)
+    → OnOk result (HasDebuggedBehind runs f0 f1 c0 c1 o0 o1)
+behind (Ok done) image session now runs reply f0 f1 c0 c1 o0 om o1 first program replies appended conversed =
+    (image, (first.0, (now, (reply, (om, (program, first.1.0, subst (λ s. Replies s (Go runs) now reply) first.1.1 replies, appended, conversed))))))
+behind (Err e) image session now runs reply f0 f1 c0 c1 o0 om o1 first program replies appended conversed = conversed

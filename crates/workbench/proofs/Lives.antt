@@ -144,3 +144,4 @@ port_of (fault.Asm f) A B C D read write five = absurd (refusal_port (asm_number
 port_of (fault.Image f) A B C D read write five = absurd (refusal_port (image_number f) five)
 port_of (fault.Load f) A B C D read write five = absurd (refusal_port (load_number f) five)
 port_of (fault.Schedule f) A B C D read write five = absurd (refusal_port (schedule_number f) five)
+port_of (fault.TooLong kind) A B C D read write five = absurd (omega (arith, five))

@@ -16,6 +16,7 @@ use Rattle.trace_compare.specs.RunText as run
 use Rattle.trace_compare.specs.Start.{IsRefused}
 use Rattle.trace_compare.specs.Trace.{lines_of}
 use Rattle.workbench.specs.declared.fault.Fault.{Fault}
+use Rattle.workbench.specs.declared.fault.PictureKind.{PictureKind}
 use Rattle.workbench.specs.declared.fault.Fault.TheVariants as fault
 use Rattle.workbench.specs.Both.{AreRefusedFor, HasTracedTheSame, IsTraceOf, IsTracedAtMost}
 use Rattle.workbench.specs.Input.{GivesAll}
@@ -68,6 +69,7 @@ pub whole-refused : {A : Type 0} (result : Result A Fault) (image : Image) (text
     → ((f : ScheduleFault) → result ≡ Err (fault.Schedule f)
     → HasRunToFault image f (Some schedule) (Some after) output_before output_after)
     → ((f : AsmFault) → result ≢ Err (fault.Asm f)) × ((f : ImageFault) → result ≢ Err (fault.Image f))
+    × ((kind : PictureKind) → result ≢ Err (fault.TooLong kind))
     → IfErr result (λ f. status_of f ≡ 3
     → AreRefusedFor f (program_part text) (schedule_part text) output_before output_after)
 whole-refused (Ok x) image text schedule after output_before output_after is stands load faulty other = tt
@@ -81,6 +83,8 @@ whole-refused (Err (fault.Schedule f)) image text schedule after output_before o
     let (world, (bytes, (runs, (begins, consumed, has_fault, appended)))) = faulty f refl in
     let finished = whole_fault (schedule_part text) bytes after runs f (sym is ∙ consumed) has_fault in
     (lines_of world (choices_of runs), ((image, (world, (runs, (stands, begins, finished, refl)))), appended))
+whole-refused (Err (fault.TooLong kind)) image text schedule after output_before output_after is stands load faulty other =
+    absurd (other.2 kind refl)
 whole-refused (Err fault.Memory) image text schedule after output_before output_after is stands load faulty other =
     λ three. absurd (omega (arith, three))
 whole-refused (Err fault.Spawn) image text schedule after output_before output_after is stands load faulty other =

@@ -6,7 +6,8 @@ use Rattle.row_code.specs.declared.image.Image.{Image}
 use Rattle.thread_machine.specs.World.{StoredWorld, world_of}
 use Rattle.trace_compare.specs.Start.{Begins}
 use Rattle.debugger.specs.Session.{Session}
-use Rattle.debugger.specs.Command.{Quit, line_order}
+use Rattle.schedule_reader.specs.declared.run.Run.{Run}
+use Rattle.debugger.specs.Command.{Go, Quit, line_order}
 use Rattle.debugger.specs.Reply.{Replies}
 use Rattle.workbench.specs.Run.{GivesProgram, IsUntouched}
 
@@ -70,6 +71,15 @@ HasDebugged ending file_before file_after commands_before commands_after output_
     ((ending ≢ Finished) × IsUntouched commands_before commands_after output_before output_after)
     ⊎ ((image : Image) × ((world : StoredWorld) × (GivesProgram file_before file_after image × Begins image (world_of world)
     × HasConversed ending (first_session world) commands_before commands_after output_before output_after)))
+
+-- the file was read to its end; in the first session of its program these runs were played, and told as `g` tells them; then
+-- the rest of the session was held to its end
+abbrev pub HasDebuggedBehind : List Run → (file_before file_after commands_before commands_after output_before output_after : Option (List ℕ)) → Type 0
+HasDebuggedBehind runs file_before file_after commands_before commands_after output_before output_after =
+    (image : Image) × ((world : StoredWorld) × ((now : Session) × ((reply : List ℕ) × ((output_then : Option (List ℕ))
+    × (GivesProgram file_before file_after image × Begins image (world_of world)
+    × Replies (first_session world) (Go runs) now reply × Appends output_before output_then reply
+    × HasConversed Finished now commands_before commands_after output_then output_after)))))
 
 -- what was read of the commands ends with an LF, or with the commands
 abbrev pub HasReadLines : (commands_before commands_after : Option (List ℕ)) → Type 0

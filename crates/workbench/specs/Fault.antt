@@ -17,6 +17,8 @@ use Rattle.schedule_reader.specs.declared.fault.ScheduleFault.TheVariants as sch
 use Rattle.tier_tree.specs.Declaration.{fault_number}
 use Rattle.workbench.specs.declared.fault.Fault.{Fault}
 use Rattle.workbench.specs.declared.fault.Fault.TheVariants as fault
+use Rattle.workbench.specs.declared.fault.PictureKind.{PictureKind}
+use Rattle.workbench.specs.declared.fault.PictureKind.TheVariants as picture
 
 -- the exit status of a refusal by the number of its kind: missing memory has none
 abbrev pub refusal_status : Option ℕ → ℕ
@@ -29,6 +31,7 @@ status_of (fault.Asm f) = refusal_status (asm_number f.kind)
 status_of (fault.Image f) = refusal_status (image_number f)
 status_of (fault.Load f) = refusal_status (load_number f)
 status_of (fault.Schedule f) = refusal_status (schedule_number f)
+status_of (fault.TooLong kind) = 3
 status_of fault.Memory = 4
 status_of fault.Spawn = 4
 status_of fault.Read = 5
@@ -83,12 +86,18 @@ schedule_place (schedule.Number at) = counted (codes " ") at
 schedule_place (schedule.Repeat at) = counted (codes " ") at
 schedule_place schedule.Memory = []
 
+-- the line of more choices than a picture shows
+abbrev pub too_long : PictureKind → List ℕ
+too_long picture.Page = codes "refused show 2000\n"
+too_long picture.Drawing = codes "refused draw 2000\n"
+
 -- the line on standard error
 abbrev pub line_of : Fault → List ℕ
 line_of (fault.Asm f) = text_line f.line (asm_number f.kind)
 line_of (fault.Image f) = refusal_line (codes "refused image ") (image_number f) (image_place f)
 line_of (fault.Load f) = refusal_line (codes "refused load ") (load_number f) (load_place f)
 line_of (fault.Schedule f) = refusal_line (codes "refused schedule ") (schedule_number f) (schedule_place f)
+line_of (fault.TooLong kind) = too_long kind
 line_of fault.Memory = codes "memory\n"
 line_of fault.Spawn = codes "spawn\n"
 line_of fault.Read = codes "read\n"

@@ -2,6 +2,7 @@ pub mod Asm
 pub mod Both
 pub mod Compare
 pub mod Debug
+pub mod Done
 pub mod Fault
 pub mod Input
 pub mod List

@@ -6,7 +6,8 @@ ghost use Rattle.workbench.specs.Asm.{HasAssembled, HasTextFault};
 ghost use Rattle.workbench.specs.Fault.{HasTold, status_of};
 ghost use Rattle.workbench.specs.Input.{GivesTooMuch};
 
-use crate::fault::{DONE, Fault};
+use crate::done::{Done, settled};
+use crate::fault::Fault;
 use crate::input::read_all;
 use assembler::assemble;
 use byte_ports::{Sink, Source};
@@ -38,16 +39,13 @@ pub fn asm_cmd<S: Source, K: Sink, E: Sink>(
         ⊎ IsTrue (K.has_failed output.new)) }
 {
     match asm(alloc, input, output) {
-        Ok(()) => DONE,
-        Err(fault) => {
-            let _ = fault.tell(errors);
-            fault.status()
-        }
+        Ok(_) => settled(Ok(Done::AsAsked), errors),
+        Err(fault) => settled(Err(fault), errors),
     }
 }
 
 /// The same with the fault that decides the status.
-fn asm<S: Source, K: Sink>(alloc: Global, input: &mut S, output: &mut K) -> Result<(), Fault>
+pub fn asm<S: Source, K: Sink>(alloc: Global, input: &mut S, output: &mut K) -> Result<(), Fault>
     ensures done { OnOk result (HasAssembled (S.left input.old) (S.left input.new)
         (K.written output.old) (K.written output.new)) }
     ensures refused { IfErr result (λ fault. status_of fault ≡ 3

@@ -9,7 +9,8 @@ ghost use Rattle.assembler.specs.Meaning.{StandsFor};
 ghost use Rattle.row_code.specs.declared.image.Image.{Image};
 ghost use Rattle.trace_compare.specs.RunText.{EndsAs, HasWrittenTheSame};
 
-use crate::fault::{DONE, Fault};
+use crate::done::{Done, settled};
+use crate::fault::Fault;
 use crate::input::read_all;
 use crate::play::play;
 use crate::run_line::split_at_run;
@@ -49,11 +50,8 @@ pub fn both_cmd<S: Source, K: Sink, E: Sink>(
         ⊎ IsTrue (K.has_failed output.new)) }
 {
     match both(alloc, input, output) {
-        Ok(_) => DONE,
-        Err(fault) => {
-            let _ = fault.tell(errors);
-            fault.status()
-        }
+        Ok(_) => settled(Ok(Done::AsAsked), errors),
+        Err(fault) => settled(Err(fault), errors),
     }
 }
 

@@ -9,12 +9,15 @@ ghost use Rattle.trace_compare.specs.Compare.{HasCompared};
 ghost use Rattle.trace_compare.specs.RunText.{GivesOnAndOn};
 ghost use Rattle.trace_compare.specs.Start.{IsRefused};
 ghost use Rattle.workbench.specs.declared.fault.Fault.{Fault};
+ghost use Rattle.workbench.specs.declared.fault.PictureKind.{PictureKind};
 ghost use Rattle.workbench.specs.Compare.{HasComparedFile, verdict_line, verdict_status};
+ghost use Rattle.workbench.specs.Done.{done_status};
 ghost use Rattle.workbench.specs.Fault.{HasTold, status_of};
 ghost use Rattle.workbench.specs.Input.{GivesTooMuch};
 ghost use Rattle.workbench.specs.Run.{HasNoRun};
 
-use crate::fault::{DONE, Fault, UNLIKE, push_counted_line};
+use crate::done::{Done, settled};
+use crate::fault::{Fault, push_counted_line};
 use crate::program_file::read_program;
 use byte_ports::{Failed, Sink, Source};
 use row_code::Image;
@@ -51,17 +54,23 @@ pub fn compare_cmd<F: Source, S: Source, K: Sink, E: Sink>(
         ⊎ IsTrue (K.has_failed output.new)) }
 {
     match compared(alloc, file, trace, output) {
-        Ok(Verdict::Same) => DONE,
-        Ok(Verdict::Differs { .. } | Verdict::NotATrace { .. }) => UNLIKE,
-        Err(fault) => {
-            let _ = fault.tell(errors);
-            fault.status()
-        }
+        Ok(verdict) => settled(Ok(done_by(verdict)), errors),
+        Err(fault) => settled(Err(fault), errors),
+    }
+}
+
+/// Whether a trace is the run's.
+pub fn done_by(verdict: Verdict) -> Done
+    ensures { done_status result ≡ verdict_status verdict }
+{
+    match verdict {
+        Verdict::Same => Done::AsAsked,
+        Verdict::Differs { .. } | Verdict::NotATrace { .. } => Done::Unlike,
     }
 }
 
 /// The same with the verdict, or the fault, that decides the status.
-fn compared<F: Source, S: Source, K: Sink>(
+pub fn compared<F: Source, S: Source, K: Sink>(
     alloc: Global,
     file: &mut F,
     trace: &mut S,
@@ -105,6 +114,7 @@ pub fn verdict_on<S: Source>(alloc: Global, image: Image, trace: &mut S) -> Resu
     ensures other { ((fault : AsmFault) → result ≢ Err (Fault.Asm fault))
         × ((fault : ImageFault) → result ≢ Err (Fault.Image fault))
         × ((fault : ScheduleFault) → result ≢ Err (Fault.Schedule fault))
+        × ((kind : PictureKind) → result ≢ Err (Fault.TooLong kind))
         × (result ≢ Err Fault.Spawn)
         × (result ≢ Err Fault.Write) }
 {

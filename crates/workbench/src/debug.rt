@@ -10,17 +10,20 @@ ghost use Rattle.trace_compare.specs.Start.{Begins, IsRefused};
 ghost use Rattle.debugger.specs.Command.{goes_on, line_order};
 ghost use Rattle.debugger.specs.Reply.{Replies};
 ghost use Rattle.workbench.specs.declared.fault.Fault.{Fault};
-ghost use Rattle.workbench.specs.Debug.{Cut, Exchange, Finished, GivesFew, HasConversed, HasDebugged, HasReadLines, IsDialogue, Unanswered, bytes_of, first_session};
+ghost use Rattle.workbench.specs.declared.fault.PictureKind.{PictureKind};
+ghost use Rattle.workbench.specs.Debug.{Cut, Exchange, Finished, GivesFew, HasConversed, HasDebugged, HasDebuggedBehind, HasReadLines, IsDialogue, Unanswered, bytes_of, first_session};
 ghost use Rattle.workbench.specs.Fault.{HasTold, status_of};
 ghost use Rattle.workbench.specs.Input.{GivesInEach, GivesTooMuch, IsCounted};
 ghost use Rattle.workbench.specs.Run.{HasNoRun};
 
-use crate::fault::{DONE, Fault};
+use crate::done::{Done, settled};
+use crate::fault::Fault;
 use crate::input_line::read_line;
 use crate::program_file::read_program;
 use byte_ports::{Sink, Source};
 use debugger::{CommandFault, Debugger};
 use row_code::Image;
+use schedule_reader::Run;
 use std::alloc::Global;
 use trace_compare::start::{StartFault, first_machine};
 
@@ -66,11 +69,8 @@ pub fn debug_cmd<F: Source, S: Source, K: Sink, E: Sink>(
         ⊎ IsTrue (K.has_failed output.new)) }
 {
     match debug(alloc, file, commands, output) {
-        Ok(()) => DONE,
-        Err(fault) => {
-            let _ = fault.tell(errors);
-            fault.status()
-        }
+        Ok(_) => settled(Ok(Done::AsAsked), errors),
+        Err(fault) => settled(Err(fault), errors),
     }
 }
 
@@ -111,6 +111,41 @@ pub fn debug<F: Source, S: Source, K: Sink>(
     converse(alloc, &mut debugger, commands, output)
 }
 
+/// The same behind runs of choices, which are played first and told as the command `g` tells them.
+pub fn debug_behind<F: Source, S: Source, K: Sink>(
+    alloc: Global,
+    file: &mut F,
+    runs: &[Run],
+    commands: &mut S,
+    output: &mut K,
+) -> Result<(), Fault>
+    ensures done { OnOk result (HasDebuggedBehind runs.now (F.left file.old) (F.left file.new)
+        (S.left commands.old) (S.left commands.new) (K.written output.old) (K.written output.new)) }
+    ensures refused { IfErr result (λ fault. status_of fault ≡ 3
+        → HasNoRun fault (F.left file.old) (F.left file.new) (S.left commands.old) (S.left commands.new)
+        × (K.written output.new ≡ K.written output.old)) }
+    ensures read { result ≡ Err Fault.Read → (IsTrue (F.has_failed file.new)
+        ⊎ GivesTooMuch (F.left file.old) (F.left file.new))
+        ⊎ (IsTrue (S.has_failed commands.new)
+        ⊎ GivesOnAndOn (S.left commands.old) (S.left commands.new)) }
+    ensures write { result ≡ Err Fault.Write → IsTrue (K.has_failed output.new) }
+    ensures spawn { result ≢ Err Fault.Spawn }
+    ensures few { GivesFew (S.left commands.old) (S.left commands.new) }
+{
+    let image = match read_program(alloc, file) {
+        Ok(image) => image,
+        Err(fault) => return Err(fault),
+    };
+    let mut debugger = match first_debugger(alloc, image) {
+        Ok(debugger) => debugger,
+        Err(fault) => return Err(fault),
+    };
+    match debugger.go_command(runs, output) {
+        Ok(()) => converse(alloc, &mut debugger, commands, output),
+        Err(_) => Err(Fault::Write),
+    }
+}
+
 /// A debugger of an image's program before its first choice.
 fn first_debugger(alloc: Global, image: Image) -> Result<Debugger, Fault>
     ensures first { IfOk result (λ debugger. (world : StoredWorld) × (Begins image (world_of world)
@@ -119,6 +154,7 @@ fn first_debugger(alloc: Global, image: Image) -> Result<Debugger, Fault>
     ensures other { ((fault : AsmFault) → result ≢ Err (Fault.Asm fault))
         × ((fault : ImageFault) → result ≢ Err (Fault.Image fault))
         × ((fault : ScheduleFault) → result ≢ Err (Fault.Schedule fault))
+        × ((kind : PictureKind) → result ≢ Err (Fault.TooLong kind))
         × (result ≢ Err Fault.Spawn) × (result ≢ Err Fault.Read) × (result ≢ Err Fault.Write) }
 {
     let machine = match first_machine(alloc, image) {

@@ -3,7 +3,7 @@ ghost use Rattle.std.specs.Io.KnownBytes.{Appends};
 ghost use Rattle.loader.specs.FaultNumber.{load_number};
 ghost use Rattle.row_code.specs.FaultNumber.{image_number};
 ghost use Rattle.schedule_reader.specs.FaultNumber.{schedule_number};
-ghost use Rattle.workbench.specs.Fault.{counted, counted_line, image_place, line_of, load_place, refusal_line, refusal_status, schedule_place, status_of, target_place, text_line};
+ghost use Rattle.workbench.specs.Fault.{counted, counted_line, image_place, line_of, load_place, refusal_line, refusal_status, schedule_place, status_of, target_place, text_line, too_long};
 
 use assembler::AsmFault;
 use byte_ports::{Failed, Sink};
@@ -12,11 +12,26 @@ use loader::{LoadFault, Place};
 use row_code::ImageFault;
 use schedule_reader::ScheduleFault;
 
-/// The exit status for what went well.
-pub const DONE: u8 = 0;
+/// Which picture of a run is asked for.
+#[derive(Clone, Copy, Debug, PartialEq, Eq)]
+pub enum PictureKind {
+    /// `show`
+    Page,
+    /// `draw`
+    Drawing,
+}
 
-/// The exit status for a trace that isn't the run's.
-pub const UNLIKE: u8 = 1;
+impl PictureKind {
+    /// The line of more choices than such a picture shows.
+    fn too_long(self) -> &'static [u8]
+        ensures { result.now ≡ too_long self }
+    {
+        match self {
+            PictureKind::Page => b"refused show 2000\n",
+            PictureKind::Drawing => b"refused draw 2000\n",
+        }
+    }
+}
 
 /// Why a command gave up.
 #[derive(Clone, Copy)]
@@ -29,6 +44,8 @@ pub enum Fault {
     Load(LoadFault),
     /// The schedule has this fault.
     Schedule(ScheduleFault),
+    /// The schedule has more choices than a picture shows.
+    TooLong(PictureKind),
     /// Out of memory.
     Memory,
     /// A thread can't be started.
@@ -212,6 +229,7 @@ impl Fault {
             Fault::Image(fault) => refusal_status(fault.number()),
             Fault::Load(fault) => refusal_status(fault.number()),
             Fault::Schedule(fault) => refusal_status(fault.number()),
+            Fault::TooLong(_) => 3,
             Fault::Memory | Fault::Spawn => 4,
             Fault::Read | Fault::Write => 5,
         }
@@ -228,6 +246,7 @@ impl Fault {
             Fault::Image(fault) => push_image_line(errors, fault),
             Fault::Load(fault) => push_load_line(errors, fault),
             Fault::Schedule(fault) => push_schedule_line(errors, fault),
+            Fault::TooLong(kind) => errors.push(kind.too_long()),
             Fault::Memory => errors.push(b"memory\n"),
             Fault::Spawn => errors.push(b"spawn\n"),
             Fault::Read => errors.push(b"read\n"),

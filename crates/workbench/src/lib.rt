@@ -12,6 +12,7 @@ pub mod asm;
 pub mod both;
 pub mod compare;
 pub mod debug;
+pub mod done;
 pub mod fault;
 pub mod input;
 mod input_line;

@@ -7,7 +7,8 @@ ghost use Rattle.workbench.specs.Input.{GivesTooMuch};
 ghost use Rattle.workbench.specs.List.{HasListed};
 ghost use Rattle.workbench.specs.Run.{GivesNoProgram};
 
-use crate::fault::{DONE, Fault};
+use crate::done::{Done, settled};
+use crate::fault::Fault;
 use crate::program_file::read_program;
 use assembler::disassemble;
 use byte_ports::{Sink, Source};
@@ -39,16 +40,13 @@ pub fn list_cmd<S: Source, K: Sink, E: Sink>(
         ⊎ IsTrue (K.has_failed output.new)) }
 {
     match list(alloc, file, output) {
-        Ok(()) => DONE,
-        Err(fault) => {
-            let _ = fault.tell(errors);
-            fault.status()
-        }
+        Ok(_) => settled(Ok(Done::AsAsked), errors),
+        Err(fault) => settled(Err(fault), errors),
     }
 }
 
 /// The same with the fault that decides the status.
-fn list<S: Source, K: Sink>(alloc: Global, file: &mut S, output: &mut K) -> Result<(), Fault>
+pub fn list<S: Source, K: Sink>(alloc: Global, file: &mut S, output: &mut K) -> Result<(), Fault>
     ensures done { OnOk result (HasListed (S.left file.old) (S.left file.new)
         (K.written output.old) (K.written output.new)) }
     ensures refused { IfErr result (λ fault. status_of fault ≡ 3

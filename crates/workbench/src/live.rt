@@ -10,13 +10,15 @@ ghost use Rattle.schedule_reader.specs.Schedule.{finished_schedule};
 ghost use Rattle.trace_compare.specs.RunText.{HasRunInPart, HasWrittenTheSame, IsTraceOf};
 ghost use Rattle.trace_compare.specs.Start.{IsRefused};
 ghost use Rattle.workbench.specs.declared.fault.Fault.{Fault};
+ghost use Rattle.workbench.specs.declared.fault.PictureKind.{PictureKind};
 ghost use Rattle.workbench.specs.Fault.{HasTold, status_of};
 ghost use Rattle.workbench.specs.Input.{GivesTooMuch};
 ghost use Rattle.workbench.specs.Live.{HasLived, HasLivedAtMost, HasLivedLong, IsLived, IsLivedAtMost, IsLivedLong, IsRecorded, IsRefusedFor};
 ghost use Rattle.workbench.specs.ProgramFile.{IsProgramFile};
 ghost use Rattle.workbench.specs.Run.{HasNoRun, HasRunTheSame};
 
-use crate::fault::{DONE, Fault};
+use crate::done::{Done, settled};
+use crate::fault::Fault;
 use crate::input::read_all;
 use crate::play::play;
 use crate::program_file::program_in;
@@ -63,51 +65,15 @@ pub fn live_cmd<R: Threads + Wait + Sync, F: Source, K: Sink, E: Sink>(
         ⊎ HasLivedLong limit (F.left file.old) (F.left file.new)))
         ⊎ IsTrue (K.has_failed output.new) }
 {
-    live_through_cmd(threads, alloc, limit, &NoGate, file, output, errors)
-}
-
-/// The same, where each thread passes a gate before each time that it takes the lock. Whom the gate lets go first decides which
-/// run it is, and nothing else.
-pub fn live_through_cmd<R: Threads + Wait + Sync, G: Gate + Sync, F: Source, K: Sink, E: Sink>(
-    threads: &R,
-    alloc: Global,
-    limit: u32,
-    gate: &G,
-    file: &mut F,
-    output: &mut K,
-    errors: &mut E,
-) -> u8
-    requires { limit ≤ 1000000000 }
-    ensures statuses { (result ≡ 0) ⊎ ((result ≡ 3) ⊎ ((result ≡ 4) ⊎ (result ≡ 5))) }
-    ensures done { result ≡ 0 → HasLived limit (F.left file.old) (F.left file.new)
-        (K.written output.old) (K.written output.new) }
-    ensures same { result ≡ 0 → HasRunTheSame (F.left file.old) (F.left file.new)
-        (K.written output.old) (K.written output.new) }
-    ensures told { ((result ≡ 0) × (E.written errors.new ≡ E.written errors.old))
-        ⊎ ((fault : Fault) × ((result ≡ status_of fault)
-        × (HasTold fault (E.has_failed errors.new) (E.written errors.old) (E.written errors.new)
-        × (result ≡ 3 → HasNoRun fault (F.left file.old) (F.left file.new)
-        (K.written output.old) (K.written output.new))
-        × (fault ≡ Fault.Read → HasLivedAtMost limit (F.left file.old) (F.left file.new)
-        (K.written output.old) (K.written output.new))))) }
-    ensures memory { result ≡ 4 → HasLivedAtMost limit (F.left file.old) (F.left file.new)
-        (K.written output.old) (K.written output.new) }
-    ensures port { result ≡ 5 → (IsTrue (F.has_failed file.new)
-        ⊎ (GivesTooMuch (F.left file.old) (F.left file.new)
-        ⊎ HasLivedLong limit (F.left file.old) (F.left file.new)))
-        ⊎ IsTrue (K.has_failed output.new) }
-{
-    match live(threads, alloc, limit, gate, file, output) {
-        Ok(_) => DONE,
-        Err(fault) => {
-            let _ = fault.tell(errors);
-            fault.status()
-        }
+    match live(threads, alloc, limit, &NoGate, file, output) {
+        Ok(_) => settled(Ok(Done::AsAsked), errors),
+        Err(fault) => settled(Err(fault), errors),
     }
 }
 
-/// The same: how the program stands in the end, or the fault that decides the status. The image is read again from the bytes
-/// for the trace.
+/// The same: how the program stands in the end, or the fault that decides the status. Each thread passes a gate before each
+/// time that it takes the lock: whom the gate lets go first decides which run it is, and nothing else. The image is read again
+/// from the bytes for the trace.
 pub fn live<R: Threads + Wait + Sync, G: Gate + Sync, F: Source, K: Sink>(
     rt: &R,
     alloc: Global,
@@ -191,7 +157,8 @@ fn push_trace<K: Sink>(
     ensures write { result ≡ Err Fault.Write → IsTrue (K.has_failed output.new) }
     ensures other { ((fault : AsmFault) → result ≢ Err (Fault.Asm fault))
         × ((fault : ImageFault) → result ≢ Err (Fault.Image fault))
-        × ((fault : ScheduleFault) → result ≢ Err (Fault.Schedule fault)) }
+        × ((fault : ScheduleFault) → result ≢ Err (Fault.Schedule fault))
+        × ((kind : PictureKind) → result ≢ Err (Fault.TooLong kind)) }
 {
     play(alloc, image, &mut SliceSource::new(schedule), output)
 }
@@ -210,6 +177,7 @@ fn recorded<R: Threads + Wait + Sync, G: Gate + Sync>(
     ensures other { ((fault : AsmFault) → result ≢ Err (Fault.Asm fault))
         × ((fault : ImageFault) → result ≢ Err (Fault.Image fault))
         × ((fault : ScheduleFault) → result ≢ Err (Fault.Schedule fault))
+        × ((kind : PictureKind) → result ≢ Err (Fault.TooLong kind))
         × ((result ≢ Err Fault.Read) × (result ≢ Err Fault.Write)) }
 {
     let program = match load(alloc, image) {

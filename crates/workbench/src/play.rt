@@ -5,6 +5,7 @@ ghost use Rattle.schedule_reader.specs.declared.fault.ScheduleFault.{ScheduleFau
 ghost use Rattle.loader.specs.declared.load_fault.LoadFault.{LoadFault};
 ghost use Rattle.trace_compare.specs.RunText.{EndsAs, GivesOnAndOn, HasRun, HasRunInPart, HasRunSoFar, HasRunToFault, HasWrittenTheSame};
 ghost use Rattle.trace_compare.specs.Start.{IsRefused};
+ghost use Rattle.workbench.specs.declared.fault.PictureKind.{PictureKind};
 ghost use Rattle.workbench.specs.Fault.{status_of};
 
 use crate::fault::Fault;
@@ -41,7 +42,8 @@ pub fn play<S: Source, K: Sink>(
     ensures write { result ≡ Err Fault.Write → IsTrue (K.has_failed output.new) }
     ensures spawn { result ≢ Err Fault.Spawn }
     ensures program { ((fault : AsmFault) → result ≢ Err (Fault.Asm fault))
-        × ((fault : ImageFault) → result ≢ Err (Fault.Image fault)) }
+        × ((fault : ImageFault) → result ≢ Err (Fault.Image fault))
+        × ((kind : PictureKind) → result ≢ Err (Fault.TooLong kind)) }
 {
     match run_to_end(alloc, image, schedule, output) {
         Ok(standing) => Ok(standing),

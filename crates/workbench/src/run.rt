@@ -5,7 +5,8 @@ ghost use Rattle.workbench.specs.Fault.{HasTold, status_of};
 ghost use Rattle.workbench.specs.Input.{GivesTooMuch};
 ghost use Rattle.workbench.specs.Run.{HasRunFile, HasRunFileAtMost, HasRunFileSoFar, HasRunFileTo, HasRunRefused, HasRunTheSame};
 
-use crate::fault::{DONE, Fault};
+use crate::done::{Done, settled};
+use crate::fault::Fault;
 use crate::play::play;
 use crate::program_file::read_program;
 use byte_ports::{Sink, Source};
@@ -46,11 +47,8 @@ pub fn run_cmd<F: Source, S: Source, K: Sink, E: Sink>(
         ⊎ IsTrue (K.has_failed output.new)) }
 {
     match run(alloc, file, schedule, output) {
-        Ok(_) => DONE,
-        Err(fault) => {
-            let _ = fault.tell(errors);
-            fault.status()
-        }
+        Ok(_) => settled(Ok(Done::AsAsked), errors),
+        Err(fault) => settled(Err(fault), errors),
     }
 }
 

@@ -1,6 +1,6 @@
 //! Each command over ports of which one fails, in turn at each of its calls.
 use byte_ports::{MemorySink, MemorySource};
-use picture_commands::command::picture_cmd;
+use picture_commands::command::make;
 use picture_commands::drawing::Drawing;
 use picture_commands::page::Page;
 use std::alloc::Global;
@@ -11,6 +11,7 @@ use workbench::asm::asm_cmd;
 use workbench::both::both_cmd;
 use workbench::compare::compare_cmd;
 use workbench::debug::debug_cmd;
+use workbench::done::{as_asked, settled};
 use workbench::list::list_cmd;
 use workbench::live::live_cmd;
 use workbench::run::run_cmd;
@@ -99,14 +100,14 @@ struct Show;
 
 impl Command for Show {
     fn status(alloc: Global, ports: &mut Ports) -> u8 {
-        picture_cmd(
+        let answer = make(
             alloc,
             &Page,
             &mut ports.file,
             &mut ports.other,
             &mut ports.output,
-            &mut ports.errors,
-        )
+        );
+        settled(as_asked(answer), &mut ports.errors)
     }
 }
 
@@ -114,14 +115,14 @@ struct Draw;
 
 impl Command for Draw {
     fn status(alloc: Global, ports: &mut Ports) -> u8 {
-        picture_cmd(
+        let answer = make(
             alloc,
             &Drawing { width: 80 },
             &mut ports.file,
             &mut ports.other,
             &mut ports.output,
-            &mut ports.errors,
-        )
+        );
+        settled(as_asked(answer), &mut ports.errors)
     }
 }
 

@@ -1,9 +1,10 @@
 //! The rows of a program, over ports that fail.
 use byte_ports::{MemorySink, MemorySource};
-use row_listing::rows_cmd;
+use row_listing::list_rows;
 use std::alloc::Global;
 use std::process::Abort;
 use std::test::Fail;
+use workbench::done::{as_asked, settled};
 
 /// One thread and two rows, `jmp #1` and `halt`.
 const IMAGE: &[u8] = b"\
@@ -64,7 +65,8 @@ fn check(rt: &impl Abort, alloc: Global, case: &Case) -> Result<(), Fail> {
     let mut file = MemorySource::new(bytes, reads);
     let mut output = MemorySink::new(alloc, 100, writes)?;
     let mut errors = MemorySink::new(alloc, 100, None)?;
-    let answered = rows_cmd(alloc, &mut file, &mut output, &mut errors);
+    let answer = list_rows(alloc, &mut file, &mut output);
+    let answered = settled(as_asked(answer), &mut errors);
     assert!(rt; answered == status);
     assert!(rt; errors.bytes() == line);
     assert!(rt; output.bytes() == text);

@@ -161,7 +161,8 @@ impl Debugger {
         Ok(())
     }
 
-    fn go_command<W: Sink>(&mut self, runs: &[Run], output: &mut W) -> Result<(), CommandFault>
+    /// Plays the choices of runs as the command `g` does, and writes its reply. It takes no memory.
+    pub fn go_command<W: Sink>(&mut self, runs: &[Run], output: &mut W) -> Result<(), CommandFault>
         ensures replies { IsCarriedOut result self.old (Go runs.now) self.new
             (W.written output.old) (W.written output.new) }
         ensures write { OnErr result (IsTrue (W.has_failed output.new)) }

@@ -1,3 +1,4 @@
+use Rattle.workbench.specs.declared.fault.PictureKind.TheVariants as picture
 use Rattle.picture_commands.proofs.NoPicture.{no_picture}
 use Rattle.picture_commands.proofs.Pages.{page_in_file}
 use Rattle.picture_commands.proofs.page.page_of.Goals as goal
@@ -9,6 +10,6 @@ returns-in-Ok-clause-page c =
 
 pub returns-in-Err-clause-refused : goal.returns-in-Err-clause-refused
 returns-in-Err-clause-refused c =
-    no_picture c.page.result c.in-Err.fault c.fault_of.result c.args.program.now c.args.schedule.now c.in_ok-image.image
+    no_picture c.page.result c.in-Err.fault c.fault_of.result picture.Page c.args.program.now c.args.schedule.now c.in_ok-image.image
     c.in-Err.is c.fault_of.ensures c.in_ok-image.ensures.program (λ f is. (c.page.ensures.load f is).0)
-    c.page.ensures.schedule c.page.ensures.many
+    c.page.ensures.schedule c.page.ensures.many c.page.ensures.refused

@@ -18,11 +18,11 @@ invariant_of-self-in-Ok c =
     let is : world_of after ≡ (played (world_of m) c.args.choice).world = ap (λ (p : Played). p.world) c.in-Ok.ensures.played in
     let replay = replay_more (record { first = first_world m.program m.limit; choices = choices_of c.self.inside.runs.items }) c.args.choice
     (world_of m) (world_of after) c.self.invariant.0 ready c.in-Ok.ensures.accepted is c.step.ensures.threads in
-    let noted : choices_of c.note.new.runs.items ≡ choices_of c.self.inside.runs.items ++ c.args.choice ∷ [] =
-    c.note.ensures.choices ∙ ap (λ runs. choices_of runs ++ c.args.choice ∷ []) c.reserve.ensures.items in
+    let noted : choices_of c.push_joined.new.runs.items ≡ choices_of c.self.inside.runs.items ++ c.args.choice ∷ [] =
+    c.push_joined.ensures.choices ∙ ap (λ runs. choices_of runs ++ c.args.choice ∷ []) c.reserve.ensures.items in
     let more = longer (first_world m.program m.limit) (first_world after.program after.limit) (choices_of c.self.inside.runs.items)
-    (choices_of c.note.new.runs.items) c.args.choice (same_first (world_of m) (world_of after) c.args.choice ready is) noted in
-    (subst (λ (r : Recording). IsReplay r (world_of after)) (sym more) replay, c.note.ensures.runs)
+    (choices_of c.push_joined.new.runs.items) c.args.choice (same_first (world_of m) (world_of after) c.args.choice ready is) noted in
+    (subst (λ (r : Recording). IsReplay r (world_of after)) (sym more) replay, c.push_joined.ensures.runs)
 
 pub returns-in-Ok-clause-recorded : goal.returns-in-Ok-clause-recorded
 returns-in-Ok-clause-recorded c =
@@ -32,10 +32,10 @@ returns-in-Ok-clause-recorded c =
     let ready : is_choice_ready m.program c.args.choice (world_of m).scene ≡ true =
     subst (λ (w : World). is_choice_ready w.program c.args.choice w.scene ≡ true) here c.requires.ready in
     let is : world_of after ≡ (played (world_of m) c.args.choice).world = ap (λ (p : Played). p.world) c.in-Ok.ensures.played in
-    let noted : choices_of c.note.new.runs.items ≡ choices_of c.self.inside.runs.items ++ c.args.choice ∷ [] =
-    c.note.ensures.choices ∙ ap (λ runs. choices_of runs ++ c.args.choice ∷ []) c.reserve.ensures.items in
+    let noted : choices_of c.push_joined.new.runs.items ≡ choices_of c.self.inside.runs.items ++ c.args.choice ∷ [] =
+    c.push_joined.ensures.choices ∙ ap (λ runs. choices_of runs ++ c.args.choice ∷ []) c.reserve.ensures.items in
     longer (first_world m.program m.limit) (first_world after.program after.limit) (choices_of c.self.inside.runs.items)
-    (choices_of c.note.new.runs.items) c.args.choice (same_first (world_of m) (world_of after) c.args.choice ready is) noted
+    (choices_of c.push_joined.new.runs.items) c.args.choice (same_first (world_of m) (world_of after) c.args.choice ready is) noted
     ∙ ap (with_choice c.args.choice) c.self.view_is
 
 pub returns-in-Ok-clause-played : goal.returns-in-Ok-clause-played

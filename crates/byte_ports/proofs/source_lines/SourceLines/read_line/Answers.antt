@@ -1,0 +1,38 @@
+use Rattle.std.proofs.Common.{◌≡◌, ◌∙◌, ◌+◌, ◌≤◌, ap, sym, subst, length, take, drop, arith, length-drop, length-take-le}
+use Rattle.byte_ports.specs.SourceLines.{IsOneLine}
+use Rattle.byte_ports.proofs.Pieces.{front-held, less-line, line-held, taken-held}
+use Rattle.byte_ports.proofs.source_lines.SourceLines.read_line.Goals as goal
+
+pub returns-then-place-gt-MOST_BYTES-clause-bytes :
+    goal.returns-then-place-gt-MOST_BYTES-clause-bytes
+returns-then-place-gt-MOST_BYTES-clause-bytes g c =
+    taken-held (g.S.Source.left c.args.source.now) (g.S.Source.left c.loop-held.source) c.args.self.now.held c.loop-held.self.held
+    c.take_line.new.self.line c.take_line.new.self.held c.loop-held.invariant.bytes
+    (front-held c.loop-held.self.held _ _ 65537 c.take_line.ensures.line c.take_line.ensures.held)
+
+pub returns-then-place-gt-MOST_BYTES-clause-came :
+    goal.returns-then-place-gt-MOST_BYTES-clause-came
+returns-then-place-gt-MOST_BYTES-clause-came g c =
+    ap length c.take_line.ensures.line
+    ∙ length-take-le 65537 c.loop-held.self.held (omega (arith, ap length c.held-held.ensures.value, c.place_of_lf-place.ensures.within, c.if-place-gt-MOST_BYTES.true))
+
+pub returns-then-place-gt-MOST_BYTES-clause-one : goal.returns-then-place-gt-MOST_BYTES-clause-one
+returns-then-place-gt-MOST_BYTES-clause-one g c =
+    subst IsOneLine (sym c.take_line.ensures.line)
+    (less-line 65537 c.place_of_lf-place.result c.loop-held.self.held (omega (arith, c.if-place-gt-MOST_BYTES.true))
+    (subst (λ b. IsOneLine (take c.place_of_lf-place.result b)) c.held-held.ensures.value c.place_of_lf-place.ensures.one))
+
+pub returns-then-place-gt-MOST_BYTES-clause-given :
+    goal.returns-then-place-gt-MOST_BYTES-clause-given
+returns-then-place-gt-MOST_BYTES-clause-given g c = λ _.
+    let within : 65537 ≤ length c.loop-held.self.held =
+    omega (arith, ap length c.held-held.ensures.value, c.place_of_lf-place.ensures.within, c.if-place-gt-MOST_BYTES.true) in
+    let line : length c.take_line.new.self.line ≡ 65537 = ap length c.take_line.ensures.line ∙ length-take-le 65537 c.loop-held.self.held within in
+    omega (arith, line, within, ap length c.take_line.ensures.held, length-drop 65537 c.loop-held.self.held, c.take_line.ensures.reads, c.loop-held.invariant.given)
+
+pub returns-then-place-held-clause-bytes : goal.returns-then-place-held-clause-bytes
+returns-then-place-held-clause-bytes g c =
+    taken-held (g.S.Source.left c.args.source.now) (g.S.Source.left c.loop-held.source) c.args.self.now.held c.loop-held.self.held
+    _ c.take_line-then-place-held.new.self.held c.loop-held.invariant.bytes
+    (line-held c.held-held.result.now c.loop-held.self.held _ _ c.place_of_lf-place.result c.held-held.ensures.value c.if-place-held.true
+    (c.place_of_lf-place.ensures.lf c.if-place-held.true) c.take_line-then-place-held.ensures.line c.take_line-then-place-held.ensures.held)

@@ -1,0 +1,231 @@
+ghost use Rattle.std.specs.Prelude.{◌≡◌, ◌≢◌, ◌≤◌, ◌<◌, ◌+◌, ◌-◌, ◌++◌, ◌⊎◌, [], ℕ, List, length, take, drop, get_or, Ok, IsTrue, IfOk, OnErr, OnOk};
+ghost use Rattle.std.specs.List.{position};
+ghost use Rattle.std.specs.Io.KnownBytes.{Consumes, IsAtEnd, Keeps, prepend_known};
+ghost use Rattle.byte_ports.specs.SourceLines.{Gave, HasCome, IsOneLine, is_lf, taken};
+
+use crate::failed::Failed;
+use crate::source::Source;
+use std::alloc::{AllocError, Global};
+use std::marker::Model;
+
+/// How many bytes are asked for at a time.
+const PIECE: usize = 16_384;
+
+/// How many bytes a line has at most, without its LF.
+const MOST_BYTES: usize = 65_536;
+
+/// Room for a line that lacks its LF, and a piece behind it.
+const ROOM: usize = 81_920;
+
+/// How often a source is read at most.
+const MOST_READS: u64 = 1_000_000_000;
+
+/// How a line ended.
+#[derive(Clone, Copy, Debug, PartialEq, Eq)]
+pub enum LineEnded {
+    /// By its LF.
+    Whole,
+    /// By the end of the source.
+    AtEnd,
+    /// Not yet: it has more than 65,536 bytes, of which the first 65,537 were read.
+    TooLong,
+}
+
+/// The lines of a source, each where it lies in a block. A piece of the source ends anywhere: what of it isn't taken yet is
+/// held.
+#[derive(Drop)]
+pub struct SourceLines {
+    block: Vec<u8>,
+    /// Where the last line begins and ends.
+    start: usize,
+    stop: usize,
+    /// Where what is held begins and ends.
+    at: usize,
+    end: usize,
+    reads: u64,
+}
+
+impl Model for SourceLines {
+    ghost use Rattle.std.specs.Prelude.{◌≡◌, ◌≤◌, length, drop, take};
+    ghost use Rattle.byte_ports.specs.SourceLines.{Lines};
+
+    ghost Value = { Lines };
+
+    ghost view = { λ lines. record {
+      line = drop lines.start (take lines.stop lines.block.items);
+      held = drop lines.at (take lines.end lines.block.items);
+      reads = lines.reads;
+    } };
+
+    ghost invariant = { λ lines. (length lines.block.items ≡ 81920) × (lines.start ≤ lines.stop)
+        × (lines.stop ≤ lines.at) × (lines.at ≤ lines.end) × (lines.end ≤ 81920) × (lines.reads ≤ 1000000000) };
+}
+
+/// Where the first LF stands.
+fn first_lf(bytes: &[u8]) -> Option<usize>
+    ensures { result ≡ position is_lf bytes.now }
+{
+    bytes.iter().position(|byte| *byte == b'\n')
+}
+
+/// The same behind bytes that are none; the end where there is none.
+fn place_of_lf(bytes: &[u8], seen: usize) -> usize
+    requires seen { seen ≤ length bytes.now }
+    requires one { IsOneLine (take seen bytes.now) }
+    ensures order { seen ≤ result }
+    ensures within { result ≤ length bytes.now }
+    ensures one { IsOneLine (take result bytes.now) }
+    ensures lf { result < length bytes.now → get_or bytes.now result 0 ≡ 10 }
+{
+    match first_lf(&bytes[seen..]) {
+        Some(place) => seen + place,
+        None => bytes.len(),
+    }
+}
+
+/// Moves the bytes between two places to the front.
+fn move_front(block: &mut [u8], at: usize, end: usize)
+    requires order { at ≤ end }
+    requires within { end ≤ length block.old }
+    ensures length { length block.new ≡ length block.old }
+    ensures front { take (end - at) block.new ≡ drop at (take end block.old) }
+{
+    block.copy_within(at..end, 0);
+}
+
+/// Gets the next piece behind the first of these bytes, and answers how many bytes it has.
+fn pull_behind<S: Source>(source: &mut S, block: &mut [u8], held: usize) -> Result<usize, Failed>
+    requires { held + 16384 ≤ length block.old }
+    ensures length { length block.new ≡ length block.old }
+    ensures front { take held block.new ≡ take held block.old }
+    ensures few { IfOk result (λ count. count ≤ 16384) }
+    ensures bytes { IfOk result (λ count. Consumes (S.left source.old) (S.left source.new)
+        (take count (drop held block.new))) }
+    ensures end { result ≡ Ok 0 → IsAtEnd (S.left source.new) }
+    ensures failed { OnErr result (IsTrue (S.has_failed source.new) × Keeps (S.left source.old) (S.left source.new)) }
+    ensures reads { S.reads source.new ≤ S.reads source.old + 1 }
+{
+    source.pull(&mut block[held..held + PIECE])
+}
+
+impl SourceLines {
+    /// Before the first line. This alone takes memory.
+    pub fn new(alloc: Global) -> Result<SourceLines, AllocError>
+        ensures { IfOk result (λ lines. lines ≡ record { line = []; held = []; reads = 0 }) }
+    {
+        Ok(SourceLines {
+            block: Vec::from_elem(alloc, 0u8, ROOM)?,
+            start: 0,
+            stop: 0,
+            at: 0,
+            end: 0,
+            reads: 0,
+        })
+    }
+
+    /// The line that was read last, without its LF.
+    #[inline(always)]
+    pub fn line(&self) -> &[u8]
+        ensures { result.now ≡ self.now.line }
+    {
+        &self.block.as_slice()[..self.stop][self.start..]
+    }
+
+    /// What was read of the lines behind it.
+    #[inline(always)]
+    pub fn held(&self) -> &[u8]
+        ensures value { result.now ≡ self.now.held }
+        ensures few { length result.now ≤ 81920 }
+        ensures reads { self.now.reads ≤ 1000000000 }
+    {
+        &self.block.as_slice()[..self.end][self.at..]
+    }
+
+    /// Takes a line of so many bytes, and goes on behind it and what ends it.
+    #[inline(always)]
+    fn take_line(&mut self, size: usize, count: usize)
+        requires size { size ≤ count }
+        requires count { count ≤ length self.old.held }
+        ensures line { self.new.line ≡ take size self.old.held }
+        ensures held { self.new.held ≡ drop count self.old.held }
+        ensures reads { self.new.reads ≡ self.old.reads }
+    {
+        self.start = self.at;
+        self.stop = self.at + size;
+        self.at += count;
+    }
+
+    /// Goes on behind so many bytes of what is held: lines that the caller has seen there.
+    #[inline(always)]
+    pub fn skip(&mut self, count: usize)
+        requires { count ≤ length self.old.held }
+        ensures held { self.new.held ≡ drop count self.old.held }
+        ensures reads { self.new.reads ≡ self.old.reads }
+    {
+        self.take_line(count, count);
+    }
+
+    /// Gets the next piece behind what is held, and answers how many bytes it has.
+    #[inline(never)]
+    fn fill<S: Source>(&mut self, source: &mut S) -> Result<usize, Failed>
+        requires { length self.old.held ≤ 65536 }
+        ensures bytes { Keeps (prepend_known self.old.held (S.left source.old))
+            (prepend_known self.new.held (S.left source.new)) }
+        ensures got { IfOk result (λ count. (got : List ℕ)
+            × ((self.new.held ≡ self.old.held ++ got) × (length got ≡ count) × (count ≤ 16384))) }
+        ensures end { result ≡ Ok 0 → IsAtEnd (S.left source.new) }
+        ensures failed { OnErr result ((IsTrue (S.has_failed source.new)
+            ⊎ ((self.new.reads ≡ 1000000000) × (self.new.reads ≡ self.old.reads))) × (self.new.held ≡ self.old.held)) }
+        ensures counted { self.new.reads ≤ self.old.reads + 1 }
+        ensures reads { S.reads source.new + self.old.reads ≤ S.reads source.old + self.new.reads }
+        ensures within { self.new.reads ≤ 1000000000 }
+    {
+        let held = self.end - self.at;
+        move_front(self.block.as_mut_slice(), self.at, self.end);
+        self.start = 0;
+        self.stop = 0;
+        self.at = 0;
+        self.end = held;
+        if self.reads == MOST_READS {
+            return Err(Failed);
+        }
+        self.reads += 1;
+        let count = pull_behind(source, self.block.as_mut_slice(), held)?;
+        self.end = held + count;
+        Ok(count)
+    }
+
+    /// Reads a line, and asks the source only where no whole line is held: up to its LF, up to the end of the source, or up
+    /// to a byte more than a line may have. A source is read at most 1,000,000,000 times.
+    pub fn read_line<S: Source>(&mut self, source: &mut S) -> Result<LineEnded, Failed>
+        ensures bytes { Consumes (prepend_known self.old.held (S.left source.old))
+            (prepend_known self.new.held (S.left source.new)) (taken result self.new.line) }
+        ensures came { IfOk result (λ how. HasCome how self.new.line (prepend_known self.new.held (S.left source.new))) }
+        ensures one { OnOk result (IsOneLine self.new.line) }
+        ensures given { IfOk result (λ how. how ≢ LineEnded.AtEnd
+            → Gave self.old self.new (length (taken result self.new.line))) }
+        ensures failed { OnErr result (IsTrue (S.has_failed source.new)
+            ⊎ ((self.new.reads ≡ 1000000000) × Gave self.old self.new 0)) }
+        ensures reads { S.reads source.new + self.old.reads ≤ S.reads source.old + self.new.reads }
+        ensures within { self.new.reads ≤ 1000000000 }
+    {
+        let mut seen = 0;
+        loop {
+            let held = self.held();
+            let place = place_of_lf(held, seen);
+            if place > MOST_BYTES {
+                self.take_line(MOST_BYTES + 1, MOST_BYTES + 1);
+                return Ok(LineEnded::TooLong);
+            }
+            if place < held.len() {
+                self.take_line(place, place + 1);
+                return Ok(LineEnded::Whole);
+            }
+            if self.fill(source)? == 0 {
+                self.take_line(place, place);
+                return Ok(LineEnded::AtEnd);
+            }
+            seen = place;
+        }
+    }
+}

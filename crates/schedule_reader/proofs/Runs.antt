@@ -1,0 +1,68 @@
+-- Runs that get one choice more.
+use Rattle.std.proofs.Common.{◌≡◌, ◌∙◌, ◌+◌, ◌<◌, ◌≤◌, ℕ, zero, suc, List, [], ◌∷◌, ◌++◌, length, arith, sym, subst, ap, append_assoc}
+use Rattle.std.proofs.lemmas.List.Elements.{All-append, All-cons, All-nil}
+use Rattle.std.specs.Prelude.{All, replicate, slice_index_or, slice_set}
+use Rattle.std.proofs.lemmas.List.{append-nil, replicate-append-replicate}
+use Rattle.thread_machine.specs.declared.choice.Choice.{Choice}
+use Rattle.schedule_reader.specs.declared.run.Run.{Run}
+use Rattle.schedule_reader.specs.Schedule.{IsRun, choices_of, run_of}
+use Rattle.schedule_reader.specs.Joined.{AreJoined}
+
+once_more : (times : ℕ) (choice : Choice) → replicate (times + 1) choice ≡ replicate times choice ++ choice ∷ []
+once_more times choice = sym (replicate-append-replicate times 1 choice)
+
+-- the last run once more
+pub again : (runs : List Run) (n : ℕ) (d : Run) (choice : Choice) → n + 1 ≡ length runs → (slice_index_or runs n d).choice ≡ choice
+    → choices_of (slice_set runs n (run_of choice ((slice_index_or runs n d).times + 1))) ≡ choices_of runs ++ choice ∷ []
+again [] n d choice last is = absurd (omega (arith, last))
+again (run ∷ []) zero d choice last is =
+    append-nil (replicate (run.times + 1) choice) ∙ once_more run.times choice
+    ∙ ap (λ c. replicate run.times c ++ choice ∷ []) (sym is)
+    ∙ ap (λ cs. cs ++ choice ∷ []) (sym (append-nil (replicate run.times run.choice)))
+again (run ∷ []) (suc n) d choice last is = absurd (omega (arith, last))
+again (run ∷ next ∷ runs) zero d choice last is = absurd (omega (arith, last))
+again (run ∷ next ∷ runs) (suc n) d choice last is =
+    ap (λ cs. replicate run.times run.choice ++ cs) (again (next ∷ runs) n d choice (omega (arith, last)) is)
+    ∙ sym (append_assoc (replicate run.times run.choice) (choices_of (next ∷ runs)) (choice ∷ []))
+
+-- and the runs stay joined: a run has the choice that it had
+joined_next : (run next : Run) (runs : List Run) (n : ℕ) (d more : Run) → more.choice ≡ (slice_index_or (next ∷ runs) n d).choice
+    → (run.choice ≡ next.choice → run.times ≡ 1000000000) → AreJoined (slice_set (next ∷ runs) n more)
+    → AreJoined (run ∷ slice_set (next ∷ runs) n more)
+joined_next run next runs zero d more same apart rest = (λ e. apart (e ∙ same), rest)
+joined_next run next runs (suc n) d more same apart rest = (apart, rest)
+
+pub joined-again : (runs : List Run) (n : ℕ) (d more : Run) → n + 1 ≡ length runs → more.choice ≡ (slice_index_or runs n d).choice
+    → AreJoined runs → AreJoined (slice_set runs n more)
+joined-again [] n d more last same joined = absurd (omega (arith, last))
+joined-again (run ∷ []) zero d more last same joined = joined
+joined-again (run ∷ []) (suc n) d more last same joined = absurd (omega (arith, last))
+joined-again (run ∷ next ∷ runs) zero d more last same joined = absurd (omega (arith, last))
+joined-again (run ∷ next ∷ runs) (suc n) d more last same joined =
+    joined_next run next runs n d more same joined.0 (joined-again (next ∷ runs) n d more (omega (arith, last)) same joined.1)
+
+-- a run of its own
+pub joined-own : (runs : List Run) (n : ℕ) (d more : Run) → n + 1 ≡ length runs
+    → ((slice_index_or runs n d).choice ≡ more.choice → (slice_index_or runs n d).times ≡ 1000000000)
+    → AreJoined runs → AreJoined (runs ++ more ∷ [])
+joined-own [] n d more last apart joined = absurd (omega (arith, last))
+joined-own (run ∷ []) zero d more last apart joined = (apart, joined)
+joined-own (run ∷ []) (suc n) d more last apart joined = absurd (omega (arith, last))
+joined-own (run ∷ next ∷ runs) zero d more last apart joined = absurd (omega (arith, last))
+joined-own (run ∷ next ∷ runs) (suc n) d more last apart joined =
+    (joined.0, joined-own (next ∷ runs) n d more (omega (arith, last)) apart joined.1)
+
+-- a run that a token can spell
+pub spelled : (choice : Choice) (times : ℕ) → choice.thread ≤ 63 → times < 1000000000 → IsRun (run_of choice (times + 1))
+spelled choice times thread few = record { thread = thread; some = omega arith; few = omega (arith, few) }
+
+-- the runs with one of its own behind them
+pub spelled-own : (runs more : List Run) (choice : Choice) → choice.thread ≤ 63 → All IsRun runs → more ≡ runs ++ run_of choice 1 ∷ []
+    → All IsRun more
+spelled-own runs more choice thread are is =
+    subst (All IsRun) (sym is)
+    (All-append IsRun runs (run_of choice 1 ∷ []) are (All-cons IsRun (run_of choice 1) [] (spelled choice 0 thread (omega arith)) (All-nil IsRun)))
+
+pub joined-first : (runs more : List Run) (run : Run) → length runs ≡ 0 → more ≡ runs ++ run ∷ [] → AreJoined more
+joined-first [] more run none is = subst AreJoined (sym is) tt
+joined-first (first ∷ runs) more run none is = absurd (omega (arith, none))

@@ -1,7 +1,0 @@
-use Rattle.std.proofs.Common.{ap, sym}
-use Rattle.workbench.specs.Compare.{verdict_status}
-use Rattle.shown_difference.proofs.command.compare_shown_cmd.Goals as goal
-
-pub returns-in-Ok-Same-clause-done : goal.returns-in-Ok-Same-clause-done
-returns-in-Ok-Same-clause-done g c = λ _.
-    (c.in-Ok-Same.field-0, (sym (ap verdict_status c.in-Ok-Same.field-0-is), c.in-Ok-Same.ensures.done))

@@ -1,0 +1,63 @@
+//! What a terminal is shown: no byte of an input is written to it that would steer it.
+
+ghost use Rattle.std.specs.Io.{WritesAtMost};
+
+use std::io;
+use std::io::{IsTerminal, Stderr, Stdout, Write};
+
+/// How many bytes are written to a terminal at a time.
+const PIECE: usize = 512;
+
+/// A writer to which any byte may be given. Where it is a terminal, a byte that isn't printable ASCII is shown as `?`, a tab as
+/// a blank; LF stays, and so does CR before it. Into a file or a pipe all bytes go as they are.
+#[derive(Drop)]
+pub struct Printable<W> {
+    writer: W,
+    is_terminal: bool,
+}
+
+/// Standard output.
+pub fn output(rt: &HostRuntime) -> Printable<Stdout> {
+    Printable {
+        writer: rt.stdout(),
+        is_terminal: rt.stdout().is_terminal(),
+    }
+}
+
+/// Standard error.
+pub fn errors(rt: &HostRuntime) -> Printable<Stderr> {
+    Printable {
+        writer: rt.stderr(),
+        is_terminal: rt.stderr().is_terminal(),
+    }
+}
+
+/// The byte that a terminal is shown in place of one, by the byte behind it.
+fn shown(byte: u8, next: Option<&u8>) -> u8 {
+    match byte {
+        b'\n' | b' '..=b'~' => byte,
+        b'\r' if next == Some(&b'\n') => byte,
+        b'\t' => b' ',
+        _ => b'?',
+    }
+}
+
+impl<W: Write> Write for Printable<W> {
+    fn write(&mut self, bytes: &[u8]) -> io::Result<usize>
+        ensures bound { WritesAtMost result bytes.now }
+    {
+        if !self.is_terminal {
+            return self.writer.write(bytes);
+        }
+        let mut piece = [b'?'; PIECE];
+        let count = bytes.len().min(PIECE);
+        for (at, byte) in bytes[..count].iter().enumerate() {
+            piece[at] = shown(*byte, bytes.get(at + 1));
+        }
+        self.writer.write(&piece[..count])
+    }
+
+    fn flush(&mut self) -> io::Result<()> {
+        self.writer.flush()
+    }
+}

@@ -1,0 +1,18 @@
+-- How a command ends.
+use Rattle.std.specs.Prelude.{◌≡◌, ℕ, Bool, List, Option, Result, Ok, Err}
+use Rattle.workbench.specs.declared.fault.Fault.{Fault}
+use Rattle.workbench.specs.declared.done.Done.{Done}
+use Rattle.workbench.specs.declared.done.Done.TheVariants as done
+use Rattle.workbench.specs.Fault.{HasTold, status_of}
+
+-- the exit status where there is no fault
+abbrev pub done_status : Done → ℕ
+done_status done.AsAsked = 0
+done_status done.Unlike = 1
+
+-- the exit status of what a command came to, and what was told of it: nothing, or the line of its fault
+abbrev pub IsSettled : Result Done Fault → ℕ → Bool → (errors_before errors_after : Option (List ℕ)) → Type 0
+IsSettled (Ok d) status has_failed errors_before errors_after =
+    (status ≡ done_status d) × (errors_after ≡ errors_before)
+IsSettled (Err f) status has_failed errors_before errors_after =
+    (status ≡ status_of f) × HasTold f has_failed errors_before errors_after

@@ -1,0 +1,52 @@
+//! How a command ends.
+ghost use Rattle.std.specs.Prelude.{◌≡◌, Err, IfErr, Ok, OnOk};
+ghost use Rattle.workbench.specs.declared.done.Done.TheVariants as done;
+ghost use Rattle.workbench.specs.Done.{IsSettled, done_status};
+
+use crate::fault::Fault;
+use byte_ports::Sink;
+
+/// What a command comes to that meets no fault.
+#[derive(Clone, Copy, Debug, PartialEq, Eq)]
+pub enum Done {
+    /// All is as it was asked for.
+    AsAsked,
+    /// A trace isn't the run's, or a run ended otherwise than was expected.
+    Unlike,
+}
+
+impl Done {
+    /// The program's exit status.
+    pub fn status(self) -> u8
+        ensures { result ≡ done_status self }
+    {
+        match self {
+            Done::AsAsked => 0,
+            Done::Unlike => 1,
+        }
+    }
+}
+
+/// What a command comes to that does as it is asked wherever it meets no fault.
+pub fn as_asked<T: Drop>(answer: Result<T, Fault>) -> Result<Done, Fault>
+    ensures done { OnOk answer (result ≡ Ok done.AsAsked) }
+    ensures fault { IfErr answer (λ fault. result ≡ Err fault) }
+{
+    match answer {
+        Ok(_) => Ok(Done::AsAsked),
+        Err(fault) => Err(fault),
+    }
+}
+
+/// The exit status of a command that came to this. A fault's line is written to `errors`; that this may fail changes no status.
+pub fn settled<E: Sink>(answer: Result<Done, Fault>, errors: &mut E) -> u8
+    ensures { IsSettled answer result (E.has_failed errors.new) (E.written errors.old) (E.written errors.new) }
+{
+    match answer {
+        Ok(done) => done.status(),
+        Err(fault) => {
+            let _ = fault.tell(errors);
+            fault.status()
+        }
+    }
+}
