@@ -1,8 +1,8 @@
 //! Each command over ports of which one fails, in turn at each of its calls.
 use byte_ports::{MemorySink, MemorySource};
-use picture_commands::command::make;
-use picture_commands::drawing::Drawing;
-use picture_commands::page::Page;
+use commands::pictures::make;
+use commands::drawing::Drawing;
+use commands::page::Page;
 use std::alloc::Global;
 use std::sync::Wait;
 use std::test::Fail;

@@ -1,6 +1,6 @@
 //! The rows of a program, over ports that fail.
 use byte_ports::{MemorySink, MemorySource};
-use row_listing::list_rows;
+use commands::list_rows;
 use std::alloc::Global;
 use std::process::Abort;
 use std::test::Fail;
