@@ -7,8 +7,8 @@ ghost use Rattle.workbench.specs.Fault.{status_of};
 ghost use Rattle.workbench.specs.Input.{most_bytes};
 ghost use Rattle.workbench.specs.ProgramFile.{IsNoProgramFor};
 
-use crate::picture_fault::{fault_of, start_fault};
 use crate::picture::Picture;
+use crate::picture_fault::{fault_of, start_fault};
 use assembler::{Symbols, assemble_named};
 use row_code::{Image, is_image_file, read_image};
 use run_drawing::picture::picture;

@@ -18,19 +18,19 @@
 //! the trace's is among the bytes that went by last (`lines_seen`).
 #![tactic(auto)]
 
-pub mod pictures;
-pub mod picture;
-pub mod page;
-pub mod drawing;
-pub mod picture_fault;
-pub mod listing;
-mod image_rows;
-mod text_rows;
 pub mod choices;
 pub mod difference;
-pub mod lines_seen;
-mod shown;
+pub mod drawing;
+mod image_rows;
 mod law;
+pub mod lines_seen;
+pub mod listing;
+pub mod page;
+pub mod picture;
+pub mod picture_fault;
+pub mod pictures;
+mod shown;
+mod text_rows;
 
 pub use difference::show_comparison;
 pub use law::{

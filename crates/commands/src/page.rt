@@ -6,8 +6,8 @@ ghost use Rattle.workbench.specs.declared.fault.PictureKind.TheVariants as pictu
 ghost use Rattle.workbench.specs.Fault.{status_of};
 ghost use Rattle.workbench.specs.Input.{most_bytes};
 
-use crate::picture_fault::fault_of;
 use crate::picture::Picture;
+use crate::picture_fault::fault_of;
 use row_code::is_image_file;
 use run_page::page::page;
 use std::alloc::Global;
