@@ -1,5 +1,4 @@
-use assembler::assemble;
-use loader::load;
+use crate::programs::program_of;
 use std::alloc::Global;
 use std::sync::Wait;
 use std::sync::atomic::{AtomicBool, AtomicU32, Ordering};
@@ -112,12 +111,8 @@ fn run<R: Threads + Wait + Sync, G: Gate + Sync>(
     text: &str,
     gate: &G,
 ) -> Result<LiveRun, Fail> {
-    let image = assemble(alloc, text.as_bytes()).ok().ok_or("no image")?;
-    let program = load(alloc, image).ok().ok_or("no program")?;
-    match run_live(rt, alloc, program, 1_000_000, gate) {
-        Ok(run) => Ok(run),
-        Err(_) => Err("the run was broken off".into()),
-    }
+    let run = run_live(rt, alloc, program_of(alloc, text)?, 1_000_000, gate);
+    Ok(run.ok().ok_or("the run was broken off")?)
 }
 
 const TWO: &str = ".thread a m\n.thread b m\nm: ldi r0 1\nldi r0 2\nhalt\n";

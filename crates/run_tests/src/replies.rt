@@ -1,12 +1,11 @@
 //! Replies that can't be written: the command was carried out all the same, and a beginning of its reply may stand.
-use crate::fresh::{are_alike, debugger_of};
+use crate::programs::{MEETING, image_of};
 use byte_ports::MemorySink;
 use debugger::{CommandFault, Debugger};
 use std::alloc::Global;
 use std::test::Fail;
-
-static MEETING: &str =
-    ".phaser p 2\n.thread a main\n.thread b main\nmain: paaa r0 p\nout r0\nhalt\n";
+use trace_compare::start::first_machine;
+use trace_compare::state::state_text;
 
 /// Commands of a session, one after the other. The first breakpoint stops the first `g`, and is cleared before the second.
 static COMMANDS: [&str; 10] = [
@@ -27,7 +26,10 @@ const CALLS: u32 = 20;
 
 /// A debugger that has carried out the first commands.
 fn debugger_behind(alloc: Global, commands: &[&str]) -> Result<Debugger, Fail> {
-    let mut debugger = debugger_of(alloc, MEETING, 100)?;
+    let machine = first_machine(alloc, image_of(alloc, MEETING)?)
+        .ok()
+        .ok_or("not loaded")?;
+    let mut debugger = Debugger::new(alloc, machine, 100)?;
     for line in commands {
         let mut output = MemorySink::new(alloc, 1000, None)?;
         if debugger
@@ -42,7 +44,8 @@ fn debugger_behind(alloc: Global, commands: &[&str]) -> Result<Debugger, Fail> {
 
 /// Whether what a debugger shows and what it stops at are another's: its state, and where a long `g` stops.
 fn is_like(alloc: Global, debugger: &mut Debugger, other: &mut Debugger) -> Result<bool, Fail> {
-    if !are_alike(alloc, debugger.machine(), other.machine())? {
+    let state = state_text(alloc, debugger.machine())?;
+    if state.as_slice() != state_text(alloc, other.machine())?.as_slice() {
         return Ok(false);
     }
     let mut output = MemorySink::new(alloc, 1000, None)?;

@@ -1,7 +1,6 @@
 //! Sources and sinks that fail, in turn at each of their calls.
-use assembler::assemble;
+use crate::programs::{MEETING, image_of};
 use byte_ports::{MemorySink, MemorySource};
-use row_code::Image;
 use std::alloc::{AllocError, Global};
 use std::test::Fail;
 use trace_compare::compare::{CompareFault, Verdict, compare};
@@ -9,9 +8,6 @@ use trace_compare::run::{RunFault, run_text};
 
 /// A thread that goes round for ever.
 const ROUND: &str = ".thread a m\nm: jmp m\n";
-
-const MEETING: &str =
-    ".phaser p 2\n.thread a main\n.thread b main\nmain: paaa r0 p\nout r0\nhalt\n";
 
 const SCHEDULE: &[u8] = b"t0*4 t1 t0*3 t1*2\n";
 
@@ -30,10 +26,6 @@ const LINES: [&str; 11] = [
     "state 10 7 all\nt0 2 ended 0 regs 1 0 0 0 0 0 0 0 stack out 1\n\
 t1 2 ended 0 regs 1 0 0 0 0 0 0 0 stack out 1\np0 1 2 0 2\n",
 ];
-
-fn image_of(alloc: Global, text: &str) -> Result<Image, Fail> {
-    Ok(assemble(alloc, text.as_bytes()).ok().ok_or("a fault")?)
-}
 
 /// The first of these lines, in one.
 fn joined(alloc: Global, count: usize) -> Result<Vec<u8>, AllocError> {
