@@ -6,51 +6,21 @@ use std::sync::Wait;
 use std::test::Fail;
 use std::thread::Threads;
 
-/// The number of the output's `push` that fails, from 0, and what then comes of a race of so many parties and rounds.
-#[derive(Clone, Copy)]
-struct Row {
-    parties: u16,
-    rounds: u32,
-    fail_at: Option<u32>,
-    status: u8,
-    output: &'static [u8],
-    errors: &'static [u8],
-}
-
-const fn expected(
-    parties: u16,
-    rounds: u32,
-    fail_at: Option<u32>,
-    status: u8,
-    output: &'static [u8],
-    errors: &'static [u8],
-) -> Row {
-    Row {
-        parties,
-        rounds,
-        fail_at,
-        status,
-        output,
-        errors,
-    }
-}
-
-fn holds<R: Threads + Wait + Sync>(rt: &R, alloc: Global, row: &Row) -> Result<bool, Fail> {
-    let mut output = MemorySink::new(alloc, 80, row.fail_at)?;
-    let mut errors = MemorySink::new(alloc, 80, None)?;
-    let status = race_cmd(rt, alloc, row.parties, row.rounds, &mut output, &mut errors);
-    Ok(status == row.status && output.bytes() == row.output && errors.bytes() == row.errors)
-}
+/// So many parties and rounds, and what is written of their race.
+const RACES: [(u16, u32, &str); 3] = [
+    (2, 1000, "phase 1000 parties 2 unarrived 2\n"),
+    (1, 3, "phase 3 parties 1 unarrived 1\n"),
+    (16, 20, "phase 20 parties 16 unarrived 16\n"),
+];
 
 #[test]
 fn races(rt: HostRuntime) -> Result<(), Fail> {
-    let table = [
-        expected(2, 1000, None, 0, b"phase 1000 parties 2 unarrived 2\n", b""),
-        expected(1, 3, None, 0, b"phase 3 parties 1 unarrived 1\n", b""),
-        expected(16, 20, None, 0, b"phase 20 parties 16 unarrived 16\n", b""),
-    ];
-    for row in &table {
-        assert!(rt; holds(&rt, rt.alloc(), row)?);
+    for (parties, rounds, line) in &RACES {
+        let mut output = MemorySink::new(rt.alloc(), 80, None)?;
+        let mut errors = MemorySink::new(rt.alloc(), 80, None)?;
+        let status = race_cmd(&rt, rt.alloc(), *parties, *rounds, &mut output, &mut errors);
+        assert!(rt; status == 0 && errors.bytes().is_empty());
+        assert!(rt; output.bytes() == line.as_bytes());
     }
     Ok(())
 }

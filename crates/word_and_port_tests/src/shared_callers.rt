@@ -2,6 +2,8 @@
 ghost use Rattle.std.specs.Prelude.{◌≡◌, IfOk};
 ghost use Rattle.shared_phaser.specs.Known.{phaser_of};
 
+use Call::{Arrive, Force, Register};
+use Reply::{Counted, Dead, TooMany};
 use packed_phaser::Policy;
 use phase_number::Phase;
 use shared_phaser::{Call, NewFault, NotThere, Party, Reply, SharedPhaser};
@@ -11,33 +13,71 @@ use std::test::Fail;
 use std::thread::{Threads, join};
 
 /// A phaser as it is made, one call, and what it answers and leaves.
-#[derive(Clone, Copy)]
-struct Row {
-    parties: u16,
-    phase: i32,
-    policy: Policy,
-    call: Call,
-    reply: Reply,
-    word: u64,
-}
+type Row = (u16, i32, Policy, Call, Reply, u64);
 
-const fn after_one(
-    parties: u16,
-    phase: i32,
-    policy: Policy,
-    call: Call,
-    reply: Reply,
-    word: u64,
-) -> Row {
-    Row {
-        parties,
-        phase,
-        policy,
-        call,
-        reply,
-        word,
-    }
-}
+const ROWS: [Row; 12] = [
+    (65535, 0, Policy::Default, Register(1), TooMany, 0xffffffff),
+    (
+        65535,
+        0,
+        Policy::Default,
+        Register(0),
+        Counted(0),
+        0xffffffff,
+    ),
+    (1, 7, Policy::Default, Register(2), Counted(7), 0x700030003),
+    (0, 0, Policy::Default, Arrive(false), Reply::NotThere, 0x1),
+    (2, 0, Policy::Default, Arrive(false), Counted(0), 0x20001),
+    (
+        1,
+        0,
+        Policy::Default,
+        Arrive(false),
+        Counted(0),
+        0x100010001,
+    ),
+    (
+        1,
+        0,
+        Policy::Default,
+        Arrive(true),
+        Counted(0),
+        0x8000000100000000,
+    ),
+    (1, 0, Policy::Never, Arrive(true), Counted(0), 0x100000001),
+    (
+        1,
+        0,
+        Policy::Until(0),
+        Arrive(false),
+        Counted(0),
+        0x8000000100010000,
+    ),
+    (
+        1,
+        0,
+        Policy::Until(1),
+        Arrive(false),
+        Counted(0),
+        0x100010001,
+    ),
+    (
+        1,
+        2147483647,
+        Policy::Default,
+        Arrive(false),
+        Counted(2147483647),
+        0x10001,
+    ),
+    (
+        2,
+        3,
+        Policy::Default,
+        Force,
+        Dead(-2147483645),
+        0x8000000300020002,
+    ),
+];
 
 fn made(alloc: Global, parties: u16, policy: Policy) -> Result<(SharedPhaser, Party), Fail>
     ensures { IfOk result (λ r. (phaser_of r.1 ≡ r.0) × (r.1.known.number ≡ 0)) }
@@ -74,118 +114,19 @@ fn called<R: Wait>(rt: &R, phaser: &SharedPhaser, party: &mut Party, call: Call)
 }
 
 fn holds<R: Wait>(rt: &R, alloc: Global, row: &Row, waits: bool) -> Result<bool, Fail> {
-    let phase = Phase::prevailing(row.phase);
-    let (phaser, mut party) = SharedPhaser::new(alloc, row.parties, row.policy, phase)?;
-    let reply = if waits {
-        called(rt, &phaser, &mut party, row.call)
+    let (parties, phase, policy, call, reply, word) = *row;
+    let (phaser, mut party) = SharedPhaser::new(alloc, parties, policy, Phase::prevailing(phase))?;
+    let answered = if waits {
+        called(rt, &phaser, &mut party, call)
     } else {
-        tried(&phaser, &mut party, row.call)
+        tried(&phaser, &mut party, call)
     };
-    let word = phaser.look(&mut party).raw();
-    Ok(reply == Some(row.reply) && word == row.word)
+    Ok(answered == Some(reply) && phaser.look(&mut party).raw() == word)
 }
 
 #[test]
 fn single_calls(rt: HostRuntime) -> Result<(), Fail> {
-    let table = [
-        after_one(
-            65535,
-            0,
-            Policy::Default,
-            Call::Register(1),
-            Reply::TooMany,
-            0xffffffff,
-        ),
-        after_one(
-            65535,
-            0,
-            Policy::Default,
-            Call::Register(0),
-            Reply::Counted(0),
-            0xffffffff,
-        ),
-        after_one(
-            1,
-            7,
-            Policy::Default,
-            Call::Register(2),
-            Reply::Counted(7),
-            0x700030003,
-        ),
-        after_one(
-            0,
-            0,
-            Policy::Default,
-            Call::Arrive(false),
-            Reply::NotThere,
-            0x1,
-        ),
-        after_one(
-            2,
-            0,
-            Policy::Default,
-            Call::Arrive(false),
-            Reply::Counted(0),
-            0x20001,
-        ),
-        after_one(
-            1,
-            0,
-            Policy::Default,
-            Call::Arrive(false),
-            Reply::Counted(0),
-            0x100010001,
-        ),
-        after_one(
-            1,
-            0,
-            Policy::Default,
-            Call::Arrive(true),
-            Reply::Counted(0),
-            0x8000000100000000,
-        ),
-        after_one(
-            1,
-            0,
-            Policy::Never,
-            Call::Arrive(true),
-            Reply::Counted(0),
-            0x100000001,
-        ),
-        after_one(
-            1,
-            0,
-            Policy::Until(0),
-            Call::Arrive(false),
-            Reply::Counted(0),
-            0x8000000100010000,
-        ),
-        after_one(
-            1,
-            0,
-            Policy::Until(1),
-            Call::Arrive(false),
-            Reply::Counted(0),
-            0x100010001,
-        ),
-        after_one(
-            1,
-            2147483647,
-            Policy::Default,
-            Call::Arrive(false),
-            Reply::Counted(2147483647),
-            0x10001,
-        ),
-        after_one(
-            2,
-            3,
-            Policy::Default,
-            Call::Force,
-            Reply::Dead(-2147483645),
-            0x8000000300020002,
-        ),
-    ];
-    for row in &table {
+    for row in &ROWS {
         let within = holds(&rt, rt.alloc(), row, false)?;
         assert!(rt; within && holds(&rt, rt.alloc(), row, true)?);
     }
