@@ -4,7 +4,7 @@ use crate::marks::{self, Refusal};
 use crate::programs::{
     MEETING, MEETING_AT_FIRST, is_meeting_after, meeting_after, program_of, shows,
 };
-use crate::trial::{Answer, Trial, Tried, right_if};
+use crate::trial::{Answer, Trial, right_if};
 use std::alloc::{AllocError, Global};
 use thread_machine::Machine;
 
@@ -12,18 +12,14 @@ use thread_machine::Machine;
 pub struct Beginning;
 
 impl Trial for Beginning {
-    fn tried(&self, alloc: Global, refusal: Refusal) -> Result<Tried, AllocError> {
+    fn tried(&self, alloc: Global, refusal: Refusal) -> Result<Answer, AllocError> {
         let program = program_of(alloc, MEETING)?;
         marks::begin(alloc, refusal);
         let result = Machine::new(alloc, program, 1000);
-        let was_refused = marks::end(alloc);
-        let answer = match result {
+        marks::end(alloc);
+        Ok(match result {
             Ok(machine) => right_if(shows(alloc, &machine, MEETING_AT_FIRST)?),
             Err(_) => Answer::Memory,
-        };
-        Ok(Tried {
-            answer,
-            was_refused,
         })
     }
 }
@@ -32,19 +28,16 @@ impl Trial for Beginning {
 pub struct CopyingMachine;
 
 impl Trial for CopyingMachine {
-    fn tried(&self, alloc: Global, refusal: Refusal) -> Result<Tried, AllocError> {
+    fn tried(&self, alloc: Global, refusal: Refusal) -> Result<Answer, AllocError> {
         let mut machine = meeting_after(alloc, 4)?;
         marks::begin(alloc, refusal);
         let result = machine.copy(alloc);
-        let was_refused = marks::end(alloc);
+        marks::end(alloc);
         let answer = match result {
             Ok(mut copy) => right_if(is_meeting_after(alloc, &mut copy, 4)?),
             Err(_) => Answer::Memory,
         };
         let stands = is_meeting_after(alloc, &mut machine, 4)?;
-        Ok(Tried {
-            answer: if stands { answer } else { Answer::Wrong },
-            was_refused,
-        })
+        Ok(if stands { answer } else { Answer::Wrong })
     }
 }

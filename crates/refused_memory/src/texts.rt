@@ -2,7 +2,7 @@
 
 use crate::marks::{self, Refusal};
 use crate::programs::image_of;
-use crate::trial::{Answer, Trial, Tried, answer_in_bytes, memory_if, right_if};
+use crate::trial::{Answer, Trial, answer_in_bytes, memory_if, right_if};
 use assembler::{AsmFault, AsmFaultKind, Symbols, assemble, assemble_named, disassemble};
 use instruction_table::OperandKind;
 use row_code::Image;
@@ -33,17 +33,13 @@ fn fault_answer(fault: AsmFault) -> Answer {
 pub struct Assembling;
 
 impl Trial for Assembling {
-    fn tried(&self, alloc: Global, refusal: Refusal) -> Result<Tried, AllocError> {
+    fn tried(&self, alloc: Global, refusal: Refusal) -> Result<Answer, AllocError> {
         marks::begin(alloc, refusal);
         let result = assemble(alloc, TEXT);
-        let was_refused = marks::end(alloc);
-        let answer = match result {
+        marks::end(alloc);
+        Ok(match result {
             Ok(image) => right_if(is_listed(alloc, &image)?),
             Err(fault) => fault_answer(fault),
-        };
-        Ok(Tried {
-            answer,
-            was_refused,
         })
     }
 }
@@ -59,17 +55,13 @@ fn are_names(symbols: &Symbols) -> bool {
 pub struct AssemblingNamed;
 
 impl Trial for AssemblingNamed {
-    fn tried(&self, alloc: Global, refusal: Refusal) -> Result<Tried, AllocError> {
+    fn tried(&self, alloc: Global, refusal: Refusal) -> Result<Answer, AllocError> {
         marks::begin(alloc, refusal);
         let result = assemble_named(alloc, TEXT);
-        let was_refused = marks::end(alloc);
-        let answer = match result {
+        marks::end(alloc);
+        Ok(match result {
             Ok((image, symbols)) => right_if(is_listed(alloc, &image)? && are_names(&symbols)),
             Err(fault) => fault_answer(fault),
-        };
-        Ok(Tried {
-            answer,
-            was_refused,
         })
     }
 }
@@ -78,15 +70,12 @@ impl Trial for AssemblingNamed {
 pub struct Listing;
 
 impl Trial for Listing {
-    fn tried(&self, alloc: Global, refusal: Refusal) -> Result<Tried, AllocError> {
+    fn tried(&self, alloc: Global, refusal: Refusal) -> Result<Answer, AllocError> {
         let image = image_of(alloc, TEXT)?;
         marks::begin(alloc, refusal);
         let result = disassemble(alloc, &image);
-        let was_refused = marks::end(alloc);
+        marks::end(alloc);
         let again = disassemble(alloc, &image);
-        Ok(Tried {
-            answer: answer_in_bytes(result, again, LISTING),
-            was_refused,
-        })
+        Ok(answer_in_bytes(result, again, LISTING))
     }
 }

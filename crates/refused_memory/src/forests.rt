@@ -1,7 +1,7 @@
 //! Trees of phasers.
 
 use crate::marks::{self, Refusal};
-use crate::trial::{Answer, Trial, Tried, memory_if, right_if};
+use crate::trial::{Answer, Trial, memory_if, right_if};
 use packed_phaser::Policy;
 use phase_number::Phase;
 use std::alloc::{AllocError, Global};
@@ -11,17 +11,13 @@ use tier_tree::{DeclareFault, Forest, PhaserId};
 pub struct NewForest;
 
 impl Trial for NewForest {
-    fn tried(&self, alloc: Global, refusal: Refusal) -> Result<Tried, AllocError> {
+    fn tried(&self, alloc: Global, refusal: Refusal) -> Result<Answer, AllocError> {
         marks::begin(alloc, refusal);
         let result = Forest::new(alloc);
-        let was_refused = marks::end(alloc);
-        let answer = match result {
+        marks::end(alloc);
+        Ok(match result {
             Ok(forest) => right_if(forest.len() == 0),
             Err(_) => Answer::Memory,
-        };
-        Ok(Tried {
-            answer,
-            was_refused,
         })
     }
 }
@@ -34,21 +30,17 @@ fn declare_root(forest: &mut Forest) -> Result<PhaserId, DeclareFault> {
 pub struct Declaring;
 
 impl Trial for Declaring {
-    fn tried(&self, alloc: Global, refusal: Refusal) -> Result<Tried, AllocError> {
+    fn tried(&self, alloc: Global, refusal: Refusal) -> Result<Answer, AllocError> {
         let mut forest = Forest::new(alloc)?;
         marks::begin(alloc, refusal);
         let result = declare_root(&mut forest);
-        let was_refused = marks::end(alloc);
-        let answer = match result {
+        marks::end(alloc);
+        Ok(match result {
             Ok(id) => right_if(id == PhaserId(0) && forest.len() == 1),
             Err(DeclareFault::Memory) => {
                 memory_if(forest.len() == 0 && declare_root(&mut forest) == Ok(PhaserId(0)))
             }
             Err(_) => Answer::Wrong,
-        };
-        Ok(Tried {
-            answer,
-            was_refused,
         })
     }
 }
@@ -57,21 +49,17 @@ impl Trial for Declaring {
 pub struct CopyingForest;
 
 impl Trial for CopyingForest {
-    fn tried(&self, alloc: Global, refusal: Refusal) -> Result<Tried, AllocError> {
+    fn tried(&self, alloc: Global, refusal: Refusal) -> Result<Answer, AllocError> {
         let mut forest = Forest::new(alloc)?;
         if declare_root(&mut forest).is_err() {
             return Err(AllocError);
         }
         marks::begin(alloc, refusal);
         let result = forest.copy(alloc);
-        let was_refused = marks::end(alloc);
-        let answer = match result {
+        marks::end(alloc);
+        Ok(match result {
             Ok(copy) => right_if(copy.len() == 1 && forest.len() == 1),
             Err(_) => memory_if(forest.len() == 1),
-        };
-        Ok(Tried {
-            answer,
-            was_refused,
         })
     }
 }

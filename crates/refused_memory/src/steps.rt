@@ -2,7 +2,7 @@
 
 use crate::marks::{self, Refusal};
 use crate::programs::{is_meeting_after, meeting_after};
-use crate::trial::{Answer, Trial, Tried, memory_if, right_if};
+use crate::trial::{Answer, Trial, memory_if, right_if};
 use std::alloc::{AllocError, Global};
 use thread_machine::{Choice, Event, Machine, Mark, StepFault, What};
 
@@ -33,15 +33,12 @@ pub fn out_answer(
 pub struct Stepping;
 
 impl Trial for Stepping {
-    fn tried(&self, alloc: Global, refusal: Refusal) -> Result<Tried, AllocError> {
+    fn tried(&self, alloc: Global, refusal: Refusal) -> Result<Answer, AllocError> {
         let mut machine = meeting_after(alloc, 3)?;
         marks::begin(alloc, refusal);
         let result = machine.step(FIRST);
-        let was_refused = marks::end(alloc);
-        Ok(Tried {
-            answer: out_answer(alloc, &mut machine, result)?,
-            was_refused,
-        })
+        marks::end(alloc);
+        out_answer(alloc, &mut machine, result)
     }
 }
 
@@ -49,18 +46,15 @@ impl Trial for Stepping {
 pub struct Noting;
 
 impl Trial for Noting {
-    fn tried(&self, alloc: Global, refusal: Refusal) -> Result<Tried, AllocError> {
+    fn tried(&self, alloc: Global, refusal: Refusal) -> Result<Answer, AllocError> {
         let mut machine = meeting_after(alloc, 3)?;
         marks::begin(alloc, refusal);
         let result = machine.step_noting(FIRST);
-        let was_refused = marks::end(alloc);
+        marks::end(alloc);
         let event = match result {
             Ok((event, _)) => Ok(event),
             Err(fault) => Err(fault),
         };
-        Ok(Tried {
-            answer: out_answer(alloc, &mut machine, event)?,
-            was_refused,
-        })
+        out_answer(alloc, &mut machine, event)
     }
 }

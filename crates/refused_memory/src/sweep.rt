@@ -31,11 +31,11 @@ pub fn swept<T: Trial>(trial: &T, alloc: Global, all: bool) -> Result<Outcome, A
     let mut memory = 0u16;
     for request in 1..=MOST {
         marks::count(alloc);
-        let tried = trial.tried(alloc, refusal_of(request, all))?;
+        let answer = trial.tried(alloc, refusal_of(request, all))?;
         if marks::is_left_over(alloc) {
             return Ok(Outcome::Wrong(request));
         }
-        match (tried.answer, tried.was_refused) {
+        match (answer, marks::was_refused(alloc)) {
             (Answer::Right, false) => {
                 return Ok(Outcome::Refused {
                     requests: request - 1,

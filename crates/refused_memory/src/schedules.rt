@@ -1,7 +1,7 @@
 //! Schedules that are read and written.
 
 use crate::marks::{self, Refusal};
-use crate::trial::{Answer, Trial, Tried, memory_if, right_if};
+use crate::trial::{Answer, Trial, memory_if, right_if};
 use schedule_reader::{Reader, Run, ScheduleFault, write_schedule};
 use std::alloc::{AllocError, Global};
 use thread_machine::Choice;
@@ -36,15 +36,15 @@ fn is_beginning(runs: &[Run]) -> bool {
 pub struct Feeding;
 
 impl Trial for Feeding {
-    fn tried(&self, alloc: Global, refusal: Refusal) -> Result<Tried, AllocError> {
+    fn tried(&self, alloc: Global, refusal: Refusal) -> Result<Answer, AllocError> {
         let mut runs = Vec::new(alloc);
         let mut reader = Reader::new();
         marks::begin(alloc, refusal);
         let result = reader.feed(TOKENS, &mut runs);
-        let was_refused = marks::end(alloc);
+        marks::end(alloc);
         let count = runs.len();
         let again = reader.feed(TOKENS, &mut runs);
-        let answer = match (result, again) {
+        Ok(match (result, again) {
             (Ok(()), Ok(())) => right_if(count == TOKENS_COUNT && runs.len() == 2 * TOKENS_COUNT),
             (Err(ScheduleFault::Memory), Err(ScheduleFault::Memory)) => {
                 memory_if(
@@ -52,10 +52,6 @@ impl Trial for Feeding {
                 )
             }
             _ => Answer::Wrong,
-        };
-        Ok(Tried {
-            answer,
-            was_refused,
         })
     }
 }
@@ -64,21 +60,17 @@ impl Trial for Feeding {
 pub struct Finishing;
 
 impl Trial for Finishing {
-    fn tried(&self, alloc: Global, refusal: Refusal) -> Result<Tried, AllocError> {
+    fn tried(&self, alloc: Global, refusal: Refusal) -> Result<Answer, AllocError> {
         let mut runs = Vec::new(alloc);
         let mut reader = Reader::new();
         let fed = reader.feed(b"t7*5", &mut runs);
         marks::begin(alloc, refusal);
         let result = reader.finish(&mut runs);
-        let was_refused = marks::end(alloc);
-        let answer = match (fed, result) {
+        marks::end(alloc);
+        Ok(match (fed, result) {
             (Ok(()), Ok(())) => right_if(runs.len() == 1),
             (Ok(()), Err(ScheduleFault::Memory)) => memory_if(runs.is_empty()),
             _ => Answer::Wrong,
-        };
-        Ok(Tried {
-            answer,
-            was_refused,
         })
     }
 }
@@ -87,7 +79,7 @@ impl Trial for Finishing {
 pub struct Writing;
 
 impl Trial for Writing {
-    fn tried(&self, alloc: Global, refusal: Refusal) -> Result<Tried, AllocError> {
+    fn tried(&self, alloc: Global, refusal: Refusal) -> Result<Answer, AllocError> {
         let choice = Choice {
             thread: 63,
             expiry: true,
@@ -95,14 +87,10 @@ impl Trial for Writing {
         let runs = [Run { choice, times: 1 }, Run { choice, times: 70 }];
         marks::begin(alloc, refusal);
         let result = write_schedule(alloc, runs.as_slice());
-        let was_refused = marks::end(alloc);
-        let answer = match result {
+        marks::end(alloc);
+        Ok(match result {
             Ok(text) => right_if(text.as_bytes() == b"x63 x63*70".as_slice()),
             Err(_) => Answer::Memory,
-        };
-        Ok(Tried {
-            answer,
-            was_refused,
         })
     }
 }

@@ -2,7 +2,7 @@
 
 use crate::marks::{self, Refusal};
 use crate::programs::{MEETING, MEETING_AT_FIRST, machine_of};
-use crate::trial::{Answer, Trial, Tried, answer_in_bytes, memory_if, right_if};
+use crate::trial::{Answer, Trial, answer_in_bytes, memory_if, right_if};
 use std::alloc::{AllocError, Global};
 use thread_machine::{Choice, Event, Mark, What};
 use trace_compare::line::{event_line, refusal_line};
@@ -38,16 +38,13 @@ fn line_answer(answered: Result<(), AllocError>, text: &[u8], wanted: &[u8]) -> 
 pub struct EventLine;
 
 impl Trial for EventLine {
-    fn tried(&self, alloc: Global, refusal: Refusal) -> Result<Tried, AllocError> {
+    fn tried(&self, alloc: Global, refusal: Refusal) -> Result<Answer, AllocError> {
         let mut text = full_text(alloc)?;
         marks::begin(alloc, refusal);
         let result = event_line(&mut text, 7, CHOICE, 5, &EVENT);
-        let was_refused = marks::end(alloc);
+        marks::end(alloc);
         let wanted = b"abc7 t63 5 = -5 +p0 1\n";
-        Ok(Tried {
-            answer: line_answer(result, text.as_slice(), wanted.as_slice()),
-            was_refused,
-        })
+        Ok(line_answer(result, text.as_slice(), wanted.as_slice()))
     }
 }
 
@@ -55,15 +52,12 @@ impl Trial for EventLine {
 pub struct RefusalLine;
 
 impl Trial for RefusalLine {
-    fn tried(&self, alloc: Global, refusal: Refusal) -> Result<Tried, AllocError> {
+    fn tried(&self, alloc: Global, refusal: Refusal) -> Result<Answer, AllocError> {
         let mut text = full_text(alloc)?;
         marks::begin(alloc, refusal);
         let result = refusal_line(&mut text, 8, CHOICE, None);
-        let was_refused = marks::end(alloc);
-        Ok(Tried {
-            answer: line_answer(result, text.as_slice(), b"abc8 t63 - none\n"),
-            was_refused,
-        })
+        marks::end(alloc);
+        Ok(line_answer(result, text.as_slice(), b"abc8 t63 - none\n"))
     }
 }
 
@@ -71,15 +65,12 @@ impl Trial for RefusalLine {
 pub struct StateText;
 
 impl Trial for StateText {
-    fn tried(&self, alloc: Global, refusal: Refusal) -> Result<Tried, AllocError> {
+    fn tried(&self, alloc: Global, refusal: Refusal) -> Result<Answer, AllocError> {
         let machine = machine_of(alloc, MEETING)?;
         marks::begin(alloc, refusal);
         let result = state_text(alloc, &machine);
-        let was_refused = marks::end(alloc);
+        marks::end(alloc);
         let again = state_text(alloc, &machine);
-        Ok(Tried {
-            answer: answer_in_bytes(result, again, MEETING_AT_FIRST),
-            was_refused,
-        })
+        Ok(answer_in_bytes(result, again, MEETING_AT_FIRST))
     }
 }

@@ -9,7 +9,7 @@ const REFUSE_ONE: usize = 7_000_000;
 /// The same for that request and all that follow.
 const REFUSE_ALL: usize = 7_100_000;
 
-/// Ends it: refused where one was refused.
+/// Ends it: refused where one was refused since it began.
 const END: usize = 7_200_000;
 
 /// From here on blocks are counted.
@@ -37,8 +37,13 @@ pub fn begin(alloc: Global, refusal: Refusal) {
     };
 }
 
-/// From now on none is refused. Whether one was.
-pub fn end(alloc: Global) -> bool {
+/// From now on none is refused.
+pub fn end(alloc: Global) {
+    let _ = is_refused(alloc, END);
+}
+
+/// Whether one was refused, asked behind the end.
+pub fn was_refused(alloc: Global) -> bool {
     is_refused(alloc, END)
 }
 

@@ -14,17 +14,10 @@ pub enum Answer {
     Wrong,
 }
 
-/// What came of a trial, and whether a request was refused in it.
-#[derive(Clone, Copy, Debug, PartialEq, Eq)]
-pub struct Tried {
-    pub answer: Answer,
-    pub was_refused: bool,
-}
-
 /// A call, what is made for it, and what is looked at behind it. Of these the call alone stands between `marks::begin` and
 /// `marks::end`, so that memory is ample for the rest.
 pub trait Trial {
-    fn tried(&self, alloc: Global, refusal: Refusal) -> Result<Tried, AllocError>;
+    fn tried(&self, alloc: Global, refusal: Refusal) -> Result<Answer, AllocError>;
 }
 
 /// The answer of a call for bytes, and that of the same call again with ample memory, where these are the bytes.

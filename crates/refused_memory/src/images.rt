@@ -3,7 +3,7 @@
 use crate::marks::{self, Refusal};
 use crate::programs::{image_of, program_of, shows};
 use crate::texts::TEXT;
-use crate::trial::{Answer, Trial, Tried, right_if};
+use crate::trial::{Answer, Trial, right_if};
 use loader::{LoadFault, Loaded, load};
 use row_code::{ImageFault, read_image};
 use std::alloc::{AllocError, Global};
@@ -46,18 +46,14 @@ fn program_answer(
 pub struct ReadingImage;
 
 impl Trial for ReadingImage {
-    fn tried(&self, alloc: Global, refusal: Refusal) -> Result<Tried, AllocError> {
+    fn tried(&self, alloc: Global, refusal: Refusal) -> Result<Answer, AllocError> {
         marks::begin(alloc, refusal);
         let result = read_image(alloc, IMAGE);
-        let was_refused = marks::end(alloc);
-        let answer = match result {
+        marks::end(alloc);
+        Ok(match result {
             Ok(image) => program_answer(alloc, load(alloc, image), IMAGE_AT_FIRST)?,
             Err(ImageFault::Memory) => Answer::Memory,
             Err(_) => Answer::Wrong,
-        };
-        Ok(Tried {
-            answer,
-            was_refused,
         })
     }
 }
@@ -66,15 +62,12 @@ impl Trial for ReadingImage {
 pub struct Loading;
 
 impl Trial for Loading {
-    fn tried(&self, alloc: Global, refusal: Refusal) -> Result<Tried, AllocError> {
+    fn tried(&self, alloc: Global, refusal: Refusal) -> Result<Answer, AllocError> {
         let image = image_of(alloc, TEXT)?;
         marks::begin(alloc, refusal);
         let result = load(alloc, image);
-        let was_refused = marks::end(alloc);
-        Ok(Tried {
-            answer: program_answer(alloc, result, TEXT_AT_FIRST)?,
-            was_refused,
-        })
+        marks::end(alloc);
+        program_answer(alloc, result, TEXT_AT_FIRST)
     }
 }
 
@@ -82,19 +75,16 @@ impl Trial for Loading {
 pub struct CopyingProgram;
 
 impl Trial for CopyingProgram {
-    fn tried(&self, alloc: Global, refusal: Refusal) -> Result<Tried, AllocError> {
+    fn tried(&self, alloc: Global, refusal: Refusal) -> Result<Answer, AllocError> {
         let program = program_of(alloc, TEXT)?;
         marks::begin(alloc, refusal);
         let result = program.copy(alloc);
-        let was_refused = marks::end(alloc);
+        marks::end(alloc);
         let answer = match result {
             Ok(copy) => right_if(begins_so(alloc, copy, TEXT_AT_FIRST)?),
             Err(_) => Answer::Memory,
         };
         let stands = begins_so(alloc, program, TEXT_AT_FIRST)?;
-        Ok(Tried {
-            answer: if stands { answer } else { Answer::Wrong },
-            was_refused,
-        })
+        Ok(if stands { answer } else { Answer::Wrong })
     }
 }
