@@ -24,11 +24,11 @@ pub mod drawing;
 mod image_rows;
 mod law;
 pub mod lines_seen;
-pub mod listing;
 pub mod page;
 pub mod picture;
 pub mod picture_fault;
 pub mod pictures;
+pub mod rows;
 mod shown;
 mod text_rows;
 
@@ -38,4 +38,4 @@ pub use law::{
     a_row_is_told_with_the_line_that_says_it,
 };
 pub use lines_seen::LinesSeen;
-pub use listing::list_rows;
+pub use rows::list_rows;
