@@ -7,6 +7,7 @@ pub mod Streams
 pub mod Verdicts
 pub mod SameTrace
 pub mod WholeLines
+pub mod FirstWords
 pub mod Naming
 pub mod StateLines
 pub mod OwnLines

@@ -1,5 +1,6 @@
 -- What the lines that are left make of a comparison. Nobody has to believe this: it is what proofs go by, from line to line.
-use Rattle.std.specs.Prelude.{◌≡◌, ◌≢◌, ◌⊎◌, [], ◌+◌, ◌<◌, ◌≤◌, ◌++◌, ℕ, All, false, true, List, codes, decimal, drop, get_or, length, if◌then◌else◌, Option, Some, None}
+use Rattle.std.specs.Prelude.{◌≡◌, ◌≢◌, ◌⊎◌, [], ◌+◌, ◌<◌, ◌≤◌, ◌++◌, ℕ, All, Bool, not, false, true, List, codes, decimal, drop, get_or, length, if◌then◌else◌, Option, Some, None}
+use Rattle.std.specs.Char.{is_ascii_digit}
 use Rattle.std.specs.Io.KnownBytes.{IsAtEnd}
 use Rattle.std.specs.List.{slice_split}
 use Rattle.line_reader.specs.Words.{is_line_end}
@@ -8,6 +9,10 @@ use Rattle.thread_machine.specs.declared.choice.Choice.{Choice}
 use Rattle.trace_compare.specs.declared.compare.Comparison.{Comparison}
 use Rattle.trace_compare.specs.declared.compare.Verdict.{Verdict}
 use Rattle.trace_compare.specs.Compare.{lines_verdict, state_verdict}
+
+-- no digit
+abbrev pub is_no_digit : ℕ → Bool
+is_no_digit byte = not (is_ascii_digit byte)
 
 -- a verdict that was reached, else what the rest makes of it
 abbrev pub decided : Option Verdict → Verdict → Verdict
