@@ -11,6 +11,7 @@ pub mod FirstWords
 pub mod Naming
 pub mod StateLines
 pub mod OwnLines
+pub mod LineCounts
 pub mod OwnTrace
 pub mod PieceLines
 pub mod Words
