@@ -29,11 +29,9 @@ pub fn line_names(line: &[u8]) -> LineNames
     if line.len() > MOST_BYTES {
         return LineNames::Nothing;
     }
-    if is_state_line(line) {
-        return LineNames::State;
-    }
     match choice_in(line) {
         Some(choice) => LineNames::Made(choice),
+        None if is_state_line(line) => LineNames::State,
         None => LineNames::Nothing,
     }
 }

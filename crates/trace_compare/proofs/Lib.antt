@@ -7,9 +7,11 @@ pub mod Streams
 pub mod Verdicts
 pub mod SameTrace
 pub mod WholeLines
+pub mod FirstWords
 pub mod Naming
 pub mod StateLines
 pub mod OwnLines
+pub mod LineCounts
 pub mod OwnTrace
 pub mod PieceLines
 pub mod Words

@@ -265,8 +265,7 @@ compared (Ok v) image now machine before after begins machine_is start number_is
 compared (Err e) image now machine before after begins machine_is start number_is p = p
 
 -- a verdict that is handed on
-pub with_verdict : {E : Type 0} (result : Result Judged E) (image : Image) (before after : Option (List ℕ)) (v : Verdict)
-    → HasCompared image before after v → IfOk result (λ judged. judged.verdict ≡ v)
-    → IfOk result (λ judged. HasCompared image before after judged.verdict)
-with_verdict (Ok judged) image before after v compared same = subst (HasCompared image before after) (sym same) compared
-with_verdict (Err fault) image before after v compared same = tt
+pub with_verdict : {E : Type 0} (P : Verdict → Type 0) (result : Result Judged E) (v : Verdict) → P v
+    → IfOk result (λ judged. judged.verdict ≡ v) → IfOk result (λ judged. P judged.verdict)
+with_verdict P (Ok judged) v holds same = subst P (sym same) holds
+with_verdict P (Err fault) v holds same = tt

@@ -1,8 +1,8 @@
 -- What a comparison of a trace with the run that it names says.
-use Rattle.std.specs.Prelude.{◌≡◌, ◌⊎◌, ℕ, ◌+◌, ◌-◌, ◌*◌, ◌==◌, ◌&&◌, nat_lt, nat_le, All, if◌then◌else◌, Bool, true, false, List, [], ◌∷◌, ◌++◌, length, take, drop, codes, Option, Some, None, is_none}
+use Rattle.std.specs.Prelude.{◌≡◌, ◌⊎◌, ℕ, ◌+◌, ◌-◌, ◌*◌, ◌==◌, ◌&&◌, ◌≤◌, ◌<◌, nat_lt, nat_le, All, if◌then◌else◌, Bool, true, false, List, [], ◌∷◌, ◌++◌, length, take, drop, codes, Option, Some, None, is_none}
 use Rattle.std.specs.Char.{is_ascii_digit}
 use Rattle.std.specs.Io.KnownBytes.{Consumes, IsAtEnd}
-use Rattle.std.specs.List.{slice_split, before_first, after_first, list_all, position_or_len}
+use Rattle.std.specs.List.{count_by, slice_split, before_first, after_first, list_all, position_or_len}
 use Rattle.std.specs.Str.{bytes_eq}
 use Rattle.line_reader.specs.Words.{is_line_end}
 use Rattle.row_code.specs.declared.image.Image.{Image}
@@ -126,6 +126,18 @@ abbrev pub HasCompared : Image → Option (List ℕ) → Option (List ℕ) → V
 HasCompared image before after v =
     (world : World) × ((bytes : List ℕ)
     × (Begins image world × Consumes before after bytes × HasVerdict world bytes after v))
+
+-- the bytes that were read hold no line behind this one whole, but for those that came in one piece with its end
+abbrev pub IsReadUpTo : ℕ → Option (List ℕ) → Option (List ℕ) → Type 0
+IsReadUpTo line before after =
+    (front : List ℕ) × ((piece : List ℕ)
+    × (Consumes before after (front ++ piece) × (length piece ≤ 16384) × (count_by is_line_end front < line)))
+
+-- a trace that is the same was read to its end, another one up to the line of its verdict
+abbrev pub IsReadNoFurther : Option (List ℕ) → Option (List ℕ) → Verdict → Type 0
+IsReadNoFurther before after verdict.Same = IsAtEnd after
+IsReadNoFurther before after (verdict.Differs line) = IsReadUpTo line before after
+IsReadNoFurther before after (verdict.NotATrace line) = IsReadUpTo line before after
 
 -- whatever a comparison with this program answers on a trace, it is `Same`
 abbrev pub IsFoundTheSame : Image → List ℕ → Type 0

@@ -1,13 +1,19 @@
 -- What the lines that are left make of a comparison. Nobody has to believe this: it is what proofs go by, from line to line.
-use Rattle.std.specs.Prelude.{◌≡◌, ◌≢◌, ◌⊎◌, [], ◌+◌, ◌<◌, ◌≤◌, ◌++◌, ℕ, All, false, true, List, codes, decimal, drop, get_or, length, if◌then◌else◌, Option, Some, None}
+use Rattle.std.specs.Prelude.{◌≡◌, ◌≢◌, ◌⊎◌, [], ◌+◌, ◌<◌, ◌≤◌, ◌++◌, ℕ, All, Bool, not, false, true, List, codes, decimal, drop, get_or, length, if◌then◌else◌, Option, Some, None}
+use Rattle.std.specs.Char.{is_ascii_digit}
 use Rattle.std.specs.Io.KnownBytes.{IsAtEnd}
-use Rattle.std.specs.List.{slice_split}
+use Rattle.std.specs.List.{count_by, slice_split}
 use Rattle.line_reader.specs.Words.{is_line_end}
 use Rattle.thread_machine.specs.World.{world_of}
 use Rattle.thread_machine.specs.declared.choice.Choice.{Choice}
 use Rattle.trace_compare.specs.declared.compare.Comparison.{Comparison}
 use Rattle.trace_compare.specs.declared.compare.Verdict.{Verdict}
+use Rattle.trace_compare.specs.declared.compare.Verdict.TheVariants as verdict
 use Rattle.trace_compare.specs.Compare.{lines_verdict, state_verdict}
+
+-- no digit
+abbrev pub is_no_digit : ℕ → Bool
+is_no_digit byte = not (is_ascii_digit byte)
 
 -- a verdict that was reached, else what the rest makes of it
 abbrev pub decided : Option Verdict → Verdict → Verdict
@@ -27,6 +33,21 @@ IsOpen now line lines =
 -- what the bytes that are left make of it, where these bytes of a line have come
 abbrev pub bytes_left : Comparison → List ℕ → List ℕ → Verdict
 bytes_left now line rest = lines_left now (slice_split is_line_end (line ++ rest))
+
+-- how many lines end in these bytes
+abbrev pub line_ends : List ℕ → ℕ
+line_ends bytes = count_by is_line_end bytes
+
+-- a verdict stands at the line with this number, or at a later one
+abbrev pub StandsFrom : ℕ → Verdict → Type 0
+StandsFrom n verdict.Same = ⊥
+StandsFrom n (verdict.Differs line) = n ≤ line
+StandsFrom n (verdict.NotATrace line) = n ≤ line
+
+-- so many lines more have ended, of which each is counted unless a verdict was reached, and that stands no earlier
+abbrev pub HasCounted : ℕ → ℕ → ℕ → Option Verdict → Type 0
+HasCounted before ends after None = before + ends ≤ after
+HasCounted before ends after (Some v) = StandsFrom before v
 
 -- bytes begin with the name of a choice between two spaces, as they stand behind the number in its line
 abbrev pub BeginsWithName : List ℕ → Choice → Type 0

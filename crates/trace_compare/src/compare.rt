@@ -1,12 +1,12 @@
-ghost use Rattle.std.specs.Prelude.{◌≡◌, ◌≢◌, ◌⊎◌, IsTrue, IfErr, Err, OnErr, false, true, ◌==◌, ◌&&◌, ◌<◌, ◌≤◌, ◌+◌, ◌++◌, ◌∷◌, [], List, ℕ, IfOk, OnOk, drop, length, take};
+ghost use Rattle.std.specs.Prelude.{◌≡◌, ◌≢◌, ◌⊎◌, IsTrue, IfErr, Err, OnErr, false, true, ◌==◌, ◌&&◌, ◌<◌, ◌≤◌, ◌+◌, ◌-◌, ◌++◌, ◌∷◌, [], List, ℕ, IfOk, OnOk, drop, length, take};
 ghost use Rattle.std.specs.Io.KnownBytes.{Consumes};
 ghost use Rattle.std.specs.List.{position_or_len};
 ghost use Rattle.line_reader.specs.Words.{is_line_end};
 ghost use Rattle.thread_machine.specs.World.{world_of};
 ghost use Rattle.trace_compare.specs.RunText.{GivesOnAndOn};
 ghost use Rattle.trace_compare.specs.Start.{IsRefused, is_want_of_memory};
-ghost use Rattle.trace_compare.specs.Compare.{HasCompared, choice_in, choice_verdict, is_state_line, lines_verdict, state_verdict};
-ghost use Rattle.trace_compare.specs.Comparing.{HasLeft, IsOpen, IsReading, bytes_left, decided, lines_left};
+ghost use Rattle.trace_compare.specs.Compare.{HasCompared, IsReadNoFurther, choice_in, choice_verdict, is_state_line, lines_verdict, state_verdict};
+ghost use Rattle.trace_compare.specs.Comparing.{HasCounted, HasLeft, IsOpen, IsReading, StandsFrom, bytes_left, decided, line_ends, lines_left};
 
 use crate::digits::Digits;
 use crate::kept_line::{KeptLine, are_same};
@@ -120,6 +120,7 @@ impl Comparison {
         ensures text { (self.new.text ≡ self.old.text) × (self.new.at ≡ self.old.at) }
         ensures stage { self.new.is_state ≡ self.old.is_state }
         ensures number { self.new.number ≤ self.old.number + 1 }
+        ensures counted { IfOk result (λ verdict. HasCounted self.old.number 1 self.new.number verdict) }
     {
         let Some(choice) = choice_in(line) else {
             return Ok(Some(Verdict::NotATrace { line: self.number }));
@@ -152,6 +153,7 @@ impl Comparison {
         ensures at { self.new.at ≤ length self.new.text.items }
         ensures stage { self.new.is_state ≡ self.old.is_state }
         ensures number { self.new.number ≤ self.old.number + 1 }
+        ensures counted { HasCounted self.old.number 1 self.new.number result }
     {
         let text = self.text.as_slice();
         let due = rest_of(text, self.at);
@@ -180,6 +182,7 @@ impl Comparison {
             ≡ decided verdict (lines_left self.new lines)) }
         ensures at { self.new.at ≤ length self.new.text.items }
         ensures number { self.new.number ≤ self.old.number + 1 }
+        ensures counted { IfOk result (λ verdict. HasCounted self.old.number 1 self.new.number verdict) }
     {
         if self.is_state {
             return Ok(self.take_state_line(line, whole));
@@ -233,6 +236,7 @@ impl Comparison {
         ensures reading { (self.new.is_state ≡ false) × (self.new.accepted ≡ true) }
         ensures within { result ≤ length bytes.now }
         ensures number { self.new.number ≤ self.old.number + result }
+        ensures counted { self.old.number + line_ends (take result bytes.now) ≤ self.new.number }
     {
         let choice = self.last;
         if usize::from(choice.thread) >= self.machine.thread_count() {
@@ -265,6 +269,7 @@ impl Comparison {
         ensures text { (self.new.text ≡ self.old.text) × (self.new.at ≡ self.old.at) }
         ensures within { IfOk result (λ count. count ≤ length bytes.now) }
         ensures number { IfOk result (λ count. self.new.number ≤ self.old.number + count) }
+        ensures counted { IfOk result (λ count. self.old.number + line_ends (take count bytes.now) ≤ self.new.number) }
         ensures err { OnErr result (self.new.number ≡ self.old.number) }
     {
         self.next.move_to(self.machine.choices() + 1);
@@ -300,6 +305,7 @@ impl Comparison {
         ensures text { (self.new.text ≡ self.old.text) × (self.new.at ≡ self.old.at) }
         ensures within { IfOk result (λ count. count ≤ length bytes.now) }
         ensures number { IfOk result (λ count. self.new.number ≤ self.old.number + count) }
+        ensures counted { IfOk result (λ count. self.old.number + line_ends (take count bytes.now) ≤ self.new.number) }
         ensures err { OnErr result (self.new.number ≤ self.old.number) }
     {
         if self.is_state || !self.accepted {
@@ -324,6 +330,7 @@ impl Comparison {
         ensures text { (self.new.text ≡ self.old.text) × (self.new.at ≡ self.old.at) }
         ensures within { IfOk result (λ count. count ≤ length bytes.now) }
         ensures number { IfOk result (λ count. self.new.number ≤ self.old.number + count) }
+        ensures counted { IfOk result (λ count. self.old.number + line_ends (take count bytes.now) ≤ self.new.number) }
         ensures err { OnErr result (self.new.number ≤ self.old.number + length bytes.now) }
     {
         let mut done = 0;
@@ -340,7 +347,8 @@ impl Comparison {
     /// The verdict where no more lines come.
     fn end_verdict(&self) -> Verdict
         requires { self.now.at ≤ length self.now.text.items }
-        ensures { result ≡ lines_left self.now [] }
+        ensures verdict { result ≡ lines_left self.now [] }
+        ensures stands { 0 < self.now.number → StandsFrom (self.now.number - 1) result }
     {
         if !self.is_state {
             return Verdict::NotATrace { line: self.number };
@@ -373,7 +381,8 @@ impl Comparison {
         requires number { self.old.number < 9223372036854775807 }
         requires few { length line.now ≤ 65536 }
         requires at { self.old.at ≤ length self.old.text.items }
-        ensures { IfOk result (λ verdict. lines_left self.old (line.now ∷ []) ≡ verdict) }
+        ensures verdict { IfOk result (λ verdict. lines_left self.old (line.now ∷ []) ≡ verdict) }
+        ensures stands { IfOk result (λ verdict. (verdict ≡ Verdict.Same) ⊎ StandsFrom self.old.number verdict) }
     {
         if self.is_whole(line) {
             return Ok(Verdict::Same);
@@ -454,6 +463,7 @@ fn take_byte(
         ≡ decided verdict (bytes_left now.new line.new.items rest)) }
     ensures reading { OnOk result (IsReading now.new line.new.items) }
     ensures number { now.new.number ≤ now.old.number + 1 }
+    ensures counted { IfOk result (λ verdict. HasCounted now.old.number (line_ends (byte ∷ [])) now.new.number verdict) }
 {
     if byte != b'\n' {
         let length = line.as_slice().len();
@@ -487,6 +497,7 @@ fn take_whole_line(
         ≡ decided verdict (bytes_left now.new [] (drop (end + 1) bytes.now ++ more))) }
     ensures at { now.new.at ≤ length now.new.text.items }
     ensures number { now.new.number ≤ now.old.number + 1 }
+    ensures counted { IfOk result (λ verdict. HasCounted now.old.number (line_ends (take (end + 1) bytes.now)) now.new.number verdict) }
 {
     let whole = first_bytes(bytes, end + 1);
     now.take_line(alloc, first_bytes(bytes, end), whole)
@@ -510,6 +521,7 @@ fn take_some(
     ensures some { IfOk result (λ taken. 0 < taken.1) }
     ensures within { IfOk result (λ taken. taken.1 ≤ length rest.now) }
     ensures number { now.new.number ≤ now.old.number + 1 }
+    ensures counted { IfOk result (λ taken. HasCounted now.old.number (line_ends (take taken.1 rest.now)) now.new.number taken.0) }
 {
     if line.is_empty() {
         let end = length_before(b'\n', rest);
@@ -543,6 +555,7 @@ fn take_more(
     ensures some { IfOk result (λ taken. 0 < taken.1) }
     ensures within { IfOk result (λ taken. taken.1 ≤ length rest.now) }
     ensures number { IfOk result (λ taken. now.new.number ≤ now.old.number + taken.1) }
+    ensures counted { IfOk result (λ taken. HasCounted now.old.number (line_ends (take taken.1 rest.now)) now.new.number taken.0) }
     ensures err { OnErr result (now.new.number ≤ now.old.number + length rest.now) }
 {
     if !line.is_empty() {
@@ -569,6 +582,7 @@ fn take_piece(
         ≡ decided verdict (bytes_left now.new line.new.items rest)) }
     ensures reading { OnOk result (IsReading now.new line.new.items) }
     ensures number { now.new.number ≤ now.old.number + length piece.now }
+    ensures counted { IfOk result (λ verdict. HasCounted now.old.number (line_ends piece.now) now.new.number verdict) }
 {
     let mut done = 0;
     while done < piece.len() {
@@ -589,7 +603,8 @@ fn last_verdict(
 ) -> Result<Verdict, AllocError>
     requires reading { IsReading now.old line.old.items }
     requires number { now.old.number < 9223372036854775807 }
-    ensures { IfOk result (λ verdict. bytes_left now.old line.old.items [] ≡ verdict) }
+    ensures verdict { IfOk result (λ verdict. bytes_left now.old line.old.items [] ≡ verdict) }
+    ensures stands { IfOk result (λ verdict. (verdict ≡ Verdict.Same) ⊎ StandsFrom now.old.number verdict) }
 {
     line.push(b'\n')?;
     let whole = line.as_slice();
@@ -609,6 +624,7 @@ fn compare_stream<S: Source>(
     ensures verdict { IfOk result (λ verdict. (bytes : List ℕ)
         × (Consumes (S.left trace.old) (S.left trace.new) bytes
         × HasLeft now.old bytes (S.left trace.new) verdict)) }
+    ensures far { IfOk result (λ verdict. IsReadNoFurther (S.left trace.old) (S.left trace.new) verdict) }
     ensures read { result ≡ Err CompareFault.Read → IsTrue (S.has_failed trace.new)
         ⊎ GivesOnAndOn (S.left trace.old) (S.left trace.new) }
     ensures reads { S.reads trace.new ≤ S.reads trace.old + 1000000000 }
@@ -646,6 +662,7 @@ fn compare_all<S: Source>(
     ensures verdict { IfOk result (λ verdict. (bytes : List ℕ)
         × (Consumes (S.left trace.old) (S.left trace.new) bytes
         × HasLeft now.old bytes (S.left trace.new) verdict)) }
+    ensures far { IfOk result (λ verdict. IsReadNoFurther (S.left trace.old) (S.left trace.new) verdict) }
     ensures read { result ≡ Err CompareFault.Read → IsTrue (S.has_failed trace.new)
         ⊎ GivesOnAndOn (S.left trace.old) (S.left trace.new) }
     ensures reads { S.reads trace.new ≤ S.reads trace.old + 1000000000 }
@@ -666,8 +683,9 @@ pub struct Judged {
 }
 
 /// Compares a trace with the run of an image's program that the trace's lines name, byte for byte, the state too. The verdict
-/// stands at the first line that is no line of a trace, or isn't the run's; what follows that line is not read. A line of the
-/// trace and a line of the run are held at a time, and the state text at the end.
+/// stands at the first line that is no line of a trace, or isn't the run's; no line behind that one is read whole, but for those
+/// that came in one piece with its end. A line of the trace and a line of the run are held at a time, and the state text at
+/// the end.
 pub fn compare<S: Source>(
     alloc: Global,
     image: Image,
@@ -675,6 +693,8 @@ pub fn compare<S: Source>(
 ) -> Result<Verdict, CompareFault>
     ensures verdict { IfOk result (λ verdict.
         HasCompared image (S.left trace.old) (S.left trace.new) verdict) }
+
+    ensures far { IfOk result (λ verdict. IsReadNoFurther (S.left trace.old) (S.left trace.new) verdict) }
     ensures load { (fault : LoadFault) → result ≡ Err (CompareFault.Load fault)
         → IsRefused fault image × (S.left trace.new ≡ S.left trace.old) }
     ensures refused { (fault : LoadFault) → IsRefused fault image
@@ -702,6 +722,7 @@ pub fn compare_shown<S: Source>(
 ) -> Result<Judged, CompareFault>
     ensures verdict { IfOk result (λ judged.
         HasCompared image (S.left trace.old) (S.left trace.new) judged.verdict) }
+    ensures far { IfOk result (λ judged. IsReadNoFurther (S.left trace.old) (S.left trace.new) judged.verdict) }
     ensures load { (fault : LoadFault) → result ≡ Err (CompareFault.Load fault)
         → IsRefused fault image × (S.left trace.new ≡ S.left trace.old) }
     ensures refused { (fault : LoadFault) → IsRefused fault image

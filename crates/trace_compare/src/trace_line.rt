@@ -1,25 +1,12 @@
 // What a line of a trace names.
-ghost use Rattle.std.specs.Prelude.{◌≡◌, ◌<◌, true, []};
-ghost use Rattle.std.specs.Char.{is_ascii_digit};
-ghost use Rattle.std.specs.List.{before_first, after_first, list_all};
-ghost use Rattle.trace_compare.specs.Compare.{choice_by, choice_in, choice_named, choice_of_digits, is_space, is_state_line, is_step};
+ghost use Rattle.std.specs.Prelude.{◌≡◌};
+ghost use Rattle.std.specs.List.{before_first, position, position_or_len};
+ghost use Rattle.trace_compare.specs.Compare.{choice_by, choice_in, choice_named, choice_of_digits, is_space, is_state_line};
+ghost use Rattle.trace_compare.specs.Comparing.{is_no_digit};
 
+use crate::next_choice::rest_of;
 use line_reader::words::length_before;
 use thread_machine::Choice;
-
-/// Whether each byte is a digit.
-fn are_digits(word: &[u8]) -> bool
-    ensures { result ≡ list_all is_ascii_digit word.now }
-{
-    word.iter().all(|byte| byte.is_ascii_digit())
-}
-
-/// Whether the word is a choice's number.
-fn is_step(word: &[u8]) -> bool
-    ensures { result ≡ is_step word.now }
-{
-    !word.is_empty() && word.len() <= 13 && are_digits(word)
-}
 
 /// A turn of this thread, or the expiry of its wait; `None` where there can't be such a thread.
 fn choice_by(expiry: bool, are_digits: bool, thread: u16) -> Option<Choice>
@@ -72,27 +59,33 @@ fn first_word(line: &[u8]) -> &[u8]
     &line[..length_before(b' ', line)]
 }
 
-/// What stands behind the first space.
-fn after_word(line: &[u8]) -> &[u8]
-    ensures { result.now ≡ after_first is_space line.now }
+/// Where the first byte stands that is no digit.
+fn place_of_no_digit(line: &[u8]) -> Option<usize>
+    ensures { result ≡ position is_no_digit line.now }
 {
-    let end = length_before(b' ', line);
-    if end < line.len() {
-        &line[end + 1..]
-    } else {
-        &[]
+    line.iter().position(|byte| !byte.is_ascii_digit())
+}
+
+/// How many digits a line begins with.
+#[tactic(auto, using(line_reader::proofs::Places::position_some, line_reader::proofs::Places::position_none))]
+fn digits_before(line: &[u8]) -> usize
+    ensures { result ≡ position_or_len is_no_digit line.now }
+{
+    match place_of_no_digit(line) {
+        Some(place) => place,
+        None => line.len(),
     }
 }
 
-/// The choice that a trace's line names.
+/// The choice that a trace's line names. Its number is looked at once: what stands behind the digits is its end, or it is none.
 pub fn choice_in(line: &[u8]) -> Option<Choice>
     ensures { result ≡ choice_in line.now }
 {
-    if is_step(first_word(line)) {
-        choice_named(first_word(after_word(line)))
-    } else {
-        None
+    let end = digits_before(line);
+    if end == 0 || 13 < end || line.len() <= end || line[end] != b' ' {
+        return None;
     }
+    choice_named(first_word(rest_of(line, end + 1)))
 }
 
 /// Whether the first word of a line is `state`.

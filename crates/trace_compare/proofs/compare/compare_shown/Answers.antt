@@ -1,6 +1,6 @@
 use Rattle.std.proofs.Common.{subst}
 use Rattle.std.specs.Prelude.{IfOk}
-use Rattle.trace_compare.specs.Compare.{HasCompared}
+use Rattle.trace_compare.specs.Compare.{HasCompared, IsReadNoFurther}
 use Rattle.trace_compare.proofs.Verdicts.{compared, with_verdict}
 use Rattle.trace_compare.proofs.compare.compare_shown.Goals as goal
 
@@ -11,5 +11,10 @@ returns-in_ok-verdict-in-Ok-clause-verdict g c =
     let all =
     compared c.compare_all.result c.args.image c.new-now.result c.in-Ok.machine before after c.in-Ok.ensures.machine
     c.new-now.ensures.machine c.new-now.ensures.start c.new-now.ensures.number c.compare_all.ensures.verdict in
-    with_verdict c.with_run_line.result c.args.image before after c.in_ok-verdict-in-Ok.verdict
+    with_verdict (HasCompared c.args.image before after) c.with_run_line.result c.in_ok-verdict-in-Ok.verdict
     (subst (λ r. IfOk r (HasCompared c.args.image before after)) c.in_ok-verdict-in-Ok.was all) c.with_run_line.ensures.verdict
+
+pub returns-in_ok-verdict-in-Ok-clause-far : goal.returns-in_ok-verdict-in-Ok-clause-far
+returns-in_ok-verdict-in-Ok-clause-far g c =
+    with_verdict (IsReadNoFurther (g.S.Source.left c.args.trace.now) (g.S.Source.left c.compare_all.new.trace)) c.with_run_line.result
+    c.in_ok-verdict-in-Ok.verdict c.in_ok-verdict-in-Ok.ensures.far c.with_run_line.ensures.verdict

@@ -4,17 +4,17 @@ use Rattle.trace_compare.specs.Comparing.{decided, lines_left}
 use Rattle.trace_compare.proofs.Verdicts.{more_to_come}
 use Rattle.trace_compare.proofs.compare.Comparison.end.Goals as goal
 
-pub returns-in-Ok-Some : goal.returns-in-Ok-Some
-returns-in-Ok-Some c =
+pub returns-in-Ok-Some-clause-verdict : goal.returns-in-Ok-Some-clause-verdict
+returns-in-Ok-Some-clause-verdict c =
     let self = c.args.self.now in
     c.in-Ok-Some.ensures.verdict []
     (more_to_come self.is_state c.is_whole.result (length (drop self.at self.text.items)) (length c.args.line.now) c.is_whole.ensures c.if-is_whole.false)
     ∙ ap (λ (v : Option Verdict). decided v (lines_left c.take_line.new.self [])) c.in-Ok-Some.field-0-is
 
-pub returns-in-Ok-None : goal.returns-in-Ok-None
-returns-in-Ok-None c =
+pub returns-in-Ok-None-clause-verdict : goal.returns-in-Ok-None-clause-verdict
+returns-in-Ok-None-clause-verdict c =
     let self = c.args.self.now in
     c.in-Ok-None.ensures.verdict []
     (more_to_come self.is_state c.is_whole.result (length (drop self.at self.text.items)) (length c.args.line.now) c.is_whole.ensures c.if-is_whole.false)
     ∙ ap (λ (v : Option Verdict). decided v (lines_left c.take_line.new.self [])) c.in-Ok-None.field-0-is
-    ∙ sym c.end_verdict.ensures
+    ∙ sym c.end_verdict.ensures.verdict

@@ -1,5 +1,5 @@
-use Rattle.std.proofs.Common.{◌≡◌, ◌+◌, ◌-◌, ◌≤◌, ◌++◌, [], ℕ, List, drop, length}
-use Rattle.trace_compare.specs.Comparing.{bytes_left}
+use Rattle.std.proofs.Common.{◌≡◌, ◌+◌, ◌-◌, ◌≤◌, ◌++◌, [], ℕ, List, drop, length, take}
+use Rattle.trace_compare.specs.Comparing.{bytes_left, line_ends}
 use Rattle.trace_compare.proofs.compare.Comparison.take_own_lines.Given as goal
 
 abbrev pub invariant-loop-done : goal.invariant-loop-done
@@ -8,6 +8,7 @@ invariant-loop-done l = record {
   text : l.self.text ≡ l.initial.self.text;
   at : l.self.at ≡ l.initial.self.at;
   number : l.self.number ≤ l.initial.self.number + l.done;
+  counted : l.initial.self.number + line_ends (take l.done l.bytes) ≤ l.self.number;
   left : (more : List ℕ) → bytes_left l.initial.self [] (l.bytes ++ more)
       ≡ bytes_left l.self [] (drop l.done l.bytes ++ more);
 }
