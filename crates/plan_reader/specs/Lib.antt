@@ -1,0 +1,7 @@
+pub mod FaultNumber
+pub mod Numbers
+pub mod Words
+pub mod Reading
+pub mod Plan
+pub mod Drafts
+pub mod Tree

@@ -1,0 +1,193 @@
+ghost use Rattle.std.specs.Prelude.{◌≡◌, ◌≤◌, IfOk, length, map};
+ghost use Rattle.line_reader.specs.Seen.{name_seen};
+ghost use Rattle.plan_reader.specs.Plan.{AnswersPlan, AnswersSaid, draft_closed, draft_open, draft_opened, finished, lines_behind, no_words, said_behind, word_behind, words_behind, words_in_lines, words_in_plan};
+ghost use Rattle.plan_reader.specs.Drafts.{draft_of};
+ghost use Rattle.plan_reader.specs.Tree.{IsPlan};
+ghost use Rattle.plan_reader.specs.Words.{words_of};
+
+use crate::fault::{PlanFault, PlanFaultKind};
+use crate::reading::word_of;
+use crate::spread::{split_lines, split_words, spread_line};
+use crate::word::Word;
+use std::alloc::Global;
+
+/// How many parentheses stand open at once at most.
+const DEEPEST: u8 = 16;
+
+/// The words so far, how many parentheses are open, and the line of the outermost of them.
+#[derive(Drop)]
+struct Reading {
+    words: Vec<Word>,
+    depth: u8,
+    opened: u64,
+}
+
+impl Reading {
+    /// Opens a parenthesis in this line.
+    fn open(&mut self, line: u64) -> Result<(), PlanFaultKind>
+        ensures { AnswersSaid (λ _. draft_of self.new) result (draft_opened line (draft_of self.old)) }
+    {
+        if self.depth >= DEEPEST {
+            return Err(PlanFaultKind::TooDeep);
+        }
+        if self.depth == 0 {
+            self.opened = line;
+        }
+        self.depth += 1;
+        Ok(())
+    }
+
+    /// Closes one.
+    fn close(&mut self) -> Result<(), PlanFaultKind>
+        ensures { AnswersSaid (λ _. draft_of self.new) result (draft_closed (draft_of self.old)) }
+    {
+        if self.depth == 0 {
+            return Err(PlanFaultKind::NotOpened);
+        }
+        self.depth -= 1;
+        Ok(())
+    }
+
+    /// What a word in this line does to the parentheses.
+    fn nest(&mut self, line: u64, word: Word) -> Result<(), PlanFaultKind>
+        ensures { AnswersSaid (λ _. draft_of self.new) result (draft_open line (draft_of self.old) word) }
+    {
+        match word {
+            Word::Step(_) => Ok(()),
+            Word::Open => self.open(line),
+            Word::Close(_) => self.close(),
+        }
+    }
+
+    /// Adds the word that these bytes of this line spell.
+    fn add_said(&mut self, names: &[&[u8]], line: u64, bytes: &[u8]) -> Result<(), PlanFaultKind>
+        requires { length names.now ≤ 64 }
+        ensures { AnswersSaid (λ _. draft_of self.new) result
+            (said_behind (map name_seen names.now) line (draft_of self.old) bytes.now) }
+    {
+        let word = word_of(names, bytes)?;
+        self.nest(line, word)?;
+        match self.words.push(word) {
+            Ok(()) => Ok(()),
+            Err(_) => Err(PlanFaultKind::Memory),
+        }
+    }
+
+    /// The same, with the line in its fault.
+    fn add_word(&mut self, names: &[&[u8]], line: u64, bytes: &[u8]) -> Result<(), PlanFault>
+        requires { length names.now ≤ 64 }
+        ensures { AnswersPlan (λ _. draft_of self.new) result
+            (word_behind (map name_seen names.now) line (draft_of self.old) bytes.now) }
+    {
+        match self.add_said(names, line, bytes) {
+            Ok(()) => Ok(()),
+            Err(kind) => Err(PlanFault { line, kind }),
+        }
+    }
+
+    /// Adds the words of a line.
+    fn add_words(&mut self, names: &[&[u8]], line: u64, words: &[&[u8]]) -> Result<(), PlanFault>
+        requires { length names.now ≤ 64 }
+        ensures { AnswersPlan (λ _. draft_of self.new) result
+            (words_behind (map name_seen names.now) line (draft_of self.old) (map name_seen words.now)) }
+    {
+        for word in words {
+            match self.add_word(names, line, *word) {
+                Ok(()) => {}
+                Err(fault) => return Err(fault),
+            }
+        }
+        Ok(())
+    }
+
+    /// Adds what a line says.
+    fn add_line(
+        &mut self,
+        alloc: Global,
+        names: &[&[u8]],
+        line: u64,
+        bytes: &[u8],
+    ) -> Result<(), PlanFault>
+        requires { length names.now ≤ 64 }
+        ensures { AnswersPlan (λ _. draft_of self.new) result
+            (words_behind (map name_seen names.now) line (draft_of self.old) (words_of bytes.now)) }
+    {
+        let Ok(spread) = spread_line(alloc, bytes) else {
+            return Err(no_memory(line));
+        };
+        let Ok(words) = split_words(alloc, spread.as_slice()) else {
+            return Err(no_memory(line));
+        };
+        self.add_words(names, line, words.as_slice())
+    }
+
+    /// Adds what these lines say, the first of number 1.
+    fn add_lines(
+        &mut self,
+        alloc: Global,
+        names: &[&[u8]],
+        lines: &[&[u8]],
+    ) -> Result<(), PlanFault>
+        requires { length names.now ≤ 64 }
+        ensures { AnswersPlan (λ _. draft_of self.new) result
+            (lines_behind (map name_seen names.now) 1 (draft_of self.old) (map name_seen lines.now)) }
+    {
+        for (place, bytes) in lines.iter().enumerate() {
+            match self.add_line(alloc, names, place as u64 + 1, *bytes) {
+                Ok(()) => {}
+                Err(fault) => return Err(fault),
+            }
+        }
+        Ok(())
+    }
+
+    /// The words, where no parenthesis is open.
+    fn finished(self) -> Result<Vec<Word>, PlanFault>
+        ensures { AnswersPlan (λ words. words.items) result (finished (draft_of self)) }
+    {
+        if self.depth == 0 {
+            return Ok(self.words);
+        }
+        Err(PlanFault {
+            line: self.opened,
+            kind: PlanFaultKind::NotClosed,
+        })
+    }
+}
+
+fn no_memory(line: u64) -> PlanFault
+    ensures { result ≡ record { line = line; kind = PlanFaultKind.Memory } }
+{
+    PlanFault {
+        line,
+        kind: PlanFaultKind::Memory,
+    }
+}
+
+/// The words of the lines.
+fn words_in_lines(alloc: Global, names: &[&[u8]], lines: &[&[u8]]) -> Result<Vec<Word>, PlanFault>
+    requires { length names.now ≤ 64 }
+    ensures { AnswersPlan (λ words. words.items) result
+        (words_in_lines (map name_seen names.now) (map name_seen lines.now)) }
+{
+    let mut reading = Reading {
+        words: Vec::new(alloc),
+        depth: 0,
+        opened: 0,
+    };
+    reading.add_lines(alloc, names, lines)?;
+    reading.finished()
+}
+
+/// Reads a plan for a program whose threads have these names, in order of number. Its answer is the words of the text, or
+/// the first fault; a parenthesis that is never closed is told only where nothing else is wrong.
+pub fn read_plan(alloc: Global, text: &[u8], names: &[&[u8]]) -> Result<Vec<Word>, PlanFault>
+    requires { length names.now ≤ 64 }
+    ensures read { AnswersPlan (λ words. words.items) result (words_in_plan (map name_seen names.now) text.now) }
+    ensures nested { IfOk result (λ words. IsPlan words.items) }
+{
+    let Ok(lines) = split_lines(alloc, text) else {
+        return Err(no_memory(1));
+    };
+    words_in_lines(alloc, names, lines.as_slice())
+}
