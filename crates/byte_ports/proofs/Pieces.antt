@@ -1,51 +1,30 @@
 -- What is held of a source's lines, and a line of it.
-use Rattle.std.proofs.Common.{◌≡◌, ◌∙◌, ◌+◌, ◌<◌, ◌≤◌, ℕ, Bool, true, false, List, [], ◌∷◌, ◌++◌, Some, None, cond, length, take, drop, get_or, nat_lt, ap, refl, sym, subst, append_assoc, take-append-drop, length-take, take_all, arith}
+use Rattle.std.proofs.Common.{◌≡◌, ◌∙◌, ◌+◌, ◌<◌, ◌≤◌, ℕ, false, List, [], ◌∷◌, ◌++◌, Some, None, length, take, drop, get_or, ap, refl, sym, subst, append_assoc, take-append-drop, arith}
 use Rattle.std.specs.Prelude.{Option}
-use Rattle.std.specs.List.{position, position_or_len}
 use Rattle.std.specs.Io.KnownBytes.{Consumes, Keeps, prepend_known}
 use Rattle.std.proofs.KnownBytes.{prepend_known-read}
 use Rattle.std.proofs.Math.Seq.{take-add}
-use Rattle.std.proofs.lemmas.Bool.Decides.{nat_tests}
-use Rattle.std.proofs.lemmas.List.{take-take, drop_more, get_or-drop, get_or-take}
-use Rattle.std.proofs.lemmas.List.Elements.{All-append, All-take}
-use Rattle.std.proofs.lemmas.List.Quantifiers.{position-Some}
-use Rattle.std.proofs.lemmas.List.Sums.{fails_before_first}
+use Rattle.std.proofs.lemmas.Bool.{ne_eqb}
+use Rattle.std.proofs.lemmas.List.{take-take, drop_more}
+use Rattle.std.proofs.lemmas.List.Elements.{All-push, All-take}
 use Rattle.byte_ports.specs.SourceLines.{IsOneLine, is_lf}
 
--- what stands before the first LF
-pub line-found : (bytes : List ℕ) (n : ℕ) → position is_lf bytes ≡ Some n → IsOneLine (take n bytes)
-line-found bytes n is k d there =
-    let lt : k < n = omega (arith, length-take n bytes, there) in
-    subst (λ b. is_lf b ≡ false) (sym (get_or-take n bytes k d lt)) ((position-Some is_lf bytes n d is).2 k lt)
+-- a byte more of one line
+pub one-more : (bytes : List ℕ) (n m : ℕ) → m ≡ n + 1 → IsOneLine (take n bytes) → n < length bytes → (get_or bytes n 0 ≡ 10 → ⊥)
+    → IsOneLine (take m bytes)
+one-more bytes n m is one there other =
+    subst IsOneLine (sym (ap (λ k. take k bytes) is ∙ take-add n 1 bytes ∙ ap (λ l. take n bytes ++ l) (ap (take 1) (drop_more bytes n 0 there))))
+    (All-push (λ b. is_lf b ≡ false) (take n bytes) (get_or bytes n 0) one (ne_eqb (get_or bytes n 0) 10 other))
 
-lf-is : (byte : ℕ) → is_lf byte ≡ true → byte ≡ 10
-lf-is byte is = grind (arith, nat_tests, is)
-
-pub lf-found : (bytes : List ℕ) (seen n : ℕ) → position is_lf (drop seen bytes) ≡ Some n → get_or bytes (seen + n) 0 ≡ 10
-lf-found bytes seen n is =
-    sym (get_or-drop seen bytes n 0) ∙ lf-is (get_or (drop seen bytes) n 0) (position-Some is_lf (drop seen bytes) n 0 is).1
-
-none_by : (b : Bool) (n : ℕ) → cond b (Some n) None ≡ None → b ≡ false
-none_by true n h = let no : ⊥ = cc in absurd no
-none_by false n h = refl
-
-pub line-whole : (bytes : List ℕ) → position is_lf bytes ≡ None → IsOneLine bytes
-line-whole bytes is k d there =
-    let far = none_by (nat_lt (position_or_len is_lf bytes) (length bytes)) (position_or_len is_lf bytes) is in
-    fails_before_first is_lf bytes k d (grind (arith, nat_tests, far, there))
-
--- one line, and more of it
-pub more-line : (seen n : ℕ) (bytes : List ℕ) → IsOneLine (take seen bytes) → IsOneLine (take n (drop seen bytes))
-    → IsOneLine (take (seen + n) bytes)
-more-line seen n bytes one more =
-    subst IsOneLine (sym (take-add seen n bytes)) (All-append (λ b. is_lf b ≡ false) (take seen bytes) (take n (drop seen bytes)) one more)
-
--- all of it
-pub whole-line : (seen n : ℕ) (bytes : List ℕ) → n ≡ length bytes → IsOneLine (take seen bytes) → IsOneLine (drop seen bytes)
-    → IsOneLine (take n bytes)
-whole-line seen n bytes all one more =
-    subst IsOneLine (take-append-drop seen bytes ∙ sym (take_all n bytes (omega (arith, all))))
-    (All-append (λ b. is_lf b ≡ false) (take seen bytes) (drop seen bytes) one more)
+-- three bytes more
+pub three-more : (bytes : List ℕ) (n : ℕ) → IsOneLine (take n bytes) → n + 2 < length bytes → (get_or bytes n 0 ≡ 10 → ⊥)
+    → (get_or bytes (n + 1) 0 ≡ 10 → ⊥) → (get_or bytes (n + 2) 0 ≡ 10 → ⊥)
+    → IsOneLine (take (n + 3) bytes)
+three-more bytes n one there first second third =
+    one-more bytes (n + 2) (n + 3) (omega arith)
+    (one-more bytes (n + 1) (n + 2) (omega arith)
+    (one-more bytes n (n + 1) refl one (omega (arith, there)) first) (omega (arith, there)) second)
+    there third
 
 -- the beginning of it
 pub less-line : (m n : ℕ) (bytes : List ℕ) → m ≤ n → IsOneLine (take n bytes) → IsOneLine (take m bytes)

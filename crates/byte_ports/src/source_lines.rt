@@ -1,7 +1,6 @@
 ghost use Rattle.std.specs.Prelude.{◌≡◌, ◌≢◌, ◌≤◌, ◌<◌, ◌+◌, ◌-◌, ◌++◌, ◌⊎◌, [], ℕ, List, length, take, drop, get_or, Ok, IsTrue, IfOk, OnErr, OnOk};
-ghost use Rattle.std.specs.List.{position};
 ghost use Rattle.std.specs.Io.KnownBytes.{Consumes, IsAtEnd, Keeps, prepend_known};
-ghost use Rattle.byte_ports.specs.SourceLines.{Gave, HasCome, IsOneLine, is_lf, taken};
+ghost use Rattle.byte_ports.specs.SourceLines.{Gave, HasCome, IsOneLine, taken};
 
 use crate::failed::Failed;
 use crate::source::Source;
@@ -61,14 +60,8 @@ impl Model for SourceLines {
         × (lines.stop ≤ lines.at) × (lines.at ≤ lines.end) × (lines.end ≤ 81920) × (lines.reads ≤ 1000000000) };
 }
 
-/// Where the first LF stands.
-fn first_lf(bytes: &[u8]) -> Option<usize>
-    ensures { result ≡ position is_lf bytes.now }
-{
-    bytes.iter().position(|byte| *byte == b'\n')
-}
-
-/// The same behind bytes that are none; the end where there is none.
+/// Where the first LF stands behind bytes that are none; the end where there is none. Four bytes are looked at with one test
+/// for the end.
 fn place_of_lf(bytes: &[u8], seen: usize) -> usize
     requires seen { seen ≤ length bytes.now }
     requires one { IsOneLine (take seen bytes.now) }
@@ -77,10 +70,26 @@ fn place_of_lf(bytes: &[u8], seen: usize) -> usize
     ensures one { IsOneLine (take result bytes.now) }
     ensures lf { result < length bytes.now → get_or bytes.now result 0 ≡ 10 }
 {
-    match first_lf(&bytes[seen..]) {
-        Some(place) => seen + place,
-        None => bytes.len(),
+    let mut at = seen;
+    while bytes.len() - at >= 4 {
+        if bytes[at] == b'\n' {
+            return at;
+        }
+        if bytes[at + 1] == b'\n' {
+            return at + 1;
+        }
+        if bytes[at + 2] == b'\n' {
+            return at + 2;
+        }
+        if bytes[at + 3] == b'\n' {
+            return at + 3;
+        }
+        at += 4;
     }
+    while at < bytes.len() && bytes[at] != b'\n' {
+        at += 1;
+    }
+    at
 }
 
 /// Moves the bytes between two places to the front.

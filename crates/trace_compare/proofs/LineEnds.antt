@@ -9,8 +9,7 @@ use Rattle.std.specs.Fmt.{decimal, signed_decimal}
 use Rattle.itoa.proofs.Decimal.{minus_first}
 use Rattle.std.specs.Prelude.{codes, if◌then◌else◌}
 use Rattle.thread_machine.specs.declared.choice.Choice.{Choice}
-use Rattle.thread_state.specs.declared.event.Event.{Event}
-use Rattle.trace_compare.specs.Lines.{what_text, mark_text, choice_text, event_text}
+use Rattle.trace_compare.specs.Lines.{choice_text}
 
 -- where a line isn't long, there is room before it for a number of at most 20 digits
 pub room_for_count : (bytes line : List ℕ) (start n : ℕ) → length bytes ≡ 192 → start ≤ 192 → drop start bytes ≡ line
@@ -93,32 +92,6 @@ pub within_line : (bytes rest : List ℕ) (start digits n : ℕ) → digits ≡ 
     → drop start bytes ≡ decimal n ++ rest → length bytes ≡ 192 → start ≤ 192 → start + digits ≤ length bytes
 within_line bytes rest start digits n size is long within =
     omega (arith, ap length is, length-append (decimal n) rest, length-drop start bytes, size, long, within)
-
--- the line of a choice whose number is counted up
-pub counted_line : (old new : List ℕ) (step next number pc digits : ℕ) (choice : Choice) (event : Event)
-    → old ≡ event_text step choice pc event → number ≡ step → next ≡ number + 1 → digits ≡ length (decimal step)
-    → new ≡ decimal (number + 1) ++ drop digits old → new ≡ event_text next choice pc event
-counted_line old new step next number pc digits choice event is same one_more size new_is =
-    let letter = (if choice.expiry then codes " x" else codes " t") ++ (decimal choice.thread ++ codes " ") in
-    let end = decimal pc ++ (codes " " ++ (what_text event.what ++ (mark_text event.mark ++ codes "\n"))) in
-    let split : old ≡ decimal step ++ (letter ++ end) = is ∙ append_assoc (decimal step) letter end in
-    new_is
-    ∙ ap (λ xs. decimal (number + 1) ++ drop digits xs) split
-    ∙ ap (λ xs. decimal (number + 1) ++ xs) (drop_at (decimal step) (letter ++ end) digits (sym size))
-    ∙ ap (λ n. decimal n ++ (letter ++ end)) (sym one_more)
-    ∙ sym (append_assoc (decimal next) letter end)
-
--- what stands behind that number
-pub behind_number : (old : List ℕ) (step number pc digits : ℕ) (choice : Choice) (event : Event)
-    → old ≡ event_text step choice pc event → number ≡ step → digits ≡ length (decimal step)
-    → old ≡ decimal number ++ drop digits old
-behind_number old step number pc digits choice event is same size =
-    let letter = (if choice.expiry then codes " x" else codes " t") ++ (decimal choice.thread ++ codes " ") in
-    let end = decimal pc ++ (codes " " ++ (what_text event.what ++ (mark_text event.mark ++ codes "\n"))) in
-    let split : old ≡ decimal step ++ (letter ++ end) = is ∙ append_assoc (decimal step) letter end in
-    split
-    ∙ ap (λ n. decimal n ++ (letter ++ end)) (sym same)
-    ∙ ap (λ xs. decimal number ++ xs) (sym (ap (drop digits) split ∙ drop_at (decimal step) (letter ++ end) digits (sym size)))
 
 -- how many digits a block ends with
 pub kept_digits : (block : List ℕ) (count n : ℕ) → length block ≡ 20 → count ≤ 20 → drop (20 - count) block ≡ decimal n
