@@ -12,6 +12,8 @@ pub mod fault;
 mod number;
 mod reading;
 mod spread;
+#[cfg(test)]
+mod tests;
 pub mod word;
 
 pub use draft::read_plan;
