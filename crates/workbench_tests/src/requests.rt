@@ -2,7 +2,6 @@
 use command_line::request::{Request, parse};
 use std::alloc::Global;
 use std::test::Fail;
-use thread_machine::Standing;
 
 /// Command lines whose words ask for nothing, and the status of each.
 static WRONG_WORDS: [(&str, i32); 21] = [
@@ -11,7 +10,7 @@ static WRONG_WORDS: [(&str, i32); 21] = [
     ("asm a b c", 2),
     ("list", 2),
     ("list a b", 2),
-    ("run a", 2),
+    ("run", 2),
     ("run a b c", 2),
     ("compare a", 2),
     ("compare a b c", 2),
@@ -33,11 +32,11 @@ static WRONG_WORDS: [(&str, i32); 21] = [
 static WRONG_OPTIONS: [&str; 27] = [
     "--nonsense",
     "--expect",
-    "--expect ended",
+    "--expect dead",
     "--expect all run a b",
     "--expect all run a b --expect all",
     "run a b --expect",
-    "run a b --expect ended",
+    "run a b --expect t0",
     "compare a b --show=yes",
     "draw a --width 59",
     "draw a --width 1001",
@@ -83,7 +82,15 @@ fn asks(alloc: Global, line: &str, wanted: &Request) -> Result<bool, Fail> {
 #[test]
 fn command_lines_ask_for_programs(rt: HostRuntime) -> Result<(), Fail> {
     let alloc = rt.alloc();
-    assert!(rt; asks(alloc, "", &Request::Both { expected: None })?);
+    assert!(rt;
+        asks(
+            alloc,
+            "",
+            &Request::Both {
+                expected: Vec::new(alloc)
+            }
+        )?
+    );
     assert!(rt;
         asks(
             alloc,
@@ -120,8 +127,8 @@ fn command_lines_ask_for_programs(rt: HostRuntime) -> Result<(), Fail> {
             "run a.image -",
             &Request::Run {
                 file: "a.image",
-                schedule: "-",
-                expected: None,
+                schedule: Some("-"),
+                expected: Vec::new(alloc),
             }
         )?
     );
@@ -232,7 +239,7 @@ fn command_lines_ask_for_threads(rt: HostRuntime) -> Result<(), Fail> {
                 limit: 1_000_000,
                 seed: None,
                 runs: None,
-                expected: None,
+                expected: Vec::new(alloc),
             }
         )?
     );
@@ -245,7 +252,7 @@ fn command_lines_ask_for_threads(rt: HostRuntime) -> Result<(), Fail> {
                 limit: 1,
                 seed: None,
                 runs: None,
-                expected: None,
+                expected: Vec::new(alloc),
             }
         )?
     );
@@ -258,7 +265,7 @@ fn command_lines_ask_for_threads(rt: HostRuntime) -> Result<(), Fail> {
                 limit: 1_000_000_000,
                 seed: None,
                 runs: None,
-                expected: None,
+                expected: Vec::new(alloc),
             }
         )?
     );
@@ -297,7 +304,7 @@ fn command_lines_ask_for_many_runs(rt: HostRuntime) -> Result<(), Fail> {
                 limit: 1_000_000,
                 seed: None,
                 runs: Some(1),
-                expected: None,
+                expected: Vec::new(alloc),
             }
         )?
     );
@@ -310,7 +317,7 @@ fn command_lines_ask_for_many_runs(rt: HostRuntime) -> Result<(), Fail> {
                 limit: 7,
                 seed: Some(0),
                 runs: Some(100_000),
-                expected: Some(Standing::Live),
+                expected: Vec::from_slice(alloc, &["live"])?,
             }
         )?
     );
@@ -325,7 +332,18 @@ fn command_lines_ask_for_ends_and_pauses(rt: HostRuntime) -> Result<(), Fail> {
             alloc,
             "--expect live",
             &Request::Both {
-                expected: Some(Standing::Live),
+                expected: Vec::from_slice(alloc, &["live"])?,
+            }
+        )?
+    );
+    assert!(rt;
+        asks(
+            alloc,
+            "run a.txt --expect ended --expect stuck",
+            &Request::Run {
+                file: "a.txt",
+                schedule: None,
+                expected: Vec::from_slice(alloc, &["ended", "stuck"])?,
             }
         )?
     );
@@ -335,8 +353,8 @@ fn command_lines_ask_for_ends_and_pauses(rt: HostRuntime) -> Result<(), Fail> {
             "run a.txt b --expect stuck",
             &Request::Run {
                 file: "a.txt",
-                schedule: "b",
-                expected: Some(Standing::Stuck),
+                schedule: Some("b"),
+                expected: Vec::from_slice(alloc, &["stuck"])?,
             }
         )?
     );
@@ -349,7 +367,7 @@ fn command_lines_ask_for_ends_and_pauses(rt: HostRuntime) -> Result<(), Fail> {
                 limit: 1_000_000,
                 seed: Some(4_294_967_295),
                 runs: None,
-                expected: Some(Standing::All),
+                expected: Vec::from_slice(alloc, &["all"])?,
             }
         )?
     );
