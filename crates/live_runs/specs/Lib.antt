@@ -1,3 +1,4 @@
 pub mod Ends
 pub mod Outcomes
+pub mod Pauses
 pub mod Runs

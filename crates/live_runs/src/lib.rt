@@ -4,14 +4,22 @@
 //! and writes a line for each state that a run ended in: how often one did, and the schedule of the first that did, which plays
 //! that run again. Two runs ended in one state where they ended in the same way and the lines of their threads, phasers,
 //! barriers and cells are the same; how many choices it took them makes no difference.
+//!
+//! In a live run the workers race for one lock, and mostly the same few orders come about. A `Stirred` gate lets each worker yield
+//! its processor or do nothing for a while before about half of its turns, by a generator with a seed, so that other orders come
+//! about too (`Pauses` has one for each run). What the machine does under the lock isn't touched: that a run's schedule replays to
+//! its state is what `run_live` promises of any gate. The pauses are those of the seed; the order that they lead to isn't, since
+//! it is real threads that race.
 #![tactic(auto)]
 
 pub mod command;
 pub mod end_state;
 pub mod outcomes;
+pub mod pause;
 pub mod pauses;
 mod report;
 mod runs;
+pub mod stirred;
 
 pub use command::{Asked, report_runs};
 pub use pauses::Pauses;

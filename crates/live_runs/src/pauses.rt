@@ -1,6 +1,6 @@
 //! The pauses of several runs.
 
-use stirred_gate::Stirred;
+use crate::stirred::Stirred;
 use thread_runner::Gate;
 
 /// Whether threads pause before some of their turns, and by which seed.

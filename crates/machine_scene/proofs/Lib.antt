@@ -25,4 +25,3 @@ pub mod Standings
 pub mod Asleep
 pub mod ThreadSets
 pub mod LocalTurns
-mod WorkedRows

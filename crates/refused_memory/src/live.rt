@@ -1,9 +1,9 @@
 //! Runs on real threads.
 
+use crate::marks::{self, Refusal};
+use crate::programs::{MEETING, program_of};
 use crate::records::{is_record, leads_to};
-use memory_trials::marks::{self, Refusal};
-use memory_trials::programs::{MEETING, program_of};
-use memory_trials::trial::{Answer, Tried, memory_if, right_if};
+use crate::trial::{Answer, memory_if, right_if};
 use std::alloc::{AllocError, Global};
 use std::io;
 use std::sync::Wait;
@@ -32,15 +32,12 @@ fn tried<R: Threads + Wait + Sync>(
     rt: &R,
     alloc: Global,
     refusal: Refusal,
-) -> Result<Tried, AllocError> {
+) -> Result<Answer, AllocError> {
     let program = program_of(alloc, MEETING)?;
     marks::begin(alloc, refusal);
     let result = run_live(rt, alloc, program, 1000, &NoGate);
-    let was_refused = marks::end(alloc);
-    Ok(Tried {
-        answer: live_answer(alloc, result)?,
-        was_refused,
-    })
+    marks::end(alloc);
+    Ok(live_answer(alloc, result)?)
 }
 
 /// Refuses each of the first requests in turn. How many a run makes depends on how its threads meet, and a thread's block may
@@ -48,8 +45,8 @@ fn tried<R: Threads + Wait + Sync>(
 fn swept<R: Threads + Wait + Sync>(rt: &R, alloc: Global) -> Result<&'static str, AllocError> {
     let mut memory = 0u32;
     for request in 1..=100u16 {
-        let seen = tried(rt, alloc, Refusal::One(request))?;
-        match (seen.answer, seen.was_refused) {
+        let answer = tried(rt, alloc, Refusal::One(request))?;
+        match (answer, marks::was_refused(alloc)) {
             (Answer::Memory, true) => memory = memory.saturating_add(1),
             (Answer::Right, _) => {}
             _ => return Ok("WRONG"),

@@ -1,7 +1,7 @@
 //! Runs of many choices, which make as many requests for memory as shorter ones.
 
 use crate::runs::{Comparing, Playing, Run};
-use memory_trials::sweep::requests;
+use crate::sweep::requests;
 use std::alloc::{AllocError, Global};
 
 /// A thread that goes round for ever.

@@ -3,16 +3,32 @@
 //! anything.
 #![tactic(auto)]
 
+// What is refused, what comes of it, and how it is told.
+mod marks;
+mod report;
+mod sweep;
+mod trial;
+
+// What the trials are made of.
+mod programs;
+
+// The trials, by what they try: a trial makes what a call needs, has one of the call's requests refused, makes the call, and
+// looks at what it answered and at what stands then.
+mod forests;
+mod images;
+mod lines;
 mod live;
 mod long_runs;
+mod machines;
 mod pictures;
 mod records;
-mod report;
 mod runs;
+mod schedules;
 mod sessions;
 mod shared;
+mod steps;
+mod texts;
 
-use memory_trials::{forests, images, lines, machines, schedules, steps, texts};
 use report::{tell, tell_counts};
 use std::alloc::Global;
 use std::io;
@@ -82,8 +98,13 @@ fn tell_sessions(rt: &HostRuntime, alloc: Global) -> io::Result<()> {
     tell(rt, alloc, "Debugger::new", &sessions::Opening)?;
     tell(rt, alloc, "Debugger::step at out", &sessions::Stepping)?;
     tell(rt, alloc, "go", &sessions::Going)?;
-    for (name, command) in &sessions::COMMANDS {
-        tell(rt, alloc, *name, command)?;
+    for (name, line, reply, stands) in &sessions::COMMANDS {
+        let command = sessions::Commanding {
+            line,
+            reply,
+            stands: *stands,
+        };
+        tell(rt, alloc, *name, &command)?;
     }
     Ok(())
 }

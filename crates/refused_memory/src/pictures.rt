@@ -1,9 +1,9 @@
 //! A run as a page and as a picture.
 
+use crate::marks::{self, Refusal};
+use crate::programs::{MEETING, MEETING_CHOICES, image_of, meeting_after};
+use crate::trial::{Answer, Trial, answer_in_bytes, right_if};
 use assembler::{Symbols, assemble_named};
-use memory_trials::marks::{self, Refusal};
-use memory_trials::programs::{MEETING, MEETING_CHOICES, image_of, meeting_after};
-use memory_trials::trial::{Answer, Trial, Tried, answer_in_bytes, right_if};
 use run_drawing::picture::picture;
 use run_page::page::{PageFault, page};
 use std::alloc::{AllocError, Global};
@@ -17,19 +17,15 @@ fn is_page(bytes: &[u8]) -> bool {
 pub struct Paging;
 
 impl Trial for Paging {
-    fn tried(&self, alloc: Global, refusal: Refusal) -> Result<Tried, AllocError> {
+    fn tried(&self, alloc: Global, refusal: Refusal) -> Result<Answer, AllocError> {
         let image = image_of(alloc, MEETING)?;
         marks::begin(alloc, refusal);
         let result = page(alloc, image, MEETING, b"t0 t1 t0*3 t1*2");
-        let was_refused = marks::end(alloc);
-        let answer = match result {
+        marks::end(alloc);
+        Ok(match result {
             Ok(bytes) => right_if(is_page(bytes.as_slice())),
             Err(PageFault::Memory) => Answer::Memory,
             Err(_) => Answer::Wrong,
-        };
-        Ok(Tried {
-            answer,
-            was_refused,
         })
     }
 }
@@ -52,17 +48,14 @@ fn drawn(alloc: Global, symbols: &Symbols) -> Result<Vec<u8>, AllocError> {
 }
 
 impl Trial for Drawing {
-    fn tried(&self, alloc: Global, refusal: Refusal) -> Result<Tried, AllocError> {
+    fn tried(&self, alloc: Global, refusal: Refusal) -> Result<Answer, AllocError> {
         let symbols = names(alloc)?;
         let wanted = drawn(alloc, &symbols)?;
         let mut machine = meeting_after(alloc, 0)?;
         marks::begin(alloc, refusal);
         let result = picture(alloc, &mut machine, &symbols, 80, &MEETING_CHOICES);
-        let was_refused = marks::end(alloc);
+        marks::end(alloc);
         let again = drawn(alloc, &symbols);
-        Ok(Tried {
-            answer: answer_in_bytes(result, again, wanted.as_slice()),
-            was_refused,
-        })
+        Ok(answer_in_bytes(result, again, wanted.as_slice()))
     }
 }

@@ -1,9 +1,9 @@
 //! The record of a live run.
 
+use crate::marks::{self, Refusal};
+use crate::programs::{MEETING, MEETING_AT_FIRST, image_of, program_of, shows};
+use crate::trial::{Answer, Trial, memory_if, right_if};
 use byte_ports::{MemorySink, MemorySource};
-use memory_trials::marks::{self, Refusal};
-use memory_trials::programs::{MEETING, MEETING_AT_FIRST, image_of, program_of, shows};
-use memory_trials::trial::{Answer, Trial, Tried, memory_if, right_if};
 use std::alloc::{AllocError, Global};
 use thread_machine::{Event, Machine};
 use thread_runner::{Journaled, TakeFault};
@@ -58,18 +58,14 @@ fn record_after(alloc: Global, program: &[u8], turns: &[u8]) -> Result<Journaled
 pub struct Recording;
 
 impl Trial for Recording {
-    fn tried(&self, alloc: Global, refusal: Refusal) -> Result<Tried, AllocError> {
+    fn tried(&self, alloc: Global, refusal: Refusal) -> Result<Answer, AllocError> {
         let program = program_of(alloc, MEETING)?;
         marks::begin(alloc, refusal);
         let result = Journaled::new(alloc, program, 1000);
-        let was_refused = marks::end(alloc);
-        let answer = match result {
+        marks::end(alloc);
+        Ok(match result {
             Ok(record) => right_if(shows(alloc, record.machine(), MEETING_AT_FIRST)?),
             Err(_) => Answer::Memory,
-        };
-        Ok(Tried {
-            answer,
-            was_refused,
         })
     }
 }
@@ -126,19 +122,15 @@ impl Taking {
 }
 
 impl Trial for Taking {
-    fn tried(&self, alloc: Global, refusal: Refusal) -> Result<Tried, AllocError> {
+    fn tried(&self, alloc: Global, refusal: Refusal) -> Result<Answer, AllocError> {
         let mut record = record_after(alloc, self.program, self.turns)?;
         marks::begin(alloc, refusal);
         let result = take(&mut record, self.thread, self.expiry);
-        let was_refused = marks::end(alloc);
-        let answer = match result {
+        marks::end(alloc);
+        Ok(match result {
             Ok(_) => right_if(self.has(alloc, &record, self.behind)?),
             Err(TakeFault::Memory) => memory_if(self.stands(alloc, &mut record)?),
             Err(_) => Answer::Wrong,
-        };
-        Ok(Tried {
-            answer,
-            was_refused,
         })
     }
 }
@@ -147,18 +139,14 @@ impl Trial for Taking {
 pub struct Telling;
 
 impl Trial for Telling {
-    fn tried(&self, alloc: Global, refusal: Refusal) -> Result<Tried, AllocError> {
+    fn tried(&self, alloc: Global, refusal: Refusal) -> Result<Answer, AllocError> {
         let record = record_after(alloc, OUT.program, OUT.turns)?;
         marks::begin(alloc, refusal);
         let result = record.schedule(alloc);
-        let was_refused = marks::end(alloc);
-        let answer = match result {
+        marks::end(alloc);
+        Ok(match result {
             Ok(text) => right_if(text.as_bytes() == OUT.before),
             Err(_) => memory_if(OUT.has(alloc, &record, OUT.before)?),
-        };
-        Ok(Tried {
-            answer,
-            was_refused,
         })
     }
 }

@@ -1,7 +1,7 @@
 //! What is written of the trials.
 
-use memory_trials::sweep::{Outcome, swept};
-use memory_trials::trial::Trial;
+use crate::sweep::{Outcome, swept};
+use crate::trial::Trial;
 use std::alloc::{AllocError, Global};
 use std::io;
 

@@ -1,9 +1,9 @@
 //! Runs whose trace is written, and traces that are compared.
 
+use crate::marks::{self, Refusal};
+use crate::programs::{MEETING, image_of};
+use crate::trial::{Answer, Trial, memory_if, right_if};
 use byte_ports::{MemorySink, MemorySource};
-use memory_trials::marks::{self, Refusal};
-use memory_trials::programs::{MEETING, image_of};
-use memory_trials::trial::{Answer, Trial, Tried, memory_if, right_if};
 use std::alloc::{AllocError, Global};
 use trace_compare::compare::{CompareFault, Verdict, compare};
 use trace_compare::run::{RunFault, run_text};
@@ -39,17 +39,14 @@ fn run_answer(answered: Result<(), RunFault>, written: &[u8], run: &Run) -> Answ
 pub struct Playing<'a>(pub Run<'a>);
 
 impl<'a> Trial for Playing<'a> {
-    fn tried(&self, alloc: Global, refusal: Refusal) -> Result<Tried, AllocError> {
+    fn tried(&self, alloc: Global, refusal: Refusal) -> Result<Answer, AllocError> {
         let image = image_of(alloc, self.0.program)?;
         let mut schedule = MemorySource::new(self.0.schedule, None);
         let mut output = MemorySink::new(alloc, 2_000_000, None)?;
         marks::begin(alloc, refusal);
         let result = run_text(alloc, image, &mut schedule, &mut output);
-        let was_refused = marks::end(alloc);
-        Ok(Tried {
-            answer: run_answer(result, output.bytes(), &self.0),
-            was_refused,
-        })
+        marks::end(alloc);
+        Ok(run_answer(result, output.bytes(), &self.0))
     }
 }
 
@@ -61,20 +58,16 @@ pub struct Comparing<'a> {
 }
 
 impl<'a> Trial for Comparing<'a> {
-    fn tried(&self, alloc: Global, refusal: Refusal) -> Result<Tried, AllocError> {
+    fn tried(&self, alloc: Global, refusal: Refusal) -> Result<Answer, AllocError> {
         let image = image_of(alloc, self.program)?;
         let mut trace = MemorySource::new(self.trace, None);
         marks::begin(alloc, refusal);
         let result = compare(alloc, image, &mut trace);
-        let was_refused = marks::end(alloc);
-        let answer = match result {
+        marks::end(alloc);
+        Ok(match result {
             Ok(verdict) => right_if(verdict == Verdict::Same),
             Err(CompareFault::Memory) => Answer::Memory,
             Err(_) => Answer::Wrong,
-        };
-        Ok(Tried {
-            answer,
-            was_refused,
         })
     }
 }

@@ -1,10 +1,10 @@
 //! The debugger.
 
+use crate::marks::{self, Refusal};
+use crate::programs::{MEETING_CHOICES, are_alike, meeting_after};
+use crate::trial::{Answer, Trial, memory_if, right_if};
 use byte_ports::MemorySink;
 use debugger::{CommandFault, Debugger, Stop};
-use memory_trials::marks::{self, Refusal};
-use memory_trials::programs::{MEETING_CHOICES, are_alike, meeting_after};
-use memory_trials::trial::{Answer, Trial, Tried, memory_if, right_if};
 use schedule_reader::Run;
 use std::alloc::{AllocError, Global};
 use thread_machine::{Choice, StepFault};
@@ -61,18 +61,14 @@ fn stands_at(alloc: Global, debugger: &mut Debugger, count: usize) -> Result<boo
 pub struct Opening;
 
 impl Trial for Opening {
-    fn tried(&self, alloc: Global, refusal: Refusal) -> Result<Tried, AllocError> {
+    fn tried(&self, alloc: Global, refusal: Refusal) -> Result<Answer, AllocError> {
         let machine = meeting_after(alloc, 0)?;
         marks::begin(alloc, refusal);
         let result = Debugger::new(alloc, machine, 8);
-        let was_refused = marks::end(alloc);
-        let answer = match result {
+        marks::end(alloc);
+        Ok(match result {
             Ok(mut debugger) => right_if(stands_at(alloc, &mut debugger, 0)?),
             Err(_) => Answer::Memory,
-        };
-        Ok(Tried {
-            answer,
-            was_refused,
         })
     }
 }
@@ -81,19 +77,15 @@ impl Trial for Opening {
 pub struct Stepping;
 
 impl Trial for Stepping {
-    fn tried(&self, alloc: Global, refusal: Refusal) -> Result<Tried, AllocError> {
+    fn tried(&self, alloc: Global, refusal: Refusal) -> Result<Answer, AllocError> {
         let mut debugger = debugger_after(alloc, 3)?;
         marks::begin(alloc, refusal);
         let result = debugger.step(MEETING_CHOICES[3]);
-        let was_refused = marks::end(alloc);
-        let answer = match result {
+        marks::end(alloc);
+        Ok(match result {
             Ok(_) => right_if(stands_at(alloc, &mut debugger, 4)?),
             Err(StepFault::Memory) => memory_if(stands_at(alloc, &mut debugger, 3)?),
             Err(_) => Answer::Wrong,
-        };
-        Ok(Tried {
-            answer,
-            was_refused,
         })
     }
 }
@@ -139,19 +131,17 @@ fn stop_answer(alloc: Global, debugger: &mut Debugger, stop: Stop) -> Result<Ans
 pub struct Going;
 
 impl Trial for Going {
-    fn tried(&self, alloc: Global, refusal: Refusal) -> Result<Tried, AllocError> {
+    fn tried(&self, alloc: Global, refusal: Refusal) -> Result<Answer, AllocError> {
         let mut debugger = debugger_after(alloc, 2)?;
         marks::begin(alloc, refusal);
         let stop = debugger.go(&REST);
-        let was_refused = marks::end(alloc);
-        Ok(Tried {
-            answer: stop_answer(alloc, &mut debugger, stop)?,
-            was_refused,
-        })
+        marks::end(alloc);
+        stop_answer(alloc, &mut debugger, stop)
     }
 }
 
 /// `Debugger::command` with this line after the meeting's third choice: its reply, and how many choices stand behind it.
+#[derive(Clone, Copy)]
 pub struct Commanding {
     pub line: &'static [u8],
     pub reply: &'static [u8],
@@ -186,86 +176,32 @@ impl Commanding {
 }
 
 impl Trial for Commanding {
-    fn tried(&self, alloc: Global, refusal: Refusal) -> Result<Tried, AllocError> {
+    fn tried(&self, alloc: Global, refusal: Refusal) -> Result<Answer, AllocError> {
         let mut debugger = debugger_after(alloc, 3)?;
         let mut output = MemorySink::new(alloc, 1000, None)?;
         marks::begin(alloc, refusal);
         let result = debugger.command(alloc, self.line, &mut output);
-        let was_refused = marks::end(alloc);
+        marks::end(alloc);
         let (answer, count) = self.judged(result, output.bytes());
         let stands = stands_at(alloc, &mut debugger, count)?;
-        Ok(Tried {
-            answer: if stands { answer } else { Answer::Wrong },
-            was_refused,
-        })
+        Ok(if stands { answer } else { Answer::Wrong })
     }
 }
 
-/// The commands, each with a name of its own.
-pub static COMMANDS: [(&str, Commanding); 8] = [
-    (
-        "command s",
-        Commanding {
-            line: b"s t0",
-            reply: b"4 t0 1 out 1\n",
-            stands: 4,
-        },
-    ),
-    (
-        "command g",
-        Commanding {
-            line: b"g t0*2 t1*2",
-            reply: b"end 4\n",
-            stands: 7,
-        },
-    ),
-    (
-        "command b",
-        Commanding {
-            line: b"b",
-            reply: b"back 2\n",
-            stands: 2,
-        },
-    ),
-    (
-        "command k",
-        Commanding {
-            line: b"k 1",
-            reply: b"break 1\n",
-            stands: 3,
-        },
-    ),
-    (
-        "command c",
-        Commanding {
-            line: b"c 1",
-            reply: b"clear 1\n",
-            stands: 3,
-        },
-    ),
+/// The commands: a name, the line, its reply, and how many choices of the meeting stand behind it.
+pub static COMMANDS: [(&'static str, &'static [u8], &'static [u8], usize); 8] = [
+    ("command s", b"s t0", b"4 t0 1 out 1\n", 4),
+    ("command g", b"g t0*2 t1*2", b"end 4\n", 7),
+    ("command b", b"b", b"back 2\n", 2),
+    ("command k", b"k 1", b"break 1\n", 3),
+    ("command c", b"c 1", b"clear 1\n", 3),
     (
         "command p",
-        Commanding {
-            line: b"p",
-            reply: b"state 3 3 live\nt0 1 runs 0 regs 1 0 0 0 0 0 0 0 stack out\n\
+        b"p",
+        b"state 3 3 live\nt0 1 runs 0 regs 1 0 0 0 0 0 0 0 stack out\n\
 t1 1 runs 0 regs 1 0 0 0 0 0 0 0 stack out\np0 1 2 0 2\n",
-            stands: 3,
-        },
+        3,
     ),
-    (
-        "command q",
-        Commanding {
-            line: b"q",
-            reply: b"",
-            stands: 3,
-        },
-    ),
-    (
-        "no command",
-        Commanding {
-            line: b"g t0 t64",
-            reply: b"?\n",
-            stands: 3,
-        },
-    ),
+    ("command q", b"q", b"", 3),
+    ("no command", b"g t0 t64", b"?\n", 3),
 ];

@@ -1,7 +1,7 @@
 //! The phaser between real threads.
 
-use memory_trials::marks::{self, Refusal};
-use memory_trials::trial::{Answer, Trial, Tried, right_if};
+use crate::marks::{self, Refusal};
+use crate::trial::{Answer, Trial, right_if};
 use packed_phaser::Policy;
 use phase_number::Phase;
 use shared_phaser::{NewFault, SharedPhaser};
@@ -14,18 +14,14 @@ const FRESH: u64 = 0x0000_0000_0002_0002;
 pub struct Sharing;
 
 impl Trial for Sharing {
-    fn tried(&self, alloc: Global, refusal: Refusal) -> Result<Tried, AllocError> {
+    fn tried(&self, alloc: Global, refusal: Refusal) -> Result<Answer, AllocError> {
         marks::begin(alloc, refusal);
         let result = SharedPhaser::new(alloc, 2, Policy::Default, Phase::prevailing(0));
-        let was_refused = marks::end(alloc);
-        let answer = match result {
+        marks::end(alloc);
+        Ok(match result {
             Ok((phaser, first)) => right_if(phaser.close(first).raw() == FRESH),
             Err(NewFault::Memory) => Answer::Memory,
             Err(NewFault::RoutinePolicy) => Answer::Wrong,
-        };
-        Ok(Tried {
-            answer,
-            was_refused,
         })
     }
 }

@@ -14,10 +14,11 @@ function fillTalk(box, text) {
   box.textContent = "";
   text.split("`").forEach((part, k) => { if (part) add(box, k % 2 ? "code" : "span", "", part); });
 }
-// scrolls a box so that what stands from `top` to `foot` is in view, below its head
+// scrolls a box so that what stands from `top` to `foot` is in view, below its head; or its top, where there is no room for all
 function scrollTo(box, top, foot, cover) {
-  if (top - cover < box.scrollTop) box.scrollTop = Math.max(0, top - cover - 4);
-  else if (foot > box.scrollTop + box.clientHeight) box.scrollTop = foot - box.clientHeight + 4;
+  const highest = Math.max(0, top - cover - 4);
+  if (top - cover < box.scrollTop) box.scrollTop = highest;
+  else if (foot > box.scrollTop + box.clientHeight) box.scrollTop = Math.min(highest, foot - box.clientHeight + 4);
 }
 // the same of an element in it, wherever it is nested
 function bring(box, element, cover, more) {

@@ -7,7 +7,7 @@ pub const HEAD: &[u8] = br###"<!doctype html>
 <head>
 <meta charset="utf-8">
 <meta name="viewport" content="width=device-width, initial-scale=1">
-<meta http-equiv="Content-Security-Policy" content="default-src 'none'; style-src 'sha256-66bwy4E//KUbaXfAo91xd9YwBt+ZvaNC8L/ckRF2E6c='; script-src 'sha256-+gaPkKMwXqQjDy0Jzn1EsUd8w76nBdmOZ+Vt2e10tuU='">
+<meta http-equiv="Content-Security-Policy" content="default-src 'none'; style-src 'sha256-PY5uEiUUFjXMISV4uNuHfCFrVXNHbluZHbBPkZ4EaPo='; script-src 'sha256-PnsrDDNHBHyorAEnAiHzTUjPD0xMgXL5zHS/7ptAc6A='">
 <meta name="generator" content="vuthgal show">
 <title>A run, step by step</title>
 <style>
@@ -89,7 +89,7 @@ select { font: inherit; color: var(--ink); background: var(--face); border: 2px 
   .wide { display: flex; flex-direction: column; height: 100vh; overflow: hidden }
   .wide #tool { display: flex; flex-direction: column; flex: 1 1 0; min-height: 16rem }
   .wide #panes { flex: 1 1 0; min-height: 0; grid-template-columns: minmax(min(var(--need), 50%), 1.75fr) minmax(min(var(--code), 27%), 1fr) minmax(0, 1.15fr); grid-template-rows: minmax(0, 1fr) }
-  .wide #panes.crowd { grid-template-columns: minmax(min(var(--need), 72%), 2fr) minmax(0, 1fr); grid-template-rows: minmax(0, 2fr) minmax(0, 3fr) }
+  .wide #panes.crowd { grid-template-columns: minmax(min(var(--need), 72%), 2fr) minmax(0, 1fr); grid-template-rows: minmax(10rem, 2fr) minmax(0, 3fr) }
   .wide #panes.crowd #time { grid-row: 1 / 3 }
   .wide #panes > section { min-height: 0 }
   .wide .scroll { flex: 1 1 0; min-height: 0; max-height: none }
@@ -1329,10 +1329,11 @@ function fillTalk(box, text) {
   box.textContent = "";
   text.split("`").forEach((part, k) => { if (part) add(box, k % 2 ? "code" : "span", "", part); });
 }
-// scrolls a box so that what stands from `top` to `foot` is in view, below its head
+// scrolls a box so that what stands from `top` to `foot` is in view, below its head; or its top, where there is no room for all
 function scrollTo(box, top, foot, cover) {
-  if (top - cover < box.scrollTop) box.scrollTop = Math.max(0, top - cover - 4);
-  else if (foot > box.scrollTop + box.clientHeight) box.scrollTop = foot - box.clientHeight + 4;
+  const highest = Math.max(0, top - cover - 4);
+  if (top - cover < box.scrollTop) box.scrollTop = highest;
+  else if (foot > box.scrollTop + box.clientHeight) box.scrollTop = Math.min(highest, foot - box.clientHeight + 4);
 }
 // the same of an element in it, wherever it is nested
 function bring(box, element, cover, more) {

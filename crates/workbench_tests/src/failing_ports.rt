@@ -1,8 +1,9 @@
 //! Each command over ports of which one fails, in turn at each of its calls.
-use byte_ports::{MemorySink, MemorySource};
-use picture_commands::command::make;
-use picture_commands::drawing::Drawing;
-use picture_commands::page::Page;
+use byte_ports::{MemorySink, MemorySource, Source};
+use commands::drawing::Drawing;
+use commands::list_rows;
+use commands::page::Page;
+use commands::pictures::make;
 use std::alloc::Global;
 use std::sync::Wait;
 use std::test::Fail;
@@ -25,240 +26,51 @@ struct Ports<'a> {
     errors: MemorySink,
 }
 
-/// A command without threads, as it stands over its ports: its status.
-trait Command {
-    fn status(alloc: Global, ports: &mut Ports) -> u8;
+#[derive(Clone, Copy, Debug, PartialEq, Eq)]
+enum Command {
+    Asm,
+    List,
+    Rows,
+    Both,
+    Run,
+    Compare,
+    Debug,
+    Show,
+    Draw,
+    Live,
 }
 
-struct Asm;
-
-impl Command for Asm {
-    fn status(alloc: Global, ports: &mut Ports) -> u8 {
-        asm_cmd(alloc, &mut ports.file, &mut ports.output, &mut ports.errors)
+/// Carries a command out over its ports: its status.
+fn status<R: Threads + Wait + Sync>(
+    rt: &R,
+    alloc: Global,
+    command: Command,
+    ports: &mut Ports,
+) -> u8 {
+    let file = &mut ports.file;
+    let other = &mut ports.other;
+    let output = &mut ports.output;
+    let errors = &mut ports.errors;
+    match command {
+        Command::Asm => asm_cmd(alloc, file, output, errors),
+        Command::List => list_cmd(alloc, file, output, errors),
+        Command::Rows => settled(as_asked(list_rows(alloc, file, output)), errors),
+        Command::Both => both_cmd(alloc, file, output, errors),
+        Command::Run => run_cmd(alloc, file, other, output, errors),
+        Command::Compare => compare_cmd(alloc, file, other, output, errors),
+        Command::Debug => debug_cmd(alloc, file, other, output, errors),
+        Command::Show => settled(as_asked(make(alloc, &Page, file, other, output)), errors),
+        Command::Draw => {
+            let drawing = Drawing { width: 80 };
+            settled(as_asked(make(alloc, &drawing, file, other, output)), errors)
+        }
+        Command::Live => live_cmd(rt, alloc, 1000, file, output, errors),
     }
 }
 
-struct List;
-
-impl Command for List {
-    fn status(alloc: Global, ports: &mut Ports) -> u8 {
-        list_cmd(alloc, &mut ports.file, &mut ports.output, &mut ports.errors)
-    }
-}
-
-struct Both;
-
-impl Command for Both {
-    fn status(alloc: Global, ports: &mut Ports) -> u8 {
-        both_cmd(alloc, &mut ports.file, &mut ports.output, &mut ports.errors)
-    }
-}
-
-struct Run;
-
-impl Command for Run {
-    fn status(alloc: Global, ports: &mut Ports) -> u8 {
-        run_cmd(
-            alloc,
-            &mut ports.file,
-            &mut ports.other,
-            &mut ports.output,
-            &mut ports.errors,
-        )
-    }
-}
-
-struct Compare;
-
-impl Command for Compare {
-    fn status(alloc: Global, ports: &mut Ports) -> u8 {
-        compare_cmd(
-            alloc,
-            &mut ports.file,
-            &mut ports.other,
-            &mut ports.output,
-            &mut ports.errors,
-        )
-    }
-}
-
-struct Debug;
-
-impl Command for Debug {
-    fn status(alloc: Global, ports: &mut Ports) -> u8 {
-        debug_cmd(
-            alloc,
-            &mut ports.file,
-            &mut ports.other,
-            &mut ports.output,
-            &mut ports.errors,
-        )
-    }
-}
-
-struct Show;
-
-impl Command for Show {
-    fn status(alloc: Global, ports: &mut Ports) -> u8 {
-        let answer = make(
-            alloc,
-            &Page,
-            &mut ports.file,
-            &mut ports.other,
-            &mut ports.output,
-        );
-        settled(as_asked(answer), &mut ports.errors)
-    }
-}
-
-struct Draw;
-
-impl Command for Draw {
-    fn status(alloc: Global, ports: &mut Ports) -> u8 {
-        let answer = make(
-            alloc,
-            &Drawing { width: 80 },
-            &mut ports.file,
-            &mut ports.other,
-            &mut ports.output,
-        );
-        settled(as_asked(answer), &mut ports.errors)
-    }
-}
-
-/// What a command reads, how many calls it makes of its file, its other input and its output, and whether something may be
+/// A command, its file and its other input, how many calls it makes of these and of its output, and whether something may be
 /// written before all is read.
-struct Inputs {
-    file: &'static [u8],
-    other: &'static [u8],
-    calls: [u8; 3],
-    writes_early: bool,
-}
-
-/// A port of a command.
-#[derive(Clone, Copy, PartialEq, Eq)]
-enum Port {
-    File,
-    Other,
-    Output,
-}
-
-/// The port that fails, and at which call, counted from 0.
-#[derive(Clone, Copy)]
-struct Failing {
-    port: Port,
-    call: u8,
-}
-
-impl Failing {
-    /// The same for each of the ports.
-    fn calls(self) -> [Option<u32>; 3] {
-        let call = Some(u32::from(self.call));
-        match self.port {
-            Port::File => [call, None, None],
-            Port::Other => [None, call, None],
-            Port::Output => [None, None, call],
-        }
-    }
-
-    /// The line that is told.
-    fn line(self) -> &'static [u8] {
-        match self.port {
-            Port::Output => b"write\n",
-            _ => b"read\n",
-        }
-    }
-}
-
-fn ports_of(alloc: Global, inputs: &Inputs, failing: Failing) -> Result<Ports<'static>, Fail> {
-    let [file, other, output] = failing.calls();
-    Ok(Ports {
-        file: MemorySource::new(inputs.file, file),
-        other: MemorySource::new(inputs.other, other),
-        output: MemorySink::new(alloc, 100_000, output)?,
-        errors: MemorySink::new(alloc, 100, None)?,
-    })
-}
-
-/// Whether what stands after a port has failed is what may: a beginning of the whole, and nothing where the command reads all
-/// before it writes.
-fn may_stand(inputs: &Inputs, failing: Failing, written: &[u8], whole: &[u8]) -> bool {
-    let may_write = inputs.writes_early || failing.port == Port::Output;
-    whole.starts_with(written) && (may_write || written.is_empty())
-}
-
-/// Whether a command whose port failed has said so.
-fn is_told(inputs: &Inputs, failing: Failing, status: u8, ports: &Ports, whole: &[u8]) -> bool {
-    status == 5
-        && ports.errors.bytes() == failing.line()
-        && may_stand(inputs, failing, ports.output.bytes(), whole)
-}
-
-/// Whether a command whose port fails says so.
-fn tells<C: Command>(
-    alloc: Global,
-    inputs: &Inputs,
-    failing: Failing,
-    whole: &[u8],
-) -> Result<bool, Fail> {
-    let mut ports = ports_of(alloc, inputs, failing)?;
-    let status = C::status(alloc, &mut ports);
-    Ok(is_told(inputs, failing, status, &ports, whole))
-}
-
-/// Whether a command is done as ever where a port would fail behind its last call.
-fn is_done<C: Command>(
-    alloc: Global,
-    inputs: &Inputs,
-    failing: Failing,
-    whole: &[u8],
-) -> Result<bool, Fail> {
-    let mut ports = ports_of(alloc, inputs, failing)?;
-    let status = C::status(alloc, &mut ports);
-    Ok(status == 0 && ports.errors.bytes().is_empty() && ports.output.bytes() == whole)
-}
-
-/// Whether a command tells of each failure of a port that gets so many calls, and of none behind them.
-fn tells_each<C: Command>(
-    alloc: Global,
-    inputs: &Inputs,
-    port: Port,
-    calls: u8,
-    whole: &[u8],
-) -> Result<bool, Fail> {
-    for call in 0..calls {
-        if !tells::<C>(alloc, inputs, Failing { port, call }, whole)? {
-            return Ok(false);
-        }
-    }
-    is_done::<C>(alloc, inputs, Failing { port, call: calls }, whole)
-}
-
-/// What a command writes where nothing fails.
-fn whole_of<C: Command>(alloc: Global, inputs: &Inputs) -> Result<Ports<'static>, Fail> {
-    let never = Failing {
-        port: Port::Output,
-        call: u8::MAX,
-    };
-    let mut ports = ports_of(alloc, inputs, never)?;
-    if C::status(alloc, &mut ports) == 0 {
-        Ok(ports)
-    } else {
-        Err("a fault".into())
-    }
-}
-
-/// Whether a command tells of the failures of all its ports.
-fn tells_all<C: Command>(alloc: Global, inputs: &Inputs) -> Result<bool, Fail> {
-    let ports = whole_of::<C>(alloc, inputs)?;
-    let whole = ports.output.bytes();
-    let [file, other, output] = inputs.calls;
-    Ok(
-        tells_each::<C>(alloc, inputs, Port::File, file, whole)?
-            && tells_each::<C>(alloc, inputs, Port::Other, other, whole)?
-            && tells_each::<C>(alloc, inputs, Port::Output, output, whole)?,
-    )
-}
+type Case = (Command, &'static [u8], &'static [u8], [u8; 3], bool);
 
 /// Two threads meet at a phaser, and put out what they met: one phaser, two threads, three rows.
 const MEETING: &[u8] =
@@ -266,128 +78,128 @@ const MEETING: &[u8] =
 
 const SCHEDULE: &[u8] = b"t0 t1 t0*3 t1*2\n";
 
-/// One thread, and the trace of it.
+/// One thread, alone and with its choices, and the trace of it. Each live run of it has the same.
 const ALONE: &[u8] = b".thread a m\nm: ldi r0 5\nhalt\n";
+
+const BOTH: &[u8] = b".thread a m\nm: ldi r0 5\nhalt\n.run\nt0*2\n";
 
 const TRACE: &[u8] =
     b"1 t0 0 = 5\n2 t0 1 end\nstate 2 2 all\nt0 1 ended 0 regs 5 0 0 0 0 0 0 0 stack out\n";
 
-/// A text's image: a call for the head and for each thing of it. A canonical text, a page and a picture are one call.
-static ASM: Inputs = Inputs {
-    file: MEETING,
-    other: b"",
-    calls: [2, 0, 7],
-    writes_early: false,
-};
+/// A read gives a whole input, and the next its end; of the debugger's lines a read gives one byte. An image is a call for
+/// its head and for each thing of it, a trace one for each line of a choice and one for the state, a reply one, and all else
+/// is one.
+static CASES: [Case; 10] = [
+    (Command::Asm, MEETING, b"", [2, 0, 7], false),
+    (Command::List, MEETING, b"", [2, 0, 1], false),
+    (Command::Rows, MEETING, b"", [2, 0, 1], false),
+    (Command::Both, BOTH, b"", [2, 0, 3], false),
+    (Command::Run, MEETING, SCHEDULE, [2, 2, 8], true),
+    (Command::Compare, ALONE, TRACE, [2, 2, 1], false),
+    (
+        Command::Debug,
+        MEETING,
+        b"s t0\ns t0\nb\n",
+        [2, 13, 3],
+        true,
+    ),
+    (Command::Show, MEETING, SCHEDULE, [2, 2, 1], false),
+    (Command::Draw, MEETING, SCHEDULE, [2, 2, 1], false),
+    (Command::Live, ALONE, b"", [2, 0, 3], false),
+];
 
-static LIST: Inputs = Inputs {
-    file: MEETING,
-    other: b"",
-    calls: [2, 0, 1],
-    writes_early: false,
-};
-
-static SHOW: Inputs = Inputs {
-    file: MEETING,
-    other: SCHEDULE,
-    calls: [2, 2, 1],
-    writes_early: false,
-};
-
-/// A trace is a call for each line of a choice, and one for the state.
-static BOTH: Inputs = Inputs {
-    file: b".thread a m\nm: ldi r0 5\nhalt\n.run\nt0*2\n",
-    other: b"",
-    calls: [2, 0, 3],
-    writes_early: false,
-};
-
-static RUN: Inputs = Inputs {
-    file: MEETING,
-    other: SCHEDULE,
-    calls: [2, 2, 8],
-    writes_early: true,
-};
-
-static LIVE: Inputs = Inputs {
-    file: ALONE,
-    other: b"",
-    calls: [2, 0, 3],
-    writes_early: false,
-};
-
-static COMPARE: Inputs = Inputs {
-    file: ALONE,
-    other: TRACE,
-    calls: [2, 2, 1],
-    writes_early: false,
-};
-
-/// A command of five bytes is five calls; its reply is one.
-static DEBUG: Inputs = Inputs {
-    file: MEETING,
-    other: b"s t0\ns t0\nb\n",
-    calls: [2, 13, 3],
-    writes_early: true,
-};
-
-#[test]
-fn asm_list_and_both_tell_of_each_failure(rt: HostRuntime) -> Result<(), Fail> {
-    assert!(rt; tells_all::<Asm>(rt.alloc(), &ASM)?);
-    assert!(rt; tells_all::<List>(rt.alloc(), &LIST)?);
-    assert!(rt; tells_all::<Both>(rt.alloc(), &BOTH)?);
-    Ok(())
+/// The ports of a case, of which that of this number fails at this call, counted from 0.
+fn ports_of(alloc: Global, case: &Case, port: usize, call: u8) -> Result<Ports<'static>, Fail> {
+    let (_, file, other, ..) = *case;
+    let fails = |of: usize| {
+        if of == port {
+            Some(u32::from(call))
+        } else {
+            None
+        }
+    };
+    Ok(Ports {
+        file: MemorySource::new(file, fails(0)),
+        other: MemorySource::new(other, fails(1)),
+        output: MemorySink::new(alloc, 100_000, fails(2))?,
+        errors: MemorySink::new(alloc, 100, None)?,
+    })
 }
 
-#[test]
-fn run_compare_and_debug_tell_of_each_failure(rt: HostRuntime) -> Result<(), Fail> {
-    assert!(rt; tells_all::<Run>(rt.alloc(), &RUN)?);
-    assert!(rt; tells_all::<Compare>(rt.alloc(), &COMPARE)?);
-    assert!(rt; tells_all::<Debug>(rt.alloc(), &DEBUG)?);
-    Ok(())
+/// Whether a command whose port failed has said so, and a beginning of the whole stands; nothing where the command reads all
+/// before it writes.
+fn is_told(case: &Case, port: usize, status: u8, ports: &Ports, whole: &[u8]) -> bool {
+    let line = if port == 2 {
+        b"write\n".as_slice()
+    } else {
+        b"read\n".as_slice()
+    };
+    let (.., writes_early) = *case;
+    let written = ports.output.bytes();
+    status == 5
+        && ports.errors.bytes() == line
+        && whole.starts_with(written)
+        && (writes_early || port == 2 || written.is_empty())
 }
 
-#[test]
-fn show_and_draw_tell_of_each_failure(rt: HostRuntime) -> Result<(), Fail> {
-    assert!(rt; tells_all::<Show>(rt.alloc(), &SHOW)?);
-    assert!(rt; tells_all::<Draw>(rt.alloc(), &SHOW)?);
-    Ok(())
+/// Whether a command is done, says nothing and has written all.
+fn is_done(status: u8, ports: &Ports, whole: &[u8]) -> bool {
+    status == 0 && ports.errors.bytes().is_empty() && ports.output.bytes() == whole
 }
 
-/// `live` as it stands over its ports: its status.
-fn live<R: Threads + Wait + Sync>(rt: &R, alloc: Global, ports: &mut Ports) -> u8 {
-    live_cmd(
-        rt,
-        alloc,
-        1000,
-        &mut ports.file,
-        &mut ports.output,
-        &mut ports.errors,
-    )
-}
-
-/// Whether `live` tells of each failure of a port that gets so many calls. Of one thread alone each run has the same trace.
-fn live_tells_each<R: Threads + Wait + Sync>(
+/// Whether a command tells of each failure of one of its ports, and of none behind its last call.
+fn tells_each<R: Threads + Wait + Sync>(
     rt: &R,
     alloc: Global,
-    port: Port,
-    calls: u8,
+    case: &Case,
+    port: usize,
+    whole: &[u8],
 ) -> Result<bool, Fail> {
+    let (command, _, _, calls, _) = *case;
+    let calls = calls.get(port).copied().unwrap_or(0);
     for call in 0..calls {
-        let failing = Failing { port, call };
-        let mut ports = ports_of(alloc, &LIVE, failing)?;
-        let status = live(rt, alloc, &mut ports);
-        if !is_told(&LIVE, failing, status, &ports, TRACE) {
+        let mut ports = ports_of(alloc, case, port, call)?;
+        let status = status(rt, alloc, command, &mut ports);
+        if !is_told(case, port, status, &ports, whole) {
             return Ok(false);
         }
     }
-    Ok(true)
+    let mut ports = ports_of(alloc, case, port, calls)?;
+    let status = status(rt, alloc, command, &mut ports);
+    Ok(is_done(status, &ports, whole))
+}
+
+/// Whether a command tells of the failures of all its ports.
+fn tells_all<R: Threads + Wait + Sync>(rt: &R, alloc: Global, case: &Case) -> Result<bool, Fail> {
+    let (command, ..) = *case;
+    let mut ports = ports_of(alloc, case, 3, 0)?;
+    let status = status(rt, alloc, command, &mut ports);
+    let whole = ports.output.bytes();
+    Ok(
+        status == 0
+            && tells_each(rt, alloc, case, 0, whole)?
+            && tells_each(rt, alloc, case, 1, whole)?
+            && tells_each(rt, alloc, case, 2, whole)?,
+    )
 }
 
 #[test]
-fn live_tells_of_each_failure(rt: HostRuntime) -> Result<(), Fail> {
-    let [file, _, output] = LIVE.calls;
-    assert!(rt; live_tells_each(&rt, rt.alloc(), Port::File, file)?);
-    assert!(rt; live_tells_each(&rt, rt.alloc(), Port::Output, output)?);
+fn each_command_tells_of_each_failure(rt: HostRuntime) -> Result<(), Fail> {
+    for case in &CASES {
+        let (command, ..) = *case;
+        assert!(rt; tells_all(&rt, rt.alloc(), case)?, "{command:?}");
+    }
+    Ok(())
+}
+
+#[test]
+fn what_stands_behind_q_is_left(rt: HostRuntime) -> Result<(), Fail> {
+    let mut ports = ports_of(rt.alloc(), &CASES[6], 3, 0)?;
+    ports.other = MemorySource::new(b"s t0\nq \r\ns t1\n", None);
+    let status = status(&rt, rt.alloc(), Command::Debug, &mut ports);
+    assert!(rt; is_done(status, &ports, b"1 t0 0 wait\n"));
+    let mut rest = [0; 16];
+    let count = ports.other.pull(&mut rest).unwrap_or(0);
+    assert!(rt; count <= 16 && &rest[..count] == b"s t1\n".as_slice());
     Ok(())
 }

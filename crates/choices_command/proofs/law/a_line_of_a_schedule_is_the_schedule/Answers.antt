@@ -1,5 +1,0 @@
-use Rattle.choices_command.proofs.Blanks.{same-schedule}
-use Rattle.choices_command.proofs.law.a_line_of_a_schedule_is_the_schedule.Goals as goal
-
-pub returns : goal.returns
-returns c = same-schedule

@@ -1,0 +1,36 @@
+-- The drawing of a file's program under a schedule.
+use Rattle.std.proofs.Common.{◌≡◌, ◌∙◌, ◌≤◌, inl, inr, ℕ, List, length, ap}
+use Rattle.assembler.specs.Symbols.{SymbolTable}
+use Rattle.commands.specs.Drawing.{IsDrawingIn, IsNamedProgram}
+use Rattle.row_code.specs.declared.image.Image.{Image}
+use Rattle.run_drawing.specs.Picture.{picture}
+use Rattle.run_page.specs.Page.{AreChoicesOf, most_choices}
+use Rattle.thread_machine.specs.declared.choice.Choice.{Choice}
+use Rattle.thread_machine.specs.World.{World}
+use Rattle.trace_compare.specs.Start.{Begins}
+use Rattle.workbench.specs.ProgramFile.{IsProgramFile}
+
+-- the program of a file that has names, and of one that has none
+pub named_file : (file : List ℕ) (image : Image) (symbols : SymbolTable) → IsNamedProgram file image symbols
+    → IsProgramFile file image
+named_file file image symbols (inl (is, ((same, fits), none))) = inl (is, same, fits)
+named_file file image symbols (inr (is, (stands, names))) = inr (is, stands)
+
+pub drawing_in_file : (width : ℕ) (program schedule text : List ℕ) (image : Image) (symbols : SymbolTable) (world : World)
+    (choices drawn : List Choice) → IsNamedProgram program image symbols → Begins image world → AreChoicesOf schedule choices
+    → length choices ≤ most_choices → drawn ≡ choices → text ≡ picture width symbols world drawn → IsDrawingIn width program schedule text
+drawing_in_file width program schedule text image symbols world choices drawn named begins are few same is = (
+  image,
+  (
+    symbols,
+    (
+      choices,
+      (
+        named,
+        are,
+        few,
+        (world, (begins, is ∙ ap (λ (cs : List Choice). picture width symbols world cs) same)),
+      ),
+    ),
+  ),
+)

@@ -1,0 +1,39 @@
+-- Why there is no picture, by the fault that was found in the program or the schedule.
+use Rattle.std.proofs.Common.{◌≡◌, ◌∙◌, ◌⊎◌, inl, inr, refl, ℕ, ◌<◌, List, length, Some, None, Result, Err, ap, sym, subst, arith}
+use Rattle.loader.specs.declared.load_fault.LoadFault.{LoadFault}
+use Rattle.workbench.specs.declared.fault.Fault.{Fault}
+use Rattle.workbench.specs.declared.fault.PictureKind.{PictureKind}
+use Rattle.workbench.specs.Fault.{status_of}
+use Rattle.commands.specs.PictureFault.{fault_of}
+use Rattle.commands.specs.Picture.{HaveNoPicture}
+use Rattle.row_code.specs.declared.image.Image.{Image}
+use Rattle.run_page.specs.Page.{most_choices}
+use Rattle.run_page.specs.declared.page.PageFault.{PageFault}
+use Rattle.run_page.specs.declared.page.PageFault.TheVariants as none
+use Rattle.schedule_reader.specs.declared.fault.ScheduleFault.{ScheduleFault}
+use Rattle.schedule_reader.specs.declared.fault.ScheduleFault.TheVariants as wrong
+use Rattle.schedule_reader.specs.Schedule.{choices_of, finished_schedule}
+use Rattle.trace_compare.specs.Start.{IsRefused}
+use Rattle.workbench.specs.ProgramFile.{IsProgramFile}
+
+pub no_picture : {A : Type 0} (result : Result A PageFault) (fault : PageFault) (told : Fault) (kind : PictureKind) (program schedule : List ℕ)
+    (image : Image) → result ≡ Err fault → told ≡ fault_of fault kind → IsProgramFile program image
+    → ((f : LoadFault) → result ≡ Err (none.Load f) → IsRefused f image)
+    → ((f : ScheduleFault) → result ≡ Err (none.Schedule f)
+    → ((finished_schedule schedule).fault ≡ Some f) × (f ≡ wrong.Memory → ⊥))
+    → (result ≡ Err none.Choices → ((finished_schedule schedule).fault ≡ None)
+    × (most_choices < length (choices_of (finished_schedule schedule).runs)))
+    → ((f : LoadFault) → IsRefused f image → (result ≡ Err (none.Load f)) ⊎ (result ≡ Err none.Memory))
+    → status_of told ≡ 3 → HaveNoPicture kind told program schedule
+no_picture result (none.Load f) told kind program schedule image is same file load faulty many loads three =
+    subst (λ t. HaveNoPicture kind t program schedule) (sym same) (image, (file, load f is))
+no_picture result (none.Schedule f) told kind program schedule image is same file load faulty many loads three =
+    let loadable : (g : LoadFault) → IsRefused g image → ⊥ =
+    λ g refused. elim (loads g refused) [ inl e ↦ absurd (cc (is, e)) | inr e ↦ absurd (cc (is, e)) ] in
+    subst (λ t. HaveNoPicture kind t program schedule) (sym same) ((image, (file, loadable)), (faulty f is).0)
+no_picture result none.Choices told kind program schedule image is same file load faulty many loads three =
+    let loadable : (g : LoadFault) → IsRefused g image → ⊥ =
+    λ g refused. elim (loads g refused) [ inl e ↦ absurd (cc (is, e)) | inr e ↦ absurd (cc (is, e)) ] in
+    subst (λ t. HaveNoPicture kind t program schedule) (sym same) (refl, ((image, (file, loadable)), many is))
+no_picture result none.Memory told kind program schedule image is same file load faulty many loads three =
+    let bad : 4 ≡ 3 = ap (λ t. status_of t) (sym same) ∙ three in absurd (omega (arith, bad))

@@ -1,0 +1,186 @@
+-- Rows, and the lines that say them.
+use Rattle.std.proofs.Common.{◌≡◌, ◌∙◌, inl, inr, ℕ, zero, suc, ◌+◌, ◌-◌, List, [], ◌∷◌, ◌++◌, drop, Option, Some, None, Result, Ok, Err, slice_index_or, refl, sym, ap, subst, arith}
+use Rattle.std.specs.List.{flat_map, slice_split}
+use Rattle.row_code.specs.Answers.{◌>>=◌}
+use Rattle.row_code.specs.declared.image.Image.{Image}
+use Rattle.line_reader.specs.declared.asm_fault.AsmFault.{AsmFault}
+use Rattle.line_reader.specs.declared.statement.Line.{Line}
+use Rattle.line_reader.specs.declared.statement.Statement.{Statement}
+use Rattle.line_reader.specs.declared.statement.Statement.TheVariants as statement
+use Rattle.line_reader.specs.Spelling.{Says}
+use Rattle.line_reader.specs.Symbols.{Name}
+use Rattle.line_reader.specs.Words.{is_line_end, lines_of, without_empty_last}
+use Rattle.listing.specs.Listing.{line_text, numbered}
+use Rattle.assembler.specs.Meaning.{image_of, rows_in, SayInOrder, StandsFor}
+use Rattle.assembler.specs.Reading.{line_behind}
+use Rattle.assembler.specs.Statements.{Follows}
+use Rattle.assembler.specs.Passes.{assembled, first_unknown, lines_read, looked_up}
+use Rattle.assembler.specs.Symbols.{SymbolTable, symbols_in, symbols_of}
+use Rattle.assembler.proofs.FirstPass.{one_less}
+use Rattle.assembler.proofs.ReadLines.{lines_take, stands_for-assembled}
+use Rattle.assembler.proofs.SpelledLines.{LineSays, line_again}
+use Rattle.row_code.specs.Reading.{image_of as image_in}
+use Rattle.commands.specs.Rows.{AreSaid, IsRowListing, IsTextListing, image_listing, line_at, row_lines, text_listing, text_row_words}
+
+-- ---- the lines of a text, with an empty one behind the last line end
+
+-- a last line that is empty is as good as none
+same_line : (pieces : List (List ℕ)) (i : ℕ) → slice_index_or (without_empty_last pieces) i [] ≡ slice_index_or pieces i []
+same_line [] i = refl
+same_line ([] ∷ []) zero = refl
+same_line ([] ∷ []) (suc i) = refl
+same_line ((x ∷ xs) ∷ []) i = refl
+same_line ([] ∷ next ∷ pieces) zero = refl
+same_line ([] ∷ next ∷ pieces) (suc i) = same_line (next ∷ pieces) i
+same_line ((x ∷ xs) ∷ next ∷ pieces) zero = refl
+same_line ((x ∷ xs) ∷ next ∷ pieces) (suc i) = same_line (next ∷ pieces) i
+
+same_rows : (text : List ℕ) (n : ℕ) (numbers : List ℕ)
+    → numbered (text_row_words (slice_split is_line_end text)) n numbers ≡ numbered (text_row_words (lines_of text)) n numbers
+same_rows text n [] = refl
+same_rows text n (number ∷ numbers) =
+    rw (same_line (slice_split is_line_end text) (number - 1), same_rows text (n + 1) numbers) refl
+
+pub rows_by_pieces : (text : List ℕ) (pieces : List (List ℕ)) (numbers none listing : List ℕ)
+    → pieces ≡ slice_split is_line_end text → none ≡ []
+    → listing ≡ none ++ flat_map line_text (numbered (text_row_words pieces) 0 numbers)
+    → listing ≡ flat_map line_text (numbered (text_row_words (lines_of text)) 0 numbers)
+rows_by_pieces text pieces numbers none listing are is-none is =
+    is ∙ ap (λ before. before ++ flat_map line_text (numbered (text_row_words pieces) 0 numbers)) is-none
+    ∙ ap (λ ps. flat_map line_text (numbered (text_row_words ps) 0 numbers)) are
+    ∙ ap (λ rows. flat_map line_text rows) (same_rows text 0 numbers)
+
+-- ---- the lines that were read
+
+bound : {A B C : Type 0} (r : Result A AsmFault) (f : A → Result B AsmFault) (y : B) → (r >>= f) ≡ Ok y
+    → ((x : A) → r ≡ Ok x → f x ≡ Ok y → C) → C
+bound (Ok x) f y e then = then x refl e
+bound (Err d) f y e then = absurd (cc)
+
+image_there : (lines : List (Line Name)) (unknown : Option (Line Name)) (image : Image)
+    → looked_up lines unknown ≡ Ok image → image ≡ image_of lines
+image_there lines None image e = cc
+image_there lines (Some line) image e = absurd (cc)
+
+-- the image of the lines that were read
+image_read : (text : List ℕ) (image : Image) (lines : List (Line Name)) → StandsFor text image
+    → lines_read 1 [] (lines_of text) ≡ Ok lines → image ≡ image_of lines
+unfolding assembled
+image_read text image lines stands read =
+    let all : (lines_read 1 [] (lines_of text) >>= (λ ls. looked_up ls (first_unknown ls))) ≡ Ok image =
+    stands_for-assembled text image stands in
+    image_there lines (first_unknown lines) image
+    (ap (λ (r : Result (List (Line Name)) AsmFault). r >>= (λ ls. looked_up ls (first_unknown ls))) (sym read) ∙ all)
+
+table_rows : (lines : List (Line Name)) (table : SymbolTable) (r : Result SymbolTable AsmFault) → r ≡ Ok (symbols_of lines)
+    → r ≡ Ok table → table.rows ≡ row_lines lines
+table_rows lines table r is e =
+    let both : symbols_of lines ≡ table = cc in
+    ap (λ (t : SymbolTable). t.rows) (sym both)
+
+pub text_listed : (text : List ℕ) (image : Image) (table : SymbolTable) (numbers listing : List ℕ) → StandsFor text image
+    → symbols_in text ≡ Ok table → numbers ≡ table.rows
+    → listing ≡ flat_map line_text (numbered (text_row_words (lines_of text)) 0 numbers) → IsTextListing text listing
+unfolding symbols_in
+text_listed text image table numbers listing stands named are is =
+    bound (lines_read 1 [] (lines_of text)) (λ ls. Ok (symbols_of ls)) table named (λ lines read e.
+    let said = lines_take 1 [] (lines_of text) lines read in (
+      lines,
+      (
+        subst (λ (ls : List (Line Name)). SayInOrder 1 (lines_of text) ls) (sym said.1) said.2,
+        subst (λ (i : Image). StandsFor text i) (image_read text image lines stands read) stands,
+        is ∙ ap (λ ns. flat_map line_text (numbered (text_row_words (lines_of text)) 0 ns))
+            (are ∙ table_rows lines table _ refl e),
+      ),
+    ))
+
+-- ---- each row is said by its line
+
+there : (texts : List (List ℕ)) (n : ℕ) (text : List ℕ) (rest : List (List ℕ)) → drop n texts ≡ text ∷ rest
+    → slice_index_or texts n [] ≡ text
+there [] zero text rest e = absurd (cc)
+there [] (suc n) text rest e = absurd (cc)
+there (first ∷ texts) zero text rest e = cc
+there (first ∷ texts) (suc n) text rest e = there texts n text rest e
+
+line_there : (texts : List (List ℕ)) (n : ℕ) (text : List ℕ) (rest : List (List ℕ)) → drop n texts ≡ text ∷ rest
+    → line_at texts (n + 1) ≡ text
+line_there texts n text rest e =
+    let before : n + 1 - 1 ≡ n = omega arith in
+    ap (λ (i : ℕ). slice_index_or texts i []) before ∙ there texts n text rest e
+
+-- the rows that lines make, and the numbers of their lines
+abbrev Said : List (List ℕ) → List (Line Name) → List (Line Name) → Type 0
+Said texts lines more = AreSaid texts lines (flat_map (λ line. rows_in lines line.statement) more) (row_lines more)
+
+-- a line more in front
+one_said : (texts : List (List ℕ)) (lines : List (Line Name)) (number : ℕ) (said : Statement Name) (others : List (Line Name))
+    → Says (line_at texts number) said → Said texts lines others
+    → Said texts lines (record { number = number; statement = said } ∷ others)
+one_said texts lines number (statement.Phaser p) others says rest = rest
+one_said texts lines number (statement.Barrier b) others says rest = rest
+one_said texts lines number (statement.Thread t) others says rest = rest
+one_said texts lines number (statement.Cell name) others says rest = rest
+one_said texts lines number (statement.Label name) others says rest = rest
+one_said texts lines number (statement.Row label row) others says rest = ((label, (row, (says, refl))), rest)
+
+said_from : (texts : List (List ℕ)) (lines : List (Line Name)) (n : ℕ) (rest : List (List ℕ)) (more : List (Line Name))
+    → drop n texts ≡ rest → SayInOrder (n + 1) rest more → Said texts lines more
+said_from texts lines n [] more left s = subst (λ (ls : List (Line Name)). Said texts lines ls) (sym s) tt
+said_from texts lines n (text ∷ rest) more left (inl s) =
+    said_from texts lines (n + 1) rest more (one_less texts n text rest left) s.1
+said_from texts lines n (text ∷ rest) more left (inr s) =
+    let says = subst (λ line. Says line s.0) (sym (line_there texts n text rest left)) s.3 in
+    let others = said_from texts lines (n + 1) rest s.1 (one_less texts n text rest left) s.4 in
+    subst (λ (ls : List (Line Name)). Said texts lines ls) (sym s.2)
+    (one_said texts lines (n + 1) s.0 s.1 says others)
+
+pub rows_said : (text : List ℕ) (lines : List (Line Name)) → SayInOrder 1 (lines_of text) lines
+    → AreSaid (lines_of text) lines (image_of lines).rows (row_lines lines)
+rows_said text lines s = said_from (lines_of text) lines 0 (lines_of text) lines refl s
+
+-- ---- a file has one listing
+
+-- behind no line anything may stand
+follows_none : (said : Statement Name) → Follows [] said
+follows_none (statement.Phaser p) = record { name = refl; place = refl; room = refl }
+follows_none (statement.Barrier b) = record { name = refl; place = refl; room = refl }
+follows_none (statement.Thread t) = record { name = refl; place = refl; room = refl }
+follows_none (statement.Cell name) = record { name = refl; place = refl; room = refl }
+follows_none (statement.Label name) = record { name = refl; place = refl; room = refl }
+follows_none (statement.Row None row) = record { name = refl; place = refl; room = refl }
+follows_none (statement.Row (Some label) row) = record { name = refl; place = refl; room = refl }
+
+alike : {A B : Type 0} (x y : A) (r : Result A B) → r ≡ Ok x → r ≡ Ok y → x ≡ y
+alike x y r e f = cc
+
+same_statement : (text : List ℕ) (s t : Option (Statement Name)) → LineSays [] text s → LineSays [] text t → s ≡ t
+same_statement text s t p q = alike s t (line_behind [] text) (line_again [] text s p) (line_again [] text t q)
+
+abbrev numbered_line : ℕ → Statement Name → Line Name
+numbered_line n said = record { number = n; statement = said }
+
+next_same : (n : ℕ) (a b : List (Line Name)) (s t : Statement Name) (c d : List (Line Name)) → a ≡ numbered_line n s ∷ c
+    → b ≡ numbered_line n t ∷ d → Some s ≡ Some t → c ≡ d → a ≡ b
+next_same n a b s t c d is also said others = cc
+
+same_lines : (n : ℕ) (texts : List (List ℕ)) (a b : List (Line Name)) → SayInOrder n texts a → SayInOrder n texts b → a ≡ b
+same_lines n [] a b s t = s ∙ sym t
+same_lines n (text ∷ texts) a b (inl s) (inl t) = same_lines (n + 1) texts a b s.1 t.1
+same_lines n (text ∷ texts) a b (inl s) (inr t) =
+    let bad = same_statement text None (Some t.0) s.0 (t.3, follows_none t.0) in absurd (cc)
+same_lines n (text ∷ texts) a b (inr s) (inl t) =
+    let bad = same_statement text (Some s.0) None (s.3, follows_none s.0) t.0 in absurd (cc)
+same_lines n (text ∷ texts) a b (inr s) (inr t) =
+    next_same n a b s.0 t.0 s.1 t.1 s.2 t.2
+    (same_statement text (Some s.0) (Some t.0) (s.3, follows_none s.0) (t.3, follows_none t.0))
+    (same_lines (n + 1) texts s.1 t.1 s.4 t.4)
+
+pub one_listing : (file a b : List ℕ) → IsRowListing file a → IsRowListing file b → a ≡ b
+one_listing file a b (inl (is, (i, (same, told)))) (inl (also, (j, (like, said)))) =
+    told ∙ ap (λ (image : Image). image_listing image) (alike i j (image_in file) same like) ∙ sym said
+one_listing file a b (inl s) (inr t) = absurd (cc (s.0, t.0))
+one_listing file a b (inr s) (inl t) = absurd (cc (s.0, t.0))
+one_listing file a b (inr (is, (lines, (say, stands, told)))) (inr (also, (others, (speak, means, said)))) =
+    told ∙ ap (λ (ls : List (Line Name)). text_listing (lines_of file) ls) (same_lines 1 (lines_of file) lines others say speak)
+    ∙ sym said

@@ -1,0 +1,37 @@
+-- A picture that was written, by the program and the schedule that were read.
+use Rattle.std.proofs.Common.{◌≡◌, ℕ, List, Option, Result, Ok, Err, OnOk, subst}
+use Rattle.std.specs.Io.KnownBytes.{Appends}
+use Rattle.commands.specs.Pictures.{HasMade, HasMadeOfBoth, HasWritten, program_of, schedule_behind}
+use Rattle.workbench.specs.Input.{GivesAll}
+
+pub picture_written : (IsPicture : List ℕ → Type 0) (picture bytes : List ℕ) (old new : Option (List ℕ)) → bytes ≡ picture
+    → IsPicture picture → Appends old new bytes → HasWritten IsPicture old new
+picture_written IsPicture picture bytes old new is made appends =
+    (picture, (made, subst (λ text. Appends old new text) is appends))
+
+-- the same picture, by what the bytes of program and schedule are
+same_picture : (IsPicture : List ℕ → List ℕ → List ℕ → Type 0) (program schedule file choices : List ℕ)
+    (old new : Option (List ℕ)) → program ≡ file → schedule ≡ choices
+    → HasWritten (IsPicture program schedule) old new → HasWritten (IsPicture file choices) old new
+same_picture IsPicture program schedule file choices old new is also written =
+    subst (λ text. HasWritten (IsPicture file text) old new) also
+    (subst (λ text. HasWritten (IsPicture text schedule) old new) is written)
+
+pub both_read : {E : Type 0} (IsPicture : List ℕ → List ℕ → List ℕ → Type 0) (result : Result (Unit {0}) E)
+    (program schedule file choices : List ℕ)
+    (file_before file_after schedule_before schedule_after old new : Option (List ℕ)) → program ≡ file → schedule ≡ choices
+    → GivesAll file_before file_after file → GivesAll schedule_before schedule_after choices
+    → OnOk result (HasWritten (IsPicture program schedule) old new)
+    → OnOk result (HasMade IsPicture file_before file_after schedule_before schedule_after old new)
+both_read IsPicture (Ok x) program schedule file choices fb fa sb sa old new is also gives more written =
+    (file, (choices, (gives, more, same_picture IsPicture program schedule file choices old new is also written)))
+both_read IsPicture (Err e) program schedule file choices fb fa sb sa old new is also gives more written = written
+
+pub one_read : {E : Type 0} (IsPicture : List ℕ → List ℕ → List ℕ → Type 0) (result : Result (Unit {0}) E)
+    (program schedule file : List ℕ) (file_before file_after old new : Option (List ℕ))
+    → program ≡ program_of file → schedule ≡ schedule_behind file
+    → GivesAll file_before file_after file → OnOk result (HasWritten (IsPicture program schedule) old new)
+    → OnOk result (HasMadeOfBoth IsPicture file_before file_after old new)
+one_read IsPicture (Ok x) program schedule file fb fa old new is also gives written =
+    (file, (gives, same_picture IsPicture program schedule (program_of file) (schedule_behind file) old new is also written))
+one_read IsPicture (Err e) program schedule file fb fa old new is also gives written = written

@@ -1,0 +1,45 @@
+ghost use Rattle.std.specs.Prelude.{◌≡◌, ◌⊎◌, Err, IsTrue, IfErr, IfOk, is_none};
+ghost use Rattle.trace_choices.specs.Naming.{Naming};
+ghost use Rattle.trace_choices.specs.Writing.{HasWrittenPart};
+ghost use Rattle.trace_compare.specs.RunText.{GivesOnAndOn};
+ghost use Rattle.workbench.specs.declared.fault.Fault.{Fault};
+ghost use Rattle.commands.specs.Choices.{HasToldChoices};
+
+use byte_ports::{Sink, Source};
+use std::alloc::Global;
+use trace_choices::writing::{WritingFault, write_choices};
+use workbench::fault::{Fault, push_counted_line};
+
+/// Writes the schedule of the trace in `trace` to `output`, as one line: its choices up to its state, choices that repeat
+/// joined, each run when the next one begins. What stands behind the word `state` is not looked at. Answers whether it is a
+/// trace: where it is none, the line of the choices before stands there, if there are some, and behind it `not a trace LINE`,
+/// with the first line that is no line of a trace, as `compare` has it. With `Memory` nothing is read; behind `Read` and
+/// `Write` a part of the schedule may stand.
+pub fn choices<S: Source, K: Sink>(
+    alloc: Global,
+    trace: &mut S,
+    output: &mut K,
+) -> Result<bool, Fault>
+    ensures done { IfOk result (λ is_trace. (naming : Naming) × ((is_trace ≡ is_none naming.no_line)
+        × HasToldChoices naming (S.left trace.old) (S.left trace.new) (K.written output.old) (K.written output.new))) }
+    ensures fault { IfErr result (λ fault. (fault ≡ Fault.Memory) ⊎ ((fault ≡ Fault.Read) ⊎ (fault ≡ Fault.Write))) }
+    ensures unchanged { result ≡ Err Fault.Memory
+        → (S.left trace.new ≡ S.left trace.old) × (K.written output.new ≡ K.written output.old) }
+    ensures part { result ≡ Err Fault.Read → HasWrittenPart (S.left trace.old) (S.left trace.new)
+        (K.written output.old) (K.written output.new) }
+    ensures read { result ≡ Err Fault.Read → IsTrue (S.has_failed trace.new)
+        ⊎ GivesOnAndOn (S.left trace.old) (S.left trace.new) }
+    ensures write { result ≡ Err Fault.Write → IsTrue (K.has_failed output.new) }
+{
+    let line = match write_choices(alloc, trace, output) {
+        Ok(None) => return Ok(true),
+        Ok(Some(line)) => line,
+        Err(WritingFault::Memory) => return Err(Fault::Memory),
+        Err(WritingFault::Read) => return Err(Fault::Read),
+        Err(WritingFault::Write) => return Err(Fault::Write),
+    };
+    match push_counted_line(output, b"not a trace ", line) {
+        Ok(()) => Ok(false),
+        Err(_) => Err(Fault::Write),
+    }
+}

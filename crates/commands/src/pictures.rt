@@ -1,0 +1,107 @@
+//! The commands.
+ghost use Rattle.std.specs.Prelude.{◌≡◌, ◌≢◌, ◌⊎◌, ◌≤◌, Err, IfErr, IsTrue, OnOk, length};
+ghost use Rattle.commands.specs.Pictures.{HasMade, HasMadeOfBoth, HasWritten, HaveNone, HaveNoneOfBoth};
+ghost use Rattle.commands.specs.Pictures.{program_of, schedule_behind};
+ghost use Rattle.commands.specs.Picture.{HaveNoPicture};
+ghost use Rattle.workbench.specs.Fault.{status_of};
+ghost use Rattle.workbench.specs.Input.{GivesTooMuch, most_bytes};
+
+use crate::picture::Picture;
+use byte_ports::{Sink, Source};
+use row_code::is_image_file;
+use std::alloc::Global;
+use workbench::fault::Fault;
+use workbench::input::read_all;
+use workbench::run_line::split_at_run;
+
+/// Writes the picture of the program in `file`, an image or a text, under the schedule in `schedule` to `output`. Both are read
+/// to their ends and the picture is whole before anything is written, so only after `Write` a part of it may stand.
+pub fn make<P: Picture, F: Source, S: Source, K: Sink>(
+    alloc: Global,
+    picture: &P,
+    file: &mut F,
+    schedule: &mut S,
+    output: &mut K,
+) -> Result<(), Fault>
+    ensures done { OnOk result (HasMade (P.is_picture picture.now) (F.left file.old) (F.left file.new)
+        (S.left schedule.old) (S.left schedule.new) (K.written output.old) (K.written output.new)) }
+    ensures refused { IfErr result (λ fault. status_of fault ≡ 3
+        → HaveNone P.kind fault (F.left file.old) (F.left file.new) (S.left schedule.old) (S.left schedule.new)) }
+    ensures unwritten { IfErr result (λ fault. fault ≢ Fault.Write → K.written output.new ≡ K.written output.old) }
+    ensures read { result ≡ Err Fault.Read → (IsTrue (F.has_failed file.new)
+        ⊎ GivesTooMuch (F.left file.old) (F.left file.new))
+        ⊎ (IsTrue (S.has_failed schedule.new)
+        ⊎ GivesTooMuch (S.left schedule.old) (S.left schedule.new)) }
+    ensures spawn { result ≢ Err Fault.Spawn }
+    ensures write { result ≡ Err Fault.Write → IsTrue (K.has_failed output.new) }
+{
+    let program = read_all(alloc, file)?;
+    let choices = read_all(alloc, schedule)?;
+    write(
+        alloc,
+        picture,
+        program.as_slice(),
+        choices.as_slice(),
+        output,
+    )
+}
+
+/// The same of a file that holds both: a text with its schedule behind a line `.run`. An image has none, and is shown as it
+/// stands before its first choice.
+pub fn make_of_both<P: Picture, F: Source, K: Sink>(
+    alloc: Global,
+    picture: &P,
+    file: &mut F,
+    output: &mut K,
+) -> Result<(), Fault>
+    ensures done { OnOk result (HasMadeOfBoth (P.is_picture picture.now) (F.left file.old) (F.left file.new)
+        (K.written output.old) (K.written output.new)) }
+    ensures refused { IfErr result (λ fault. status_of fault ≡ 3
+        → HaveNoneOfBoth P.kind fault (F.left file.old) (F.left file.new)) }
+    ensures unwritten { IfErr result (λ fault. fault ≢ Fault.Write → K.written output.new ≡ K.written output.old) }
+    ensures read { result ≡ Err Fault.Read → IsTrue (F.has_failed file.new)
+        ⊎ GivesTooMuch (F.left file.old) (F.left file.new) }
+    ensures spawn { result ≢ Err Fault.Spawn }
+    ensures write { result ≡ Err Fault.Write → IsTrue (K.has_failed output.new) }
+{
+    let file = read_all(alloc, file)?;
+    let (program, schedule) = parts_of(file.as_slice());
+    write(alloc, picture, program, schedule, output)
+}
+
+/// The program and the schedule of a file that holds both.
+fn parts_of(file: &[u8]) -> (&[u8], &[u8])
+    ensures program { result.0.now ≡ program_of file.now }
+    ensures schedule { result.1.now ≡ schedule_behind file.now }
+    ensures within { length result.1.now ≤ length file.now }
+{
+    if is_image_file(file) {
+        (file, &[])
+    } else {
+        split_at_run(file)
+    }
+}
+
+/// Writes the picture of a program and a schedule, once it is whole.
+fn write<P: Picture, K: Sink>(
+    alloc: Global,
+    picture: &P,
+    program: &[u8],
+    schedule: &[u8],
+    output: &mut K,
+) -> Result<(), Fault>
+    requires { length schedule.now ≤ most_bytes }
+    ensures done { OnOk result (HasWritten (P.is_picture picture.now program.now schedule.now)
+        (K.written output.old) (K.written output.new)) }
+    ensures refused { IfErr result (λ fault. status_of fault ≡ 3 → HaveNoPicture P.kind fault program.now schedule.now) }
+    ensures unwritten { IfErr result (λ fault. fault ≢ Fault.Write → K.written output.new ≡ K.written output.old) }
+    ensures read { result ≢ Err Fault.Read }
+    ensures spawn { result ≢ Err Fault.Spawn }
+    ensures write { result ≡ Err Fault.Write → IsTrue (K.has_failed output.new) }
+{
+    let bytes = picture.of(alloc, program, schedule)?;
+    match output.push(bytes.as_slice()) {
+        Ok(()) => Ok(()),
+        Err(_) => Err(Fault::Write),
+    }
+}

@@ -1,0 +1,102 @@
+//! The rows of a text, each with the line in which it stands.
+ghost use Rattle.std.specs.Prelude.{◌≡◌, ◌≢◌, ◌++◌, ◌∷◌, [], Err, IfErr, IfOk, OnOk, decimal, false, map};
+ghost use Rattle.std.specs.List.{flat_map, slice_split};
+ghost use Rattle.line_reader.specs.Seen.{name_seen};
+ghost use Rattle.line_reader.specs.Words.{is_line_end, lines_of};
+ghost use Rattle.listing.specs.Listing.{line_text, numbered};
+ghost use Rattle.commands.specs.Rows.{IsRowListing, line_at, text_row_words, trimmed};
+ghost use Rattle.workbench.specs.Fault.{status_of};
+ghost use Rattle.workbench.specs.ProgramFile.{IsNoProgramFor, is_image_file};
+
+use assembler::assemble_named;
+use itoa::Buffer;
+use line_reader::words::is_line_end;
+use std::alloc::{AllocError, Global};
+use workbench::fault::Fault;
+
+/// What stands between the line ends of a text; behind the last one it may be nothing.
+fn split_lines(alloc: Global, text: &[u8]) -> Result<Vec<&[u8]>, AllocError>
+    ensures { IfOk result (λ lines. map name_seen lines.items ≡ slice_split is_line_end text.now) }
+{
+    let mut lines = Vec::new(alloc);
+    lines.extend(text.split(|byte| is_line_end(*byte)))?;
+    Ok(lines)
+}
+
+/// The line of this number, from 1.
+fn line_at<'a>(lines: &[&'a [u8]], number: u64) -> &'a [u8]
+    ensures { result.now ≡ line_at (map name_seen lines.now) number }
+{
+    match lines.get(number.saturating_sub(1) as usize) {
+        Some(line) => *line,
+        None => &[],
+    }
+}
+
+/// A line without the blanks round it.
+fn trimmed(line: &[u8]) -> &[u8]
+    ensures { result.now ≡ trimmed line.now }
+{
+    line.trim_ascii()
+}
+
+/// A row's line behind the two numbers.
+#[tactic(auto, using(listing::proofs::ListedTexts::word_steps))]
+fn push_text_row(
+    listing: &mut Vec<u8>,
+    row: u64,
+    number: u64,
+    line: &[u8],
+) -> Result<(), AllocError>
+    ensures { OnOk result (listing.new.items
+        ≡ listing.old.items ++ line_text (decimal row ∷ decimal number ∷ trimmed line.now ∷ [])) }
+{
+    listing.extend_from_slice(Buffer::new().format(row).as_bytes())?;
+    listing.extend_from_slice(b" ")?;
+    listing.extend_from_slice(Buffer::new().format(number).as_bytes())?;
+    listing.extend_from_slice(b" ")?;
+    listing.extend_from_slice(trimmed(line))?;
+    listing.extend_from_slice(b"\n")
+}
+
+/// The rows that stand in the lines of these numbers.
+#[tactic(auto, using(listing::proofs::ListedTexts::text_steps))]
+fn push_text_rows(listing: &mut Vec<u8>, lines: &[&[u8]], numbers: &[u64]) -> Result<(), AllocError>
+    ensures { OnOk result (listing.new.items ≡ listing.old.items
+        ++ flat_map line_text (numbered (text_row_words (map name_seen lines.now)) 0 numbers.now)) }
+{
+    for (row, number) in numbers.iter().enumerate() {
+        push_text_row(listing, row as u64, *number, line_at(lines, *number))?;
+    }
+    Ok(())
+}
+
+/// The rows of a text that stand in the lines of these numbers.
+fn rows_in_text(alloc: Global, text: &[u8], numbers: &[u64]) -> Result<Vec<u8>, AllocError>
+    ensures { IfOk result (λ listing. listing.items
+        ≡ flat_map line_text (numbered (text_row_words (lines_of text.now)) 0 numbers.now)) }
+{
+    let lines = split_lines(alloc, text)?;
+    let mut listing = Vec::new(alloc);
+    push_text_rows(&mut listing, lines.as_slice(), numbers)?;
+    Ok(listing)
+}
+
+/// The rows of the text in a file.
+pub fn listed_text(alloc: Global, file: &[u8]) -> Result<Vec<u8>, Fault>
+    requires { is_image_file file.now ≡ false }
+    ensures listing { IfOk result (λ listing. IsRowListing file.now listing.items) }
+    ensures refused { IfErr result (λ fault. status_of fault ≡ 3 → IsNoProgramFor fault file.now) }
+    ensures spawn { result ≢ Err Fault.Spawn }
+    ensures read { result ≢ Err Fault.Read }
+    ensures write { result ≢ Err Fault.Write }
+{
+    let (_image, symbols) = match assemble_named(alloc, file) {
+        Ok(named) => named,
+        Err(fault) => return Err(Fault::Asm(fault)),
+    };
+    match rows_in_text(alloc, file, symbols.rows()) {
+        Ok(listing) => Ok(listing),
+        Err(_) => Err(Fault::Memory),
+    }
+}

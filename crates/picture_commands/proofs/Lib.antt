@@ -1,4 +1,0 @@
-mod Drawings
-mod NoPicture
-mod Pages
-mod Written

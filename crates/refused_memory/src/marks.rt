@@ -1,0 +1,58 @@
+//! What a trial tells the library that refuses memory: requests of sizes that nothing else asks for, which it answers itself
+//! (`tests/memory/refuse.c`). Where there is no such library, each is a request for memory like any other, and is met.
+
+use std::alloc::Global;
+
+/// The request of so many bytes and as many as the number of the request that is to be refused.
+const REFUSE_ONE: usize = 7_000_000;
+
+/// The same for that request and all that follow.
+const REFUSE_ALL: usize = 7_100_000;
+
+/// Ends it: refused where one was refused since it began.
+const END: usize = 7_200_000;
+
+/// From here on blocks are counted.
+const COUNT: usize = 7_200_001;
+
+/// Refused where there are more or fewer blocks than at `COUNT`.
+const COMPARE: usize = 7_200_002;
+
+/// Which requests are refused, counted from 1.
+#[derive(Clone, Copy, Debug, PartialEq, Eq)]
+pub enum Refusal {
+    One(u16),
+    AllFrom(u16),
+}
+
+fn is_refused(alloc: Global, size: usize) -> bool {
+    Vec::<u8>::with_capacity(alloc, size).is_err()
+}
+
+/// From now on these requests are refused.
+pub fn begin(alloc: Global, refusal: Refusal) {
+    let _ = match refusal {
+        Refusal::One(n) => is_refused(alloc, REFUSE_ONE + usize::from(n)),
+        Refusal::AllFrom(n) => is_refused(alloc, REFUSE_ALL + usize::from(n)),
+    };
+}
+
+/// From now on none is refused.
+pub fn end(alloc: Global) {
+    let _ = is_refused(alloc, END);
+}
+
+/// Whether one was refused, asked behind the end.
+pub fn was_refused(alloc: Global) -> bool {
+    is_refused(alloc, END)
+}
+
+/// Counts the blocks that are in use.
+pub fn count(alloc: Global) {
+    let _ = is_refused(alloc, COUNT);
+}
+
+/// Whether more or fewer blocks are in use than there were then.
+pub fn is_left_over(alloc: Global) -> bool {
+    is_refused(alloc, COMPARE)
+}

@@ -1,5 +1,0 @@
-use Rattle.row_listing.proofs.Rows.{rows_said}
-use Rattle.row_listing.proofs.law.a_row_is_told_with_the_line_that_says_it.Goals as goal
-
-pub returns : goal.returns
-returns c = rows_said

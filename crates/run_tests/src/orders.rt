@@ -1,0 +1,204 @@
+use crate::programs::program_of;
+use std::alloc::Global;
+use std::sync::Wait;
+use std::sync::atomic::{AtomicBool, AtomicU32, Ordering};
+use std::test::Fail;
+use std::thread;
+use std::thread::Threads;
+use thread_runner::{Ending, Gate, LiveRun, run_live};
+
+/// How often a gate looks before it gives up.
+const MOST_LOOKS: u32 = 100_000_000;
+
+/// Each worker's first pass is held until every worker's first pass has begun: no thread can play for another.
+#[derive(Drop)]
+struct Meeting {
+    threads: u8,
+    begun: AtomicU32,
+    failed: AtomicBool,
+}
+
+impl Meeting {
+    fn of(threads: u8) -> Meeting {
+        Meeting {
+            threads,
+            begun: AtomicU32::new(0),
+            failed: AtomicBool::new(false),
+        }
+    }
+}
+
+impl Gate for Meeting {
+    fn pass(&self, _thread: u8, step: u32) {
+        if step > 0 {
+            return;
+        }
+        self.begun.fetch_add(1, Ordering::SeqCst);
+        for _ in 0..MOST_LOOKS {
+            if self.begun.load(Ordering::SeqCst) >= u32::from(self.threads) {
+                return;
+            }
+            thread::yield_now();
+        }
+        self.failed.store(true, Ordering::SeqCst);
+    }
+}
+
+/// The order in which threads take their first steps, by their numbers. A pass is held until, for every step that the
+/// script puts before the pass's own, the next pass of that step's thread has begun.
+#[derive(Drop)]
+struct Script {
+    order: &'static [u8],
+    begun: [AtomicU32; 3],
+    failed: AtomicBool,
+}
+
+impl Script {
+    fn of(order: &'static [u8]) -> Script {
+        Script {
+            order,
+            begun: [AtomicU32::new(0), AtomicU32::new(0), AtomicU32::new(0)],
+            failed: AtomicBool::new(false),
+        }
+    }
+
+    /// How many passes of a thread have begun.
+    fn begun(&self, thread: u8) -> u32 {
+        match self.begun.get(usize::from(thread)) {
+            Some(begun) => begun.load(Ordering::SeqCst),
+            None => 0,
+        }
+    }
+
+    /// Holds until so many passes of a thread have begun.
+    fn hold(&self, thread: u8, passes: u32) {
+        for _ in 0..MOST_LOOKS {
+            if self.begun(thread) >= passes {
+                return;
+            }
+            thread::yield_now();
+        }
+        self.failed.store(true, Ordering::SeqCst);
+    }
+}
+
+impl Gate for Script {
+    fn pass(&self, thread: u8, step: u32) {
+        if let Some(begun) = self.begun.get(usize::from(thread)) {
+            begun.store(step.saturating_add(1), Ordering::SeqCst);
+        }
+        let mut steps = [0u32; 3];
+        for other in self.order {
+            let Some(taken) = steps.get_mut(usize::from(*other)) else {
+                return;
+            };
+            if *other == thread && *taken == step {
+                return;
+            }
+            *taken = taken.saturating_add(1);
+            let passes = taken.saturating_add(1);
+            if *other != thread {
+                self.hold(*other, passes);
+            }
+        }
+    }
+}
+
+/// A live run of a text's program.
+fn run<R: Threads + Wait + Sync, G: Gate + Sync>(
+    rt: &R,
+    alloc: Global,
+    text: &str,
+    gate: &G,
+) -> Result<LiveRun, Fail> {
+    let run = run_live(rt, alloc, program_of(alloc, text)?, 1_000_000, gate);
+    Ok(run.ok().ok_or("the run was broken off")?)
+}
+
+const TWO: &str = ".thread a m\n.thread b m\nm: ldi r0 1\nldi r0 2\nhalt\n";
+
+const THREE: &str = ".thread a m\n.thread b m\n.thread c m\nm: ldi r0 1\nldi r0 2\nhalt\n";
+
+/// Whoever comes last doesn't wait; the two others have one step more.
+const MEETING: &str = ".phaser p 3\n.thread a m\n.thread b m\n.thread c m\nm: paaa r0 p\nhalt\n";
+
+/// A program, the order of its threads' steps, and the schedule.
+type Order = (&'static str, &'static [u8], &'static str);
+
+static ORDERS: [Order; 12] = [
+    (TWO, &[0, 1, 0, 1, 1, 0], "t0 t1 t0 t1*2 t0"),
+    (TWO, &[1, 0, 0, 1, 1, 0], "t1 t0*2 t1*2 t0"),
+    (TWO, &[0, 0, 0, 1, 1, 1], "t0*3 t1*3"),
+    (TWO, &[1, 1, 1, 0, 0, 0], "t1*3 t0*3"),
+    (
+        THREE,
+        &[0, 1, 2, 0, 1, 2, 0, 1, 2],
+        "t0 t1 t2 t0 t1 t2 t0 t1 t2",
+    ),
+    (
+        THREE,
+        &[2, 1, 0, 2, 1, 0, 2, 1, 0],
+        "t2 t1 t0 t2 t1 t0 t2 t1 t0",
+    ),
+    (THREE, &[1, 1, 1, 2, 2, 2, 0, 0, 0], "t1*3 t2*3 t0*3"),
+    (
+        THREE,
+        &[2, 0, 0, 1, 2, 1, 0, 1, 2],
+        "t2 t0*2 t1 t2 t1 t0 t1 t2",
+    ),
+    (
+        THREE,
+        &[0, 2, 2, 1, 1, 0, 2, 0, 1],
+        "t0 t2*2 t1*2 t0 t2 t0 t1",
+    ),
+    (
+        MEETING,
+        &[0, 1, 2, 1, 0, 2, 1, 0],
+        "t0 t1 t2 t1 t0 t2 t1 t0",
+    ),
+    (MEETING, &[2, 1, 0, 0, 1, 2, 2, 1], "t2 t1 t0*2 t1 t2*2 t1"),
+    (MEETING, &[1, 2, 0, 2, 2, 1, 1, 0], "t1 t2 t0 t2*2 t1*2 t0"),
+];
+
+#[test]
+fn workers_step_in_the_order_that_a_gate_forces(rt: HostRuntime) -> Result<(), Fail> {
+    for (text, order, schedule) in &ORDERS {
+        let gate = Script::of(order);
+        let run = run(&rt, rt.alloc(), text, &gate)?;
+        assert!(rt; !gate.failed.load(Ordering::SeqCst));
+        assert!(rt; run.ending == Ending::AllEnded);
+        assert!(rt; run.schedule.as_str() == *schedule);
+    }
+    Ok(())
+}
+
+#[test]
+fn two_workers_run_at_once(rt: HostRuntime) -> Result<(), Fail> {
+    let gate = Meeting::of(2);
+    let run = run(&rt, rt.alloc(), TWO, &gate)?;
+    assert!(rt; !gate.failed.load(Ordering::SeqCst));
+    assert!(rt; run.ending == Ending::AllEnded);
+    Ok(())
+}
+
+/// So many threads that meet at one phaser.
+fn crowd(alloc: Global, threads: u8) -> Result<String, Fail> {
+    let mut text = String::new(alloc);
+    write!(text, ".phaser p {threads}\n")?;
+    for t in 0..threads {
+        write!(text, ".thread a{t} m\n")?;
+    }
+    text.push_str("m: paaa r0 p\nhalt\n")?;
+    Ok(text)
+}
+
+#[test]
+fn sixty_four_workers_run_at_once(rt: HostRuntime) -> Result<(), Fail> {
+    let text = crowd(rt.alloc(), 64)?;
+    let gate = Meeting::of(64);
+    let run = run(&rt, rt.alloc(), text.as_str(), &gate)?;
+    assert!(rt; !gate.failed.load(Ordering::SeqCst));
+    assert!(rt; run.ending == Ending::AllEnded);
+    assert!(rt; run.machine.steps() == 191);
+    Ok(())
+}

@@ -1,0 +1,113 @@
+//! What a record takes and what it refuses, in the order in which workers ask.
+use crate::programs::{MEETING, program_of};
+use std::alloc::Global;
+use std::test::Fail;
+use thread_runner::{Ending, Journaled, TakeFault};
+
+/// A program, its limit of steps, what is taken in order, the record as text, and how the run has ended then. A turn or an
+/// expiry is its token; behind it stands `!` where it isn't ready and `#` where the limit is reached.
+type Row = (
+    &'static str,
+    u32,
+    &'static str,
+    &'static str,
+    Option<Ending>,
+);
+
+const LONELY: &str = ".phaser p 2\n.thread a main\nmain: paaa r0 p\nhalt\n";
+
+const TIMED: &str =
+    ".phaser p 2\n.thread a main\nmain: ldi r1 0\nldi r2 1\npawaitt r0 p r1 r2\nhalt\n";
+
+const BROKEN: &str =
+    ".barrier g 3\n.thread a x\n.thread b y\nx: cawait r0 g\nhalt\ny: cawaitt r0 g r1\nhalt\n";
+
+const BREAKING: &str = ".barrier g 3\n.thread a x\n.thread b y\nx: cawait r0 g\nhalt\n\
+y: ldi r1 5\ncawaitt r0 g r1\nhalt\n";
+
+const BOTH_TIMED: &str = ".phaser p 3\n.thread a main\n.thread b main\n\
+main: ldi r2 1\npawaitt r0 p r1 r2\nhalt\n";
+
+static ROWS: [Row; 9] = [
+    (LONELY, 10, "t0 t0! x0!", "t0", Some(Ending::Stuck)),
+    (
+        ".thread a m\nm: jmp m\n",
+        3,
+        "t0 t0 t0 t0#",
+        "t0*3",
+        Some(Ending::Limit),
+    ),
+    (
+        TIMED,
+        10,
+        "x0! t0 t0 t0 t0! x0 x0! t0 t0! x0!",
+        "t0*3 x0 t0",
+        Some(Ending::AllEnded),
+    ),
+    (TIMED, 3, "t0 t0 t0 t0! x0#", "t0*3", Some(Ending::Limit)),
+    (
+        ".thread a m\nm: halt\n",
+        1,
+        "t0 t0!",
+        "t0",
+        Some(Ending::AllEnded),
+    ),
+    (MEETING, 10, "t0 t1 t0 t0", "t0 t1 t0*2", None),
+    (BROKEN, 10, "t0 x0! x1! t1", "t0 t1", None),
+    (
+        BREAKING,
+        10,
+        "t1 t1 x1! t0 x0! x1 t0 t0 t1",
+        "t1*2 t0 x1 t0*2 t1",
+        Some(Ending::AllEnded),
+    ),
+    (
+        BOTH_TIMED,
+        20,
+        "t0 t0 x0! t1 t1 x1! x0 x1! t0 x1 t1",
+        "t0*2 t1*2 x0 t0 x1 t1",
+        Some(Ending::AllEnded),
+    ),
+];
+
+/// Whether what a token says comes of it.
+fn takes(journaled: &mut Journaled, token: &str) -> bool {
+    let [kind, digit, rest @ ..] = token.as_bytes() else {
+        return false;
+    };
+    let thread = digit.saturating_sub(b'0');
+    if usize::from(thread) >= journaled.machine().thread_count() {
+        return false;
+    }
+    let taken = if *kind == b'x' {
+        journaled.take_expiry(thread)
+    } else {
+        journaled.take_step(thread)
+    };
+    match rest {
+        [] => taken.is_ok(),
+        [b'!'] => taken == Err(TakeFault::NotReady),
+        _ => taken == Err(TakeFault::StepLimit),
+    }
+}
+
+fn holds(alloc: Global, row: &Row) -> Result<bool, Fail> {
+    let (text, limit, tokens, schedule, ending) = *row;
+    let program = program_of(alloc, text)?;
+    let mut journaled = Journaled::new(alloc, program, limit.min(1_000_000_000))?;
+    for token in tokens.split(' ') {
+        if !takes(&mut journaled, token) {
+            return Ok(false);
+        }
+    }
+    let recorded = journaled.schedule(alloc)?;
+    Ok(recorded.as_str() == schedule && journaled.ending() == ending)
+}
+
+#[test]
+fn what_is_taken_is_recorded(rt: HostRuntime) -> Result<(), Fail> {
+    for row in &ROWS {
+        assert!(rt; holds(rt.alloc(), row)?);
+    }
+    Ok(())
+}

@@ -1,0 +1,250 @@
+//! Callers of one shared phaser, alone and between real threads.
+ghost use Rattle.std.specs.Prelude.{◌≡◌, IfOk};
+ghost use Rattle.shared_phaser.specs.Known.{phaser_of};
+
+use Call::{Arrive, Force, Register};
+use Reply::{Counted, Dead, TooMany};
+use packed_phaser::Policy;
+use phase_number::Phase;
+use shared_phaser::{Call, NewFault, NotThere, Party, Reply, SharedPhaser};
+use std::alloc::Global;
+use std::sync::Wait;
+use std::test::Fail;
+use std::thread::{Threads, join};
+
+/// A phaser as it is made, one call, and what it answers and leaves.
+type Row = (u16, i32, Policy, Call, Reply, u64);
+
+const ROWS: [Row; 12] = [
+    (65535, 0, Policy::Default, Register(1), TooMany, 0xffffffff),
+    (
+        65535,
+        0,
+        Policy::Default,
+        Register(0),
+        Counted(0),
+        0xffffffff,
+    ),
+    (1, 7, Policy::Default, Register(2), Counted(7), 0x700030003),
+    (0, 0, Policy::Default, Arrive(false), Reply::NotThere, 0x1),
+    (2, 0, Policy::Default, Arrive(false), Counted(0), 0x20001),
+    (
+        1,
+        0,
+        Policy::Default,
+        Arrive(false),
+        Counted(0),
+        0x100010001,
+    ),
+    (
+        1,
+        0,
+        Policy::Default,
+        Arrive(true),
+        Counted(0),
+        0x8000000100000000,
+    ),
+    (1, 0, Policy::Never, Arrive(true), Counted(0), 0x100000001),
+    (
+        1,
+        0,
+        Policy::Until(0),
+        Arrive(false),
+        Counted(0),
+        0x8000000100010000,
+    ),
+    (
+        1,
+        0,
+        Policy::Until(1),
+        Arrive(false),
+        Counted(0),
+        0x100010001,
+    ),
+    (
+        1,
+        2147483647,
+        Policy::Default,
+        Arrive(false),
+        Counted(2147483647),
+        0x10001,
+    ),
+    (
+        2,
+        3,
+        Policy::Default,
+        Force,
+        Dead(-2147483645),
+        0x8000000300020002,
+    ),
+];
+
+fn made(alloc: Global, parties: u16, policy: Policy) -> Result<(SharedPhaser, Party), Fail>
+    ensures { IfOk result (λ r. (phaser_of r.1 ≡ r.0) × (r.1.known.number ≡ 0)) }
+{
+    Ok(SharedPhaser::new(alloc, parties, policy, Phase::prevailing(0))?)
+}
+
+/// One try of a call, `None` where it isn't one that answers at once.
+fn tried(phaser: &SharedPhaser, party: &mut Party, call: Call) -> Option<Reply>
+    requires { phaser_of party.old ≡ phaser.now }
+    ensures { phaser_of party.new ≡ phaser.now }
+{
+    let made = match call {
+        Call::Register(parties) => phaser.register_within(party, parties, 1),
+        Call::Arrive(leave) => phaser.arrive_within(party, leave, 1),
+        Call::Force => phaser.force_within(party, 1),
+        _ => return None,
+    };
+    made.ok()
+}
+
+/// The same call under `Wait`.
+fn called<R: Wait>(rt: &R, phaser: &SharedPhaser, party: &mut Party, call: Call) -> Option<Reply>
+    requires { phaser_of party.old ≡ phaser.now }
+    ensures { phaser_of party.new ≡ phaser.now }
+{
+    match call {
+        Call::Register(parties) => Some(phaser.register(rt, party, parties)),
+        Call::Arrive(false) => Some(phaser.arrive(rt, party)),
+        Call::Arrive(true) => Some(phaser.arrive_and_deregister(rt, party)),
+        Call::Force => Some(phaser.force(rt, party)),
+        _ => None,
+    }
+}
+
+fn holds<R: Wait>(rt: &R, alloc: Global, row: &Row, waits: bool) -> Result<bool, Fail> {
+    let (parties, phase, policy, call, reply, word) = *row;
+    let (phaser, mut party) = SharedPhaser::new(alloc, parties, policy, Phase::prevailing(phase))?;
+    let answered = if waits {
+        called(rt, &phaser, &mut party, call)
+    } else {
+        tried(&phaser, &mut party, call)
+    };
+    Ok(answered == Some(reply) && phaser.look(&mut party).raw() == word)
+}
+
+#[test]
+fn single_calls(rt: HostRuntime) -> Result<(), Fail> {
+    for row in &ROWS {
+        let within = holds(&rt, rt.alloc(), row, false)?;
+        assert!(rt; within && holds(&rt, rt.alloc(), row, true)?);
+    }
+    Ok(())
+}
+
+#[test]
+fn a_routine_is_refused(rt: HostRuntime) {
+    let refused = SharedPhaser::new(rt.alloc(), 1, Policy::Routine, Phase::prevailing(0));
+    let fault = refused.err();
+    assert_eq!(rt; fault, Some(NewFault::RoutinePolicy));
+}
+
+/// Whether each call on a phaser that was terminated in phase 0 answers so.
+fn stays_terminated<R: Wait>(rt: &R, phaser: &SharedPhaser, party: &mut Party) -> bool
+    requires { phaser_of party.old ≡ phaser.now }
+{
+    let dead = Ok(Reply::Dead(-2147483648));
+    phaser.force_within(party, 1) == dead
+        && phaser.force_within(party, 1) == dead
+        && phaser.arrive_within(party, false, 1) == dead
+        && phaser.await_advance(rt, party, 0) == -2147483648
+        && phaser.arrive_and_await_advance(rt, party) == Ok(-2147483648)
+}
+
+#[test]
+fn a_terminated_phaser_stays_so(rt: HostRuntime) -> Result<(), Fail> {
+    let (phaser, mut party) = made(rt.alloc(), 2, Policy::Default)?;
+    assert!(rt; stays_terminated(&rt, &phaser, &mut party));
+    Ok(())
+}
+
+/// Whether the waits of the only party are over at once.
+fn waits_for_nobody<R: Wait>(rt: &R, phaser: &SharedPhaser, party: &mut Party) -> bool
+    requires { phaser_of party.old ≡ phaser.now }
+{
+    phaser.await_advance(rt, party, -5) == -5
+        && phaser.await_advance(rt, party, 3) == 0
+        && phaser.arrive_and_await_advance(rt, party) == Ok(1)
+        && phaser.arrive_and_deregister(rt, party) == Reply::Counted(1)
+}
+
+#[test]
+fn waits_that_are_over(rt: HostRuntime) -> Result<(), Fail> {
+    let (phaser, mut party) = made(rt.alloc(), 1, Policy::Default)?;
+    assert!(rt; waits_for_nobody(&rt, &phaser, &mut party));
+    Ok(())
+}
+
+#[test]
+fn a_stray_cannot_wait(rt: HostRuntime) -> Result<(), Fail> {
+    let (phaser, mut party) = made(rt.alloc(), 0, Policy::Default)?;
+    let answer = phaser.arrive_and_await_advance(&rt, &mut party);
+    assert!(rt; answer == Err(NotThere));
+    Ok(())
+}
+
+#[test]
+fn two_callers_of_one_phaser(rt: HostRuntime) -> Result<(), Fail> {
+    let (phaser, mut first) = made(rt.alloc(), 1, Policy::Default)?;
+    let mut second = phaser.split(&mut first);
+    let reply = phaser.register_within(&mut second, 2, 1);
+    assert_eq!(rt; reply, Ok(Reply::Counted(0)));
+    assert_eq!(rt; phaser.look(&mut first).parties(), 3);
+    Ok(())
+}
+
+/// The word of a phaser of two parties, closed behind one arrival of each of two callers.
+fn word_of_two(alloc: Global) -> Result<Option<u64>, Fail> {
+    let (phaser, mut first) = made(alloc, 2, Policy::Default)?;
+    let mut second = phaser.split(&mut first);
+    let arrived = Ok(Reply::Counted(0));
+    let both = phaser.arrive_within(&mut first, false, 1) == arrived
+        && phaser.arrive_within(&mut second, false, 1) == arrived;
+    phaser.join(&mut first, second);
+    let word = phaser.close(first).raw();
+    Ok(if both { Some(word) } else { None })
+}
+
+#[test]
+fn closed_words(rt: HostRuntime) -> Result<(), Fail> {
+    assert!(rt; word_of_two(rt.alloc())? == Some(0x100020002));
+    let (phaser, first) = made(rt.alloc(), 2, Policy::Default)?;
+    let word = phaser.close(first).raw();
+    assert!(rt; word == 0x20002);
+    Ok(())
+}
+
+/// One thread waits for the end of phase 0, and another one makes the call.
+fn released<R: Threads + Wait + Sync>(
+    rt: &R,
+    alloc: Global,
+    call: Call,
+) -> Result<(i32, Option<Reply>), Fail> {
+    let (phaser, mut first) = made(alloc, 1, Policy::Default)?;
+    let mut second = phaser.split(&mut first);
+    let shared = &phaser;
+    let waiting = &mut first;
+    let calling = &mut second;
+    Ok(join(
+        rt,
+        move || shared.await_advance(rt, waiting, 0),
+        move || called(rt, shared, calling, call),
+    ))
+}
+
+/// The call, what it answers, and what the thread that waits is told.
+const RELEASING: [(Call, Reply, i32); 3] = [
+    (Call::Arrive(false), Reply::Counted(0), 1),
+    (Call::Arrive(true), Reply::Counted(0), -2147483647),
+    (Call::Force, Reply::Dead(-2147483648), -2147483648),
+];
+
+#[test]
+fn who_waits_is_released(rt: HostRuntime) -> Result<(), Fail> {
+    for (call, reply, told) in &RELEASING {
+        let (waiter, caller) = released(&rt, rt.alloc(), *call)?;
+        assert!(rt; waiter == *told && caller == Some(*reply), "{told}");
+    }
+    Ok(())
+}
