@@ -2,6 +2,6 @@ pub mod Blanks
 mod Drawings
 mod NoPicture
 mod Pages
-pub mod Rows
+pub mod ListedRows
 pub mod Told
 mod Written

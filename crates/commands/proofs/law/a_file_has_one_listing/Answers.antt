@@ -1,4 +1,4 @@
-use Rattle.commands.proofs.Rows.{one_listing}
+use Rattle.commands.proofs.ListedRows.{one_listing}
 use Rattle.commands.proofs.law.a_file_has_one_listing.Goals as goal
 
 pub returns : goal.returns

@@ -1,4 +1,4 @@
-use Rattle.commands.proofs.Rows.{rows_said}
+use Rattle.commands.proofs.ListedRows.{rows_said}
 use Rattle.commands.proofs.law.a_row_is_told_with_the_line_that_says_it.Goals as goal
 
 pub returns : goal.returns

@@ -1,5 +1,5 @@
 use Rattle.std.proofs.Common.{inr}
-use Rattle.commands.proofs.Rows.{text_listed}
+use Rattle.commands.proofs.ListedRows.{text_listed}
 use Rattle.commands.proofs.text_rows.listed_text.Goals as goal
 
 pub returns-in-Ok-rows_in_text-clause-listing : goal.returns-in-Ok-rows_in_text-clause-listing
