@@ -1,5 +1,5 @@
 -- Where a byte first stands.
-use Rattle.std.proofs.Common.{◌≡◌, ℕ, Bool, true, false, List, length, Some, None, cond, nat_lt, refl, arith, ◌<◌}
+use Rattle.std.proofs.Common.{◌≡◌, ℕ, Bool, true, false, List, length, Some, None, cond, nat_lt, refl, arith}
 use Rattle.std.specs.Prelude.{not}
 use Rattle.std.specs.List.{position, position_or_len}
 use Rattle.std.proofs.lemmas.Bool.Decides.{nat_tests}
@@ -22,13 +22,3 @@ position_none p bs h =
     let far = not_found (nat_lt (position_or_len p bs) (length bs)) (position_or_len p bs) h in
     let within = prefix_len-le-length (λ b. not (p b)) bs in
     grind (arith, nat_tests, far, within)
-
-found : (b : Bool) (k n : ℕ) → Some k ≡ cond b (Some n) None → b ≡ true
-found true k n h = refl
-found false k n h = absurd (cc)
-
--- a found place is in the list
-pub position_within : (p : ℕ → Bool) (bs : List ℕ) (k : ℕ) → Some k ≡ position p bs → position_or_len p bs < length bs
-position_within p bs k h =
-    let there = found (nat_lt (position_or_len p bs) (length bs)) k (position_or_len p bs) h in
-    grind (arith, nat_tests, there)

@@ -1,5 +1,5 @@
 -- What is expected of the state that a run ends in.
-use Rattle.std.specs.Prelude.{ℕ, ◌||◌, ◌&&◌, not, nat_lt, Bool, true, false, if◌then◌else◌, List, Option, Some, None, codes, drop, is_none, is_some, length}
+use Rattle.std.specs.Prelude.{ℕ, ◌||◌, ◌&&◌, not, nat_lt, Bool, false, if◌then◌else◌, List, Option, Some, None, codes, drop, is_none, is_some, length}
 use Rattle.std.specs.Global.{Vec}
 use Rattle.std.specs.List.{before_first, list_all, position_or_len}
 use Rattle.std.specs.Str.{bytes_eq}

@@ -41,7 +41,7 @@ later_line subject (byte ∷ rest) =
 abbrev pub line_of : List ℕ → List ℕ → Option (List ℕ)
 line_of state subject = if begins subject state then Some (first_line state) else later_line subject state
 
--- whether some thread of a state has died: the second word behind its name says so
+-- whether some thread of a state has died: its status says so, and nothing else in a state has this word
 abbrev pub has_died : List ℕ → Bool
 has_died [] = false
 has_died (byte ∷ rest) = starts_with (byte ∷ rest) (codes " died:") || has_died rest
