@@ -11,6 +11,10 @@ place_rule name = record (new_rule name) { required = true }
 abbrev pub option_rule : Text → Rule
 option_rule name = record (new_rule name) { long = Some name; value_names = 1 }
 
+-- the option `--expect`, which may be there several times
+abbrev pub expect_rule : Rule
+expect_rule = record (option_rule (codes "expect")) { action = Some Append }
+
 -- one that has to be there
 abbrev pub number_rule : Text → Rule
 number_rule name = record (option_rule name) { required = true }
@@ -53,7 +57,7 @@ abbrev pub list_shape : Shape
 list_shape = command (codes "list") (file_rule ∷ flag_rule (codes "rows") ∷ [])
 
 abbrev pub run_shape : Shape
-run_shape = command (codes "run") (file_rule ∷ place_rule (codes "SCHEDULE") ∷ option_rule (codes "expect") ∷ [])
+run_shape = command (codes "run") (file_rule ∷ new_rule (codes "SCHEDULE") ∷ expect_rule ∷ [])
 
 abbrev pub compare_shape : Shape
 compare_shape = command (codes "compare") (file_rule ∷ place_rule (codes "TRACE") ∷ flag_rule (codes "show") ∷ [])
@@ -68,7 +72,7 @@ abbrev pub draw_shape : Shape
 draw_shape = command (codes "draw") (file_rule ∷ new_rule (codes "SCHEDULE") ∷ width_rule ∷ [])
 
 abbrev pub live_shape : Shape
-live_shape = command (codes "live") (file_rule ∷ limit_rule ∷ option_rule (codes "stir") ∷ option_rule (codes "runs") ∷ option_rule (codes "expect") ∷ [])
+live_shape = command (codes "live") (file_rule ∷ limit_rule ∷ option_rule (codes "stir") ∷ option_rule (codes "runs") ∷ expect_rule ∷ [])
 
 abbrev pub race_shape : Shape
 race_shape = command (codes "race") (number_rule (codes "parties") ∷ number_rule (codes "rounds") ∷ [])
@@ -81,7 +85,7 @@ explain_shape = command (codes "explain") (words_rule ∷ [])
 
 -- the program by itself, which takes one option where no command is named
 abbrev pub bare : App
-bare = record { top = record (command (codes "vuthgal") (option_rule (codes "expect") ∷ [])) { has_version = true }; subs = [] }
+bare = record { top = record (command (codes "vuthgal") (expect_rule ∷ [])) { has_version = true }; subs = [] }
 
 -- the program with all its commands
 abbrev pub vuthgal : App

@@ -1,7 +1,7 @@
 //! The commands, their words and options, and what help says of each.
 ghost use Rattle.std.specs.Prelude.{◌≡◌, IfOk, IsOkAnd, false, [], codes};
 ghost use Rattle.clap.specs.Words.{AddsSubcommand, app_of, new_rule, rule_of, with_rule, with_subcommand};
-ghost use Rattle.command_help.specs.Commands.{alone, bare, command, flag_rule, limit_rule, number_rule, option_rule, place_rule, vuthgal, width_rule, words_rule};
+ghost use Rattle.command_help.specs.Commands.{alone, bare, command, expect_rule, flag_rule, limit_rule, number_rule, option_rule, place_rule, vuthgal, width_rule, words_rule};
 ghost use Rattle.command_help.specs.Commands.{asm_shape, compare_shape, debug_shape, list_shape};
 ghost use Rattle.command_help.specs.Commands.{choices_shape, draw_shape, explain_shape, live_shape, race_shape, run_shape, show_shape};
 
@@ -32,17 +32,18 @@ fn option<'a>(alloc: Global, name: &'a str, value: &'a str, help: &'a str) -> Ar
         .help(help)
 }
 
-/// How a run is expected to end.
+/// How a run is expected to end; the option may be there several times.
 fn expect<'a>(alloc: Global) -> Arg<'a>
-    ensures rule { rule_of result ≡ option_rule (codes "expect") }
+    ensures rule { rule_of result ≡ expect_rule }
     ensures local { result.global ≡ false }
 {
     option(
         alloc,
         EXPECT,
         "STATE",
-        "Answers 1 where the run ends otherwise: all, stuck or live",
+        "Answers 1 where the run ends otherwise; may stand several times",
     )
+    .action(ArgAction::Append)
 }
 
 /// A command with what its help says, without words.
@@ -125,11 +126,7 @@ fn run<'a>(alloc: Global) -> Result<Command<'a>, AllocError>
             texts::RUN,
         ),
         place(alloc, FILE, "The file of the image or of the program text"),
-        place(
-            alloc,
-            SCHEDULE,
-            "The file of the schedule, or `-` for standard input",
-        ),
+        schedule(alloc),
     )?;
     command.arg(expect(alloc))
 }

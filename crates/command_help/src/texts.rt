@@ -23,8 +23,8 @@ and a schedule, and writes the trace: a line for each choice, and then the
 state. It may tell `refused asm`, `refused load`, `refused schedule`, `memory`,
 `read` or `write`.
 
-With `--expect STATE` it answers 1 where the state's word is another than STATE.
-Behind a command's name the option is that command's.
+With `--expect STATE` it answers 1 where the run ends otherwise than STATE says
+(`vuthgal run --help`). Behind a command's name the option is that command's.
 
 Example: vuthgal < examples/two-threads-meet.txt";
 
@@ -56,8 +56,14 @@ a line for each choice, and then the state.
 
 FILE is an image where its first four bytes are `PBW1` or `PBW2`, else a program
 text. SCHEDULE is a file, or `-` for standard input; it may be as long as you
-like. A run ends `all` where all threads have ended, `stuck` where none of the
-others can go on, and else `live`: the word of its state line.
+like. Without it FILE is a text with its schedule behind a line `.run`.
+
+STATE is `all` where all threads have ended or died, `ended` where none of them
+died, `stuck` where none of the others can go on, `live` where one can; or words
+of a line of the final state, in a row, behind the name or the number of its
+thread, phaser, barrier or cell: `--expect 't0 out 1 2' --expect 'total 3'`.
+What stands otherwise is told on standard error, a line for each, and the status
+is 1; so it is where a choice is refused.
 
 It may tell `refused asm`, `refused image`, `refused load`, `refused schedule`,
 `memory`, `read` or `write`.
@@ -152,8 +158,10 @@ out before an arrival that is still possible. A schedule with `xN` shows that.
 With `--runs N` it plays N runs and writes no trace, but a line for each state
 that a run ended in, the most frequent first: how often one did, `all`, `stuck`
 or `live`, and the schedule of the first that did. `vuthgal run FILE -` plays
-that schedule again. How many choices it took makes no other state. With
-`--expect` the exit status is 1 where any run ended otherwise.
+that schedule again. How many choices it took makes no other state. Where a
+thread died `+died` stands behind the word. With `--expect` the exit status is 1
+where any run ended otherwise (`vuthgal run --help`). An interrupt (Ctrl-C) ends
+it with nothing written: the counts so far are lost.
 
 It may tell `refused asm`, `refused image`, `refused load`, `memory`, `spawn`,
 `read` or `write`.

@@ -1,7 +1,9 @@
 -- What the getters of the matches give, by the rows of the matches.
-use Rattle.std.proofs.Common.{◌≡◌, ◌∙◌, ℕ, List, [], Option, Some, None, refl, ap, map}
+use Rattle.std.proofs.Common.{◌≡◌, ◌∙◌, ◌&&◌, ◌∷◌, ℕ, List, [], Option, Some, None, refl, ap, map}
 use Rattle.std.specs.Prelude.{option_map, unwrap_or}
 use Rattle.std.specs.Borrow.{Bor}
+use Rattle.std.specs.List.{list_all}
+use Rattle.expected_end.specs.Expectation.{is_expectation}
 use Rattle.clap.specs.Words.{first_value, matched_of, raw_values, rows_of}
 use Rattle.clap.specs.declared.parser.matches.Found.{Found}
 use Rattle.clap.proofs.WalkLemmas.{first_value-rows, raw_values-rows}
@@ -30,3 +32,9 @@ pub words-got : (found : Found) (place : List ℕ) (texts : Option (Bor (List (B
     → map (λ (v : Bor (List ℕ)). v.now) (unwrap_or texts empty).now ≡ words_at place (rows_of found)
 words-got found place texts empty is got =
     several-unwrapped texts empty is ∙ ap (λ t. unwrap_or t []) (got ∙ raw_values-rows found place)
+
+-- whether each word expects something, by the words and by their texts
+pub expectations_texts : (words : List (Bor (List ℕ)))
+    → list_all (λ (w : Bor (List ℕ)). is_expectation w.now) words ≡ list_all is_expectation (map (λ (w : Bor (List ℕ)). w.now) words)
+expectations_texts [] = refl
+expectations_texts (word ∷ words) = ap (λ rest. is_expectation word.now && rest) (expectations_texts words)

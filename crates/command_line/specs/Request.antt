@@ -1,13 +1,15 @@
 -- What a command line asks for, by the subcommand that its words name and by that one's matches.
 use Rattle.std.specs.Prelude.{◌≡◌, ◌≢◌, ◌≤◌, ◌⊎◌, ℕ, List, [], ◌∷◌, Option, Some, None, length, map}
 use Rattle.std.specs.Prelude.{All, IfSome, codes, option_map, true, false, Bool, unwrap_or}
+use Rattle.std.specs.Borrow.{Bor}
+use Rattle.std.specs.Global.{Vec}
+use Rattle.std.specs.List.{list_all}
 use Rattle.std.specs.Str.Parse.{IsNumeral, digits_value}
 use Rattle.clap.specs.Words.{Row, Text, all_of, first_of, kind_of, matches_of, subcommand_of, takes}
 use Rattle.clap.specs.declared.error.Error.{Error}
 use Rattle.clap.specs.declared.error.kind.ErrorKind.TheVariants.{OutOfMemory, ValueValidation}
 use Rattle.command_help.specs.Commands.{vuthgal}
-use Rattle.thread_machine.specs.declared.standing.Standing.{Standing}
-use Rattle.thread_machine.specs.Standing.{name_of, names}
+use Rattle.expected_end.specs.Expectation.{is_expectation}
 use Rattle.command_line.specs.declared.refusal.Refusal.{Refusal}
 use Rattle.command_line.specs.declared.refusal.Refusal.TheVariants as refusal
 use Rattle.command_line.specs.declared.refusal.WrongOption.{WrongOption}
@@ -49,17 +51,13 @@ IsFlag None false = Unit {0}
 IsFlag (Some text) true = text ≡ codes "true"
 IsFlag (Some text) false = text ≢ codes "true"
 
--- the end that a word says, none where there is no word
-abbrev pub IsExpected : Option Text → Option Standing → Type 0
-IsExpected None None = Unit {0}
-IsExpected None (Some expected) = ⊥
-IsExpected (Some text) None = ⊥
-IsExpected (Some text) (Some expected) = text ≡ name_of expected
+-- what is expected is each of these words, in their order, and each expects something
+abbrev pub IsExpected : List Text → Vec (Bor Text) → Type 0
+IsExpected texts expected = (map (λ w. w.now) expected.items ≡ texts) × (list_all is_expectation texts ≡ true)
 
--- there is a word, and it says no end
-abbrev pub IsNoState : Option Text → Type 0
-IsNoState None = ⊥
-IsNoState (Some text) = All (λ other. text ≢ other) names
+-- one of these words expects nothing
+abbrev pub IsNoState : List Text → Type 0
+IsNoState texts = list_all is_expectation texts ≡ false
 
 -- the number, one of `least` to `most`, that digits spell, none where there are none
 abbrev pub IsNumber : ℕ → ℕ → Option Text → Option ℕ → Type 0
@@ -80,14 +78,14 @@ command_names =
 
 -- the request is what the subcommand of this name asks for by these matches
 abbrev pub IsAskedBy : Text → List Row → Request → Type 0
-IsAskedBy name rows (request.Both expected) = (expected ≡ None) × All (λ other. name ≢ other) command_names
+IsAskedBy name rows (request.Both expected) = (map (λ w. w.now) expected.items ≡ []) × All (λ other. name ≢ other) command_names
 IsAskedBy name rows (request.Asm source image) = (name ≡ codes "asm")
     × (source.now ≡ word_at (codes "SRC") rows) × (image.now ≡ word_at (codes "OUT") rows)
 IsAskedBy name rows (request.List file has_rows) = (name ≡ codes "list")
     × (file.now ≡ word_at (codes "FILE") rows) × IsFlag (word_given (codes "rows") rows) has_rows
 IsAskedBy name rows (request.Run file schedule expected) = (name ≡ codes "run")
-    × (file.now ≡ word_at (codes "FILE") rows) × (schedule.now ≡ word_at (codes "SCHEDULE") rows)
-    × IsExpected (word_given (codes "expect") rows) expected
+    × (file.now ≡ word_at (codes "FILE") rows) × (option_map (λ s. s.now) schedule ≡ word_given (codes "SCHEDULE") rows)
+    × IsExpected (words_at (codes "expect") rows) expected
 IsAskedBy name rows (request.Compare file trace is_shown) = (name ≡ codes "compare")
     × (file.now ≡ word_at (codes "FILE") rows) × (trace.now ≡ word_at (codes "TRACE") rows)
     × IsFlag (word_given (codes "show") rows) is_shown
@@ -101,7 +99,7 @@ IsAskedBy name rows (request.Draw file schedule width) = (name ≡ codes "draw")
 IsAskedBy name rows (request.Live file limit seed runs expected) = (name ≡ codes "live")
     × (file.now ≡ word_at (codes "FILE") rows) × Spells (word_at (codes "limit") rows) 1 1000000000 limit
     × IsNumber 0 4294967295 (word_given (codes "stir") rows) seed
-    × IsNumber 1 100000 (word_given (codes "runs") rows) runs × IsExpected (word_given (codes "expect") rows) expected
+    × IsNumber 1 100000 (word_given (codes "runs") rows) runs × IsExpected (words_at (codes "expect") rows) expected
 IsAskedBy name rows (request.Race parties rounds) = (name ≡ codes "race")
     × Spells (word_at (codes "parties") rows) 1 16 parties
     × Spells (word_at (codes "rounds") rows) 1 1000000 rounds
@@ -115,7 +113,7 @@ abbrev pub IsWrong : WrongOption → Text → List Row → Type 0
 IsWrong option.Width name rows = (name ≡ codes "draw") × SpellsNone (word_at (codes "width") rows) 60 1000
 IsWrong option.Limit name rows = (name ≡ codes "live") × SpellsNone (word_at (codes "limit") rows) 1 1000000000
 IsWrong option.Parties name rows = (name ≡ codes "race") × SpellsNone (word_at (codes "parties") rows) 1 16
-IsWrong option.Expect name rows = ((name ≡ codes "run") ⊎ (name ≡ codes "live")) × IsNoState (word_given (codes "expect") rows)
+IsWrong option.Expect name rows = ((name ≡ codes "run") ⊎ (name ≡ codes "live")) × IsNoState (words_at (codes "expect") rows)
 IsWrong option.Stir name rows = (name ≡ codes "live") × IsNoNumber 0 4294967295 (word_given (codes "stir") rows)
 IsWrong option.Runs name rows = (name ≡ codes "live") × IsNoNumber 1 100000 (word_given (codes "runs") rows)
 IsWrong option.Early name rows = ⊥
@@ -126,9 +124,9 @@ abbrev pub IsRefusedBy : Refusal → Text → List Row → Type 0
 IsRefusedBy refusal.Memory name rows = Unit {0}
 IsRefusedBy (refusal.Wrong option) name rows = IsWrong option name rows
 
--- the option `--expect` alone asks for this, and so do no words at all
+-- options `--expect` alone ask for this, and so do no words at all
 abbrev pub IsBoth : List Row → Request → Type 0
-IsBoth rows (request.Both expected) = IsExpected (word_given (codes "expect") rows) expected
+IsBoth rows (request.Both expected) = IsExpected (words_at (codes "expect") rows) expected
 IsBoth rows _ = ⊥
 
 -- the same of the words as a whole, by those before a subcommand, and the subcommand: where there is one, nothing stands
@@ -139,7 +137,7 @@ IsAsked rows (Some named) asked = (word_given (codes "expect") rows ≡ None) ×
 
 -- an option is wrong where there is no subcommand
 abbrev pub IsWrongAlone : WrongOption → List Row → Type 0
-IsWrongAlone option.Expect rows = IsNoState (word_given (codes "expect") rows)
+IsWrongAlone option.Expect rows = IsNoState (words_at (codes "expect") rows)
 IsWrongAlone _ rows = ⊥
 
 -- an option stands before the subcommand, or is the subcommand's and wrong

@@ -51,7 +51,8 @@ impl WrongOption {
             WrongOption::Limit => "--limit N: N is 1 to 1000000000, in digits alone",
             WrongOption::Parties => "--parties N: N is 1 to 16, in digits alone",
             WrongOption::Rounds => "--rounds R: R is 1 to 1000000, in digits alone",
-            WrongOption::Expect => "--expect STATE: STATE is all, stuck or live",
+            WrongOption::Expect =>
+                "--expect STATE: STATE is ended, all, stuck or live, or words of a line of the state",
             WrongOption::Stir => "--stir SEED: SEED is 0 to 4294967295, in digits alone",
             WrongOption::Runs => "--runs N: N is 1 to 100000, in digits alone",
             WrongOption::Early => "--expect STATE stands behind the command's name",

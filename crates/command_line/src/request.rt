@@ -1,13 +1,17 @@
 //! What the words of a command line ask for.
-ghost use Rattle.std.specs.Prelude.{◌≡◌, ◌≤◌, IfErr, IfOk, IfSome, MatchOption, None, codes, map, option_map, true};
+ghost use Rattle.std.specs.Prelude.{◌≡◌, ◌⊎◌, ◌≤◌, IfErr, IfOk, IfSome, List, MatchOption, None, codes, map, option_map, true, ℕ};
 ghost use Rattle.clap.specs.Words.{app_of, found_of, kind_of, rows_of, subcommand_rows_of, takes};
 ghost use Rattle.clap.specs.declared.error.kind.ErrorKind.TheVariants.{OutOfMemory};
 ghost use Rattle.std.specs.String.{string_bytes};
+ghost use Rattle.std.specs.Borrow.{Bor};
+ghost use Rattle.std.specs.List.{list_all};
+ghost use Rattle.expected_end.specs.Expectation.{is_expectation};
 ghost use Rattle.command_help.specs.Commands.{vuthgal};
 ghost use Rattle.command_line.specs.Request.{Asks, Fails, Refuses};
 ghost use Rattle.command_line.specs.Request.{IsAsked, IsAskedBy, IsInRange, IsRefused, IsRefusedBy, IsWrong};
 ghost use Rattle.command_line.specs.Request.{IsExpected, IsFlag, IsNoNumber, IsNoState, IsNumber};
 ghost use Rattle.command_line.specs.Request.{Spells, SpellsNone, word_at, word_given, words_at};
+ghost use Rattle.command_line.specs.declared.refusal.Refusal.TheVariants as refusal;
 ghost use Rattle.command_line.specs.declared.refusal.WrongOption.TheVariants as option;
 
 use crate::refusal::{Refusal, WrongOption};
@@ -18,15 +22,15 @@ use command_help::names::{
     ASM, AT, CHOICES, COMPARE, DEBUG, DRAW, EXPECT, EXPLAIN, FILE, LIMIT, LIST, LIVE, OUT, PARTIES,
     RACE, ROUNDS, ROWS, RUN, RUNS, SCHEDULE, SHOW, SRC, STIR, TRACE, WIDTH, WORD,
 };
+use expected_end::form::is_expectation;
 use std::alloc::{AllocError, Global};
-use thread_machine::Standing;
 
 /// What a command line asks for. A file is named as it was written.
 #[derive(PartialEq, Eq, Drop)]
 pub enum Request<'a> {
-    /// No command, `[--expect STATE]`: play what standard input holds.
+    /// No command, `[--expect STATE]..`: play what standard input holds.
     Both {
-        expected: Option<Standing>,
+        expected: Vec<&'a str>,
     },
     /// `asm SRC OUT`.
     Asm {
@@ -38,11 +42,11 @@ pub enum Request<'a> {
         file: &'a str,
         has_rows: bool,
     },
-    /// `run FILE SCHEDULE [--expect STATE]`; the schedule `-` is standard input.
+    /// `run FILE [SCHEDULE] [--expect STATE]..`; the schedule `-` is standard input, and without it it stands in FILE.
     Run {
         file: &'a str,
-        schedule: &'a str,
-        expected: Option<Standing>,
+        schedule: Option<&'a str>,
+        expected: Vec<&'a str>,
     },
     /// `compare FILE TRACE [--show]`; the trace `-` is standard input.
     Compare {
@@ -66,13 +70,13 @@ pub enum Request<'a> {
         schedule: Option<&'a str>,
         width: u16,
     },
-    /// `live FILE --limit N [--stir SEED] [--runs N] [--expect STATE]`: 1 to 1,000,000,000 steps, 1 to 100,000 runs.
+    /// `live FILE --limit N [--stir SEED] [--runs N] [--expect STATE]..`: 1 to 1,000,000,000 steps, 1 to 100,000 runs.
     Live {
         file: &'a str,
         limit: u32,
         seed: Option<u32>,
         runs: Option<u32>,
-        expected: Option<Standing>,
+        expected: Vec<&'a str>,
     },
     /// `race --parties N --rounds R`: 1 to 16 threads, 1 to 1,000,000 phases.
     Race {
@@ -138,18 +142,25 @@ fn number(text: &str, least: u32, most: u32) -> Option<u32>
     }
 }
 
-/// How a run is expected to end, if that is said, and is one of the ways in which it may end.
-fn expected(matches: &ArgMatches<'_>) -> Result<Option<Standing>, WrongOption>
-    ensures asked { IfOk result (IsExpected (word_given (codes "expect") (rows_of (found_of matches.now)))) }
-    ensures wrong { IfErr result (λ wrong. (wrong ≡ option.Expect)
-        × IsNoState (word_given (codes "expect") (rows_of (found_of matches.now)))) }
+/// Whether each of these words expects something of a run's end.
+fn are_expectations(words: &[&str]) -> bool
+    ensures { result ≡ list_all (λ (w : Bor (List ℕ)). is_expectation w.now) words.now }
 {
-    let Some(name) = given(matches, EXPECT) else {
-        return Ok(None);
-    };
-    match Standing::named(name) {
-        Some(word) => Ok(Some(word)),
-        None => Err(WrongOption::Expect),
+    words.iter().all(|word| is_expectation(word.as_bytes()))
+}
+
+/// What is expected of a run's end, where each word expects something.
+#[tactic(auto, using(crate::proofs::Words::expectations_texts))]
+fn expected<'a>(alloc: Global, matches: &ArgMatches<'a>) -> Result<Vec<&'a str>, Refusal>
+    ensures asked { IfOk result (IsExpected (words_at (codes "expect") (rows_of (found_of matches.now)))) }
+    ensures refused { IfErr result (λ why. (why ≡ refusal.Memory) ⊎ ((why ≡ refusal.Wrong option.Expect)
+        × IsNoState (words_at (codes "expect") (rows_of (found_of matches.now))))) }
+{
+    let words = several(alloc, matches, EXPECT)?;
+    if are_expectations(words.as_slice()) {
+        Ok(words)
+    } else {
+        Err(Refusal::Wrong(WrongOption::Expect))
     }
 }
 
@@ -176,15 +187,16 @@ fn number_given(
 }
 
 /// The run that these matches ask for, where it may end as it is expected to.
-fn run<'a>(matches: &ArgMatches<'a>) -> Result<Request<'a>, Refusal>
+fn run<'a>(alloc: Global, matches: &ArgMatches<'a>) -> Result<Request<'a>, Refusal>
     ensures range { IfOk result (λ request. IsInRange request) }
     ensures asked { IfOk result (IsAskedBy (codes "run") (rows_of (found_of matches.now))) }
     ensures refused { IfErr result (λ why. IsRefusedBy why (codes "run") (rows_of (found_of matches.now))) }
 {
-    let expected = expected(matches)?;
+    let expected = expected(alloc, matches)?;
+    let schedule = given(matches, SCHEDULE);
     Ok(Request::Run {
         file: word(matches, FILE),
-        schedule: word(matches, SCHEDULE),
+        schedule,
         expected,
     })
 }
@@ -206,7 +218,7 @@ fn draw<'a>(matches: &ArgMatches<'a>) -> Result<Request<'a>, Refusal>
 }
 
 /// The live run that these matches ask for, where its numbers are in range, and it may end as it is expected to.
-fn live<'a>(matches: &ArgMatches<'a>) -> Result<Request<'a>, Refusal>
+fn live<'a>(alloc: Global, matches: &ArgMatches<'a>) -> Result<Request<'a>, Refusal>
     ensures range { IfOk result (λ request. IsInRange request) }
     ensures asked { IfOk result (IsAskedBy (codes "live") (rows_of (found_of matches.now))) }
     ensures refused { IfErr result (λ why. IsRefusedBy why (codes "live") (rows_of (found_of matches.now))) }
@@ -216,7 +228,7 @@ fn live<'a>(matches: &ArgMatches<'a>) -> Result<Request<'a>, Refusal>
     };
     let seed = number_given(matches, STIR, 0, 4_294_967_295, WrongOption::Stir)?;
     let runs = number_given(matches, RUNS, 1, 100_000, WrongOption::Runs)?;
-    let expected = expected(matches)?;
+    let expected = expected(alloc, matches)?;
     Ok(Request::Live {
         file: word(matches, FILE),
         limit,
@@ -328,27 +340,28 @@ fn request_by<'a>(
     match name {
         ASM => Ok(asm(matches)),
         LIST => Ok(list(matches)),
-        RUN => run(matches),
+        RUN => run(alloc, matches),
         COMPARE => Ok(compare(matches)),
         DEBUG => Ok(debug(matches)),
         SHOW => Ok(show(matches)),
         DRAW => draw(matches),
-        LIVE => live(matches),
+        LIVE => live(alloc, matches),
         RACE => race(matches),
         CHOICES => Ok(choices(matches)),
         EXPLAIN => explain(alloc, matches),
-        _ => Ok(Request::Both { expected: None }),
+        _ => Ok(Request::Both {
+            expected: Vec::new(alloc),
+        }),
     }
 }
 
 /// What matches without a subcommand ask for, if no option is wrong.
-fn both<'a>(matches: &ArgMatches<'_>) -> Result<Request<'a>, WrongOption>
+fn both<'a>(alloc: Global, matches: &ArgMatches<'a>) -> Result<Request<'a>, Refusal>
     ensures range { IfOk result (λ request. IsInRange request) }
     ensures asked { IfOk result (IsAsked (rows_of (found_of matches.now)) None) }
-    ensures wrong { IfErr result (λ wrong. (wrong ≡ option.Expect)
-        × IsNoState (word_given (codes "expect") (rows_of (found_of matches.now)))) }
+    ensures refused { IfErr result (IsRefused (rows_of (found_of matches.now)) None) }
 {
-    let expected = expected(matches)?;
+    let expected = expected(alloc, matches)?;
     Ok(Request::Both { expected })
 }
 
@@ -359,7 +372,7 @@ fn request_of<'a>(alloc: Global, matches: &ArgMatches<'a>) -> Result<Request<'a>
     ensures refused { IfErr result (IsRefused (rows_of (found_of matches.now)) (subcommand_rows_of matches.now)) }
 {
     let Some((name, of_command)) = matches.subcommand() else {
-        return Ok(both(matches)?);
+        return both(alloc, matches);
     };
     if given(matches, EXPECT).is_some() {
         return Err(Refusal::Wrong(WrongOption::Early));

@@ -17,7 +17,7 @@ use Rattle.live_runs.specs.Runs.{AreOutcomesFrom, HasReported}
 pub reported : {E : Type 0} (result : Result Done E) (image : Image) (program : Program) (asked : Asked)
     (outcomes : List (EndState × Outcome)) (before after : Option (List ℕ)) → first_fault image ≡ None → IsProgramOf image program
     → AreOutcomesFrom (first_world program asked.limit) asked outcomes → IsMostFrequentFirst outcomes
-    → IfOk result (λ d. d ≡ done_by asked.expected outcomes) → OnOk result (Appends before after (report outcomes))
+    → IfOk result (λ d. d ≡ done_by asked.expected.now outcomes) → OnOk result (Appends before after (report outcomes))
     → IfOk result (λ d. HasReported image asked d before after)
 reported (Ok d) image program asked outcomes before after loads is came sorted by written = (
   first_world program asked.limit,

@@ -16,4 +16,4 @@ behind_first_line text = drop (position_or_len (λ byte. byte == 10) text + 1) t
 
 -- the text of a state without the counts in its first line
 abbrev pub end_text : Ending → World → List ℕ
-end_text ending world = ending_word ending ++ (10 ∷ behind_first_line (state_text world))
+end_text ending world = codes "state " ++ (ending_word ending ++ (10 ∷ behind_first_line (state_text world)))

@@ -1,11 +1,12 @@
 -- What several runs came to.
 use Rattle.std.specs.Prelude.{◌≡◌, ℕ, Bool, true, if◌then◌else◌, List, [], ◌∷◌, ◌++◌, Option, Some, None, bytes_eq, codes, decimal, filter, flat_map, length, nat_lt, option_map, IsSortedBy}
 use Rattle.std.specs.List.{IsDistinct, list_all}
+use Rattle.std.specs.Global.{Vec}
 use Rattle.std.specs.String.{string_bytes}
 use Rattle.std.specs.Map.{keys_of, lookup}
-use Rattle.thread_machine.specs.declared.standing.Standing.{Standing}
+use Rattle.expected_end.specs.Expectation.{are_met}
+use Rattle.expected_end.specs.Line.{has_died}
 use Rattle.thread_machine.specs.World.{World}
-use Rattle.thread_machine.specs.Standing.{name_of}
 use Rattle.thread_runner.specs.declared.ending.Ending.{Ending}
 use Rattle.thread_runner.specs.Endings.{ending_of}
 use Rattle.thread_runner.specs.Replay.{IsReplayOfText}
@@ -64,24 +65,26 @@ is_more_frequent a b = nat_lt b.1.times a.1.times
 abbrev pub IsMostFrequentFirst : List (EndState × Outcome) → Type 0
 IsMostFrequentFirst outcomes = IsSortedBy is_more_frequent outcomes
 
+-- what stands behind the word of a state in which a thread has died
+abbrev pub died_mark : List ℕ → List ℕ
+died_mark state = if has_died state then codes "+died" else []
+
 -- the line of an outcome
-abbrev pub outcome_line : Outcome → List ℕ
-outcome_line outcome =
-    decimal outcome.times ++ (codes " " ++ (ending_word outcome.ending ++ (codes " "
-    ++ (string_bytes outcome.schedule ++ codes "\n"))))
+abbrev pub outcome_line : EndState × Outcome → List ℕ
+outcome_line (state, outcome) =
+    decimal outcome.times ++ (codes " " ++ (ending_word outcome.ending ++ (died_mark state.text.items
+    ++ (codes " " ++ (string_bytes outcome.schedule ++ codes "\n")))))
 
 abbrev pub report : List (EndState × Outcome) → List ℕ
-report outcomes = flat_map (λ (outcome : EndState × Outcome). outcome_line outcome.1) outcomes
+report outcomes = flat_map outcome_line outcomes
 
--- whether a run that ended so ended as it was expected to
-abbrev pub is_as_expected : Option Standing → Ending → Bool
-is_as_expected None ending = true
-is_as_expected (Some expected) ending = bytes_eq (name_of expected) (ending_word ending)
+-- whether runs that ended in a state ended as they were expected to
+abbrev pub is_as_expected : List (Vec ℕ) → EndState × Outcome → Bool
+is_as_expected expected outcome = are_met outcome.0.text.items expected
 
-abbrev pub are_as_expected : Option Standing → List (EndState × Outcome) → Bool
-are_as_expected expected outcomes =
-    list_all (λ (outcome : EndState × Outcome). is_as_expected expected outcome.1.ending) outcomes
+abbrev pub are_as_expected : List (Vec ℕ) → List (EndState × Outcome) → Bool
+are_as_expected expected outcomes = list_all (is_as_expected expected) outcomes
 
 -- what the command comes to by it
-abbrev pub done_by : Option Standing → List (EndState × Outcome) → Done
+abbrev pub done_by : List (Vec ℕ) → List (EndState × Outcome) → Done
 done_by expected outcomes = if are_as_expected expected outcomes then done.AsAsked else done.Unlike

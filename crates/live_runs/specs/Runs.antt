@@ -21,7 +21,7 @@ abbrev pub HasReported : Image → Asked → Done → (output_before output_afte
 HasReported image asked done output_before output_after =
     (first : World) × ((outcomes : List (EndState × Outcome))
     × ((first_fault image ≡ None) × IsFirstOf image asked.limit first × AreOutcomesFrom first asked outcomes
-    × IsMostFrequentFirst outcomes × (done ≡ done_by asked.expected outcomes)
+    × IsMostFrequentFirst outcomes × (done ≡ done_by asked.expected.now outcomes)
     × Appends output_before output_after (report outcomes)))
 
 -- the file was read to its end, and this was done with its program

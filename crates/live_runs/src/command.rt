@@ -21,7 +21,6 @@ use row_code::Image;
 use std::alloc::Global;
 use std::sync::Wait;
 use std::thread::Threads;
-use thread_machine::Standing;
 use thread_runner::Gate;
 use workbench::done::Done;
 use workbench::fault::Fault;
@@ -29,24 +28,24 @@ use workbench::program_file::read_program;
 
 /// Which runs are asked for.
 #[derive(Clone, Copy)]
-pub struct Asked {
+pub struct Asked<'a> {
     /// How many, 1 to 100,000.
     pub runs: u32,
     /// How many steps each takes at most, 1 to 1,000,000,000.
     pub limit: u32,
     pub pauses: Pauses,
-    /// How each is expected to end, if that is said.
-    pub expected: Option<Standing>,
+    /// What is expected of the state that each ends in: texts as `expected_end` has them.
+    pub expected: &'a [Vec<u8>],
 }
 
 /// Plays the program in `file`, an image or a text, on real threads as often as it is asked for, and writes to `output` a line
-/// for each state that a run ended in, the most frequent first: how often one did, `all`, `stuck` or `live`, and the schedule
-/// of the first that did. Nothing is written before all runs are over. The threads of each run pass `gate` behind their
+/// for each state that a run ended in, the most frequent first: how often one did, `all`, `stuck` or `live`, with `+died` where a
+/// thread died, and the schedule of the first that did. Nothing is written before all runs are over. The threads of each run pass `gate` behind their
 /// pauses, as in `workbench::live::live`.
 pub fn report_runs<R: Threads + Wait + Sync, G: Gate + Sync, F: Source, K: Sink>(
     rt: &R,
     alloc: Global,
-    asked: &Asked,
+    asked: &Asked<'_>,
     gate: &G,
     file: &mut F,
     output: &mut K,
@@ -74,7 +73,7 @@ pub fn report_runs<R: Threads + Wait + Sync, G: Gate + Sync, F: Source, K: Sink>
 fn report_image<R: Threads + Wait + Sync, G: Gate + Sync, K: Sink>(
     rt: &R,
     alloc: Global,
-    asked: &Asked,
+    asked: &Asked<'_>,
     gate: &G,
     image: Image,
     output: &mut K,
@@ -103,7 +102,7 @@ fn report_image<R: Threads + Wait + Sync, G: Gate + Sync, K: Sink>(
 fn outcomes_of<R: Threads + Wait + Sync, G: Gate + Sync>(
     rt: &R,
     alloc: Global,
-    asked: &Asked,
+    asked: &Asked<'_>,
     gate: &G,
     program: &Loaded,
 ) -> Result<Outcomes, Fault>
@@ -133,11 +132,11 @@ fn outcomes_of<R: Threads + Wait + Sync, G: Gate + Sync>(
 /// Writes what the runs came to, in one piece, and answers whether they ended as expected.
 fn push_report<K: Sink>(
     alloc: Global,
-    expected: Option<Standing>,
+    expected: &[Vec<u8>],
     outcomes: &Outcomes,
     output: &mut K,
 ) -> Result<Done, Fault>
-    ensures by { IfOk result (λ done. done ≡ done_by expected outcomes.now.entries) }
+    ensures by { IfOk result (λ done. done ≡ done_by expected.now outcomes.now.entries) }
     ensures report { OnOk result (Appends (K.written output.old) (K.written output.new) (report outcomes.now.entries)) }
     ensures fault { IfErr result (λ fault. (fault ≡ Fault.Memory) ⊎ (fault ≡ Fault.Write)) }
     ensures unchanged { result ≡ Err Fault.Memory → K.written output.new ≡ K.written output.old }

@@ -1,5 +1,5 @@
 //! The state that a run ended in.
-ghost use Rattle.std.specs.Prelude.{◌≡◌, ◌≤◌, ◌++◌, ◌∷◌, [], IfOk, OnOk, bytes_eq, drop, length};
+ghost use Rattle.std.specs.Prelude.{◌≡◌, ◌≤◌, ◌++◌, ◌∷◌, [], IfOk, OnOk, bytes_eq, codes, drop, length};
 ghost use Rattle.std.proofs.Common.{rules};
 ghost use Rattle.std.specs.Cmp.Rules.{comparing, hashing};
 ghost use Rattle.thread_machine.specs.World.{world_of};
@@ -59,9 +59,10 @@ fn behind_first_line(text: &[u8]) -> &[u8]
 
 /// The text of a state by its word and its text.
 fn text_with(alloc: Global, word: &[u8], state: &[u8]) -> Result<Vec<u8>, AllocError>
-    ensures { IfOk result (λ text. text.items ≡ word.now ++ (10 ∷ behind_first_line state.now)) }
+    ensures { IfOk result (λ text. text.items ≡ codes "state " ++ (word.now ++ (10 ∷ behind_first_line state.now))) }
 {
-    let mut text = Vec::from_slice(alloc, word)?;
+    let mut text = Vec::from_slice(alloc, b"state ")?;
+    text.extend_from_slice(word)?;
     text.push(b'\n')?;
     text.extend_from_slice(behind_first_line(state))?;
     Ok(text)

@@ -1,24 +1,36 @@
 //! What several runs came to, in lines.
 ghost use Rattle.std.specs.Prelude.{◌≡◌, ◌++◌, IfOk, OnOk};
-ghost use Rattle.live_runs.specs.Ends.{ending_word};
-ghost use Rattle.live_runs.specs.Outcomes.{are_as_expected, is_as_expected, outcome_line, report, done_by};
+ghost use Rattle.expected_end.specs.Expectation.{are_met};
+ghost use Rattle.live_runs.specs.Outcomes.{are_as_expected, died_mark, outcome_line, report, done_by};
 
-use crate::end_state::word_of;
+use crate::end_state::{EndState, word_of};
 use crate::outcomes::{Outcome, Outcomes};
+use expected_end::meeting::are_met;
+use expected_end::state_line::has_died;
 use itoa::Buffer;
 use std::alloc::{AllocError, Global};
-use thread_machine::Standing;
-use thread_runner::Ending;
 use workbench::done::Done;
+
+/// What stands behind the word of a state in which a thread has died.
+fn died_mark(state: &EndState) -> &'static [u8]
+    ensures { result.now ≡ died_mark state.now.text.items }
+{
+    if has_died(state.text.as_slice()) {
+        b"+died"
+    } else {
+        b""
+    }
+}
 
 /// The line of an outcome.
 #[tactic(auto, using(crate::proofs::Reports::text_steps))]
-fn push_line(text: &mut Vec<u8>, outcome: &Outcome) -> Result<(), AllocError>
-    ensures { OnOk result (text.new.items ≡ text.old.items ++ outcome_line outcome.now) }
+fn push_line(text: &mut Vec<u8>, state: &EndState, outcome: &Outcome) -> Result<(), AllocError>
+    ensures { OnOk result (text.new.items ≡ text.old.items ++ outcome_line (state.now, outcome.now)) }
 {
     text.extend_from_slice(Buffer::new().format(outcome.times).as_bytes())?;
     text.extend_from_slice(b" ")?;
     text.extend_from_slice(word_of(outcome.ending))?;
+    text.extend_from_slice(died_mark(state))?;
     text.extend_from_slice(b" ")?;
     text.extend_from_slice(outcome.schedule.as_bytes())?;
     text.extend_from_slice(b"\n")
@@ -30,32 +42,27 @@ pub fn report(alloc: Global, outcomes: &Outcomes) -> Result<Vec<u8>, AllocError>
 {
     let mut text = Vec::new(alloc);
     for place in 0..outcomes.len() {
-        if let Some((_, outcome)) = outcomes.get_index(place) {
-            push_line(&mut text, outcome)?;
+        if let Some((state, outcome)) = outcomes.get_index(place) {
+            push_line(&mut text, state, outcome)?;
         }
     }
     Ok(text)
 }
 
-/// Whether a run that ended so ended as it was expected to.
-fn is_as_expected(expected: Option<Standing>, ending: Ending) -> bool
-    ensures { result ≡ is_as_expected expected ending }
+/// Whether runs that ended in a state ended as they were expected to.
+fn is_as_expected(expected: &[Vec<u8>], state: &EndState) -> bool
+    ensures { result ≡ are_met state.now.text.items expected.now }
 {
-    match expected {
-        None => true,
-        Some(Standing::All) => ending == Ending::AllEnded,
-        Some(Standing::Stuck) => ending == Ending::Stuck,
-        Some(Standing::Live) => ending == Ending::Limit,
-    }
+    are_met(state.text.as_slice(), expected)
 }
 
 /// Whether all runs ended as they were expected to.
-fn are_as_expected(expected: Option<Standing>, outcomes: &Outcomes) -> bool
-    ensures { result ≡ are_as_expected expected outcomes.now.entries }
+fn are_as_expected(expected: &[Vec<u8>], outcomes: &Outcomes) -> bool
+    ensures { result ≡ are_as_expected expected.now outcomes.now.entries }
 {
     for place in 0..outcomes.len() {
-        if let Some((_, outcome)) = outcomes.get_index(place) {
-            if !is_as_expected(expected, outcome.ending) {
+        if let Some((state, _)) = outcomes.get_index(place) {
+            if !is_as_expected(expected, state) {
                 return false;
             }
         }
@@ -64,8 +71,8 @@ fn are_as_expected(expected: Option<Standing>, outcomes: &Outcomes) -> bool
 }
 
 /// What the outcomes come to: whether all runs ended as they were expected to.
-pub fn done_by(expected: Option<Standing>, outcomes: &Outcomes) -> Done
-    ensures { result ≡ done_by expected outcomes.now.entries }
+pub fn done_by(expected: &[Vec<u8>], outcomes: &Outcomes) -> Done
+    ensures { result ≡ done_by expected.now outcomes.now.entries }
 {
     if are_as_expected(expected, outcomes) {
         Done::AsAsked

@@ -1,19 +1,152 @@
 //! Whether a run ended as it was expected to.
-ghost use Rattle.std.specs.Prelude.{◌≡◌, ◌≢◌, Option, Some, None};
-ghost use Rattle.thread_machine.specs.declared.standing.Standing.{Standing};
+
+ghost use Rattle.std.specs.Prelude.{◌≡◌, ◌++◌, ◌&&◌, OnOk, [], false, true};
+ghost use Rattle.expected_end.specs.Expectation.{are_met};
 ghost use Rattle.workbench.specs.declared.done.Done.TheVariants as done;
 
-use thread_machine::Standing;
+use crate::kept_state::RunEnd;
+use crate::printable;
+use assembler::{Symbols, assemble_named};
+use byte_ports::{Failed, Sink, WritePort};
+use expected_end::form::{end_words, subject_of, words_of};
+use expected_end::meeting::{are_met, is_met};
+use expected_end::state_line::{has_died, line_of};
+use instruction_table::OperandKind;
+use itoa::Buffer;
+use row_code::is_image_file;
+use std::alloc::{AllocError, Global};
 use workbench::done::Done;
 
-/// What a command comes to whose run ended so.
-pub fn as_expected(expected: Option<Standing>, standing: Standing) -> Done
-    ensures open { expected ≡ None → result ≡ done.AsAsked }
-    ensures met { expected ≡ Some standing → result ≡ done.AsAsked }
-    ensures unlike { (other : Standing) → expected ≡ Some other → other ≢ standing → result ≡ done.Unlike }
-{
-    match expected {
-        Some(expected) if expected != standing => Done::Unlike,
-        _ => Done::AsAsked,
+/// The letter with which the lines of such things begin, if they have lines.
+fn letter_of(kind: OperandKind) -> Option<&'static [u8]> {
+    match kind {
+        OperandKind::Thread => Some(b"t"),
+        OperandKind::Phaser => Some(b"p"),
+        OperandKind::Barrier => Some(b"b"),
+        OperandKind::Cell => Some(b"c"),
+        _ => None,
     }
+}
+
+/// Adds the word with which the line of the thing of this name begins; the name itself where nothing has it.
+fn push_subject(text: &mut Vec<u8>, symbols: &Symbols<'_>, name: &[u8]) -> Result<(), AllocError> {
+    for symbol in symbols.names() {
+        if symbol.name == name {
+            if let Some(letter) = letter_of(symbol.kind) {
+                text.extend_from_slice(letter)?;
+                return text.extend_from_slice(Buffer::new().format(symbol.number).as_bytes());
+            }
+        }
+    }
+    text.extend_from_slice(name)
+}
+
+/// What is expected, by the numbers of things where it names them.
+fn numbered(alloc: Global, symbols: &Symbols<'_>, text: &[u8]) -> Result<Vec<u8>, AllocError> {
+    let mut numbered = Vec::new(alloc);
+    if end_words(text).is_some() {
+        numbered.extend_from_slice(text)?;
+    } else {
+        push_subject(&mut numbered, symbols, subject_of(text))?;
+        numbered.extend_from_slice(words_of(text))?;
+    }
+    Ok(numbered)
+}
+
+/// The names of a program: an image has none, and what is refused needs none.
+fn names_of(alloc: Global, program: &[u8]) -> Symbols<'_> {
+    if is_image_file(program) {
+        return Symbols::none(alloc);
+    }
+    match assemble_named(alloc, program) {
+        Ok((_, symbols)) => symbols,
+        Err(_) => Symbols::none(alloc),
+    }
+}
+
+/// The same of all that is expected of a run of a program.
+pub fn expectations(
+    alloc: Global,
+    program: &[u8],
+    texts: &[&str],
+) -> Result<Vec<Vec<u8>>, AllocError> {
+    let mut expected = Vec::new(alloc);
+    if texts.is_empty() {
+        return Ok(expected);
+    }
+    let symbols = names_of(alloc, program);
+    for text in texts {
+        expected.push(numbered(alloc, &symbols, text.as_bytes())?)?;
+    }
+    Ok(expected)
+}
+
+/// What a command comes to whose run ended in this state: as asked where nothing is expected, or where no choice was refused and
+/// the state is as all of it expects.
+pub fn as_expected(expected: &[Vec<u8>], state: &[u8], is_refused: bool) -> Done
+    ensures open { expected.now ≡ [] → result ≡ done.AsAsked }
+    ensures met { is_refused ≡ false → are_met state.now expected.now ≡ true → result ≡ done.AsAsked }
+    ensures refused { is_refused ≡ true → result ≡ done.AsAsked → expected.now ≡ [] }
+    ensures unlike { are_met state.now expected.now ≡ false → result ≡ done.AsAsked → expected.now ≡ [] }
+{
+    if expected.is_empty() {
+        Done::AsAsked
+    } else if is_refused {
+        Done::Unlike
+    } else if are_met(state, expected) {
+        Done::AsAsked
+    } else {
+        Done::Unlike
+    }
+}
+
+/// The line of a state that says otherwise than a text expects, none where there is no such line.
+fn line_against<'a>(state: &'a [u8], text: &[u8]) -> Option<&'a [u8]> {
+    if end_words(text).is_none() {
+        return line_of(state, subject_of(text));
+    }
+    if text == b"ended".as_slice() && is_met(state, b"all") {
+        return state
+            .split(|byte| *byte == b'\n')
+            .find(|line| has_died(line));
+    }
+    line_of(state, b"state")
+}
+
+/// Adds what is expected, and what stands in its place.
+fn push_unmet<E: Sink>(errors: &mut E, text: &[u8], line: &[u8]) -> Result<(), Failed> {
+    errors.push(b"expected ")?;
+    errors.push(text)?;
+    errors.push(b": ")?;
+    errors.push(line)?;
+    errors.push(b"\n")
+}
+
+/// The same of each text whose line stands otherwise.
+fn push_all_unmet<E: Sink>(
+    errors: &mut E,
+    expected: &[Vec<u8>],
+    end: &RunEnd,
+) -> Result<(), Failed> {
+    let state = end.state.as_slice();
+    for text in expected {
+        let text = text.as_slice();
+        if !end.refused.is_empty() {
+            let refused = end.refused.as_slice();
+            push_unmet(errors, text, &refused[..refused.len() - 1])?;
+        } else if !is_met(state, text) {
+            push_unmet(
+                errors,
+                text,
+                line_against(state, text).unwrap_or(b"no such line"),
+            )?;
+        }
+    }
+    Ok(())
+}
+
+/// Tells what stands otherwise than it was expected to, a line for each.
+pub fn tell_unmet(rt: &HostRuntime, expected: &[Vec<u8>], end: &RunEnd) {
+    let mut errors = WritePort::new(printable::errors(rt));
+    let _ = push_all_unmet(&mut errors, expected, end);
 }

@@ -34,11 +34,9 @@ impl<'a> Files<'a> {
     pub fn of(request: &Request<'a>) -> Files<'a> {
         let (program, schedule) = match request {
             Request::Asm { source, .. } => (*source, None),
-            Request::Run { file, schedule, .. } => (*file, Some(named(schedule))),
-            Request::Show { file, schedule } | Request::Draw { file, schedule, .. } => (
-                *file,
-                schedule.map(|word| named(word)),
-            ),
+            Request::Run { file, schedule, .. }
+            | Request::Show { file, schedule }
+            | Request::Draw { file, schedule, .. } => (*file, schedule.map(|word| named(word))),
             Request::List { file, .. }
             | Request::Debug { file, .. }
             | Request::Compare { file, .. }
@@ -123,7 +121,7 @@ pub fn push_file_hint(rt: &HostRuntime, words: &[String]) {
         push_text(
             rt,
             format!(in rt.alloc();
-                "{path} is a file: `vuthgal < {path}` plays a text with its schedule,\n\
+                "{path} is a file: `vuthgal run {path}` plays a text with its schedule,\n\
              `vuthgal run {path} SCHEDULE` a program under a schedule of its own\n"
             ),
         );

@@ -9,7 +9,9 @@ mod expectation;
 mod files;
 mod help;
 mod input;
+mod kept_state;
 mod no_command;
+mod notes;
 mod origin;
 mod printable;
 mod progress;
@@ -18,30 +20,31 @@ mod until_failure;
 mod words;
 
 use byte_ports::{BlockPort, BlockSource, ReadPort, Sink, Source, WritePort};
-use commands::choices::choices;
 use command_line::request::Request;
-use ending::{flushed, handed_on};
-use expectation::as_expected;
-use help::Files;
-use input::Input;
-use live_runs::{Asked, Pauses, report_runs};
-use no_command::NoCommand;
-use commands::pictures::{make, make_of_both};
+use commands::choices::choices;
 use commands::drawing::Drawing;
 use commands::page::Page;
 use commands::picture::Picture;
-use progress::{ShownGate, ShownPace, ShownSource, trace_port};
+use commands::pictures::{make, make_of_both};
+use commands::{LinesSeen, list_rows, show_comparison};
+use ending::{flushed, handed_on};
+use expectation::{as_expected, expectations, tell_unmet};
+use help::Files;
+use input::Input;
+use kept_state::{KeptState, RunEnd};
+use live_runs::{Asked, Pauses, report_runs};
+use no_command::NoCommand;
+use progress::{BehindProgress, ShownGate, ShownPace, ShownSource, ShownWriter, trace_port};
 use race::write_race;
 use refusal_words::explain::explain;
-use commands::list_rows;
+use row_code::is_image_file;
 use schedule_reader::Run;
-use commands::{LinesSeen, show_comparison};
+use std::alloc::AllocError;
 use std::fs::File;
-use std::io::{BufWriter, IsTerminal};
+use std::io::{BufWriter, IsTerminal, Stdout};
 use std::process::ExitCode;
 use std::sync::Wait;
 use std::thread::Threads;
-use thread_machine::Standing;
 use trace_choices::naming::{Named, NamingFault, choices_in};
 use trouble::{Trouble, fault_of_race};
 use until_failure::UntilFailure;
@@ -52,6 +55,7 @@ use workbench::done::{Done, as_asked};
 use workbench::fault::{Fault, push_counted_line};
 use workbench::input::read_all;
 use workbench::list::list;
+use workbench::run_line::split_at_run;
 use workbench::slice_source::SliceSource;
 
 /// How many bytes are written at a time.
@@ -60,6 +64,9 @@ const BUFFER: usize = 65_536;
 /// What a command comes to.
 type Answer<'a> = Result<Done, Trouble<'a>>;
 
+/// Where the trace of a run goes.
+type TracePort<'a> = KeptState<BlockPort<WritePort<ShownWriter<'a, Stdout>>>>;
+
 /// Tells a person at a terminal what is waited for.
 fn push_waiting(rt: &HostRuntime, text: &[u8]) {
     if rt.stdin().is_terminal() {
@@ -67,15 +74,56 @@ fn push_waiting(rt: &HostRuntime, text: &[u8]) {
     }
 }
 
+/// What a run comes to whose trace was handed on: whether it ended as it was expected to. What didn't is told, and on a terminal
+/// also a choice of a thread that isn't there.
+fn ended<'a, T: Drop>(
+    rt: &HostRuntime,
+    answer: Result<T, Fault>,
+    output: TracePort<'_>,
+    expected: &[Vec<u8>],
+) -> Answer<'a> {
+    let KeptState { output, end } = output;
+    handed_on(answer, output)?;
+    let Some(end) = end else {
+        return Ok(Done::AsAsked);
+    };
+    notes::push_refused(rt, &end);
+    if end.is_short && !expected.is_empty() {
+        return Err(Trouble::Fault(Fault::Memory));
+    }
+    tell_unmet(rt, expected, &end);
+    Ok(as_expected(expected, end.state.as_slice(), !end.refused.is_empty()))
+}
+
+/// Standard output, for the trace of a run, whose end is noted where something is expected of it, or somebody looks.
+fn port_of<'a>(rt: &'a HostRuntime, expected: &[Vec<u8>]) -> Result<TracePort<'a>, AllocError> {
+    let end = if expected.is_empty() && !rt.stderr().is_terminal() {
+        None
+    } else {
+        Some(RunEnd::new(rt.alloc()))
+    };
+    Ok(KeptState {
+        output: trace_port(rt)?,
+        end,
+    })
+}
+
 /// Plays what standard input holds.
-fn play_both<'a>(rt: &HostRuntime, expected: Option<Standing>) -> Answer<'a> {
+fn play_both<'a>(rt: &HostRuntime, expected: &[&str]) -> Answer<'a> {
     push_waiting(
         rt,
         b"reading a program text from the terminal (--help tells more)\n",
     );
-    let mut output = trace_port(rt)?;
-    let answer = headline::both(rt.alloc(), &mut ReadPort::new(rt.stdin()), &mut output);
-    Ok(as_expected(expected, handed_on(answer, output)?))
+    let text = read_all(rt.alloc(), &mut ReadPort::new(rt.stdin()))?;
+    let text = text.as_slice();
+    let (program, _) = split_at_run(text);
+    let expected = expectations(rt.alloc(), program, expected)?;
+    let mut output = port_of(rt, expected.as_slice())?;
+    let answer = headline::both(rt.alloc(), &mut SliceSource::new(text), &mut output);
+    if answer.is_ok() && program.len() == text.len() {
+        notes::push_no_schedule(rt);
+    }
+    ended(rt, answer, output, expected.as_slice())
 }
 
 /// Writes the image of the text in one file to another.
@@ -102,18 +150,56 @@ fn write_list<'a>(rt: &HostRuntime, file: &'a str, has_rows: bool) -> Answer<'a>
     Ok(as_asked(flushed(answer, &mut output))?)
 }
 
-/// Plays the program in a file under a schedule.
+/// Plays a program under a schedule.
+fn play<'a, S: Source>(
+    rt: &HostRuntime,
+    program: &[u8],
+    schedule: &mut S,
+    expected: &[&str],
+) -> Answer<'a> {
+    let expected = expectations(rt.alloc(), program, expected)?;
+    let mut output = port_of(rt, expected.as_slice())?;
+    let answer = headline::run(
+        rt.alloc(),
+        &mut SliceSource::new(program),
+        schedule,
+        &mut output,
+    );
+    ended(rt, answer, output, expected.as_slice())
+}
+
+/// The program and the schedule of a file that holds both; an image holds no schedule.
+fn parts_of(file: &[u8]) -> (&[u8], &[u8]) {
+    if is_image_file(file) {
+        (file, &[])
+    } else {
+        split_at_run(file)
+    }
+}
+
+/// Plays the program in a file under a schedule, which stands in the same file where none is named.
 fn run<'a>(
     rt: &HostRuntime,
     file: &'a str,
-    schedule: &'a str,
-    expected: Option<Standing>,
+    schedule: Option<&'a str>,
+    expected: &[&str],
 ) -> Answer<'a> {
     let mut program = ReadPort::new(files::read(rt, file)?);
-    let mut schedule = ReadPort::new(Input::named(rt, schedule)?);
-    let mut output = trace_port(rt)?;
-    let answer = headline::run(rt.alloc(), &mut program, &mut schedule, &mut output);
-    Ok(as_expected(expected, handed_on(answer, output)?))
+    let schedule = match schedule {
+        Some(word) => Some(ReadPort::new(Input::named(rt, word)?)),
+        None => None,
+    };
+    let file = read_all(rt.alloc(), &mut program)?;
+    match schedule {
+        Some(mut schedule) => play(rt, file.as_slice(), &mut schedule, expected),
+        None => {
+            let (program, schedule) = parts_of(file.as_slice());
+            if program.len() == file.len() {
+                notes::push_no_schedule(rt);
+            }
+            play(rt, program, &mut SliceSource::new(schedule), expected)
+        }
+    }
 }
 
 /// Compares a trace with the run of the program in a file, and shows the lines that differ where that is asked for.
@@ -230,50 +316,50 @@ fn draw<'a, P: Picture>(
     Ok(as_asked(flushed(answer, &mut output))?)
 }
 
-/// Plays the program in a file on real threads, which pause a little where there is a seed.
+/// Plays a program on real threads, which pause a little where there is a seed.
 fn live<'a, R: Threads + Wait + Sync>(
     threads: &R,
     rt: &HostRuntime,
-    program: File,
+    program: &[u8],
     limit: u32,
     pauses: Pauses,
-    expected: Option<Standing>,
+    expected: &[Vec<u8>],
 ) -> Answer<'a>
     requires { limit ≤ 1000000000 }
 {
-    let mut output = trace_port(rt)?;
-    let shown = ShownGate::new(rt);
+    let mut output = port_of(rt, expected)?;
+    let shown = ShownGate::of_trace(rt);
     let gate = pauses.of_run(0, &shown);
     let answer = headline::live(
         threads,
         rt.alloc(),
         limit,
         &gate,
-        &mut ReadPort::new(program),
+        &mut SliceSource::new(program),
         &mut output,
     );
     shown.end();
-    Ok(as_expected(expected, handed_on(answer, output)?))
+    ended(rt, answer, output, expected)
 }
 
 /// Plays it so often, and writes what the runs came to.
 fn live_often<'a, R: Threads + Wait + Sync>(
     threads: &R,
     rt: &HostRuntime,
-    program: File,
-    asked: &Asked,
+    program: &[u8],
+    asked: &Asked<'_>,
 ) -> Answer<'a>
     requires limit { asked.now.limit ≤ 1000000000 }
     requires count { asked.now.runs ≤ 100000 }
 {
-    let mut output = WritePort::new(rt.stdout());
-    let shown = ShownGate::new(rt);
+    let shown = ShownGate::of_runs(rt);
+    let mut output = WritePort::new(BehindProgress::new(rt.stdout(), &shown));
     let answer = report_runs(
         threads,
         rt.alloc(),
         asked,
         &shown,
-        &mut ReadPort::new(program),
+        &mut SliceSource::new(program),
         &mut output,
     );
     shown.end();
@@ -288,14 +374,17 @@ fn play_live<'a, R: Threads + Wait + Sync>(
     runs: Option<u32>,
     limit: u32,
     pauses: Pauses,
-    expected: Option<Standing>,
+    expected: &[&str],
 ) -> Answer<'a>
     requires limit { limit ≤ 1000000000 }
     requires count { IfSome runs (λ n. n ≤ 100000) }
 {
-    let program = files::read(rt, file)?;
+    let mut program = ReadPort::new(files::read(rt, file)?);
+    let program = read_all(rt.alloc(), &mut program)?;
+    let expected = expectations(rt.alloc(), program.as_slice(), expected)?;
+    let expected = expected.as_slice();
     let Some(runs) = runs else {
-        return live(threads, rt, program, limit, pauses, expected);
+        return live(threads, rt, program.as_slice(), limit, pauses, expected);
     };
     let asked = Asked {
         runs,
@@ -303,7 +392,7 @@ fn play_live<'a, R: Threads + Wait + Sync>(
         pauses,
         expected,
     };
-    live_often(threads, rt, program, &asked)
+    live_often(threads, rt, program.as_slice(), &asked)
 }
 
 /// Lets real threads meet at a shared phaser.
@@ -351,21 +440,24 @@ fn done<'a, R: Threads + Wait + Sync>(
     requires { IsInRange request }
 {
     match request {
-        Request::Both { expected } => play_both(rt, expected),
+        Request::Both { expected } => play_both(rt, expected.as_slice()),
         Request::Asm { source, image } => write_image(rt, source, image),
         Request::List { file, has_rows } => write_list(rt, file, has_rows),
         Request::Run {
             file,
             schedule,
             expected,
-        } => run(rt, file, schedule, expected),
+        } => run(rt, file, schedule, expected.as_slice()),
         Request::Compare {
             file,
             trace,
             is_shown,
         } => compare(rt, file, trace, is_shown),
         Request::Debug { file, trace } => debug(rt, file, trace),
-        Request::Show { file, schedule } => draw(rt, &Page, file, schedule),
+        Request::Show { file, schedule } => {
+            notes::push_page_on_terminal(rt);
+            draw(rt, &Page, file, schedule)
+        }
         Request::Draw {
             file,
             schedule,
@@ -377,7 +469,15 @@ fn done<'a, R: Threads + Wait + Sync>(
             seed,
             runs,
             expected,
-        } => play_live(threads, rt, file, runs, limit, Pauses { seed }, expected),
+        } => play_live(
+            threads,
+            rt,
+            file,
+            runs,
+            limit,
+            Pauses { seed },
+            expected.as_slice(),
+        ),
         Request::Race { parties, rounds } => meet(threads, rt, parties, rounds),
         Request::Choices { trace } => write_choices(rt, trace),
         Request::Explain { words } => explain_words(rt, words.as_slice()),

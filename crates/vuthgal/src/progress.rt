@@ -1,7 +1,7 @@
 //! How far a long run has come, for a person who waits for it.
 //!
 //! It is shown where standard error is a terminal and standard output isn't, about once a second, in one line that is written
-//! over. Nothing else changes by it.
+//! over; of many live runs, which write at their end alone, wherever standard error is a terminal. Nothing else changes by it.
 ghost use Rattle.std.specs.Io.{WritesAtMost};
 ghost use Rattle.std.specs.Io.KnownBytes.{WriteAppends};
 ghost use Rattle.std.specs.Prelude.{◌≡◌, ◌≤◌, ◌+◌, IfOk, length};
@@ -17,6 +17,22 @@ use std::sync::atomic::{AtomicU64, Ordering};
 use std::time::Instant;
 use thread_runner::Gate;
 
+/// The time, where somebody sees standard error.
+fn began(rt: &HostRuntime) -> Option<Instant> {
+    if !rt.stderr().is_terminal() {
+        return None;
+    }
+    Instant::now(rt).ok()
+}
+
+/// The same where standard output goes elsewhere, so that what is shown doesn't stand among it.
+fn began_beside_output(rt: &HostRuntime) -> Option<Instant> {
+    if rt.stdout().is_terminal() {
+        return None;
+    }
+    began(rt)
+}
+
 /// A line on standard error that says how many choices were played, and how many a second.
 #[derive(Drop)]
 pub struct Meter<'a> {
@@ -29,17 +45,12 @@ pub struct Meter<'a> {
 impl<'a> Meter<'a> {
     /// None where nobody would see it, or where it would stand among the output.
     pub fn of(rt: &'a HostRuntime) -> Option<Meter<'a>> {
-        if !rt.stderr().is_terminal() || rt.stdout().is_terminal() {
-            return None;
-        }
-        match Instant::now(rt) {
-            Ok(began) => Some(Meter {
-                rt,
-                began,
-                shown: 0,
-            }),
-            Err(_) => None,
-        }
+        let began = began_beside_output(rt)?;
+        Some(Meter {
+            rt,
+            began,
+            shown: 0,
+        })
     }
 
     /// Shows so many choices, and how much of a file was read where that is known, unless it did in this second.
@@ -214,10 +225,10 @@ struct SharedMeter<'a> {
 }
 
 impl<'a> SharedMeter<'a> {
-    fn new(rt: &'a HostRuntime, unit: &'static str) -> SharedMeter<'a> {
+    fn new(rt: &'a HostRuntime, unit: &'static str, began: Option<Instant>) -> SharedMeter<'a> {
         SharedMeter {
             rt,
-            began: Meter::of(rt).map(|meter| meter.began),
+            began,
             unit,
             done: AtomicU64::new(0),
             shown: AtomicU64::new(0),
@@ -251,7 +262,7 @@ impl<'a> SharedMeter<'a> {
 
     /// Ends the line, if there is one.
     fn end(&self) {
-        if self.shown.load(Ordering::SeqCst) > 0 {
+        if self.shown.swap(0, Ordering::SeqCst) > 0 {
             let _ = eprintln!(self.rt; "");
         }
     }
@@ -264,9 +275,17 @@ pub struct ShownGate<'a> {
 }
 
 impl<'a> ShownGate<'a> {
-    pub fn new(rt: &'a HostRuntime) -> ShownGate<'a> {
+    /// Of a run whose trace goes to standard output.
+    pub fn of_trace(rt: &'a HostRuntime) -> ShownGate<'a> {
         ShownGate {
-            meter: SharedMeter::new(rt, "choices"),
+            meter: SharedMeter::new(rt, "choices", began_beside_output(rt)),
+        }
+    }
+
+    /// Of many runs, behind which alone something goes to standard output.
+    pub fn of_runs(rt: &'a HostRuntime) -> ShownGate<'a> {
+        ShownGate {
+            meter: SharedMeter::new(rt, "choices", began(rt)),
         }
     }
 
@@ -282,6 +301,32 @@ impl<'a> Gate for ShownGate<'a> {
     }
 }
 
+/// A writer of what many runs came to, before which the line that shows how far they have come is ended.
+#[derive(Drop)]
+pub struct BehindProgress<'a, W> {
+    writer: W,
+    shown: &'a ShownGate<'a>,
+}
+
+impl<'a, W> BehindProgress<'a, W> {
+    pub fn new(writer: W, shown: &'a ShownGate<'a>) -> BehindProgress<'a, W> {
+        BehindProgress { writer, shown }
+    }
+}
+
+impl<'a, W: Write> Write for BehindProgress<'a, W> {
+    fn write(&mut self, bytes: &[u8]) -> io::Result<usize>
+        ensures bound { WritesAtMost result bytes.now }
+    {
+        self.shown.end();
+        self.writer.write(bytes)
+    }
+
+    fn flush(&mut self) -> io::Result<()> {
+        self.writer.flush()
+    }
+}
+
 /// Shows how often the threads of a race have met, each counted by itself.
 #[derive(Drop)]
 pub struct ShownPace<'a> {
@@ -291,7 +336,7 @@ pub struct ShownPace<'a> {
 impl<'a> ShownPace<'a> {
     pub fn new(rt: &'a HostRuntime) -> ShownPace<'a> {
         ShownPace {
-            meter: SharedMeter::new(rt, "arrivals"),
+            meter: SharedMeter::new(rt, "arrivals", began_beside_output(rt)),
         }
     }
 

@@ -13,10 +13,10 @@ loop-place-preserved c =
     let i = c.loop-place.place in
     elim c.match-get_index.branch [
       | in-Some+in_ok-push_line w ↦
-          let at : slice_get entries i ≡ Some (w.in-Some.field-0-0.now, w.in-Some.outcome.now) = search rules in
-          let lines = texts-at (λ (outcome : EndState × Outcome). outcome_line outcome.1) entries i (w.in-Some.field-0-0.now, w.in-Some.outcome.now) at in
+          let at : slice_get entries i ≡ Some (w.in-Some.state.now, w.in-Some.outcome.now) = search rules in
+          let lines = texts-at (λ (outcome : EndState × Outcome). outcome_line outcome) entries i (w.in-Some.state.now, w.in-Some.outcome.now) at in
           ap (λ t. t ++ report (drop (i + 1) entries)) (ap (λ text. text.items) w.text-is ∙ w.in_ok-push_line.ensures)
-          ∙ append_assoc c.loop-place.text.items (outcome_line w.in-Some.outcome.now) (report (drop (i + 1) entries))
+          ∙ append_assoc c.loop-place.text.items (outcome_line (w.in-Some.state.now, w.in-Some.outcome.now)) (report (drop (i + 1) entries))
           ∙ ap (λ rest. c.loop-place.text.items ++ rest) (sym lines) ∙ c.loop-place.invariant
       | in_default w ↦
           let there = c.get_index.ensures.found.1 (omega (arith, c.loop-place-test.true, c.len-place-end.ensures.len)) in

@@ -1,0 +1,2 @@
+pub mod Expectation
+pub mod Line

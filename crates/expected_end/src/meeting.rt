@@ -1,0 +1,54 @@
+//! Whether a state is as expected.
+ghost use Rattle.std.specs.Prelude.{◌≡◌};
+ghost use Rattle.expected_end.specs.Expectation.{are_met, have_ended, is_met, is_zero_cell, says};
+
+use crate::form::{end_words, subject_of, words_of};
+use crate::state_line::{has_died, has_words, line_of};
+
+/// Whether the line of a state that begins with this word has these words in a row.
+fn says(state: &[u8], subject: &[u8], words: &[u8]) -> bool
+    ensures { result ≡ says state.now subject.now words.now }
+{
+    match line_of(state, subject) {
+        Some(line) => has_words(words, line),
+        None => false,
+    }
+}
+
+/// Whether 0 is expected of a cell that has no line: a cell that is 0 has none.
+fn is_zero_cell(state: &[u8], subject: &[u8], words: &[u8]) -> bool
+    ensures { result ≡ is_zero_cell state.now subject.now words.now }
+{
+    words == b" 0".as_slice() && subject.starts_with(b"c") && line_of(state, subject).is_none()
+}
+
+/// Whether every thread has ended, and none has died.
+fn have_ended(state: &[u8]) -> bool
+    ensures { result ≡ have_ended state.now }
+{
+    says(state, b"state", b" all") && !has_died(state)
+}
+
+/// Whether a state, by its text, is as a text expects.
+pub fn is_met(state: &[u8], text: &[u8]) -> bool
+    ensures { result ≡ is_met state.now text.now }
+{
+    if text == b"ended".as_slice() {
+        return have_ended(state);
+    }
+    match end_words(text) {
+        Some(words) => says(state, b"state", words),
+        None => {
+            let subject = subject_of(text);
+            let words = words_of(text);
+            says(state, subject, words) || is_zero_cell(state, subject, words)
+        }
+    }
+}
+
+/// Whether it is as all of these texts expect.
+pub fn are_met(state: &[u8], texts: &[Vec<u8>]) -> bool
+    ensures { result ≡ are_met state.now texts.now }
+{
+    texts.iter().all(|text| is_met(state, text.as_slice()))
+}

@@ -1,0 +1,50 @@
+//! What a person at a terminal is told beside the output, where it may be other than was meant: a line on standard error, and
+//! only where that is a terminal.
+
+use crate::kept_state::RunEnd;
+use crate::printable;
+use byte_ports::{Failed, Sink, WritePort};
+use std::io::IsTerminal;
+
+/// Tells a line.
+fn push_note(rt: &HostRuntime, parts: &[&[u8]]) -> Result<(), Failed> {
+    if rt.stderr().is_terminal() {
+        let mut errors = WritePort::new(printable::errors(rt));
+        for part in parts {
+            errors.push(*part)?;
+        }
+    }
+    Ok(())
+}
+
+/// A text without a line `.run` has no schedule.
+pub fn push_no_schedule(rt: &HostRuntime) {
+    let _ = push_note(
+        rt,
+        &[b"no line `.run`, so no schedule behind it: nothing is played\n".as_slice()],
+    );
+}
+
+/// A choice of a thread that isn't there ends a run.
+pub fn push_refused(rt: &HostRuntime, end: &RunEnd) {
+    let line = end.refused.as_slice();
+    if line.ends_with(b" - none\n") {
+        let _ = push_note(
+            rt,
+            &[
+                &line[..line.len() - 1],
+                b": there is no such thread, and what follows wasn't played\n".as_slice(),
+            ],
+        );
+    }
+}
+
+/// A page is for a browser.
+pub fn push_page_on_terminal(rt: &HostRuntime) {
+    if rt.stdout().is_terminal() {
+        let _ = push_note(
+            rt,
+            &[b"a page is for a browser: `show .. > page.html` writes it to a file\n".as_slice()],
+        );
+    }
+}
