@@ -2,10 +2,12 @@
 
 ghost use Rattle.std.specs.Prelude.{◌≡◌, ◌++◌, ◌&&◌, OnOk, [], false, true};
 ghost use Rattle.expected_end.specs.Expectation.{are_met};
+ghost use Rattle.vuthgal.specs.Standings.{all_allow};
 ghost use Rattle.workbench.specs.declared.done.Done.TheVariants as done;
 
 use crate::kept_state::RunEnd;
 use crate::printable;
+use crate::standings::all_allow;
 use assembler::{Symbols, assemble_named};
 use byte_ports::{Failed, Sink, WritePort};
 use expected_end::form::{end_words, subject_of, words_of};
@@ -15,6 +17,7 @@ use instruction_table::OperandKind;
 use itoa::Buffer;
 use row_code::is_image_file;
 use std::alloc::{AllocError, Global};
+use thread_machine::Standing;
 use workbench::done::Done;
 
 /// The letter with which the lines of such things begin, if they have lines.
@@ -81,17 +84,21 @@ pub fn expectations(
     Ok(expected)
 }
 
-/// What a command comes to whose run ended in this state: as asked where nothing is expected, or where no choice was refused and
-/// the state is as all of it expects.
-pub fn as_expected(expected: &[Vec<u8>], state: &[u8], is_refused: bool) -> Done
+/// What a command comes to whose run ended so, in this state: as asked where nothing is expected, or where no choice was refused,
+/// and both are as all of it expects.
+pub fn as_expected(expected: &[Vec<u8>], standing: Standing, state: &[u8], is_refused: bool) -> Done
     ensures open { expected.now ≡ [] → result ≡ done.AsAsked }
-    ensures met { is_refused ≡ false → are_met state.now expected.now ≡ true → result ≡ done.AsAsked }
+    ensures met { is_refused ≡ false → all_allow expected.now standing ≡ true
+        → are_met state.now expected.now ≡ true → result ≡ done.AsAsked }
+    ensures standing { all_allow expected.now standing ≡ false → result ≡ done.AsAsked → expected.now ≡ [] }
     ensures refused { is_refused ≡ true → result ≡ done.AsAsked → expected.now ≡ [] }
     ensures unlike { are_met state.now expected.now ≡ false → result ≡ done.AsAsked → expected.now ≡ [] }
 {
     if expected.is_empty() {
         Done::AsAsked
     } else if is_refused {
+        Done::Unlike
+    } else if !all_allow(expected, standing) {
         Done::Unlike
     } else if are_met(state, expected) {
         Done::AsAsked

@@ -15,6 +15,7 @@ mod notes;
 mod origin;
 mod printable;
 mod progress;
+mod standings;
 mod trouble;
 mod until_failure;
 mod words;
@@ -45,6 +46,7 @@ use std::io::{BufWriter, IsTerminal, Stdout};
 use std::process::ExitCode;
 use std::sync::Wait;
 use std::thread::Threads;
+use thread_machine::Standing;
 use trace_choices::naming::{Named, NamingFault, choices_in};
 use trouble::{Trouble, fault_of_race};
 use until_failure::UntilFailure;
@@ -76,14 +78,14 @@ fn push_waiting(rt: &HostRuntime, text: &[u8]) {
 
 /// What a run comes to whose trace was handed on: whether it ended as it was expected to. What didn't is told, and on a terminal
 /// also a choice of a thread that isn't there.
-fn ended<'a, T: Drop>(
+fn ended<'a>(
     rt: &HostRuntime,
-    answer: Result<T, Fault>,
+    answer: Result<Standing, Fault>,
     output: TracePort<'_>,
     expected: &[Vec<u8>],
 ) -> Answer<'a> {
     let KeptState { output, end } = output;
-    handed_on(answer, output)?;
+    let standing = handed_on(answer, output)?;
     let Some(end) = end else {
         return Ok(Done::AsAsked);
     };
@@ -92,7 +94,12 @@ fn ended<'a, T: Drop>(
         return Err(Trouble::Fault(Fault::Memory));
     }
     tell_unmet(rt, expected, &end);
-    Ok(as_expected(expected, end.state.as_slice(), !end.refused.is_empty()))
+    Ok(as_expected(
+        expected,
+        standing,
+        end.state.as_slice(),
+        !end.refused.is_empty(),
+    ))
 }
 
 /// Standard output, for the trace of a run, whose end is noted where something is expected of it, or somebody looks.
