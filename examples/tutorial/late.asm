@@ -1,0 +1,14 @@
+; Lunch: Ann waits for Bob, but not for ever.
+.phaser table 2
+.thread ann waiter
+.thread bob guest
+guest:  paaa r0 table
+        halt
+waiter: try alone
+        parr r0 table
+        ldi r1 10
+        pawaitt r2 table r0 r1
+        out r2
+        halt
+alone:  out r7
+        halt
