@@ -315,8 +315,11 @@ impl<'a, W> BehindProgress<'a, W> {
 }
 
 impl<'a, W: Write> Write for BehindProgress<'a, W> {
+    ghost contents = { λ w. W.contents w.writer };
+
     fn write(&mut self, bytes: &[u8]) -> io::Result<usize>
         ensures bound { WritesAtMost result bytes.now }
+        ensures bytes { WriteAppends (W.contents self.old.writer) (W.contents self.new.writer) result bytes.now }
     {
         self.shown.end();
         self.writer.write(bytes)
