@@ -15,6 +15,7 @@ use expected_end::meeting::{are_met, is_met};
 use expected_end::state_line::{has_died, line_of};
 use instruction_table::OperandKind;
 use itoa::Buffer;
+use line_reader::asm_fault::{AsmFault, AsmFaultKind};
 use row_code::is_image_file;
 use std::alloc::{AllocError, Global};
 use thread_machine::Standing;
@@ -57,13 +58,19 @@ fn numbered(alloc: Global, symbols: &Symbols<'_>, text: &[u8]) -> Result<Vec<u8>
 }
 
 /// The names of a program: an image has none, and what is refused needs none.
-fn names_of(alloc: Global, program: &[u8]) -> Symbols<'_> {
+fn names_of(alloc: Global, program: &[u8]) -> Result<Symbols<'_>, AllocError> {
     if is_image_file(program) {
-        return Symbols::none(alloc);
+        return Ok(Symbols::none(alloc));
     }
     match assemble_named(alloc, program) {
-        Ok((_, symbols)) => symbols,
-        Err(_) => Symbols::none(alloc),
+        Ok((_, symbols)) => Ok(symbols),
+        Err(
+            AsmFault {
+                kind: AsmFaultKind::Memory,
+                ..
+            },
+        ) => Err(AllocError),
+        Err(_) => Ok(Symbols::none(alloc)),
     }
 }
 
@@ -77,7 +84,7 @@ pub fn expectations(
     if texts.is_empty() {
         return Ok(expected);
     }
-    let symbols = names_of(alloc, program);
+    let symbols = names_of(alloc, program)?;
     for text in texts {
         expected.push(numbered(alloc, &symbols, text.as_bytes())?)?;
     }
