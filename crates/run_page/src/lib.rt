@@ -1,10 +1,11 @@
 //! A page that shows a run: one HTML file that any browser opens, with no network.
 //!
-//! Between four fixed parts stand three texts: the program's canonical listing, the program as it was written, and the run,
-//! which is the state at the start, and then of each choice its line and the state after it; with each state stands what each
-//! choice that may take a step would do there, played and taken back. The page's script draws what stands there; it plays nothing. `page` promises that these are the texts of just this program under just
-//! this schedule, and a law that none of their bytes can end the element that it stands in. What the script draws of them is
-//! tested (`tests/page`).
+//! Between four fixed parts stand three texts: the program's canonical listing, the program as it was written, and the run. The
+//! run is the state at the start, and then of each choice its line and the state after it. With each state stands what each
+//! choice that may take a step would do there, played and taken back.
+//!
+//! `page` promises that these are the texts of just this program under just this schedule. A law says that none of their bytes
+//! can end its element. The page's script draws what stands there and plays nothing; what it draws is tested (`tests/page`).
 //!
 //! Style, script and the rest of the page are sources in `page/`, of which `bin/page` makes the constants of `fixed`.
 #![tactic(auto)]

@@ -1,6 +1,7 @@
-//! Tests of runs by public calls, of what no command of the program shows: ports that fail at each of their calls, streams
-//! that are cut anywhere, choices up to the last one that a machine takes, and real threads in a forced order. They stand in a
-//! crate of their own, above the assembler, so that no library is proved twice for them.
+//! Tests of runs by public calls, of what no command of the program shows.
+//!
+//! Ports fail at each of their calls, streams are cut anywhere, choices go up to the last one that a machine takes, and real
+//! threads come in a forced order. The crate stands above the assembler, so that no library is proved twice for its tests.
 #![tactic(auto)]
 
 #[cfg(test)]
