@@ -1,12 +1,14 @@
 -- What the commands have written, in the headline's words.
 use Rattle.std.proofs.Common.{◌≡◌, ◌∙◌, ◌++◌, ℕ, List, [], None, Some, refl, ap, sym, subst, append-nil, inl, inr}
-use Rattle.std.specs.Prelude.{Option, Result, Ok, Err, OnOk}
+use Rattle.std.specs.Prelude.{Option, Result, Ok, Err, IfOk, OnOk}
+use Rattle.std.specs.Io.KnownBytes.{Appends}
 use Rattle.row_code.specs.declared.image.Image.{Image}
 use Rattle.assembler.specs.Meaning.{StandsFor}
 use Rattle.assembler.proofs.ReadLines.{one_image}
 use Rattle.loader.specs.Fault.{first_fault}
 use Rattle.loader.specs.declared.load_fault.LoadFault.{LoadFault}
 use Rattle.schedule_reader.specs.Schedule.{choices_of}
+use Rattle.trace_compare.specs.declared.run_end.RunEnd.{RunEnd}
 use Rattle.trace_compare.specs.RunText.{IsTraceOf}
 use Rattle.trace_compare.proofs.OneTrace.{trace-first}
 use Rattle.workbench.specs.Both.{HasTraced}
@@ -51,13 +53,21 @@ file-debugged file_before file_after commands_before commands_after output_befor
     (inr (image, (world, ((file, (gives, is)), (loads, first), held)))) =
     (file, (image, (world, (gives, (is, loads), first, held))))
 
-pub live-shown : (limit : ℕ) (file_before file_after output_before output_after : Option (List ℕ))
-    → HasLived limit file_before file_after output_before output_after
+pub live-shown : (limit : ℕ) (end : RunEnd) (file_before file_after output_before output_after : Option (List ℕ))
+    → HasLived limit end file_before file_after output_before output_after
     → HasShownLive limit file_before file_after output_before output_after
-live-shown limit file_before file_after output_before output_after
-    (file, (gives, (image, (schedule, (shown, (is, (first, (last, (ending, (loads, begins, replay, ends)))), traced, appends)))))) =
-    let all = rows image schedule shown traced in
-    (file, (image, (schedule, (shown, (gives, (is, loads), (first, (last, (begins, replay))), all.1, appends)))))
+live-shown limit end file_before file_after output_before output_after
+    (file, (gives, (image, (choices, (world, (is, (first, (last, (ending, (loads, begun, replay, over)))),
+    (accepted, begins), ends, appends)))))) =
+    (file, (image, (choices, (gives, (is, loads), (first, (last, (begun, replay))),
+    subst (Appends output_before output_after) (trace-first image 1000000000 world choices begins) appends))))
+
+pub live_ok : {E : Type 0} (result : Result RunEnd E) (limit : ℕ) (file_before file_after output_before output_after : Option (List ℕ))
+    → IfOk result (λ end. HasLived limit end file_before file_after output_before output_after)
+    → OnOk result (HasShownLive limit file_before file_after output_before output_after)
+live_ok (Ok end) limit file_before file_after output_before output_after lived =
+    live-shown limit end file_before file_after output_before output_after lived
+live_ok (Err e) limit file_before file_after output_before output_after lived = lived
 
 -- a text whose program has a fault isn't shown
 pub never-shown : (text : List ℕ) (image : Image) (why : LoadFault) (left : List ℕ) (before after : Option (List ℕ))

@@ -26,7 +26,7 @@ use Rattle.schedule_reader.specs.Schedule.{finished_schedule, choices_of}
 use Rattle.trace_compare.specs.Trace.{trace_of}
 use Rattle.debugger.specs.Session.{Session}
 use Rattle.debugger.specs.Moves.{AreSteps, backs}
-use Rattle.thread_runner.specs.Replay.{IsReplayOfText}
+use Rattle.thread_runner.specs.Replay.{IsReplay}
 use Rattle.shared_phaser.specs.declared.history.Call.{Call}
 use Rattle.shared_phaser.specs.declared.history.Answer.{Answer}
 use Rattle.shared_phaser.specs.declared.history.Entry.{Entry}
@@ -94,13 +94,14 @@ HasDebuggedFile file_before file_after commands_before commands_after output_bef
     × IsFirstOf image 1000000000 (world_of world)
     × HasConversed Finished (first_session world) commands_before commands_after output_before output_after)))
 
--- `live`: a file's program was played on real threads, for at most so many steps. There is a record of their choices as a
--- schedule, in which none was refused and each did something, and what was written is the trace of this record.
+-- `live`: a file's program was played on real threads, for at most so many steps. There is a record of their choices, of which
+-- none was refused and each did something, and what was written is the trace of this record.
 abbrev pub HasShownLive : ℕ → (file_before file_after output_before output_after : Option (List ℕ)) → Type 0
 HasShownLive limit file_before file_after output_before output_after =
-    (file : List ℕ) × ((image : Image) × ((schedule : List ℕ) × ((shown : List ℕ) × (GivesAll file_before file_after file
-    × AcceptedFile file image × ((first : World) × ((last : World) × (IsFirstOf image limit first × IsReplayOfText first schedule last)))
-    × ShowsTheRows image schedule shown × Appends output_before output_after shown))))
+    (file : List ℕ) × ((image : Image) × ((choices : List Choice) × (GivesAll file_before file_after file
+    × AcceptedFile file image × ((first : World) × ((last : World) × (IsFirstOf image limit first
+    × IsReplay (record { first = first; choices = choices }) last)))
+    × Appends output_before output_after (trace_of (start image) choices))))
 
 -- Below: the words in which a tree of phasers is stored may be behind the state that they stand for (`world_of`); a step gives
 -- what the row gives in that state.

@@ -6,12 +6,12 @@ use byte_ports::{Sink, Source};
 use std::alloc::Global;
 use std::sync::Wait;
 use std::thread::Threads;
-use thread_machine::Standing;
 use thread_runner::Gate;
+use trace_compare::RunEnd;
 use workbench::fault::Fault;
 
-/// Plays the program in a file on real threads, writes the trace of the choices that they made, and answers how the program
-/// stands in the end.
+/// Plays the program in a file on real threads, writes the trace of the choices that they made, and answers how the run
+/// has ended.
 pub fn live<R: Threads + Wait + Sync, G: Gate + Sync, F: Source, K: Sink>(
     threads: &R,
     alloc: Global,
@@ -19,7 +19,7 @@ pub fn live<R: Threads + Wait + Sync, G: Gate + Sync, F: Source, K: Sink>(
     gate: &G,
     file: &mut F,
     output: &mut K,
-) -> Result<Standing, Fault>
+) -> Result<RunEnd, Fault>
     requires { limit ≤ 1000000000 }
     ensures shown { OnOk result (HasShownLive limit (F.left file.old) (F.left file.new)
         (K.written output.old) (K.written output.new)) }

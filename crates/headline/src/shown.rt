@@ -7,33 +7,33 @@ ghost use Rattle.headline.specs.Headline.{HasDebuggedFile, HasShownFile, HasShow
 
 use byte_ports::{Sink, Source};
 use std::alloc::Global;
-use thread_machine::Standing;
+use trace_compare::RunEnd;
 use workbench::fault::Fault;
 
 /// Plays the program of a text under the schedule that stands behind its line `.run`, writes the trace, and answers how the
-/// program stands in the end.
+/// run has ended.
 pub fn both<S: Source, K: Sink>(
     alloc: Global,
     input: &mut S,
     output: &mut K,
-) -> Result<Standing, Fault>
+) -> Result<RunEnd, Fault>
     ensures shown { OnOk result (HasShownText (S.left input.old) (S.left input.new)
         (K.written output.old) (K.written output.new)) }
-    ensures ends { IfOk result (λ standing. HasEndedAs standing (S.left input.old) (S.left input.new)) }
+    ensures ends { IfOk result (λ end. HasEndedAs end (S.left input.old) (S.left input.new)) }
 {
     workbench::both::both(alloc, input, output)
 }
 
-/// Plays the program in a file under a schedule, writes the trace, and answers how the program stands in the end.
+/// Plays the program in a file under a schedule, writes the trace, and answers how the run has ended.
 pub fn run<F: Source, S: Source, K: Sink>(
     alloc: Global,
     file: &mut F,
     schedule: &mut S,
     output: &mut K,
-) -> Result<Standing, Fault>
+) -> Result<RunEnd, Fault>
     ensures shown { OnOk result (HasShownFile (F.left file.old) (F.left file.new)
         (S.left schedule.old) (S.left schedule.new) (K.written output.old) (K.written output.new)) }
-    ensures ends { IfOk result (λ standing. HasRunFileTo standing (F.left file.old) (F.left file.new)
+    ensures ends { IfOk result (λ end. HasRunFileTo end (F.left file.old) (F.left file.new)
         (S.left schedule.old) (S.left schedule.new)) }
 {
     workbench::run::run(alloc, file, schedule, output)

@@ -261,11 +261,13 @@ impl Journaled {
         &self.machine
     }
 
-    /// The same, without its record.
-    pub fn into_machine(self) -> Machine
-        ensures { world_of result ≡ world_after self }
+    /// The same, and the record: the recorded choices, those that repeat as one run.
+    pub fn into_parts(self) -> (Vec<Run>, Machine)
+        ensures choices { choices_of result.0.items ≡ self.choices }
+        ensures runs { All IsRun result.0.items }
+        ensures replay { IsReplay self (world_of result.1) }
     {
-        self.machine
+        (self.runs, self.machine)
     }
 
     /// The recorded choices as a schedule, choices that repeat as one token (`t0*3`).

@@ -1,10 +1,11 @@
-ghost use Rattle.std.specs.Prelude.{◌≡◌, ◌≢◌, ◌↔◌, ◌<◌, ◌≤◌, length, IfOk, Err, Some};
+ghost use Rattle.std.specs.Prelude.{◌≡◌, ◌≢◌, ◌↔◌, ◌<◌, ◌≤◌, All, length, IfErr, IfOk, Err, Some};
 ghost use Rattle.std.specs.String.{string_bytes};
 ghost use Rattle.std.specs.Thread.{IsSend, IsSync};
+ghost use Rattle.schedule_reader.specs.Schedule.{IsRun, choices_of};
 ghost use Rattle.thread_machine.specs.World.{world_of, first_world};
 ghost use Rattle.thread_runner.specs.declared.live.Break.{Break};
 ghost use Rattle.thread_runner.specs.Recording.{Recording, world_after};
-ghost use Rattle.thread_runner.specs.Replay.{IsReplayOfText};
+ghost use Rattle.thread_runner.specs.Replay.{IsReplay, IsReplayOfText};
 ghost use Rattle.thread_runner.specs.Endings.{ending_of};
 ghost use Rattle.thread_runner.specs.Waiting.{waits};
 
@@ -14,6 +15,7 @@ use crate::gate::Gate;
 use crate::journaled::Journaled;
 use crate::live::{Break, Live, Origin};
 use loader::Loaded;
+use schedule_reader::Run;
 use std::alloc::Global;
 use std::marker::Brand;
 use std::sync::{Condvar, Mutex, Wait};
@@ -23,8 +25,17 @@ use thread_machine::Machine;
 
 /// A live run that has ended.
 #[derive(Drop)]
+pub struct LiveRecord {
+    /// The choices that were made, in the order in which the workers had the lock, those that repeat as one run.
+    pub runs: Vec<Run>,
+    /// The machine that they led to.
+    pub machine: Machine,
+    pub ending: Ending,
+}
+
+/// The same, its choices as a schedule.
+#[derive(Drop)]
 pub struct LiveRun {
-    /// The choices that were made, in the order in which the workers had the lock.
     pub schedule: String,
     /// The machine that they led to.
     pub machine: Machine,
@@ -162,7 +173,49 @@ fn run_of<O: Origin + Send + Sync, R: Threads + Wait + Sync, G: Gate + Sync>(
     end(lock.into_inner())
 }
 
-/// The record as text.
+/// The record of a machine before its first choice.
+fn first_record(alloc: Global, program: Loaded, limit: u32) -> Result<Journaled, LiveFault>
+    requires { limit ≤ 1000000000 }
+    ensures first { IfOk result (λ journaled. journaled.first ≡ first_world program limit) }
+    ensures machine { IfErr result (λ fault. fault ≡ LiveFault.NoMachine) }
+{
+    match Journaled::new(alloc, program, limit) {
+        Ok(journaled) => Ok(journaled),
+        Err(_) => Err(LiveFault::NoMachine),
+    }
+}
+
+/// The run of a machine that is there. So want of memory leaves a record, from here on.
+fn recorded<R: Threads + Wait + Sync, G: Gate + Sync>(
+    rt: &R,
+    journaled: Journaled,
+    gate: &G,
+) -> Result<(Journaled, Ending), LiveFault>
+    ensures first { IfOk result (λ both. both.0.first ≡ journaled.first) }
+    ensures ending { IfOk result (λ both. ending_of (world_after both.0) ≡ Some both.1) }
+    ensures memory { (left : Recording) → result ≡ Err (LiveFault.Memory left) → left.first ≡ journaled.first }
+    ensures machine { result ≢ Err LiveFault.NoMachine }
+{
+    run_of::<Brand, R, G>(rt, journaled, gate)
+}
+
+/// The record of a run that has ended.
+fn record_of(journaled: Journaled, ending: Ending) -> LiveRecord
+    requires { ending_of (world_after journaled) ≡ Some ending }
+    ensures replay { IsReplay (record { first = journaled.first; choices = choices_of result.runs.items })
+        (world_of result.machine) }
+    ensures runs { All IsRun result.runs.items }
+    ensures ending { ending_of (world_of result.machine) ≡ Some result.ending }
+{
+    let (runs, machine) = journaled.into_parts();
+    LiveRecord {
+        runs,
+        machine,
+        ending,
+    }
+}
+
+/// The same, its choices as text.
 fn written(alloc: Global, journaled: Journaled, ending: Ending) -> Result<LiveRun, LiveFault>
     requires { ending_of (world_after journaled) ≡ Some ending }
     ensures replay { IfOk result (λ run. IsReplayOfText journaled.first (string_bytes run.schedule) (world_of run.machine)) }
@@ -170,39 +223,46 @@ fn written(alloc: Global, journaled: Journaled, ending: Ending) -> Result<LiveRu
     ensures memory { (left : Recording) → result ≡ Err (LiveFault.Memory left) → left.first ≡ journaled.first }
     ensures machine { (result ≢ Err LiveFault.NoMachine) × (result ≢ Err LiveFault.Spawn) }
 {
-    journaled.each_record_is_a_replay();
-    match journaled.schedule(alloc) {
-        Ok(schedule) => Ok(LiveRun {
-            schedule,
-            machine: journaled.into_machine(),
-            ending,
-        }),
-        Err(_) => Err(LiveFault::Memory(journaled)),
-    }
-}
-
-/// The run of a machine that is there. So want of memory leaves a record, from here on.
-fn recorded<R: Threads + Wait + Sync, G: Gate + Sync>(
-    rt: &R,
-    alloc: Global,
-    journaled: Journaled,
-    gate: &G,
-) -> Result<LiveRun, LiveFault>
-    ensures replay { IfOk result (λ run.
-        IsReplayOfText journaled.first (string_bytes run.schedule) (world_of run.machine)) }
-    ensures ending { IfOk result (λ run. ending_of (world_of run.machine) ≡ Some run.ending) }
-    ensures memory { (left : Recording) → result ≡ Err (LiveFault.Memory left) → left.first ≡ journaled.first }
-    ensures machine { result ≢ Err LiveFault.NoMachine }
-{
-    match run_of::<Brand, R, G>(rt, journaled, gate) {
-        Ok((journaled, ending)) => written(alloc, journaled, ending),
-        Err(fault) => Err(fault),
-    }
+    let schedule = match journaled.schedule(alloc) {
+        Ok(schedule) => schedule,
+        Err(_) => return Err(LiveFault::Memory(journaled)),
+    };
+    let (_, machine) = journaled.into_parts();
+    Ok(LiveRun {
+        schedule,
+        machine,
+        ending,
+    })
 }
 
 /// Plays a program by a real thread for each of its threads, until the run is over; at most `limit` steps. Each worker
 /// takes its own thread's steps, as it comes to have the lock. Out of memory it answers what was played, or that there was
 /// no machine.
+pub fn record_live<R: Threads + Wait + Sync, G: Gate + Sync>(
+    rt: &R,
+    alloc: Global,
+    program: Loaded,
+    limit: u32,
+    gate: &G,
+) -> Result<LiveRecord, LiveFault>
+    requires { limit ≤ 1000000000 }
+    ensures replay { IfOk result (λ run. IsReplay (record {
+          first = first_world program limit;
+          choices = choices_of run.runs.items;
+        }) (world_of run.machine)) }
+    ensures runs { IfOk result (λ run. All IsRun run.runs.items) }
+    ensures ending { IfOk result (λ run. ending_of (world_of run.machine) ≡ Some run.ending) }
+    ensures memory { (left : Recording) → result ≡ Err (LiveFault.Memory left)
+        → left.first ≡ first_world program limit }
+{
+    let journaled = first_record(alloc, program, limit)?;
+    match recorded(rt, journaled, gate) {
+        Ok((journaled, ending)) => Ok(record_of(journaled, ending)),
+        Err(fault) => Err(fault),
+    }
+}
+
+/// The same, the record of its choices as a schedule.
 pub fn run_live<R: Threads + Wait + Sync, G: Gate + Sync>(
     rt: &R,
     alloc: Global,
@@ -217,9 +277,9 @@ pub fn run_live<R: Threads + Wait + Sync, G: Gate + Sync>(
     ensures memory { (left : Recording) → result ≡ Err (LiveFault.Memory left)
         → left.first ≡ first_world program limit }
 {
-    let journaled = match Journaled::new(alloc, program, limit) {
-        Ok(journaled) => journaled,
-        Err(_) => return Err(LiveFault::NoMachine),
-    };
-    recorded(rt, alloc, journaled, gate)
+    let journaled = first_record(alloc, program, limit)?;
+    match recorded(rt, journaled, gate) {
+        Ok((journaled, ending)) => written(alloc, journaled, ending),
+        Err(fault) => Err(fault),
+    }
 }

@@ -9,7 +9,7 @@ use Rattle.thread_machine.specs.declared.choice.Choice.{Choice}
 use Rattle.schedule_reader.specs.declared.fault.ScheduleFault.{ScheduleFault}
 use Rattle.schedule_reader.specs.declared.fault.ScheduleFault.TheVariants as fault
 use Rattle.schedule_reader.specs.declared.run.Run.{Run}
-use Rattle.schedule_reader.specs.Schedule.{Reading, Token, Faulty, Unfinished, Schedule, choice_of, choices_of, digits_of, finished_schedule, is_blank, no_runs, number_within, reading_after_letter, reading_after_star, reading_by_thread, reading_by_times, reading_of, reading_of_count, reading_of_thread, reading_of_times, run_of, schedule_in, schedule_with, schedule_with_piece, whole}
+use Rattle.schedule_reader.specs.Schedule.{IsRun, Reading, Token, Faulty, Unfinished, Schedule, choice_of, choices_of, digits_of, finished_schedule, is_blank, no_runs, number_within, reading_after_letter, reading_after_star, reading_by_thread, reading_by_times, reading_of, reading_of_count, reading_of_thread, reading_of_times, run_of, schedule_in, schedule_with, schedule_with_piece, whole}
 use Rattle.trace_compare.proofs.OwnTrace.{IsNamed}
 
 -- a run of such a thread
@@ -97,6 +97,15 @@ named-choices (run ∷ runs) there =
     All-append IsNamed (replicate run.times run.choice) (choices_of runs)
     (All-replicate IsNamed run.times run.choice (All-head HasName run runs there))
     (named-choices runs (All-tail HasName run runs there))
+
+-- a token spells a thread that a line may name
+named_each : (runs : List Run) → All IsRun runs → All HasName runs
+named_each [] are = All-nil HasName
+named_each (run ∷ runs) are =
+    All-cons HasName run runs (All-head IsRun run runs are).thread (named_each runs (All-tail IsRun run runs are))
+
+pub named-runs : (runs : List Run) → All IsRun runs → All IsNamed (choices_of runs)
+named-runs runs are = named-choices runs (named_each runs are)
 
 pub named-threads : (bytes : List ℕ) (runs : List Run) (fault : Option ScheduleFault)
     → finished_schedule bytes ≡ record { runs = runs; fault = fault } → All IsNamed (choices_of runs)

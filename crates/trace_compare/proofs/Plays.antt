@@ -19,7 +19,8 @@ use Rattle.schedule_reader.specs.declared.run.Run.{Run}
 use Rattle.schedule_reader.specs.Schedule.{choices_of}
 use Rattle.trace_compare.proofs.Traces.{flat_map-drop}
 use Rattle.trace_compare.specs.Lines.{event_text}
-use Rattle.trace_compare.specs.Playing.{NumberedLine, IsBehindNumber, text_of, idle_lines}
+use Rattle.trace_compare.specs.NumberedLine.{NumberedLine, IsBehindNumber, text_of}
+use Rattle.trace_compare.specs.Playing.{idle_lines}
 use Rattle.trace_compare.specs.Trace.{AppendsPartOf, Plays, lines_of, lines_by}
 
 -- after a first choice, where the others go on from the world that it leaves
@@ -170,6 +171,10 @@ Plays-played world after choice event step pc old new accepted both step_is pc_i
       world = world_is ∙ ap (λ refusal. (by refusal).world) (sym accepted);
       answer = (λ yes. ap (λ refusal. (by refusal).refusal) accepted, λ none. refl);
     }
+
+-- nothing is a part of a text
+pub Part-none : (old : Option (List ℕ)) (text : List ℕ) → AppendsPartOf old old text
+Part-none old text = ([], (text, (refl, Appends-nil old)))
 
 -- a part of a text's beginning is a part of the text
 pub Part-more : (old new : Option (List ℕ)) (text more : List ℕ)

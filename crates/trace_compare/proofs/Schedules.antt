@@ -42,7 +42,7 @@ all_added told shorter longer before after empty enough adds =
     ]
 
 -- all is played
-pub added-plays : (told : Result (Unit {0}) ScheduleFault) (shorter longer : Schedule) (first before after : World) (was all : Bool)
+added-plays : (told : Result (Unit {0}) ScheduleFault) (shorter longer : Schedule) (first before after : World) (was all : Bool)
     (old known new : Option (List ℕ)) (start runs : List Run) → start ≡ [] → told ≢ Err Memory
     → Adds told shorter longer start runs → Plays first before (choices_of shorter.runs) was old known
     → PlaysOn before after was all (choices_of runs) known new → Plays first after (choices_of longer.runs) all old new
@@ -114,7 +114,7 @@ no_fault : (fault : Option ScheduleFault)
 no_fault None is = refl
 no_fault (Some fault) is = let no : ⊥ = cc in absurd no
 
-pub end_without_fault : (told : Result (Unit {0}) ScheduleFault) (schedule : Schedule) → told ≡ Ok tt
+end_without_fault : (told : Result (Unit {0}) ScheduleFault) (schedule : Schedule) → told ≡ Ok tt
     → (told ≡ Err Memory) ⊎ (told ≡ answer_of schedule) → schedule.fault ≡ None
 end_without_fault told schedule is (inl memory) = let no : ⊥ = cc in absurd no
 end_without_fault told schedule is (inr answer) = no_fault schedule.fault (sym is ∙ answer)
@@ -131,5 +131,21 @@ end_with_fault told schedule fault is enough (inl memory) = absurd (enough memor
 end_with_fault told schedule fault is enough (inr answer) = fault_by schedule.fault fault (sym is ∙ answer)
 
 -- an answer that is none is no want of memory
-pub told_none : (told : Result (Unit {0}) ScheduleFault) → told ≡ Ok tt → told ≢ Err Memory
+told_none : (told : Result (Unit {0}) ScheduleFault) → told ≡ Ok tt → told ≢ Err Memory
 told_none told is = λ memory. let no : ⊥ = cc in no
+
+-- the last token was played, where there is no fault
+pub end-plays : {E : Type 0} (result : Result Bool E) (told : Result (Unit {0}) ScheduleFault) (bytes : List ℕ)
+    (first before after : World) (was : Bool) (old known new : Option (List ℕ)) (start runs : List Run) (now : Progress)
+    → start ≡ [] → IsUpTo first before bytes now was old known
+    → Adds told (open_schedule bytes) (finished_schedule bytes) start runs
+    → (told ≡ Err Memory) ⊎ (told ≡ answer_of (finished_schedule bytes)) → OnOk result (told ≡ Ok tt)
+    → IfOk result (λ all. PlaysOn before after was all (choices_of runs) known new)
+    → IfOk result (λ all. ((finished_schedule bytes).fault ≡ None)
+    × Plays first after (choices_of (finished_schedule bytes).runs) all old new)
+end-plays (Ok all) told bytes first before after was old known new start runs now empty up adds answer is on = (
+  end_without_fault told (finished_schedule bytes) is answer,
+  added-plays told (open_schedule bytes) (finished_schedule bytes) first before after was all old known new start runs empty
+      (told_none told is) adds up.plays on,
+)
+end-plays (Err e) told bytes first before after was old known new start runs now empty up adds answer is on = on

@@ -1,28 +1,30 @@
 -- Bytes that are read one piece after another.
-use Rattle.std.proofs.Common.{◌≡◌, ◌⊎◌, inl, inr, refl, ◌∙◌, ◌+◌, ◌<◌, ◌≤◌, ◌++◌, ℕ, List, Option, length, take, ap, subst, append-nil, length-append, arith}
+use Rattle.std.proofs.Common.{◌≡◌, ◌⊎◌, ◌↔◌, inl, inr, refl, ◌∙◌, ◌+◌, ◌<◌, ◌≤◌, ◌++◌, ℕ, Bool, true, false, not, IsTrue, All, List, Option, Some, length, take, ap, sym, subst, append-nil, length-append, arith}
 use Rattle.std.proofs.lemmas.List.{length-take}
 use Rattle.std.proofs.KnownBytes.{Appends-trans, Consumes-trans}
 use Rattle.std.specs.Io.KnownBytes.{Appends, Consumes, IsAtEnd}
-use Rattle.std.specs.Prelude.{Result, Ok, Err, IfOk, OnOk, None}
+use Rattle.std.specs.Prelude.{Result, Ok, Err, IfOk, OnOk, None, is_some}
 use Rattle.schedule_reader.specs.declared.fault.ScheduleFault.{ScheduleFault}
 use Rattle.schedule_reader.specs.declared.run.Run.{Run}
-use Rattle.schedule_reader.specs.Schedule.{Schedule, finished_schedule, choices_of}
-use Rattle.thread_machine.specs.declared.standing.Standing.{Standing}
+use Rattle.schedule_reader.specs.Schedule.{IsRun, Schedule, finished_schedule, choices_of}
+use Rattle.thread_machine.specs.declared.fault.StepFault.{StepFault}
 use Rattle.thread_machine.specs.Standing.{standing_of}
 use Rattle.thread_machine.specs.World.{World}
 use Rattle.thread_machine.specs.declared.choice.Choice.{Choice}
 use Rattle.thread_machine.specs.Execution.{execution}
 use Rattle.trace_compare.specs.declared.compare.Verdict.TheVariants.{Same}
 use Rattle.trace_compare.specs.Compare.{HasNoLongLine, verdict_of}
-use Rattle.trace_compare.proofs.NamedThreads.{named-threads}
+use Rattle.trace_compare.proofs.NamedThreads.{named-runs, named-threads}
 use Rattle.trace_compare.proofs.OneVerdict.{found-same}
-use Rattle.trace_compare.proofs.OwnTrace.{own-trace}
-use Rattle.trace_compare.specs.Playing.{HasPlayed, HasPlayedAll, HasPlayedInPart, HasTraced}
-use Rattle.trace_compare.specs.RunText.{EndsAs, HasRun, HasRunInPart, HasWrittenTheSame}
+use Rattle.trace_compare.proofs.OwnTrace.{IsNamed, own-trace}
+use Rattle.trace_compare.specs.NumberedLine.{NumberedLine}
+use Rattle.trace_compare.specs.Playing.{HasPlayedAll, HasPlayedInPart, HasTraced}
+use Rattle.trace_compare.specs.RunText.{AreTraced, EndsAs, HasRun, HasRunInPart, HasWrittenTheSame, IsEndOf}
 use Rattle.trace_compare.specs.Start.{Begins}
 use Rattle.row_code.specs.declared.image.Image.{Image}
 use Rattle.trace_compare.specs.State.{state_text}
-use Rattle.trace_compare.specs.Trace.{lines_of, trace_of}
+use Rattle.trace_compare.specs.Trace.{Plays, lines_of, trace_of}
+use Rattle.trace_compare.specs.declared.run_end.RunEnd.{RunEnd}
 
 -- a read of nothing
 pub consumes-none : (a b c : Option (List ℕ)) (bytes buffer : List ℕ) (n : ℕ) → n ≡ 0
@@ -44,75 +46,112 @@ schedule_by_fault schedule fault is =
     let make : Option ScheduleFault → Schedule = λ f. record { runs = schedule.runs; fault = f } in ap make is
 
 -- a schedule was played to its end
-pub played-all : {E : Type 0} (result : Result (Unit {0}) E) (first last : World) (bytes : List ℕ) (schedule_before schedule_after old new : Option (List ℕ))
+pub played-all : {E : Type 0} (result : Result Bool E) (first last : World) (bytes : List ℕ) (schedule_before schedule_after old new : Option (List ℕ))
     → Consumes schedule_before schedule_after bytes → IsAtEnd schedule_after
-    → OnOk result (((finished_schedule bytes).fault ≡ None) × HasPlayed first last (choices_of (finished_schedule bytes).runs) old new)
-    → OnOk result (HasPlayedAll first last schedule_before schedule_after old new)
-played-all (Ok x) first last bytes schedule_before schedule_after old new consumed end p =
+    → IfOk result (λ all. ((finished_schedule bytes).fault ≡ None) × Plays first last (choices_of (finished_schedule bytes).runs) all old new)
+    → IfOk result (λ all. HasPlayedAll first last all schedule_before schedule_after old new)
+played-all (Ok all) first last bytes schedule_before schedule_after old new consumed end p =
     (bytes, ((finished_schedule bytes).runs, (consumed, end, schedule_by_fault (finished_schedule bytes) None p.0, p.1)))
 played-all (Err e) first last bytes schedule_before schedule_after old new consumed end p = p
 
+-- a choice was refused, where not all were accepted
+refused_where : (all : Bool) (refusal : Option StepFault) → (IsTrue all ↔ (refusal ≡ None)) → not all ≡ is_some refusal
+refused_where true refusal answer = ap is_some (sym (answer.0 refl))
+refused_where false None answer = absurd (cc (answer.1 refl))
+refused_where false (Some fault) answer = refl
+
+-- what is told of a run's end, beside the world that it leaves
+abbrev pub TellsEnd : World → Bool → RunEnd → Type 0
+TellsEnd last all end =
+    (end.standing ≡ standing_of last) × (end.state.items ≡ state_text last) × (is_some end.refused ≡ not all)
+
+pub tells_end : {E : Type 0} (result : Result RunEnd E) (last : World) (all : Bool) (refused : Option NumberedLine)
+    → is_some refused ≡ not all → IfOk result (λ end. end.standing ≡ standing_of last)
+    → IfOk result (λ end. end.state.items ≡ state_text last) → IfOk result (λ end. end.refused ≡ refused)
+    → IfOk result (TellsEnd last all)
+tells_end (Ok end) last all refused is standing text same = (standing, text, ap is_some same ∙ is)
+tells_end (Err e) last all refused is standing text same = standing
+
+end_of : (first last : World) (choices : List Choice) (all : Bool) (end : RunEnd) (old new : Option (List ℕ))
+    → Plays first last choices all old new → TellsEnd last all end → IsEndOf (execution first choices) end
+end_of first last choices all end old new plays (standing, text, refused) = (
+    standing ∙ ap standing_of plays.world,
+    text ∙ ap (λ (world : World). state_text world) plays.world,
+    refused ∙ refused_where all (execution first choices).refusal plays.answer)
+
 -- the lines, and then the state that they leave
-pub traced : (first last : World) (choices : List Choice) (state pushed : List ℕ) (old between new : Option (List ℕ))
-    → HasPlayed first last choices old between → state ≡ state_text last → pushed ≡ state → Appends between new pushed
-    → Appends old new (trace_of first choices)
-traced first last choices state pushed old between new played is same end =
-    subst (λ text. Appends old new (lines_of first choices ++ text))
-    (same ∙ is ∙ ap (λ (world : World). state_text world) played.1)
-    (Appends-trans old between new _ pushed played.0 end)
+pub are_traced : {E : Type 0} (result : Result RunEnd E) (first last : World) (choices : List Choice) (all : Bool)
+    (old between new : Option (List ℕ)) → Plays first last choices all old between
+    → IfOk result (TellsEnd last all) → OnOk result (Appends between new (state_text last))
+    → OnOk result (HasNoLongLine (state_text last)) → IfOk result (λ end. AreTraced first choices end old new)
+are_traced (Ok end) first last choices all old between new plays tells appends short =
+    let state = λ (world : World). state_text world in (
+      subst (λ (world : World). HasNoLongLine (state_text world)) plays.world short,
+      end_of first last choices all end old between plays tells,
+      subst (λ text. Appends old new (lines_of first choices ++ text)) (ap state plays.world)
+          (Appends-trans old between new _ (state_text last) plays.lines appends),
+    )
+are_traced (Err e) first last choices all old between new plays tells appends short = appends
 
 -- the same of a whole schedule
-pub traced-all : {E : Type 0} (result : Result Standing E) (first last : World)
+pub traced-all : {E : Type 0} (result : Result RunEnd E) (first last : World) (all : Bool)
     (schedule_before schedule_after old between new : Option (List ℕ))
-    → HasPlayedAll first last schedule_before schedule_after old between
-    → OnOk result (Appends between new (state_text last)) → OnOk result (HasNoLongLine (state_text last))
-    → OnOk result (HasTraced first last schedule_before schedule_after old new)
-traced-all (Ok x) first last schedule_before schedule_after old between new
-    (bytes, (runs, (consumed, end, is, played))) appends short =
-    let lines = subst (λ (world : World). HasNoLongLine (state_text world)) played.1 short in
-    let text = state_text last in
-    (bytes, (runs, (consumed, end, is, lines, played.1, traced first last (choices_of runs) text text old between new played refl refl appends)))
-traced-all (Err e) first last schedule_before schedule_after old between new played appends short = appends
+    → HasPlayedAll first last all schedule_before schedule_after old between
+    → IfOk result (TellsEnd last all) → OnOk result (Appends between new (state_text last))
+    → OnOk result (HasNoLongLine (state_text last))
+    → IfOk result (λ end. HasTraced first end schedule_before schedule_after old new)
+traced-all (Ok end) first last all schedule_before schedule_after old between new
+    (bytes, (runs, (consumed, at_end, is, plays))) tells appends short =
+    (bytes, (runs, (consumed, at_end, is,
+    are_traced (Ok {E = ⊥} end) first last (choices_of runs) all old between new plays tells appends short)))
+traced-all (Err e) first last all schedule_before schedule_after old between new played tells appends short = appends
 
 -- the verdict on a trace, beside the program that it is of
-begun-verdict : (image : Image) (world : World) (bytes : List ℕ) (runs : List Run) → Begins image world
-    → finished_schedule bytes ≡ record { runs = runs; fault = None }
-    → HasNoLongLine (state_text (execution world (choices_of runs)).world)
-    → verdict_of world (trace_of world (choices_of runs)) ≡ Same
-begun-verdict image world bytes runs (loads, first) is short =
-    own-trace (choices_of runs) world 1 (omega (arith, ap (λ (w : World). w.choices) first)) (named-threads bytes runs None is) short
+begun-verdict : (image : Image) (world : World) (choices : List Choice) → Begins image world → All IsNamed choices
+    → HasNoLongLine (state_text (execution world choices).world) → verdict_of world (trace_of world choices) ≡ Same
+begun-verdict image world choices (loads, first) named short =
+    own-trace choices world 1 (omega (arith, ap (λ (w : World). w.choices) first)) named short
+
+-- a comparison finds the trace of runs the same that a token can spell
+pub traced-same : {E : Type 0} (result : Result RunEnd E) (image : Image) (world : World) (runs : List Run)
+    (old new : Option (List ℕ)) → Begins image world → All IsRun runs
+    → IfOk result (λ end. AreTraced world (choices_of runs) end old new) → OnOk result (HasWrittenTheSame image old new)
+traced-same (Ok end) image world runs old new begins are (short, ends, appends) =
+    let trace = trace_of world (choices_of runs) in
+    (trace, (appends, found-same image world trace begins
+    (begun-verdict image world (choices_of runs) begins (named-runs runs are) short)))
+traced-same (Err e) image world runs old new begins are traced = traced
 
 -- the same of an image whose program begins in that world
-pub begun : {E : Type 0} (result : Result Standing E) (image : Image) (world last : World)
+pub begun : {E : Type 0} (result : Result RunEnd E) (image : Image) (world : World)
     (schedule_before schedule_after old new : Option (List ℕ)) → Begins image world
-    → OnOk result (HasTraced world last schedule_before schedule_after old new)
+    → IfOk result (λ end. HasTraced world end schedule_before schedule_after old new)
     → OnOk result (HasRun image schedule_before schedule_after old new)
-begun (Ok x) image world last schedule_before schedule_after old new begins p =
-    let (bytes, (runs, (consumed, end, is, short, ends, appends))) = p in
-    (bytes, (trace_of world (choices_of runs), (consumed, end, (world, (runs, (begins, is, refl))), appends)))
-begun (Err e) image world last schedule_before schedule_after old new begins p = p
+begun (Ok end) image world schedule_before schedule_after old new begins p =
+    let (bytes, (runs, (consumed, at_end, is, short, ends, appends))) = p in
+    (bytes, (trace_of world (choices_of runs), (consumed, at_end, (world, (runs, (begins, is, refl))), appends)))
+begun (Err e) image world schedule_before schedule_after old new begins p = p
 
--- and how the program stands in the end
-pub begun-ends : {E : Type 0} (result : Result Standing E) (image : Image) (world last : World)
+-- and how its run ends
+pub begun-ends : {E : Type 0} (result : Result RunEnd E) (image : Image) (world : World)
     (schedule_before schedule_after old new : Option (List ℕ)) → Begins image world
-    → OnOk result (HasTraced world last schedule_before schedule_after old new)
-    → IfOk result (λ standing. standing ≡ standing_of last)
-    → IfOk result (λ standing. EndsAs image standing schedule_before schedule_after)
-begun-ends (Ok standing) image world last schedule_before schedule_after old new begins p stands =
-    let (bytes, (runs, (consumed, end, is, short, ends, appends))) = p in
-    (bytes, (world, (runs, (consumed, end, begins, is, stands ∙ ap standing_of ends))))
-begun-ends (Err e) image world last schedule_before schedule_after old new begins p stands = p
+    → IfOk result (λ end. HasTraced world end schedule_before schedule_after old new)
+    → IfOk result (λ end. EndsAs image end schedule_before schedule_after)
+begun-ends (Ok end) image world schedule_before schedule_after old new begins p =
+    let (bytes, (runs, (consumed, at_end, is, short, ends, appends))) = p in
+    (bytes, (world, (runs, (consumed, at_end, begins, is, ends))))
+begun-ends (Err e) image world schedule_before schedule_after old new begins p = p
 
 -- and a comparison finds what was written the same
-pub begun-same : {E : Type 0} (result : Result Standing E) (image : Image) (world last : World)
+pub begun-same : {E : Type 0} (result : Result RunEnd E) (image : Image) (world : World)
     (schedule_before schedule_after old new : Option (List ℕ)) → Begins image world
-    → OnOk result (HasTraced world last schedule_before schedule_after old new)
+    → IfOk result (λ end. HasTraced world end schedule_before schedule_after old new)
     → OnOk result (HasWrittenTheSame image old new)
-begun-same (Ok x) image world last schedule_before schedule_after old new begins p =
-    let (bytes, (runs, (consumed, end, is, short, ends, appends))) = p in
+begun-same (Ok end) image world schedule_before schedule_after old new begins p =
+    let (bytes, (runs, (consumed, at_end, is, short, ends, appends))) = p in
     let trace = trace_of world (choices_of runs) in
-    (trace, (appends, found-same image world trace begins (begun-verdict image world bytes runs begins is short)))
-begun-same (Err e) image world last schedule_before schedule_after old new begins p = p
+    (trace, (appends, found-same image world trace begins (begun-verdict image world (choices_of runs) begins (named-threads bytes runs None is) short)))
+begun-same (Err e) image world schedule_before schedule_after old new begins p = p
 
 pub begun_part : (image : Image) (world : World) (schedule_before schedule_after old new : Option (List ℕ)) → Begins image world
     → (new ≡ old) ⊎ HasPlayedInPart world schedule_before schedule_after old new

@@ -5,5 +5,6 @@ pub mod Start
 pub mod Compare
 pub mod RunText
 pub mod Brief
+pub mod NumberedLine
 pub mod Playing
 pub mod Comparing

@@ -1,5 +1,5 @@
 -- How one part of a schedule after another is played. Nobody has to believe this: it is what proofs go by, from call to call.
-use Rattle.std.specs.Prelude.{◌≡◌, ◌⊎◌, ◌+◌, ℕ, zero, suc, Bool, List, [], ◌++◌, decimal, Option, None}
+use Rattle.std.specs.Prelude.{◌≡◌, ◌⊎◌, ◌+◌, ℕ, zero, suc, Bool, List, [], ◌++◌, Option, None}
 use Rattle.std.specs.Io.KnownBytes.{Appends, Consumes, IsAtEnd}
 use Rattle.thread_state.specs.declared.event.Event.{Event}
 use Rattle.schedule_reader.specs.declared.fault.ScheduleFault.{ScheduleFault}
@@ -7,26 +7,12 @@ use Rattle.schedule_reader.specs.declared.run.Run.{Run}
 use Rattle.schedule_reader.specs.Places.{Progress, HasRead}
 use Rattle.schedule_reader.specs.Schedule.{Schedule, open_schedule, finished_schedule, choices_of}
 use Rattle.thread_machine.specs.declared.choice.Choice.{Choice}
-use Rattle.thread_machine.specs.Execution.{execution}
 use Rattle.thread_machine.specs.Idle.{idle_event}
 use Rattle.thread_machine.specs.World.{World}
-use Rattle.trace_compare.specs.Compare.{HasNoLongLine}
 use Rattle.trace_compare.specs.Lines.{event_text}
-use Rattle.trace_compare.specs.RunText.{HasFault}
-use Rattle.trace_compare.specs.State.{state_text}
-use Rattle.trace_compare.specs.Trace.{AppendsPartOf, Plays, lines_of, trace_of}
-
--- a line as it is kept: the number of its choice, and what stands behind that
-pub record NumberedLine : Type 0 where
-  pub step : ℕ
-  pub behind : List ℕ
-
-abbrev pub text_of : NumberedLine → List ℕ
-text_of line = decimal line.step ++ line.behind
-
--- this stands behind the number, whatever that is, in the line of a choice that was played by a thread at this row
-abbrev pub IsBehindNumber : List ℕ → Choice → ℕ → Event → Type 0
-IsBehindNumber behind choice pc event = (step : ℕ) → decimal step ++ behind ≡ event_text step choice pc event
+use Rattle.trace_compare.specs.declared.run_end.RunEnd.{RunEnd}
+use Rattle.trace_compare.specs.RunText.{AreTraced, HasFault}
+use Rattle.trace_compare.specs.Trace.{AppendsPartOf, Plays, lines_of}
 
 -- the lines of so many idle choices of a thread at this row, behind that many choices
 abbrev pub idle_lines : ℕ → ℕ → Choice → ℕ → List ℕ
@@ -56,27 +42,20 @@ pub record IsUpTo (first now : World) (bytes : List ℕ) (reader : Progress) (ac
   pub reads : HasRead reader bytes
   pub plays : Plays first now (choices_of (open_schedule bytes).runs) accepted old new
 
--- choices were played up to the first that is refused: their lines were written, and this world is left
-abbrev pub HasPlayed : World → World → List Choice → Option (List ℕ) → Option (List ℕ) → Type 0
-HasPlayed first last choices old new =
-    Appends old new (lines_of first choices) × (last ≡ (execution first choices).world)
-
--- what `run_text` has done of an image's program, by the program's first world
-abbrev pub HasPlayedAll : World → World → Option (List ℕ) → Option (List ℕ) → Option (List ℕ) → Option (List ℕ) → Type 0
-HasPlayedAll first last schedule_before schedule_after old new =
+-- what `run_to_end` has done of an image's program, by the program's first world: the schedule was read to its end, and its
+-- choices were played
+abbrev pub HasPlayedAll : World → World → Bool → Option (List ℕ) → Option (List ℕ) → Option (List ℕ) → Option (List ℕ) → Type 0
+HasPlayedAll first last all schedule_before schedule_after old new =
     (bytes : List ℕ) × ((runs : List Run)
     × (Consumes schedule_before schedule_after bytes × IsAtEnd schedule_after
-    × (finished_schedule bytes ≡ record { runs = runs; fault = None }) × HasPlayed first last (choices_of runs) old new))
+    × (finished_schedule bytes ≡ record { runs = runs; fault = None }) × Plays first last (choices_of runs) all old new))
 
--- the same, and the state of this last world was written, of which no line is too long to be compared
-abbrev pub HasTraced : World → World → Option (List ℕ) → Option (List ℕ) → Option (List ℕ) → Option (List ℕ) → Type 0
-HasTraced first last schedule_before schedule_after old new =
+-- a schedule was read to its end, and the trace of its choices was written, which ends so
+abbrev pub HasTraced : World → RunEnd → Option (List ℕ) → Option (List ℕ) → Option (List ℕ) → Option (List ℕ) → Type 0
+HasTraced first end schedule_before schedule_after old new =
     (bytes : List ℕ) × ((runs : List Run)
     × (Consumes schedule_before schedule_after bytes × IsAtEnd schedule_after
-    × (finished_schedule bytes ≡ record { runs = runs; fault = None })
-    × HasNoLongLine (state_text (execution first (choices_of runs)).world)
-    × (last ≡ (execution first (choices_of runs)).world)
-    × Appends old new (trace_of first (choices_of runs))))
+    × (finished_schedule bytes ≡ record { runs = runs; fault = None }) × AreTraced first (choices_of runs) end old new))
 
 abbrev pub HasPlayedToFault : World → ScheduleFault → Option (List ℕ) → Option (List ℕ) → Option (List ℕ) → Option (List ℕ)
     → Type 0

@@ -1,16 +1,17 @@
 -- What becomes of an image and a schedule that comes as a stream.
-use Rattle.std.specs.Prelude.{◌≡◌, ◌⊎◌, ◌≤◌, ℕ, List, ◌++◌, length, Option, Some, None}
+use Rattle.std.specs.Prelude.{◌≡◌, ◌⊎◌, ◌≤◌, ℕ, List, ◌++◌, length, Option, Some, None, is_some}
 use Rattle.std.specs.Io.KnownBytes.{Appends, Consumes, IsAtEnd}
 use Rattle.row_code.specs.declared.image.Image.{Image}
 use Rattle.schedule_reader.specs.declared.fault.ScheduleFault.{ScheduleFault}
 use Rattle.schedule_reader.specs.declared.run.Run.{Run}
 use Rattle.schedule_reader.specs.Schedule.{Schedule, open_schedule, finished_schedule, choices_of}
-use Rattle.thread_machine.specs.declared.standing.Standing.{Standing}
 use Rattle.thread_machine.specs.World.{World}
 use Rattle.thread_machine.specs.Standing.{standing_of}
-use Rattle.thread_machine.specs.Execution.{execution}
-use Rattle.trace_compare.specs.Compare.{IsFoundTheSame}
+use Rattle.thread_machine.specs.Execution.{Execution, execution}
+use Rattle.trace_compare.specs.Compare.{HasNoLongLine, IsFoundTheSame}
+use Rattle.trace_compare.specs.declared.run_end.RunEnd.{RunEnd}
 use Rattle.trace_compare.specs.Start.{Begins}
+use Rattle.trace_compare.specs.State.{state_text}
 use Rattle.trace_compare.specs.Trace.{AppendsPartOf, lines_of, trace_of}
 
 -- the trace of an image's program, played from its beginning under this schedule
@@ -27,13 +28,25 @@ HasRun image schedule_before schedule_after output_before output_after =
     × (Consumes schedule_before schedule_after schedule × IsAtEnd schedule_after × IsTraceOf image schedule trace
     × Appends output_before output_after trace))
 
--- the schedule was read to its end, and where its run ends the program stands so
-abbrev pub EndsAs : Image → Standing → Option (List ℕ) → Option (List ℕ) → Type 0
-EndsAs image standing schedule_before schedule_after =
+-- choices were executed to this end: how the program stands then, the text of its state, and whether a choice was refused
+abbrev pub IsEndOf : Execution → RunEnd → Type 0
+IsEndOf done end =
+    (end.standing ≡ standing_of done.world) × (end.state.items ≡ state_text done.world)
+    × (is_some end.refused ≡ is_some done.refusal)
+
+-- the trace of these choices was written, of which no line of the state is too long to be compared, and this is its end
+abbrev pub AreTraced : World → List Choice → RunEnd → Option (List ℕ) → Option (List ℕ) → Type 0
+AreTraced first choices end old new =
+    HasNoLongLine (state_text (execution first choices).world) × IsEndOf (execution first choices) end
+    × Appends old new (trace_of first choices)
+
+-- the schedule was read to its end, and its run ends so
+abbrev pub EndsAs : Image → RunEnd → Option (List ℕ) → Option (List ℕ) → Type 0
+EndsAs image end schedule_before schedule_after =
     (schedule : List ℕ) × ((world : World) × ((runs : List Run)
     × (Consumes schedule_before schedule_after schedule × IsAtEnd schedule_after × Begins image world
     × (finished_schedule schedule ≡ record { runs = runs; fault = None })
-    × (standing ≡ standing_of (execution world (choices_of runs)).world))))
+    × IsEndOf (execution world (choices_of runs)) end)))
 
 -- a trace was written, and a comparison with this program finds it the same
 abbrev pub HasWrittenTheSame : Image → Option (List ℕ) → Option (List ℕ) → Type 0

@@ -1,10 +1,11 @@
 ghost use Rattle.std.specs.Prelude.{◌≡◌, ◌+◌, ◌<◌, ◌≤◌, ◌^◌, ℕ, length, true};
 ghost use Rattle.thread_machine.specs.declared.choice.Choice.{Choice};
 ghost use Rattle.thread_machine.specs.Idle.{idle_event};
-ghost use Rattle.trace_compare.specs.Playing.{IsBehindNumber, text_of};
+ghost use Rattle.trace_compare.specs.Lines.{refusal_text};
+ghost use Rattle.trace_compare.specs.NumberedLine.{IsBehindNumber, text_of};
 
 use crate::digits::Digits;
-use crate::line::put_played;
+use crate::line::{put_played, put_refused};
 use crate::line_end::LineEnd;
 use std::marker::Model;
 use thread_machine::{Choice, Event, Mark, What};
@@ -26,7 +27,7 @@ fn is_idle(event: &Event) -> bool
     }
 }
 
-/// The line of the last choice. Where one idle choice of a thread follows another, its number is counted up in place.
+/// The line of the last choice, played or refused. Where one idle choice of a thread follows another, its number is counted up in place.
 #[derive(Drop)]
 pub struct KeptLine {
     text: LineEnd,
@@ -44,7 +45,7 @@ impl Model for KeptLine {
     ghost use Rattle.std.specs.Prelude.{◌≡◌, ◌+◌, ◌≤◌, ◌++◌, drop, length, true};
     ghost use Rattle.std.specs.Fmt.{decimal};
     ghost use Rattle.thread_machine.specs.Idle.{idle_event};
-    ghost use Rattle.trace_compare.specs.Playing.{IsBehindNumber, NumberedLine};
+    ghost use Rattle.trace_compare.specs.NumberedLine.{IsBehindNumber, NumberedLine};
 
     ghost Value = { NumberedLine };
 
@@ -104,6 +105,18 @@ impl KeptLine {
             return;
         }
         put_played(&mut self.text, choice, pc, event);
+        self.number.move_to(step);
+        self.digits = self.text.put_digits(&self.number);
+        self.step = step;
+        self.is_idle = false;
+    }
+
+    /// Makes it the line of a choice that was refused, by the row of its thread if there is one.
+    pub fn put_refusal(&mut self, step: u64, choice: Choice, pc: Option<u16>)
+        requires { step + 1 < 2 ^ 64 }
+        ensures { text_of self.new ≡ refusal_text step choice pc }
+    {
+        put_refused(&mut self.text, choice, pc);
         self.number.move_to(step);
         self.digits = self.text.put_digits(&self.number);
         self.step = step;

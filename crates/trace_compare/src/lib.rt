@@ -16,10 +16,12 @@ mod kept_line;
 mod law;
 pub mod line;
 mod line_end;
+pub mod loaded;
 mod next_choice;
 mod pieces;
 mod play;
 pub mod run;
+mod run_end;
 pub mod start;
 pub mod state;
 pub mod trace_line;
@@ -28,5 +30,7 @@ pub use law::{
     every_trace_of_an_accepted_program_is_the_same, the_trace_of_any_choices_is_the_same,
     what_is_the_same_is_the_trace_of_its_choices,
 };
+pub use kept_line::KeptLine;
 pub use line_end::LineEnd;
-pub use play::line_of_choice;
+pub use play::{PlayFault, line_of_choice};
+pub use run_end::RunEnd;

@@ -165,9 +165,11 @@ pub(super) fn put_event_behind(
     line.put_digits(number);
 }
 
-/// The line of a choice that was refused, by the row of its thread, or `None` where there is no such thread.
-pub fn put_refusal(line: &mut LineEnd, step: u64, choice: Choice, pc: Option<u16>)
-    ensures { line.new ≡ refusal_text step choice pc }
+/// The line of a choice that was refused, by the row of its thread, or `None` where there is no such thread, from what stands
+/// behind its number.
+pub(super) fn put_refused(line: &mut LineEnd, choice: Choice, pc: Option<u16>)
+    ensures text { (step : ℕ) → decimal step ++ line.new ≡ refusal_text step choice pc }
+    ensures length { length line.new ≤ 100 }
 {
     line.clear();
     match pc {
@@ -178,6 +180,13 @@ pub fn put_refusal(line: &mut LineEnd, step: u64, choice: Choice, pc: Option<u16
         None => line.put_word(b"- none\n"),
     }
     put_thread(line, choice);
+}
+
+/// The line of a choice that was refused.
+pub fn put_refusal(line: &mut LineEnd, step: u64, choice: Choice, pc: Option<u16>)
+    ensures { line.new ≡ refusal_text step choice pc }
+{
+    put_refused(line, choice, pc);
     line.put_count(step);
 }
 

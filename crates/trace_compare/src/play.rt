@@ -4,7 +4,8 @@ ghost use Rattle.thread_machine.specs.Idle.{idle_times};
 ghost use Rattle.thread_machine.specs.World.{world_of};
 ghost use Rattle.schedule_reader.specs.Schedule.{choices_of};
 ghost use Rattle.trace_compare.specs.Lines.{event_text, refusal_text};
-ghost use Rattle.trace_compare.specs.Playing.{idle_lines, text_of};
+ghost use Rattle.trace_compare.specs.NumberedLine.{text_of};
+ghost use Rattle.trace_compare.specs.Playing.{idle_lines};
 ghost use Rattle.trace_compare.specs.Trace.{AppendsPartOf, Plays, lines_of};
 
 use crate::digits::Digits;
@@ -56,11 +57,12 @@ fn push_event<W: Sink>(
     push_line(line.as_slice(), output)
 }
 
-/// Writes the line of a choice that this machine refused.
+/// Writes the line of a choice that this machine refused. `line` keeps it.
 fn push_refusal<W: Sink>(
     machine: &Machine,
     choice: Choice,
     pc: Option<u16>,
+    line: &mut KeptLine,
     output: &mut W,
 ) -> Result<(), PlayFault>
     ensures line { OnOk result (Appends (W.written output.old) (W.written output.new)
@@ -68,8 +70,7 @@ fn push_refusal<W: Sink>(
     ensures write { result ≡ Err PlayFault.Write → IsTrue (W.has_failed output.new) }
     ensures memory { result ≢ Err PlayFault.Memory }
 {
-    let mut line = LineEnd::new();
-    put_refusal(&mut line, machine.choices() + 1, choice, pc);
+    line.put_refusal(machine.choices() + 1, choice, pc);
     push_line(line.as_slice(), output)
 }
 
@@ -96,7 +97,7 @@ fn play_turn<W: Sink>(
         }
         Err(StepFault::Memory) => Err(PlayFault::Memory),
         Err(_) => {
-            push_refusal(machine, choice, Some(pc), output)?;
+            push_refusal(machine, choice, Some(pc), line, output)?;
             Ok(false)
         }
     }
@@ -118,7 +119,7 @@ fn play_choice<W: Sink>(
     if usize::from(choice.thread) < machine.thread_count() {
         return play_turn(machine, choice, line, output);
     }
-    push_refusal(machine, choice, None, output)?;
+    push_refusal(machine, choice, None, line, output)?;
     Ok(false)
 }
 

@@ -1,26 +1,26 @@
-ghost use Rattle.std.specs.Prelude.{◌≡◌, ◌≢◌, ◌⊎◌, ◌+◌, ◌<◌, ◌≤◌, ◌++◌, [], List, ℕ, Option, Some, None, Err, IsTrue, IfErr, IfOk, false, OnOk, length};
+ghost use Rattle.std.specs.Prelude.{◌≡◌, ◌≢◌, ◌⊎◌, ◌+◌, ◌<◌, ◌≤◌, ◌++◌, [], List, ℕ, Option, Some, None, Err, IsTrue, IfErr, IfOk, false, OnOk, is_some, length, not};
 ghost use Rattle.std.specs.Io.KnownBytes.{Appends};
 ghost use Rattle.schedule_reader.specs.Schedule.{choices_of, finished_schedule, open_schedule};
 ghost use Rattle.thread_machine.specs.World.{World, world_of};
 ghost use Rattle.thread_machine.specs.Standing.{standing_of};
 ghost use Rattle.trace_compare.specs.Compare.{HasNoLongLine};
-ghost use Rattle.trace_compare.specs.Playing.{HasPlayed, HasPlayedAll, HasPlayedInPart, HasPlayedSoFar, HasPlayedToFault, HasTraced, IsUpTo, PlaysOn, WritesOn, WritesPartOn};
+ghost use Rattle.trace_compare.specs.Playing.{HasPlayedAll, HasPlayedInPart, HasPlayedSoFar, HasPlayedToFault, HasTraced, IsUpTo, PlaysOn, WritesOn, WritesPartOn};
 ghost use Rattle.trace_compare.specs.RunText.{EndsAs, GivesOnAndOn, HasRun, HasRunInPart, HasRunSoFar, HasRunToFault, HasWrittenTheSame, faulty_after};
 ghost use Rattle.trace_compare.specs.Start.{IsRefused, is_want_of_memory};
 ghost use Rattle.trace_compare.specs.State.{state_text};
-ghost use Rattle.trace_compare.specs.Trace.{AppendsPartOf, lines_of};
+ghost use Rattle.trace_compare.specs.Trace.{AppendsPartOf, Plays, lines_of};
 ghost use Rattle.loader.specs.declared.load_fault.LoadFault.{LoadFault};
 
 use crate::kept_line::KeptLine;
 use crate::play::{PlayFault, play_runs};
+use crate::run_end::{RunEnd, push_end, refused_in};
 use crate::start::{StartFault, first_machine};
-use crate::state::state_text;
 use byte_ports::{Sink, Source};
 use loader::LoadFault;
 use row_code::Image;
 use schedule_reader::{Reader, Run, ScheduleFault};
 use std::alloc::Global;
-use thread_machine::{Machine, Standing};
+use thread_machine::Machine;
 
 /// How many bytes of a schedule are read at a time.
 const PIECE: usize = 4096;
@@ -44,6 +44,18 @@ pub enum RunFault {
     Read,
     /// The trace can't be written.
     Write,
+}
+
+impl From<PlayFault> for RunFault {
+    fn from(fault: PlayFault) -> RunFault
+        ensures memory { (result ≡ RunFault.Memory) ↔ (fault ≡ PlayFault.Memory) }
+        ensures write { (result ≡ RunFault.Write) ↔ (fault ≡ PlayFault.Write) }
+    {
+        match fault {
+            PlayFault::Memory => RunFault::Memory,
+            PlayFault::Write => RunFault::Write,
+        }
+    }
 }
 
 /// Plays the runs in order, unless a choice was refused before; whether all choices so far were accepted.
@@ -105,11 +117,7 @@ fn play_added<W: Sink>(
 {
     let played = play_on(machine, accepted, runs.as_slice(), line, output);
     runs.clear();
-    let accepted = match played {
-        Ok(accepted) => accepted,
-        Err(PlayFault::Memory) => return Err(RunFault::Memory),
-        Err(PlayFault::Write) => return Err(RunFault::Write),
-    };
+    let accepted = played?;
     match told {
         Ok(()) => Ok(accepted),
         Err(fault) => Err(fault_of(fault)),
@@ -153,7 +161,7 @@ fn play_piece<W: Sink>(
     play_added(machine, accepted, told, runs, line, output)
 }
 
-/// Plays the last token, which ends with the schedule.
+/// Plays the last token, which ends with the schedule; whether all choices were accepted.
 fn play_end<W: Sink>(
     machine: &mut Machine,
     accepted: bool,
@@ -161,12 +169,12 @@ fn play_end<W: Sink>(
     runs: &mut Vec<Run>,
     line: &mut KeptLine,
     output: &mut W,
-) -> Result<(), RunFault>
+) -> Result<bool, RunFault>
     requires empty { runs.old.items ≡ [] }
     ensures plays { (first : World) → (bytes : List ℕ) → (old : Option (List ℕ))
         → IsUpTo first (world_of machine.old) bytes reader accepted old (W.written output.old)
-        → let schedule = finished_schedule bytes in OnOk result ((schedule.fault ≡ None)
-        × HasPlayed first (world_of machine.new) (choices_of schedule.runs) old (W.written output.new)) }
+        → let schedule = finished_schedule bytes in IfOk result (λ all. (schedule.fault ≡ None)
+        × Plays first (world_of machine.new) (choices_of schedule.runs) all old (W.written output.new)) }
     ensures schedule { (first : World) → (bytes : List ℕ) → (old : Option (List ℕ))
         → IsUpTo first (world_of machine.old) bytes reader accepted old (W.written output.old)
         → (fault : ScheduleFault) → result ≡ Err (RunFault.Schedule fault)
@@ -182,22 +190,20 @@ fn play_end<W: Sink>(
     ensures wants { result ≢ Err (RunFault.Schedule ScheduleFault.Memory) }
 {
     let told = reader.finish(runs);
-    match play_added(machine, accepted, told, runs, line, output) {
-        Ok(_) => Ok(()),
-        Err(fault) => Err(fault),
-    }
+    play_added(machine, accepted, told, runs, line, output)
 }
 
-/// Plays a schedule to its end.
+/// Plays a schedule to its end; whether all choices were accepted. `line` keeps the last line.
 fn play_stream<S: Source, W: Sink>(
     machine: &mut Machine,
     schedule: &mut S,
     runs: &mut Vec<Run>,
+    line: &mut KeptLine,
     output: &mut W,
-) -> Result<(), RunFault>
+) -> Result<bool, RunFault>
     requires { runs.old.items ≡ [] }
-    ensures done { OnOk result (HasPlayedAll (world_of machine.old) (world_of machine.new) (S.left schedule.old)
-        (S.left schedule.new) (W.written output.old) (W.written output.new)) }
+    ensures done { IfOk result (λ all. HasPlayedAll (world_of machine.old) (world_of machine.new) all
+        (S.left schedule.old) (S.left schedule.new) (W.written output.old) (W.written output.new)) }
     ensures schedule { (fault : ScheduleFault) → result ≡ Err (RunFault.Schedule fault)
         → HasPlayedToFault (world_of machine.old) fault (S.left schedule.old) (S.left schedule.new)
         (W.written output.old) (W.written output.new) }
@@ -213,7 +219,6 @@ fn play_stream<S: Source, W: Sink>(
     ensures wants { result ≢ Err (RunFault.Schedule ScheduleFault.Memory) }
 {
     let mut reader = Reader::new();
-    let mut line = KeptLine::new();
     let mut piece = [0u8; PIECE];
     let mut accepted = true;
     for _ in 0..MOST_READS {
@@ -222,7 +227,7 @@ fn play_stream<S: Source, W: Sink>(
             Err(_) => return Err(RunFault::Read),
         };
         if count == 0 {
-            return play_end(machine, accepted, reader, runs, &mut line, output);
+            return play_end(machine, accepted, reader, runs, line, output);
         }
         match play_piece(
             machine,
@@ -230,7 +235,7 @@ fn play_stream<S: Source, W: Sink>(
             &mut reader,
             &piece[..count],
             runs,
-            &mut line,
+            line,
             output,
         ) {
             Ok(more) => accepted = more,
@@ -240,39 +245,14 @@ fn play_stream<S: Source, W: Sink>(
     Err(RunFault::Read)
 }
 
-/// Writes the text of a machine's state, and answers how the program stands in it.
-fn push_state<W: Sink>(
-    alloc: Global,
-    machine: &Machine,
-    output: &mut W,
-) -> Result<Standing, RunFault>
-    ensures standing { IfOk result (λ standing. standing ≡ standing_of (world_of machine.now)) }
-    ensures state { OnOk result (Appends (W.written output.old) (W.written output.new)
-        (state_text (world_of machine.now))) }
-    ensures lines { OnOk result (HasNoLongLine (state_text (world_of machine.now))) }
-    ensures memory { result ≡ Err RunFault.Memory → W.written output.new ≡ W.written output.old }
-    ensures write { result ≡ Err RunFault.Write → IsTrue (W.has_failed output.new) }
-    ensures others { IfErr result (λ fault. (fault ≡ RunFault.Memory) ⊎ (fault ≡ RunFault.Write)) }
-{
-    let state = match state_text(alloc, machine) {
-        Ok(state) => state,
-        Err(_) => return Err(RunFault::Memory),
-    };
-    match output.push(state.as_slice()) {
-        Ok(()) => Ok(machine.standing()),
-        Err(_) => Err(RunFault::Write),
-    }
-}
-
 /// Plays a schedule to its end, and writes the trace. The list of runs has its room before anything is read.
 fn play_all<S: Source, W: Sink>(
     alloc: Global,
     machine: &mut Machine,
     schedule: &mut S,
     output: &mut W,
-) -> Result<Standing, RunFault>
-    ensures standing { IfOk result (λ standing. standing ≡ standing_of (world_of machine.new)) }
-    ensures done { OnOk result (HasTraced (world_of machine.old) (world_of machine.new) (S.left schedule.old) (S.left schedule.new)
+) -> Result<RunEnd, RunFault>
+    ensures done { IfOk result (λ end. HasTraced (world_of machine.old) end (S.left schedule.old) (S.left schedule.new)
         (W.written output.old) (W.written output.new)) }
     ensures schedule { (fault : ScheduleFault) → result ≡ Err (RunFault.Schedule fault)
         → HasPlayedToFault (world_of machine.old) fault (S.left schedule.old) (S.left schedule.new)
@@ -293,14 +273,15 @@ fn play_all<S: Source, W: Sink>(
         Ok(runs) => runs,
         Err(_) => return Err(RunFault::Memory),
     };
-    match play_stream(machine, schedule, &mut runs, output) {
-        Ok(()) => push_state(alloc, machine, output),
+    let mut line = KeptLine::new();
+    match play_stream(machine, schedule, &mut runs, &mut line, output) {
+        Ok(accepted) => Ok(push_end(alloc, machine, refused_in(accepted, line), output)?),
         Err(fault) => Err(fault),
     }
 }
 
-/// Plays an image's program under a schedule, writes the trace, and answers how the program stands in the end: a line for each choice as it is played, and then the
-/// state. The schedule is read a piece at a time; it is read to its end, and its first fault is answered, also where a choice
+/// Plays an image's program under a schedule, writes the trace, and answers how the run has ended. The trace is a line for each
+/// choice as it is played, and then the state. The schedule is read a piece at a time; it is read to its end, and its first fault is answered, also where a choice
 /// was refused before. After `Schedule` the lines of the choices before the fault are written, after `Read` those of the
 /// choices that were read, after `Memory` a part of them. How much memory is taken doesn't depend on how long the schedule or
 /// the trace is.
@@ -309,8 +290,8 @@ pub fn run_to_end<S: Source, W: Sink>(
     image: Image,
     schedule: &mut S,
     output: &mut W,
-) -> Result<Standing, RunFault>
-    ensures ends { IfOk result (λ standing. EndsAs image standing (S.left schedule.old) (S.left schedule.new)) }
+) -> Result<RunEnd, RunFault>
+    ensures ends { IfOk result (λ end. EndsAs image end (S.left schedule.old) (S.left schedule.new)) }
     ensures done { OnOk result (HasRun image (S.left schedule.old) (S.left schedule.new)
         (W.written output.old) (W.written output.new)) }
     ensures same { OnOk result (HasWrittenTheSame image (W.written output.old) (W.written output.new)) }
@@ -339,7 +320,7 @@ pub fn run_to_end<S: Source, W: Sink>(
     }
 }
 
-/// `run_to_end`, where nobody asks how the program stands.
+/// `run_to_end`, where nobody asks how the run has ended.
 pub fn run_text<S: Source, W: Sink>(
     alloc: Global,
     image: Image,

@@ -1,11 +1,11 @@
 // How a machine is made of an image.
 ghost use Rattle.std.specs.Prelude.{◌≡◌, ◌⊎◌, false, Err, IfOk};
-ghost use Rattle.thread_machine.specs.World.{world_of};
+ghost use Rattle.thread_machine.specs.World.{first_world, world_of};
 ghost use Rattle.trace_compare.specs.Start.{Begins, IsRefused, is_want_of_memory};
 
-use loader::{LoadFault, load};
+use loader::{LoadFault, Loaded, load};
 use row_code::Image;
-use std::alloc::Global;
+use std::alloc::{AllocError, Global};
 use thread_machine::Machine;
 
 /// How many effective steps a program may take.
@@ -18,6 +18,13 @@ pub enum StartFault {
     Load(LoadFault),
     /// Out of memory.
     Memory,
+}
+
+/// The machine of a loaded program, before its first choice.
+pub(super) fn begun(alloc: Global, program: Loaded) -> Result<Machine, AllocError>
+    ensures { IfOk result (λ machine. world_of machine ≡ first_world program 1000000000) }
+{
+    Machine::new(alloc, program, MOST_STEPS)
 }
 
 /// The machine of an image, before its first choice.
@@ -34,7 +41,7 @@ pub fn first_machine(alloc: Global, image: Image) -> Result<Machine, StartFault>
         Err(LoadFault::Memory) => return Err(StartFault::Memory),
         Err(fault) => return Err(StartFault::Load(fault)),
     };
-    match Machine::new(alloc, program, MOST_STEPS) {
+    match begun(alloc, program) {
         Ok(machine) => Ok(machine),
         Err(_) => Err(StartFault::Memory),
     }

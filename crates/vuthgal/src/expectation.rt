@@ -1,11 +1,10 @@
 //! Whether a run ended as it was expected to.
 
-ghost use Rattle.std.specs.Prelude.{◌≡◌, ◌++◌, ◌&&◌, OnOk, [], false, true};
+ghost use Rattle.std.specs.Prelude.{◌≡◌, ◌≢◌, None, [], false, true};
 ghost use Rattle.expected_end.specs.Expectation.{are_met};
 ghost use Rattle.vuthgal.specs.Standings.{all_allow};
 ghost use Rattle.workbench.specs.declared.done.Done.TheVariants as done;
 
-use crate::kept_state::RunEnd;
 use crate::printable;
 use crate::standings::all_allow;
 use assembler::{Symbols, assemble_named};
@@ -18,7 +17,7 @@ use itoa::Buffer;
 use line_reader::asm_fault::{AsmFault, AsmFaultKind};
 use row_code::is_image_file;
 use std::alloc::{AllocError, Global};
-use thread_machine::Standing;
+use trace_compare::RunEnd;
 use workbench::done::Done;
 
 /// The letter with which the lines of such things begin, if they have lines.
@@ -91,23 +90,23 @@ pub fn expectations(
     Ok(expected)
 }
 
-/// What a command comes to whose run ended so, in this state: as asked where nothing is expected, or where no choice was refused,
-/// and both are as all of it expects.
-pub fn as_expected(expected: &[Vec<u8>], standing: Standing, state: &[u8], is_refused: bool) -> Done
+/// What a command comes to whose run ended so: as asked where nothing is expected, or where no choice was refused, and how the
+/// program stands and its state are as all of it expects.
+pub fn as_expected(expected: &[Vec<u8>], end: &RunEnd) -> Done
     ensures open { expected.now ≡ [] → result ≡ done.AsAsked }
-    ensures met { is_refused ≡ false → all_allow expected.now standing ≡ true
-        → are_met state.now expected.now ≡ true → result ≡ done.AsAsked }
-    ensures standing { all_allow expected.now standing ≡ false → result ≡ done.AsAsked → expected.now ≡ [] }
-    ensures refused { is_refused ≡ true → result ≡ done.AsAsked → expected.now ≡ [] }
-    ensures unlike { are_met state.now expected.now ≡ false → result ≡ done.AsAsked → expected.now ≡ [] }
+    ensures met { end.now.refused ≡ None → all_allow expected.now end.now.standing ≡ true
+        → are_met end.now.state.items expected.now ≡ true → result ≡ done.AsAsked }
+    ensures standing { all_allow expected.now end.now.standing ≡ false → result ≡ done.AsAsked → expected.now ≡ [] }
+    ensures refused { end.now.refused ≢ None → result ≡ done.AsAsked → expected.now ≡ [] }
+    ensures unlike { are_met end.now.state.items expected.now ≡ false → result ≡ done.AsAsked → expected.now ≡ [] }
 {
     if expected.is_empty() {
         Done::AsAsked
-    } else if is_refused {
+    } else if end.refused.is_some() {
         Done::Unlike
-    } else if !all_allow(expected, standing) {
+    } else if !all_allow(expected, end.standing) {
         Done::Unlike
-    } else if are_met(state, expected) {
+    } else if are_met(end.state.as_slice(), expected) {
         Done::AsAsked
     } else {
         Done::Unlike
@@ -136,6 +135,11 @@ fn push_unmet<E: Sink>(errors: &mut E, text: &[u8], line: &[u8]) -> Result<(), F
     errors.push(b"\n")
 }
 
+/// A line without its end.
+pub fn without_end(line: &[u8]) -> &[u8] {
+    line.strip_suffix(b"\n").unwrap_or(line)
+}
+
 /// The same of each text whose line stands otherwise.
 fn push_all_unmet<E: Sink>(
     errors: &mut E,
@@ -145,9 +149,8 @@ fn push_all_unmet<E: Sink>(
     let state = end.state.as_slice();
     for text in expected {
         let text = text.as_slice();
-        if !end.refused.is_empty() {
-            let refused = end.refused.as_slice();
-            push_unmet(errors, text, &refused[..refused.len() - 1])?;
+        if let Some(refused) = &end.refused {
+            push_unmet(errors, text, without_end(refused.as_slice()))?;
         } else if !is_met(state, text) {
             push_unmet(
                 errors,

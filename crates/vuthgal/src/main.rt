@@ -9,7 +9,6 @@ mod expectation;
 mod files;
 mod help;
 mod input;
-mod kept_state;
 mod no_command;
 mod notes;
 mod origin;
@@ -32,7 +31,6 @@ use ending::{flushed, handed_on};
 use expectation::{as_expected, expectations, tell_unmet};
 use help::Files;
 use input::Input;
-use kept_state::{KeptState, RunEnd};
 use live_runs::{Asked, Pauses, report_runs};
 use no_command::NoCommand;
 use progress::{BehindProgress, ShownGate, ShownPace, ShownSource, ShownWriter, trace_port};
@@ -40,14 +38,13 @@ use race::write_race;
 use refusal_words::explain::explain;
 use row_code::is_image_file;
 use schedule_reader::Run;
-use std::alloc::AllocError;
 use std::fs::File;
 use std::io::{BufWriter, IsTerminal, Stdout};
 use std::process::ExitCode;
 use std::sync::Wait;
 use std::thread::Threads;
-use thread_machine::Standing;
 use trace_choices::naming::{Named, NamingFault, choices_in};
+use trace_compare::RunEnd;
 use trouble::{Trouble, fault_of_race};
 use until_failure::UntilFailure;
 use workbench::asm::asm;
@@ -67,7 +64,7 @@ const BUFFER: usize = 65_536;
 type Answer<'a> = Result<Done, Trouble<'a>>;
 
 /// Where the trace of a run goes.
-type TracePort<'a> = KeptState<BlockPort<WritePort<ShownWriter<'a, Stdout>>>>;
+type TracePort<'a> = BlockPort<WritePort<ShownWriter<'a, Stdout>>>;
 
 /// Tells a person at a terminal what is waited for.
 fn push_waiting(rt: &HostRuntime, text: &[u8]) {
@@ -80,39 +77,14 @@ fn push_waiting(rt: &HostRuntime, text: &[u8]) {
 /// also a choice of a thread that isn't there.
 fn ended<'a>(
     rt: &HostRuntime,
-    answer: Result<Standing, Fault>,
+    answer: Result<RunEnd, Fault>,
     output: TracePort<'_>,
     expected: &[Vec<u8>],
 ) -> Answer<'a> {
-    let KeptState { output, end } = output;
-    let standing = handed_on(answer, output)?;
-    let Some(end) = end else {
-        return Ok(Done::AsAsked);
-    };
+    let end = handed_on(answer, output)?;
     notes::push_refused(rt, &end);
-    if end.is_short && !expected.is_empty() {
-        return Err(Trouble::Fault(Fault::Memory));
-    }
     tell_unmet(rt, expected, &end);
-    Ok(as_expected(
-        expected,
-        standing,
-        end.state.as_slice(),
-        !end.refused.is_empty(),
-    ))
-}
-
-/// Standard output, for the trace of a run, whose end is noted where something is expected of it, or somebody looks.
-fn port_of<'a>(rt: &'a HostRuntime, expected: &[Vec<u8>]) -> Result<TracePort<'a>, AllocError> {
-    let end = if expected.is_empty() && !rt.stderr().is_terminal() {
-        None
-    } else {
-        Some(RunEnd::new(rt.alloc()))
-    };
-    Ok(KeptState {
-        output: trace_port(rt)?,
-        end,
-    })
+    Ok(as_expected(expected, &end))
 }
 
 /// Plays what standard input holds.
@@ -125,7 +97,7 @@ fn play_both<'a>(rt: &HostRuntime, expected: &[&str]) -> Answer<'a> {
     let text = text.as_slice();
     let (program, _) = split_at_run(text);
     let expected = expectations(rt.alloc(), program, expected)?;
-    let mut output = port_of(rt, expected.as_slice())?;
+    let mut output = trace_port(rt)?;
     let answer = headline::both(rt.alloc(), &mut SliceSource::new(text), &mut output);
     if answer.is_ok() && program.len() == text.len() {
         notes::push_no_schedule(rt);
@@ -165,7 +137,7 @@ fn play<'a, S: Source>(
     expected: &[&str],
 ) -> Answer<'a> {
     let expected = expectations(rt.alloc(), program, expected)?;
-    let mut output = port_of(rt, expected.as_slice())?;
+    let mut output = trace_port(rt)?;
     let answer = headline::run(
         rt.alloc(),
         &mut SliceSource::new(program),
@@ -334,7 +306,7 @@ fn live<'a, R: Threads + Wait + Sync>(
 ) -> Answer<'a>
     requires { limit ≤ 1000000000 }
 {
-    let mut output = port_of(rt, expected)?;
+    let mut output = trace_port(rt)?;
     let shown = ShownGate::of_trace(rt);
     let gate = pauses.of_run(0, &shown);
     let answer = headline::live(

@@ -1,10 +1,11 @@
 //! What a person at a terminal is told beside the output, where it may be other than was meant: a line on standard error, and
 //! only where that is a terminal.
 
-use crate::kept_state::RunEnd;
+use crate::expectation::without_end;
 use crate::printable;
 use byte_ports::{Failed, Sink, WritePort};
 use std::io::IsTerminal;
+use trace_compare::RunEnd;
 
 /// Tells a line.
 fn push_note(rt: &HostRuntime, parts: &[&[u8]]) -> Result<(), Failed> {
@@ -27,12 +28,15 @@ pub fn push_no_schedule(rt: &HostRuntime) {
 
 /// A choice of a thread that isn't there ends a run.
 pub fn push_refused(rt: &HostRuntime, end: &RunEnd) {
-    let line = end.refused.as_slice();
+    let Some(refused) = &end.refused else {
+        return;
+    };
+    let line = refused.as_slice();
     if line.ends_with(b" - none\n") {
         let _ = push_note(
             rt,
             &[
-                &line[..line.len() - 1],
+                without_end(line),
                 b": there is no such thread, and what follows wasn't played\n".as_slice(),
             ],
         );

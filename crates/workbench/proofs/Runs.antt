@@ -10,7 +10,7 @@ use Rattle.loader.specs.declared.load_fault.LoadFault.{LoadFault}
 use Rattle.schedule_reader.specs.declared.fault.ScheduleFault.{ScheduleFault}
 use Rattle.schedule_reader.specs.declared.run.Run.{Run}
 use Rattle.schedule_reader.specs.Schedule.{finished_schedule, choices_of}
-use Rattle.thread_machine.specs.declared.standing.Standing.{Standing}
+use Rattle.trace_compare.specs.declared.run_end.RunEnd.{RunEnd}
 use Rattle.trace_compare.specs.RunText.{HasFault, HasRun, HasRunToFault, faulty_after}
 use Rattle.trace_compare.specs.RunText as run
 use Rattle.trace_compare.specs.Start.{IsRefused}
@@ -51,14 +51,14 @@ text-same (Ok x) text input_before input_after output_before output_after gives 
     (text, (image, (gives, stands, same)))
 text-same (Err e) text input_before input_after output_before output_after gives same = same
 
--- how the program of a whole text stands in the end
-pub whole-ends : (result : Result Standing Fault) (image : Image) (text schedule after : List ℕ)
+-- how the run of a whole text ends
+pub whole-ends : (result : Result RunEnd Fault) (image : Image) (text schedule after : List ℕ)
     → schedule ≡ schedule_part text → StandsFor (program_part text) image
-    → IfOk result (λ standing. run.EndsAs image standing (Some schedule) (Some after))
-    → IfOk result (λ standing. (image : Image) × ((rest : Option (List ℕ))
-    × (StandsFor (program_part text) image × run.EndsAs image standing (Some (schedule_part text)) rest)))
-whole-ends (Ok standing) image text schedule after is stands ends =
-    (image, (Some after, (stands, subst (λ given. run.EndsAs image standing (Some given) (Some after)) is ends)))
+    → IfOk result (λ end. run.EndsAs image end (Some schedule) (Some after))
+    → IfOk result (λ end. (image : Image) × ((rest : Option (List ℕ))
+    × (StandsFor (program_part text) image × run.EndsAs image end (Some (schedule_part text)) rest)))
+whole-ends (Ok end) image text schedule after is stands ends =
+    (image, (Some after, (stands, subst (λ given. run.EndsAs image end (Some given) (Some after)) is ends)))
 whole-ends (Err e) image text schedule after is stands ends = ends
 
 -- why a whole text is refused, if it is

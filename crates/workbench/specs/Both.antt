@@ -6,7 +6,7 @@ use Rattle.loader.specs.declared.load_fault.LoadFault.{LoadFault}
 use Rattle.schedule_reader.specs.declared.fault.ScheduleFault.{ScheduleFault}
 use Rattle.assembler.specs.Meaning.{StandsFor}
 use Rattle.assembler.specs.Passes.{assembled}
-use Rattle.thread_machine.specs.declared.standing.Standing.{Standing}
+use Rattle.trace_compare.specs.declared.run_end.RunEnd.{RunEnd}
 use Rattle.thread_machine.specs.World.{World}
 use Rattle.schedule_reader.specs.declared.run.Run.{Run}
 use Rattle.schedule_reader.specs.Schedule.{finished_schedule, choices_of}
@@ -32,12 +32,12 @@ HasTraced input_before input_after output_before output_after =
     × (GivesAll input_before input_after text × IsTraceOf text trace
     × Appends output_before output_after trace))
 
--- the input was read to its end, and where the run of its text ends the program stands so
-abbrev pub HasEndedAs : Standing → Option (List ℕ) → Option (List ℕ) → Type 0
-HasEndedAs standing input_before input_after =
+-- the input was read to its end, and the run of its text ends so
+abbrev pub HasEndedAs : RunEnd → Option (List ℕ) → Option (List ℕ) → Type 0
+HasEndedAs end input_before input_after =
     (text : List ℕ) × (GivesAll input_before input_after text
     × ((image : Image) × ((rest : Option (List ℕ))
-    × (StandsFor (program_part text) image × run.EndsAs image standing (Some (schedule_part text)) rest))))
+    × (StandsFor (program_part text) image × run.EndsAs image end (Some (schedule_part text)) rest))))
 
 -- the input was read to its end, and a comparison with its program finds what was written the same
 abbrev pub HasTracedTheSame : Option (List ℕ) → Option (List ℕ) → Option (List ℕ) → Option (List ℕ) → Type 0

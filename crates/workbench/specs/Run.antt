@@ -2,8 +2,8 @@
 use Rattle.std.specs.Prelude.{◌≡◌, ◌⊎◌, ℕ, List, Option}
 use Rattle.row_code.specs.declared.image.Image.{Image}
 use Rattle.trace_compare.specs.RunText.{EndsAs, HasRun, HasRunInPart, HasRunSoFar, HasRunToFault, HasWrittenTheSame}
-use Rattle.thread_machine.specs.declared.standing.Standing.{Standing}
 use Rattle.trace_compare.specs.Start.{IsRefused}
+use Rattle.trace_compare.specs.declared.run_end.RunEnd.{RunEnd}
 use Rattle.workbench.specs.declared.fault.Fault.{Fault}
 use Rattle.workbench.specs.declared.fault.Fault.TheVariants as fault
 use Rattle.workbench.specs.Input.{GivesAll}
@@ -36,10 +36,10 @@ HasRunFile file_before file_after schedule_before schedule_after output_before o
     (image : Image) × (GivesProgram file_before file_after image
     × HasRun image schedule_before schedule_after output_before output_after)
 
--- file and schedule were read to their ends, and where the run ends the program stands so
-abbrev pub HasRunFileTo : Standing → (file_before file_after schedule_before schedule_after : Option (List ℕ)) → Type 0
-HasRunFileTo standing file_before file_after schedule_before schedule_after =
-    (image : Image) × (GivesProgram file_before file_after image × EndsAs image standing schedule_before schedule_after)
+-- file and schedule were read to their ends, and the run ends so
+abbrev pub HasRunFileTo : RunEnd → (file_before file_after schedule_before schedule_after : Option (List ℕ)) → Type 0
+HasRunFileTo end file_before file_after schedule_before schedule_after =
+    (image : Image) × (GivesProgram file_before file_after image × EndsAs image end schedule_before schedule_after)
 
 -- the file was read to its end, and a comparison with its program finds what was written the same
 abbrev pub HasRunTheSame : (file_before file_after output_before output_after : Option (List ℕ)) → Type 0

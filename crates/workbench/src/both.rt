@@ -18,7 +18,7 @@ use crate::slice_source::SliceSource;
 use assembler::assemble;
 use byte_ports::{Sink, Source};
 use std::alloc::Global;
-use thread_machine::Standing;
+use trace_compare::RunEnd;
 
 /// Reads a program text, a line `.run` and a schedule from `input`, plays the program under the schedule and writes the
 /// trace to `output`. Answers the exit status, 0 where all went well. For any other status one line stands on `errors`:
@@ -55,13 +55,13 @@ pub fn both_cmd<S: Source, K: Sink, E: Sink>(
     }
 }
 
-/// The same: how the program stands in the end, or the fault that decides the status.
+/// The same: how the run has ended, or the fault that decides the status.
 pub fn both<S: Source, K: Sink>(
     alloc: Global,
     input: &mut S,
     output: &mut K,
-) -> Result<Standing, Fault>
-    ensures ends { IfOk result (λ standing. HasEndedAs standing (S.left input.old) (S.left input.new)) }
+) -> Result<RunEnd, Fault>
+    ensures ends { IfOk result (λ end. HasEndedAs end (S.left input.old) (S.left input.new)) }
     ensures done { OnOk result (HasTraced (S.left input.old) (S.left input.new)
         (K.written output.old) (K.written output.new)) }
     ensures same { OnOk result (HasTracedTheSame (S.left input.old) (S.left input.new)
@@ -83,11 +83,11 @@ pub fn both<S: Source, K: Sink>(
 }
 
 /// Writes the trace of a whole input.
-fn trace_text<K: Sink>(alloc: Global, text: &[u8], output: &mut K) -> Result<Standing, Fault>
+fn trace_text<K: Sink>(alloc: Global, text: &[u8], output: &mut K) -> Result<RunEnd, Fault>
     requires { length text.now ≤ most_bytes }
-    ensures ends { IfOk result (λ standing. (image : Image) × ((rest : Option (List ℕ))
+    ensures ends { IfOk result (λ end. (image : Image) × ((rest : Option (List ℕ))
         × (StandsFor (program_part text.now) image
-        × EndsAs image standing (Some (schedule_part text.now)) rest))) }
+        × EndsAs image end (Some (schedule_part text.now)) rest))) }
     ensures done { OnOk result ((trace : List ℕ) × (IsTraceOf text.now trace
         × Appends (K.written output.old) (K.written output.new) trace)) }
     ensures same { OnOk result ((image : Image) × (StandsFor (program_part text.now) image

@@ -12,18 +12,18 @@ use crate::fault::Fault;
 use byte_ports::{Sink, Source};
 use row_code::Image;
 use std::alloc::Global;
-use thread_machine::Standing;
+use trace_compare::RunEnd;
 use trace_compare::run::{RunFault, run_to_end};
 
-/// Plays an image's program under a schedule, writes the trace, and answers how the program stands in the end, or the fault
-/// that decides the status: `run_to_end` in the words of the commands.
+/// Plays an image's program under a schedule, writes the trace, and answers how the run has ended, or the fault that
+/// decides the status: `run_to_end` in the words of the commands.
 pub fn play<S: Source, K: Sink>(
     alloc: Global,
     image: Image,
     schedule: &mut S,
     output: &mut K,
-) -> Result<Standing, Fault>
-    ensures ends { IfOk result (λ standing. EndsAs image standing (S.left schedule.old) (S.left schedule.new)) }
+) -> Result<RunEnd, Fault>
+    ensures ends { IfOk result (λ end. EndsAs image end (S.left schedule.old) (S.left schedule.new)) }
     ensures done { OnOk result (HasRun image (S.left schedule.old) (S.left schedule.new)
         (K.written output.old) (K.written output.new)) }
     ensures same { OnOk result (HasWrittenTheSame image (K.written output.old) (K.written output.new)) }
@@ -46,7 +46,7 @@ pub fn play<S: Source, K: Sink>(
         × ((kind : PictureKind) → result ≢ Err (Fault.TooLong kind)) }
 {
     match run_to_end(alloc, image, schedule, output) {
-        Ok(standing) => Ok(standing),
+        Ok(end) => Ok(end),
         Err(RunFault::Load(fault)) => Err(Fault::Load(fault)),
         Err(RunFault::Schedule(fault)) => Err(Fault::Schedule(fault)),
         Err(RunFault::Memory) => Err(Fault::Memory),

@@ -11,7 +11,7 @@ use crate::play::play;
 use crate::program_file::read_program;
 use byte_ports::{Sink, Source};
 use std::alloc::Global;
-use thread_machine::Standing;
+use trace_compare::RunEnd;
 
 /// Plays the program in `file`, an image or a text, under the schedule in `schedule` and writes the trace to `output`.
 /// Answers the exit status, 0 where all went well. For any other status one line stands on `errors`: `refused asm LINE
@@ -52,14 +52,14 @@ pub fn run_cmd<F: Source, S: Source, K: Sink, E: Sink>(
     }
 }
 
-/// The same: how the program stands in the end, or the fault that decides the status.
+/// The same: how the run has ended, or the fault that decides the status.
 pub fn run<F: Source, S: Source, K: Sink>(
     alloc: Global,
     file: &mut F,
     schedule: &mut S,
     output: &mut K,
-) -> Result<Standing, Fault>
-    ensures ends { IfOk result (λ standing. HasRunFileTo standing (F.left file.old) (F.left file.new)
+) -> Result<RunEnd, Fault>
+    ensures ends { IfOk result (λ end. HasRunFileTo end (F.left file.old) (F.left file.new)
         (S.left schedule.old) (S.left schedule.new)) }
     ensures done { OnOk result (HasRunFile (F.left file.old) (F.left file.new)
         (S.left schedule.old) (S.left schedule.new) (K.written output.old) (K.written output.new)) }

@@ -1,7 +1,7 @@
 use Rattle.std.proofs.Common.{◌≡◌, ◌∙◌, ◌+◌, List, ℕ, ap, sym, subst, arith}
 use Rattle.std.specs.Io.KnownBytes.{Appends}
 use Rattle.thread_machine.specs.Idle.{idle_event}
-use Rattle.trace_compare.specs.Playing.{NumberedLine, IsBehindNumber}
+use Rattle.trace_compare.specs.NumberedLine.{NumberedLine, IsBehindNumber}
 use Rattle.trace_compare.proofs.Plays.{idle_lines-next}
 use Rattle.trace_compare.proofs.play.push_idle_lines.Goals as goal
 

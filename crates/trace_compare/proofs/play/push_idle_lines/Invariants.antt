@@ -1,7 +1,8 @@
 use Rattle.std.proofs.Common.{◌≡◌, ◌+◌, ◌-◌, ◌≤◌}
 use Rattle.std.specs.Io.KnownBytes.{Appends}
 use Rattle.thread_machine.specs.Idle.{idle_event}
-use Rattle.trace_compare.specs.Playing.{IsBehindNumber, idle_lines}
+use Rattle.trace_compare.specs.NumberedLine.{IsBehindNumber}
+use Rattle.trace_compare.specs.Playing.{idle_lines}
 use Rattle.trace_compare.proofs.play.push_idle_lines.Given as goal
 
 abbrev pub invariant-loop-done : goal.invariant-loop-done

@@ -4,13 +4,14 @@ use Rattle.std.specs.Io.KnownBytes.{Appends}
 use Rattle.thread_machine.specs.World.{world_of}
 use Rattle.trace_compare.specs.Trace.{AppendsPartOf, lines_of}
 use Rattle.trace_compare.proofs.Plays.{Part-whole}
-use Rattle.trace_compare.proofs.Streams.{traced-all}
+use Rattle.trace_compare.proofs.Streams.{tells_end, traced-all}
 use Rattle.trace_compare.proofs.run.play_all.Goals as goal
 
 pub returns-in-Ok-play_stream-clause-done : goal.returns-in-Ok-play_stream-clause-done
 returns-in-Ok-play_stream-clause-done g c =
-    traced-all c.push_state.result _ _ _ _ _ _ _ c.in-Ok-play_stream.ensures.done c.push_state.ensures.state
-    c.push_state.ensures.lines
+    traced-all c.push_end.result _ _ _ _ _ _ _ _ c.in-Ok-play_stream.ensures.done
+    (tells_end c.push_end.result _ c.in-Ok-play_stream.accepted _ c.refused_in.ensures c.push_end.ensures.standing
+    c.push_end.ensures.text c.push_end.ensures.refused) c.push_end.ensures.state c.push_end.ensures.lines
 
 pub returns-in-Ok-play_stream-clause-memory : goal.returns-in-Ok-play_stream-clause-memory
 returns-in-Ok-play_stream-clause-memory g c = λ want.
@@ -19,7 +20,7 @@ returns-in-Ok-play_stream-clause-memory g c = λ want.
     let between = g.W.Sink.written c.play_stream.new.output in
     let (bytes, (runs, (consumed, end, is, played))) = c.in-Ok-play_stream.ensures.done in
     let lines = lines_of first (choices_of (finished_schedule bytes).runs) in
-    let whole = subst (λ rs. Appends old between (lines_of first (choices_of rs))) (ap (λ (schedule : Schedule). schedule.runs) (sym is)) played.0 in
+    let whole = subst (λ rs. Appends old between (lines_of first (choices_of rs))) (ap (λ (schedule : Schedule). schedule.runs) (sym is)) played.lines in
     inr (
       bytes,
       (
@@ -27,7 +28,7 @@ returns-in-Ok-play_stream-clause-memory g c = λ want.
         (
           consumed,
           inr (end, refl),
-          subst (λ out. AppendsPartOf old out lines) (sym (c.push_state.ensures.memory want)) (Part-whole old between lines whole),
+          subst (λ out. AppendsPartOf old out lines) (sym (c.push_end.ensures.memory want)) (Part-whole old between lines whole),
         ),
       ),
     )

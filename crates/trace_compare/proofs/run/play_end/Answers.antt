@@ -1,17 +1,14 @@
 use Rattle.std.proofs.Common.{◌≡◌, Err, ap}
 use Rattle.schedule_reader.specs.Schedule.{open_schedule, finished_schedule}
 use Rattle.trace_compare.specs.declared.run.RunFault.TheVariants.{Memory, Schedule}
-use Rattle.trace_compare.proofs.Schedules.{added-plays, added-writes, added-writes_part, end_without_fault, end_with_fault, told_none, told_other}
+use Rattle.trace_compare.proofs.Schedules.{added-writes, added-writes_part, end-plays, end_with_fault, told_other}
 use Rattle.trace_compare.proofs.run.play_end.Goals as goal
 
-pub returns-in-Ok-clause-plays : goal.returns-in-Ok-clause-plays
-returns-in-Ok-clause-plays g c = λ first bytes old up.
-    let told = c.finish-told.result in
+pub returns-clause-plays : goal.returns-clause-plays
+returns-clause-plays g c = λ first bytes old up.
     let f = c.finish-told.ensures in
-    let schedule = finished_schedule bytes in
-    let plays = added-plays told (open_schedule bytes) schedule first _ _ _ _ old _ _ _ _ c.requires.empty
-    (told_none told c.in-Ok.ensures.told) (f.runs bytes up.reads) up.plays c.in-Ok.ensures.plays in
-    (end_without_fault told schedule c.in-Ok.ensures.told (f.answer bytes up.reads), (plays.lines, plays.world))
+    end-plays c.play_added.result c.finish-told.result bytes first _ _ _ old _ _ _ _ _ c.requires.empty up
+    (f.runs bytes up.reads) (f.answer bytes up.reads) c.play_added.ensures.told c.play_added.ensures.plays
 
 pub returns-in-Err-clause-schedule : goal.returns-in-Err-clause-schedule
 returns-in-Err-clause-schedule g c = λ first bytes old up fault is.

@@ -2,7 +2,7 @@ use Rattle.std.proofs.Common.{List, ℕ, ◌≡◌, ◌∙◌, ◌+◌, ◌<◌,
 use Rattle.thread_machine.specs.World.{world_of}
 use Rattle.trace_compare.specs.declared.compare.Comparison.{Comparison}
 use Rattle.trace_compare.specs.Comparing.{bytes_left}
-use Rattle.trace_compare.specs.Playing.{text_of}
+use Rattle.trace_compare.specs.NumberedLine.{text_of}
 use Rattle.trace_compare.proofs.OwnLines.{met}
 use Rattle.trace_compare.proofs.Plays.{Plays-idle_again}
 use Rattle.trace_compare.proofs.LineCounts.{own-ends}

@@ -2,7 +2,7 @@ use Rattle.std.proofs.Common.{◌≡◌, ◌∙◌, ◌+◌, ◌++◌, ◌<◌, 
 use Rattle.std.specs.Fmt.{decimal}
 use Rattle.std.proofs.lemmas.Fmt.{length-decimal-le}
 use Rattle.std.proofs.lemmas.List.{drop_at}
-use Rattle.trace_compare.specs.Playing.{NumberedLine}
+use Rattle.trace_compare.specs.NumberedLine.{NumberedLine}
 use Rattle.trace_compare.proofs.kept_line.KeptLine.count_up.Goals as goal
 
 pub count_up-self-inside-requires : goal.count_up-self-inside-requires

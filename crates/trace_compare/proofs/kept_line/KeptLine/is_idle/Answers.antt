@@ -1,6 +1,6 @@
 use Rattle.std.proofs.Common.{List, ℕ, ap, subst}
 use Rattle.thread_machine.specs.Idle.{idle_event}
-use Rattle.trace_compare.specs.Playing.{NumberedLine, IsBehindNumber}
+use Rattle.trace_compare.specs.NumberedLine.{NumberedLine, IsBehindNumber}
 use Rattle.trace_compare.proofs.kept_line.KeptLine.is_idle.Goals as goal
 
 pub returns : goal.returns

@@ -1,0 +1,21 @@
+use Rattle.std.proofs.Common.{sym, subst}
+use Rattle.schedule_reader.specs.Schedule.{choices_of}
+use Rattle.thread_machine.specs.World.{world_of}
+use Rattle.trace_compare.specs.Trace.{AppendsPartOf, lines_of}
+use Rattle.trace_compare.proofs.Plays.{Part-whole}
+use Rattle.trace_compare.proofs.Streams.{are_traced, tells_end}
+use Rattle.trace_compare.proofs.loaded.play_known.Goals as goal
+
+pub returns-clause-traced : goal.returns-clause-traced
+returns-clause-traced g c =
+    are_traced c.push_end.result (world_of c.args.machine.now) _ (choices_of c.args.runs.now) c.in-Ok.accepted _ _ _
+    c.in-Ok.ensures.plays
+    (tells_end c.push_end.result _ c.in-Ok.accepted _ c.refused_in.ensures c.push_end.ensures.standing
+    c.push_end.ensures.text c.push_end.ensures.refused) c.push_end.ensures.state c.push_end.ensures.lines
+
+pub returns-clause-memory : goal.returns-clause-memory
+returns-clause-memory g c = λ want.
+    let lines = lines_of (world_of c.args.machine.now) (choices_of c.args.runs.now) in
+    let old = g.W.Sink.written c.args.output.now in
+    subst (λ out. AppendsPartOf old out lines) (sym (c.push_end.ensures.memory want))
+    (Part-whole old _ lines c.in-Ok.ensures.plays.lines)
