@@ -13,6 +13,7 @@ mod kept_state;
 mod no_command;
 mod notes;
 mod origin;
+mod planning;
 mod printable;
 mod progress;
 mod standings;
@@ -35,6 +36,7 @@ use input::Input;
 use kept_state::{KeptState, RunEnd};
 use live_runs::{Asked, Pauses, report_runs};
 use no_command::NoCommand;
+use planning::write_plan;
 use progress::{BehindProgress, ShownGate, ShownPace, ShownSource, ShownWriter, trace_port};
 use race::write_race;
 use refusal_words::explain::explain;
@@ -487,6 +489,7 @@ fn done<'a, R: Threads + Wait + Sync>(
         ),
         Request::Race { parties, rounds } => meet(threads, rt, parties, rounds),
         Request::Choices { trace } => write_choices(rt, trace),
+        Request::Plan { file, plan } => write_plan(rt, file, plan),
         Request::Explain { words } => explain_words(rt, words.as_slice()),
     }
 }
