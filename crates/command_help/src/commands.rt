@@ -377,6 +377,15 @@ fn with_threads<'a>(alloc: Global, program: Command<'a>) -> Result<Command<'a>, 
     with(program, race(alloc))
 }
 
+/// The same with the commands that write a schedule.
+fn with_schedules<'a>(alloc: Global, program: Command<'a>) -> Result<Command<'a>, AllocError>
+    ensures { IfOk result (λ grown. app_of grown
+        ≡ with_subcommand (with_subcommand (app_of program.entry) choices_shape) plan_shape) }
+{
+    let program = with(program, choices(alloc))?;
+    with(program, plan(alloc))
+}
+
 /// The program without its commands, of this version.
 fn bare<'a>(alloc: Global, version: &'a str) -> Result<Command<'a>, AllocError>
     ensures { IfOk result (λ program. app_of program ≡ bare) }
@@ -398,7 +407,6 @@ pub fn program<'a>(alloc: Global, version: &'a str) -> Result<Command<'a>, Alloc
     let program = with_plays(alloc, program)?;
     let program = with_pictures(alloc, program)?;
     let program = with_threads(alloc, program)?;
-    let program = with(program, choices(alloc))?;
-    let program = with(program, plan(alloc))?;
+    let program = with_schedules(alloc, program)?;
     with(program, explain(alloc))
 }
