@@ -124,6 +124,7 @@ entries = [
     *loads(),
     *declared(),
     *named("FORMATS", "Schedule text", "schedule"),
+    *named("FORMATS", "Plan text", "plan"),
     *named("BEHAVIOUR", "Exceptions", "exception"),
     *statuses(),
     *((words, told(words)) for words in LINES),

@@ -80,6 +80,9 @@ race_shape = command (codes "race") (number_rule (codes "parties") ∷ number_ru
 abbrev pub choices_shape : Shape
 choices_shape = command (codes "choices") (place_rule (codes "TRACE") ∷ [])
 
+abbrev pub plan_shape : Shape
+plan_shape = command (codes "plan") (file_rule ∷ new_rule (codes "PLAN") ∷ [])
+
 abbrev pub explain_shape : Shape
 explain_shape = command (codes "explain") (words_rule ∷ [])
 
@@ -92,7 +95,7 @@ abbrev pub vuthgal : App
 vuthgal = record {
   top = record bare.top { is_leaf = false };
   subs = asm_shape ∷ list_shape ∷ run_shape ∷ compare_shape ∷ debug_shape ∷ show_shape ∷ draw_shape ∷ live_shape ∷ race_shape
-      ∷ choices_shape ∷ explain_shape ∷ [];
+      ∷ choices_shape ∷ plan_shape ∷ explain_shape ∷ [];
 }
 
 -- a command by itself, with none below it

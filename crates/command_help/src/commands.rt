@@ -3,11 +3,11 @@ ghost use Rattle.std.specs.Prelude.{◌≡◌, IfOk, IsOkAnd, false, [], codes};
 ghost use Rattle.clap.specs.Words.{AddsSubcommand, app_of, new_rule, rule_of, with_rule, with_subcommand};
 ghost use Rattle.command_help.specs.Commands.{alone, bare, command, expect_rule, flag_rule, limit_rule, number_rule, option_rule, place_rule, vuthgal, width_rule, words_rule};
 ghost use Rattle.command_help.specs.Commands.{asm_shape, compare_shape, debug_shape, list_shape};
-ghost use Rattle.command_help.specs.Commands.{choices_shape, draw_shape, explain_shape, live_shape, race_shape, run_shape, show_shape};
+ghost use Rattle.command_help.specs.Commands.{choices_shape, draw_shape, explain_shape, live_shape, plan_shape, race_shape, run_shape, show_shape};
 
 use crate::names::{
     ASM, AT, CHOICES, COMPARE, DEBUG, DRAW, EXPECT, EXPLAIN, FILE, LIMIT, LIST, LIVE, OUT, PARTIES,
-    RACE, ROUNDS, ROWS, RUN, RUNS, SCHEDULE, SHOW, SRC, STIR, TRACE, WIDTH, WORD,
+    PLAN, RACE, ROUNDS, ROWS, RUN, RUNS, SCHEDULE, SHOW, SRC, STEPS, STIR, TRACE, WIDTH, WORD,
 };
 use crate::texts;
 use clap::{Arg, ArgAction, Command};
@@ -298,6 +298,16 @@ fn choices<'a>(alloc: Global) -> Result<Command<'a>, AllocError>
     ))
 }
 
+fn plan<'a>(alloc: Global) -> Result<Command<'a>, AllocError>
+    ensures { IfOk result (λ command. app_of command ≡ alone plan_shape) }
+{
+    with_two(
+        told(alloc, PLAN, "Writes the schedule of a plan", texts::PLAN),
+        place(alloc, FILE, "The file of the image or of the program text"),
+        Arg::new(alloc, STEPS).help("The file of the plan, or `-` for standard input"),
+    )
+}
+
 /// The words of a line, as many as there are.
 fn words<'a>(alloc: Global) -> Arg<'a>
     ensures rule { rule_of result ≡ words_rule }
@@ -367,6 +377,15 @@ fn with_threads<'a>(alloc: Global, program: Command<'a>) -> Result<Command<'a>, 
     with(program, race(alloc))
 }
 
+/// The same with the commands that write a schedule.
+fn with_schedules<'a>(alloc: Global, program: Command<'a>) -> Result<Command<'a>, AllocError>
+    ensures { IfOk result (λ grown. app_of grown
+        ≡ with_subcommand (with_subcommand (app_of program.entry) choices_shape) plan_shape) }
+{
+    let program = with(program, choices(alloc))?;
+    with(program, plan(alloc))
+}
+
 /// The program without its commands, of this version.
 fn bare<'a>(alloc: Global, version: &'a str) -> Result<Command<'a>, AllocError>
     ensures { IfOk result (λ program. app_of program ≡ bare) }
@@ -388,6 +407,6 @@ pub fn program<'a>(alloc: Global, version: &'a str) -> Result<Command<'a>, Alloc
     let program = with_plays(alloc, program)?;
     let program = with_pictures(alloc, program)?;
     let program = with_threads(alloc, program)?;
-    let program = with(program, choices(alloc))?;
+    let program = with_schedules(alloc, program)?;
     with(program, explain(alloc))
 }

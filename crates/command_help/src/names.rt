@@ -20,6 +20,8 @@ pub const RACE: &str = "race";
 
 pub const CHOICES: &str = "choices";
 
+pub const PLAN: &str = "plan";
+
 pub const EXPLAIN: &str = "explain";
 
 pub const SRC: &str = "SRC";
@@ -31,6 +33,8 @@ pub const FILE: &str = "FILE";
 pub const SCHEDULE: &str = "SCHEDULE";
 
 pub const TRACE: &str = "TRACE";
+
+pub const STEPS: &str = "PLAN";
 
 pub const WORD: &str = "WORD";
 

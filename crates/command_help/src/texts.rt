@@ -5,7 +5,7 @@ pub const STATUSES: &str = "\
 Exit statuses:
   0  done
   1  a trace isn't that of the run (`compare`), or is none (`choices`, `debug`);
-     or the run ended otherwise than `--expect` says
+     the run ended otherwise than `--expect` says; or a plan was stopped
   2  the command line is wrong
   3  the input is refused: standard error has a line `refused ..`
   4  memory is wanting, or a thread: standard error has `memory` or `spawn`
@@ -191,6 +191,34 @@ Nothing is played, so it wants no program.
 It may tell `memory`, `read` or `write`.
 
 Example: vuthgal choices examples/two-threads-meet.trace";
+
+pub const PLAN: &str = "\
+Writes the schedule that the plan in PLAN stands for on the program in FILE. It
+is what `run`, `show` and `draw` take as SCHEDULE.
+
+FILE is an image where its first four bytes are `PBW1` or `PBW2`, else a program
+text, up to its line `.run`. PLAN is a file, or `-` for standard input, as it is
+without it. A plan says whose turn it is:
+
+  ann, t0    one turn of a thread, by its name or its number
+  ann*3      three turns
+  ann.       turns until it waits, ends or dies
+  xann, x0   its timed wait runs out
+  ..         turn about, in order of number, until nobody can go on
+  ..*50      so 50 turns at most
+  ?7         any thread that can go on, by the seed 7, to the end
+  ?7*50      so 50 turns at most
+  ( .. )*20  what stands in parentheses 20 times
+  ;          a comment, up to the end of the line
+
+What `.`, `..` and `?` choose is never idle. A plan makes 1000000 choices at
+most. Where it wants one more, the schedule so far is written, standard error
+has `stopped at 1000000 choices`, and the status is 1.
+
+It may tell `refused asm`, `refused image`, `refused load`, `refused plan`,
+`memory`, `read` or `write`.
+
+Example: vuthgal plan examples/meeting.asm - <<< 't0. t1. t0.'";
 
 pub const EXPLAIN: &str = "\
 Says in words what a line on standard error means: what is wrong, what helps, a

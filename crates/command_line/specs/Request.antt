@@ -74,7 +74,7 @@ IsNoNumber least most (Some text) = SpellsNone text least most
 abbrev pub command_names : List Text
 command_names =
     codes "asm" ∷ codes "list" ∷ codes "run" ∷ codes "compare" ∷ codes "debug" ∷ codes "show" ∷ codes "draw"
-    ∷ codes "live" ∷ codes "race" ∷ codes "choices" ∷ codes "explain" ∷ []
+    ∷ codes "live" ∷ codes "race" ∷ codes "choices" ∷ codes "plan" ∷ codes "explain" ∷ []
 
 -- the request is what the subcommand of this name asks for by these matches
 abbrev pub IsAskedBy : Text → List Row → Request → Type 0
@@ -105,6 +105,8 @@ IsAskedBy name rows (request.Race parties rounds) = (name ≡ codes "race")
     × Spells (word_at (codes "rounds") rows) 1 1000000 rounds
 IsAskedBy name rows (request.Choices trace) = (name ≡ codes "choices")
     × (trace.now ≡ word_at (codes "TRACE") rows)
+IsAskedBy name rows (request.Plan file plan) = (name ≡ codes "plan")
+    × (file.now ≡ word_at (codes "FILE") rows) × (option_map (λ s. s.now) plan ≡ word_given (codes "PLAN") rows)
 IsAskedBy name rows (request.Explain words) = (name ≡ codes "explain")
     × (map (λ w. w.now) words.items ≡ words_at (codes "WORD") rows)
 

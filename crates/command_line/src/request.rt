@@ -20,7 +20,7 @@ use clap::{ArgMatches, Command, Error};
 use command_help::commands::program;
 use command_help::names::{
     ASM, AT, CHOICES, COMPARE, DEBUG, DRAW, EXPECT, EXPLAIN, FILE, LIMIT, LIST, LIVE, OUT, PARTIES,
-    RACE, ROUNDS, ROWS, RUN, RUNS, SCHEDULE, SHOW, SRC, STIR, TRACE, WIDTH, WORD,
+    PLAN, RACE, ROUNDS, ROWS, RUN, RUNS, SCHEDULE, SHOW, SRC, STEPS, STIR, TRACE, WIDTH, WORD,
 };
 use expected_end::form::is_expectation;
 use std::alloc::{AllocError, Global};
@@ -86,6 +86,11 @@ pub enum Request<'a> {
     /// `choices TRACE`; the trace `-` is standard input.
     Choices {
         trace: &'a str,
+    },
+    /// `plan FILE [PLAN]`; the plan `-` is standard input, and so it is without it.
+    Plan {
+        file: &'a str,
+        plan: Option<&'a str>,
     },
     /// `explain WORD..`: the words of a line on standard error, none where they are to be listed.
     Explain {
@@ -316,6 +321,16 @@ fn choices<'a>(matches: &ArgMatches<'a>) -> Request<'a>
     }
 }
 
+/// The schedule of a plan that these matches ask for.
+fn plan<'a>(matches: &ArgMatches<'a>) -> Request<'a>
+    ensures { IsInRange result × IsAskedBy (codes "plan") (rows_of (found_of matches.now)) result }
+{
+    Request::Plan {
+        file: word(matches, FILE),
+        plan: given(matches, STEPS),
+    }
+}
+
 /// The words that these matches ask about, where there is memory for them.
 fn explain<'a>(alloc: Global, matches: &ArgMatches<'a>) -> Result<Request<'a>, Refusal>
     ensures range { IfOk result (λ request. IsInRange request) }
@@ -348,6 +363,7 @@ fn request_by<'a>(
         LIVE => live(alloc, matches),
         RACE => race(matches),
         CHOICES => Ok(choices(matches)),
+        PLAN => Ok(plan(matches)),
         EXPLAIN => explain(alloc, matches),
         _ => Ok(Request::Both {
             expected: Vec::new(alloc),

@@ -6,3 +6,5 @@ pub mod PictureFault
 pub mod Pictures
 pub mod Rows
 pub mod Showing
+pub mod Unplanned
+pub mod Planning

@@ -1,5 +1,5 @@
-//! The commands beyond those of `workbench`: pictures of a run, the rows of a program, the schedule of a trace, and the lines at
-//! which a trace differs.
+//! The commands beyond those of `workbench`: pictures of a run, the rows of a program, the schedule of a trace or of a plan, and the
+//! lines at which a trace differs.
 //!
 //! `show` and `draw` are `make` and `make_of_both` (`pictures`). Both read what they are given to its end, make the whole picture
 //! in memory, and write it at once, so only a failed write leaves a part of one. `make` takes the program and the schedule from
@@ -12,6 +12,9 @@
 //! `choices` reads a trace, as `run`, `live` and the program without words write it, and writes the schedule of its
 //! choices: what `run` takes as its schedule, and `show` and `draw`. So a recorded run can be played again, looked at, or
 //! held against a changed program. What is no trace is told as `compare` tells it.
+//!
+//! `plan` writes the schedule that a plan stands for on a program, by the names that the program's text gives its threads. Why
+//! there is none is told as the other commands tell it, but that a fault of the plan has a line of its own (`unplanned`).
 //!
 //! `show_comparison` gives the verdict of `compare_cmd`, and writes behind it the trace's line of that number and the run's; or,
 //! where the trace is none, what a line of a trace has to be. The trace is read once: the run's line comes with the verdict, and
@@ -28,9 +31,11 @@ pub mod page;
 pub mod picture;
 pub mod picture_fault;
 pub mod pictures;
+pub mod plan;
 pub mod rows;
 mod shown;
 mod text_rows;
+pub mod unplanned;
 
 pub use difference::show_comparison;
 pub use law::{

@@ -70,7 +70,7 @@ pub fn make_of_both<P: Picture, F: Source, K: Sink>(
 }
 
 /// The program and the schedule of a file that holds both.
-fn parts_of(file: &[u8]) -> (&[u8], &[u8])
+pub fn parts_of(file: &[u8]) -> (&[u8], &[u8])
     ensures program { result.0.now ≡ program_of file.now }
     ensures schedule { result.1.now ≡ schedule_behind file.now }
     ensures within { length result.1.now ≤ length file.now }

@@ -15,6 +15,8 @@ mod names;
 
 // What is written.
 pub mod place;
+pub mod plan;
 mod shown;
 
 pub use place::push_place;
+pub use plan::push_plan_place;

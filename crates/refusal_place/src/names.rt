@@ -34,7 +34,7 @@ pub fn first_line(text: &[u8], name: &[u8]) -> Option<u64> {
 }
 
 /// How far two words are from each other, in letters that are changed, left out or put in.
-fn distance(alloc: Global, a: &[u8], b: &[u8]) -> Result<usize, AllocError> {
+pub fn distance(alloc: Global, a: &[u8], b: &[u8]) -> Result<usize, AllocError> {
     match (str::from_utf8(a), str::from_utf8(b)) {
         (Ok(a), Ok(b)) => levenshtein(alloc, a, b),
         _ => Ok(usize::MAX),

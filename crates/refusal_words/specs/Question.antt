@@ -11,6 +11,7 @@ use Rattle.loader.specs.declared.load_fault.LoadFault.TheVariants as load
 use Rattle.loader.specs.declared.load_fault.Place.{Place}
 use Rattle.loader.specs.declared.load_fault.Place.TheVariants as place
 use Rattle.loader.specs.FaultNumber.{load_number}
+use Rattle.plan_reader.specs.FaultNumber.{plan_number}
 use Rattle.schedule_reader.specs.declared.fault.ScheduleFault.{ScheduleFault}
 use Rattle.schedule_reader.specs.FaultNumber.{schedule_number}
 use Rattle.tier_tree.specs.declared.fault.DeclareFault.{DeclareFault}
@@ -80,6 +81,10 @@ AsksReason _ _ _ = ⊥
 abbrev pub AsksSchedule : List (List ℕ) → Subject → Option ℕ → Type 0
 AsksSchedule words (subject.Schedule fault) place = KindThenPlace (schedule_number fault) words place
 AsksSchedule _ _ _ = ⊥
+
+abbrev pub AsksPlan : List (List ℕ) → Subject → Option ℕ → Type 0
+AsksPlan words (subject.Plan kind) place = PlaceThenKind (plan_number kind) words place
+AsksPlan _ _ _ = ⊥
 
 abbrev pub AsksStatus : List (List ℕ) → Subject → Option ℕ → Type 0
 AsksStatus words (subject.Status status) None = IsKindThenPlace words (status_number status) None
@@ -165,9 +170,10 @@ Asks (word ∷ words) s place =
     (MatchBool (bytes_eq word (codes "load")) (AsksLoad words s place)
     (MatchBool (bytes_eq word (codes "declare")) (AsksReason words s place)
     (MatchBool (bytes_eq word (codes "schedule")) (AsksSchedule words s place)
+    (MatchBool (bytes_eq word (codes "plan")) (AsksPlan words s place)
     (MatchBool (bytes_eq word (codes "status")) (AsksStatus words s place)
     (MatchBool (bytes_eq word (codes "exception")) (AsksException words s place)
-    (AsksLine (word ∷ words) s place)))))))
+    (AsksLine (word ∷ words) s place))))))))
 
 -- the word `refused` may be left out
 abbrev pub without_refused : List (List ℕ) → List (List ℕ)

@@ -9,6 +9,7 @@ use Rattle.refusal_words.specs.declared.subject.Subject.TheVariants as subject
 -- what its place counts
 abbrev pub place_word : Subject → List ℕ
 place_word (subject.Asm kind) = codes "line "
+place_word (subject.Plan kind) = codes "line "
 place_word (subject.Line line) = codes "line "
 place_word (subject.Image (image.Field at)) = codes "byte "
 place_word (subject.Schedule fault) = codes "byte "

@@ -15,6 +15,7 @@ explain image 1 .. image 8          an image that is refused
 explain load 1 .. load 9            a program that isn't loaded
 explain declare 1 .. declare 6      why a phaser can't be declared (load 7)
 explain schedule 1 .. schedule 3    a schedule that is refused
+explain plan 1 .. plan 8            a plan that is refused
 explain show, draw                  more choices than a picture shows
 explain memory, spawn, read, write  what else ends the program
 explain not a trace, differs        what `compare` finds

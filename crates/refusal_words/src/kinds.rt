@@ -4,12 +4,14 @@ ghost use Rattle.line_reader.specs.declared.asm_fault.AsmFaultKind.{AsmFaultKind
 ghost use Rattle.row_code.specs.declared.image_fault.ImageFault.{ImageFault};
 ghost use Rattle.loader.specs.declared.load_fault.LoadFault.{LoadFault};
 ghost use Rattle.tier_tree.specs.declared.fault.DeclareFault.{DeclareFault};
+ghost use Rattle.plan_reader.specs.declared.fault.PlanFaultKind.{PlanFaultKind};
 ghost use Rattle.schedule_reader.specs.declared.fault.ScheduleFault.{ScheduleFault};
 ghost use Rattle.refusal_words.specs.declared.subject.Status.{Status};
 ghost use Rattle.refusal_words.specs.declared.subject.Exception.{Exception};
 ghost use Rattle.line_reader.specs.FaultNumber.{asm_number};
 ghost use Rattle.loader.specs.FaultNumber.{load_number};
 ghost use Rattle.row_code.specs.FaultNumber.{image_number};
+ghost use Rattle.plan_reader.specs.FaultNumber.{plan_number};
 ghost use Rattle.schedule_reader.specs.FaultNumber.{schedule_number};
 ghost use Rattle.refusal_words.specs.Numbers.{exception_number, status_number};
 ghost use Rattle.refusal_words.specs.Question.{declare_number};
@@ -17,6 +19,7 @@ ghost use Rattle.refusal_words.specs.Question.{declare_number};
 use crate::subject::{Exception, Status};
 use line_reader::asm_fault::AsmFaultKind;
 use loader::{LoadFault, Place};
+use plan_reader::fault::PlanFaultKind;
 use row_code::ImageFault;
 use schedule_reader::ScheduleFault;
 use tier_tree::DeclareFault;
@@ -105,6 +108,24 @@ pub fn schedule_of(number: u64) -> Option<ScheduleFault>
         1 => Some(ScheduleFault::Byte(0)),
         2 => Some(ScheduleFault::Number(0)),
         3 => Some(ScheduleFault::Repeat(0)),
+        _ => None,
+    }
+}
+
+/// The plan's fault that has this number.
+pub fn plan_of(number: u64) -> Option<PlanFaultKind>
+    ensures found { IfSome result (λ kind. plan_number kind ≡ Some number) }
+    ensures all { (kind : PlanFaultKind) → plan_number kind ≡ Some number → is_some result ≡ true }
+{
+    match number {
+        1 => Some(PlanFaultKind::BadWord),
+        2 => Some(PlanFaultKind::BadCount),
+        3 => Some(PlanFaultKind::BadSeed),
+        4 => Some(PlanFaultKind::NotNamed),
+        5 => Some(PlanFaultKind::NoThread),
+        6 => Some(PlanFaultKind::TooDeep),
+        7 => Some(PlanFaultKind::NotOpened),
+        8 => Some(PlanFaultKind::NotClosed),
         _ => None,
     }
 }

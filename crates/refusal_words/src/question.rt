@@ -4,9 +4,11 @@ ghost use Rattle.loader.specs.declared.load_fault.Place.{Place};
 ghost use Rattle.refusal_words.specs.declared.question.Question.{Question};
 ghost use Rattle.refusal_words.specs.declared.subject.Subject.{Subject};
 ghost use Rattle.refusal_words.specs.declared.subject.Subject.TheVariants as subject;
-ghost use Rattle.refusal_words.specs.Question.{Asks, AsksException, AsksFor, AsksImage, AsksKind, AsksLine, AsksLoad, AsksReason, AsksSchedule, AsksStatus, AsksTarget, AsksText, EndsLine, EndsSession, IsKindThenPlace, IsPlaceThenKind, Spells, is_no_history, is_no_trace, line_named, target_word, without_refused};
+ghost use Rattle.refusal_words.specs.Question.{Asks, AsksException, AsksFor, AsksImage, AsksKind, AsksLine, AsksLoad, AsksPlan, AsksReason, AsksSchedule, AsksStatus, AsksTarget, AsksText, EndsLine, EndsSession, IsKindThenPlace, IsPlaceThenKind, Spells, is_no_history, is_no_trace, line_named, target_word, without_refused};
 
-use crate::kinds::{asm_of, declare_of, exception_of, image_of, load_of, schedule_of, status_of};
+use crate::kinds::{
+    asm_of, declare_of, exception_of, image_of, load_of, plan_of, schedule_of, status_of,
+};
 use crate::subject::{Line, Subject};
 use loader::{LoadFault, Place};
 
@@ -157,6 +159,16 @@ fn schedule_question(words: &[&str]) -> Option<Question>
 {
     let (kind, place) = kind_then_place(words)?;
     let subject = Subject::Schedule(schedule_of(kind)?);
+    Some(Question { subject, place })
+}
+
+/// A plan's fault, by the words behind `plan`.
+fn plan_question(words: &[&str]) -> Option<Question>
+    ensures { MatchOption result ((s : Subject) → (place : Option ℕ) → AsksPlan (map (λ w. w.now) words.now) s place → ⊥)
+        (λ q. AsksPlan (map (λ w. w.now) words.now) q.subject q.place) }
+{
+    let (kind, place) = place_then_kind(words)?;
+    let subject = Subject::Plan(plan_of(kind)?);
     Some(Question { subject, place })
 }
 
@@ -358,6 +370,8 @@ fn told_question(words: &[&str]) -> Option<Question>
                 declare_question(rest)
             } else if is_word(word, "schedule") {
                 schedule_question(rest)
+            } else if is_word(word, "plan") {
+                plan_question(rest)
             } else if is_word(word, "status") {
                 status_question(rest)
             } else if is_word(word, "exception") {

@@ -10,10 +10,12 @@ use crate::table::exception::exception_entry;
 use crate::table::image::image_entry;
 use crate::table::line::line_entry;
 use crate::table::load::load_entry;
+use crate::table::plan::plan_entry;
 use crate::table::schedule::schedule_entry;
 use crate::table::status::status_entry;
 use line_reader::asm_fault::AsmFaultKind;
 use loader::{LoadFault, Place};
+use plan_reader::fault::PlanFaultKind;
 use row_code::ImageFault;
 use schedule_reader::ScheduleFault;
 use tier_tree::DeclareFault;
@@ -113,6 +115,7 @@ pub enum Subject {
     Load(LoadFault),
     Declare(DeclareFault),
     Schedule(ScheduleFault),
+    Plan(PlanFaultKind),
     Line(Line),
     Status(Status),
     Exception(Exception),
@@ -129,6 +132,7 @@ impl Subject {
             Subject::Load(fault) => load_entry(fault),
             Subject::Declare(fault) => declare_entry(fault),
             Subject::Schedule(fault) => schedule_entry(fault),
+            Subject::Plan(kind) => plan_entry(kind),
             Subject::Line(line) => line_entry(line),
             Subject::Status(status) => status_entry(status),
             Subject::Exception(exception) => exception_entry(exception),
@@ -140,7 +144,7 @@ impl Subject {
         ensures { result.now ≡ place_word self }
     {
         match self {
-            Subject::Asm(_) | Subject::Line(_) => "line ",
+            Subject::Asm(_) | Subject::Plan(_) | Subject::Line(_) => "line ",
             Subject::Image(ImageFault::Field(_)) | Subject::Schedule(_) => "byte ",
             Subject::Load(LoadFault::Target(Place::Thread(_))) => "thread ",
             Subject::Load(LoadFault::Target(Place::Phaser(_))) => "phaser ",

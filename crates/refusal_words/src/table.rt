@@ -6,5 +6,6 @@ pub mod exception;
 pub mod image;
 pub mod line;
 pub mod load;
+pub mod plan;
 pub mod schedule;
 pub mod status;

@@ -3,7 +3,9 @@
 use crate::printable;
 use byte_ports::{Sink, WritePort};
 use command_line::request::Request;
+use plan_reader::fault::PlanFault;
 use refusal_place::place::{Named, ProgramFile, push_place};
+use refusal_place::push_plan_place;
 use std::alloc::AllocError;
 use std::fmt::Display;
 use std::fs;
@@ -17,7 +19,7 @@ const LONGEST: u64 = 16_777_216;
 /// The name of standard input as a file.
 const INPUT: &str = "/dev/stdin";
 
-/// The files that a refusal may be about: the program's, and the schedule's where it isn't the same.
+/// The files that a refusal may be about: the program's, and the schedule's or the plan's where it isn't the same.
 #[derive(Clone, Copy)]
 pub struct Files<'a> {
     program: &'a str,
@@ -37,6 +39,7 @@ impl<'a> Files<'a> {
             Request::Run { file, schedule, .. }
             | Request::Show { file, schedule }
             | Request::Draw { file, schedule, .. } => (*file, schedule.map(|word| named(word))),
+            Request::Plan { file, plan } => (*file, Some(named(plan.unwrap_or(INPUT)))),
             Request::List { file, .. }
             | Request::Debug { file, .. }
             | Request::Compare { file, .. }
@@ -92,6 +95,27 @@ pub fn push_help(rt: &HostRuntime, fault: Fault, files: Files<'_>) {
             push_place(rt.alloc(), fault, program, Some(schedule), &mut errors)
         }
     };
+}
+
+/// The same of a plan's fault.
+pub fn push_plan_help(rt: &HostRuntime, fault: PlanFault, files: Files<'_>) {
+    if !rt.stderr().is_terminal() {
+        return;
+    }
+    let program = contents(rt, files.program);
+    let name = files.schedule.unwrap_or(INPUT);
+    let plan = contents(rt, name);
+    let mut errors = WritePort::new(printable::errors(rt));
+    let _ = push_plan_place(
+        rt.alloc(),
+        fault,
+        program_file(files.program, program.as_slice()),
+        Named {
+            name,
+            bytes: plan.as_slice(),
+        },
+        &mut errors,
+    );
 }
 
 /// Writes a text to standard error, if there was memory for it.

@@ -12,6 +12,7 @@ mod input;
 mod no_command;
 mod notes;
 mod origin;
+mod planning;
 mod printable;
 mod progress;
 mod standings;
@@ -33,6 +34,7 @@ use help::Files;
 use input::Input;
 use live_runs::{Asked, Pauses, report_runs};
 use no_command::NoCommand;
+use planning::write_plan;
 use progress::{BehindProgress, ShownGate, ShownPace, ShownSource, ShownWriter, trace_port};
 use race::write_race;
 use refusal_words::explain::explain;
@@ -459,6 +461,7 @@ fn done<'a, R: Threads + Wait + Sync>(
         ),
         Request::Race { parties, rounds } => meet(threads, rt, parties, rounds),
         Request::Choices { trace } => write_choices(rt, trace),
+        Request::Plan { file, plan } => write_plan(rt, file, plan),
         Request::Explain { words } => explain_words(rt, words.as_slice()),
     }
 }

@@ -2,6 +2,7 @@
 //! only where that is a terminal.
 
 use crate::expectation::without_end;
+use crate::input::Input;
 use crate::printable;
 use byte_ports::{Failed, Sink, WritePort};
 use std::io::IsTerminal;
@@ -24,6 +25,18 @@ pub fn push_no_schedule(rt: &HostRuntime) {
         rt,
         &[b"no line `.run`, so no schedule behind it: nothing is played\n".as_slice()],
     );
+}
+
+/// A plan is waited for.
+pub fn push_plan_waited_for(rt: &HostRuntime, steps: &Input) {
+    if let Input::Standard(input) = steps {
+        if input.is_terminal() {
+            let _ = push_note(
+                rt,
+                &[b"reading a plan from the terminal (plan --help lists its words)\n".as_slice()],
+            );
+        }
+    }
 }
 
 /// A choice of a thread that isn't there ends a run.

@@ -1,8 +1,10 @@
 //! Why the program doesn't do what it is asked for, and how that is told.
 
-use crate::help::{Files, push_help};
+use crate::help::{Files, push_help, push_plan_help};
 use crate::no_command::NoCommand;
 use byte_ports::WritePort;
+use commands::unplanned::Unplanned;
+use plan_reader::fault::PlanFault;
 use race::RaceFault;
 use refusal_words::explain::Unexplained;
 use std::alloc::AllocError;
@@ -16,6 +18,8 @@ pub enum Trouble<'a> {
     NoCommand(NoCommand<'a>),
     /// A command met a fault.
     Fault(Fault),
+    /// A plan has a fault.
+    Plan(PlanFault),
     /// Nothing is explained.
     Unexplained(Unexplained),
 }
@@ -38,6 +42,15 @@ impl<'a> From<AllocError> for Trouble<'a> {
     }
 }
 
+impl<'a> From<Unplanned> for Trouble<'a> {
+    fn from(why: Unplanned) -> Trouble<'a> {
+        match why {
+            Unplanned::Plan(fault) => Trouble::Plan(fault),
+            Unplanned::Fault(fault) => Trouble::Fault(fault),
+        }
+    }
+}
+
 /// A race's fault among those of all commands.
 pub fn fault_of_race(fault: RaceFault) -> Fault {
     match fault {
@@ -54,12 +67,21 @@ fn tell_fault(rt: &HostRuntime, fault: Fault, files: Files<'_>) -> u8 {
     status
 }
 
+/// Tells a plan's fault in the same way.
+fn tell_plan(rt: &HostRuntime, fault: PlanFault, files: Files<'_>) -> u8 {
+    let why = Unplanned::Plan(fault);
+    let _ = why.tell(&mut WritePort::new(rt.stderr()));
+    push_plan_help(rt, fault, files);
+    why.status()
+}
+
 impl<'a> Trouble<'a> {
     /// Tells it, and answers the exit status.
     pub fn tell(&self, rt: &HostRuntime, words: &[String], files: Files<'_>) -> u8 {
         match self {
             Trouble::NoCommand(no_command) => no_command.tell(rt, words),
             Trouble::Fault(fault) => tell_fault(rt, *fault, files),
+            Trouble::Plan(fault) => tell_plan(rt, *fault, files),
             Trouble::Unexplained(Unexplained::Write) => tell_fault(rt, Fault::Write, files),
             Trouble::Unexplained(why) => {
                 let _ = why.tell(&mut WritePort::new(rt.stderr()));

@@ -1,0 +1,72 @@
+//! Why a plan has no schedule, and how that is told.
+ghost use Rattle.std.specs.Prelude.{◌≡◌, IsTrue, OnErr, OnOk};
+ghost use Rattle.std.specs.Io.KnownBytes.{Appends};
+ghost use Rattle.commands.specs.Unplanned.{plan_line, unplanned_line, unplanned_status};
+ghost use Rattle.commands.specs.declared.unplanned.Unplanned.TheVariants as why;
+
+use byte_ports::{Failed, Sink};
+use itoa::Buffer;
+use plan_reader::fault::PlanFault;
+use workbench::fault::Fault;
+
+/// Why no schedule of a plan is written.
+#[derive(Clone, Copy)]
+pub enum Unplanned {
+    /// The plan has this fault.
+    Plan(PlanFault),
+    /// Anything else.
+    Fault(Fault),
+}
+
+impl From<Fault> for Unplanned {
+    ghost from_gives = { λ fault unplanned. unplanned ≡ why.Fault fault };
+
+    fn from(fault: Fault) -> Unplanned {
+        Unplanned::Fault(fault)
+    }
+}
+
+/// The line of a plan's fault in this line of the plan, by the kind's number.
+fn push_plan_line<E: Sink>(errors: &mut E, line: u64, number: Option<u8>) -> Result<(), Failed>
+    ensures bytes { OnOk result (Appends (E.written errors.old) (E.written errors.new)
+        (plan_line line number)) }
+    ensures failed { OnErr result (IsTrue (E.has_failed errors.new)) }
+{
+    match number {
+        Some(number) => {
+            errors.push(b"refused plan ")?;
+            errors.push(Buffer::new().format(line).as_bytes())?;
+            errors.push(b" ")?;
+            errors.push(Buffer::new().format(number).as_bytes())?;
+            errors.push(b"\n")
+        }
+        None => errors.push(b"memory\n"),
+    }
+}
+
+impl Unplanned {
+    /// The program's exit status.
+    pub fn status(self) -> u8
+        ensures { result ≡ unplanned_status self }
+    {
+        match self {
+            Unplanned::Plan(fault) => match fault.kind.number() {
+                Some(_) => 3,
+                None => 4,
+            },
+            Unplanned::Fault(fault) => fault.status(),
+        }
+    }
+
+    /// Writes the line that stands on standard error, piece by piece and without memory.
+    pub fn tell<E: Sink>(self, errors: &mut E) -> Result<(), Failed>
+        ensures bytes { OnOk result (Appends (E.written errors.old) (E.written errors.new)
+            (unplanned_line self)) }
+        ensures failed { OnErr result (IsTrue (E.has_failed errors.new)) }
+    {
+        match self {
+            Unplanned::Plan(fault) => push_plan_line(errors, fault.line, fault.kind.number()),
+            Unplanned::Fault(fault) => fault.tell(errors),
+        }
+    }
+}
