@@ -34,6 +34,12 @@ pub enum NoCommand<'a> {
     OneFile(&'a str),
 }
 
+impl<'a> From<AllocError> for NoCommand<'a> {
+    fn from(_error: AllocError) -> NoCommand<'a> {
+        NoCommand::Memory
+    }
+}
+
 /// Tells a fault that comes before a command.
 fn told(rt: &HostRuntime, fault: Fault) -> u8 {
     settled(Err(fault), &mut WritePort::new(rt.stderr()))

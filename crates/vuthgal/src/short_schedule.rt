@@ -1,6 +1,6 @@
 //! A schedule, read no further than a picture needs.
 
-ghost use Rattle.std.specs.Prelude.{◌≤◌, ◌+◌, IfOk, None, length};
+ghost use Rattle.std.specs.Prelude.{◌≡◌, ◌≤◌, ◌+◌, IfOk, None, length};
 ghost use Rattle.std.specs.Io.KnownBytes.{ReadConsumes};
 ghost use Rattle.byte_ports.specs.Port.{FailsForGood};
 
@@ -9,13 +9,16 @@ use run_page::choices::MOST_CHOICES;
 use schedule_reader::{Reader, Run};
 use std::alloc::{AllocError, Global};
 
+/// How long a schedule is that a picture takes.
+const LONGEST: u64 = 16_777_216;
+
 /// A source over that of a schedule, which ends behind the byte that makes the schedule's fault, or a choice more than a picture
 /// shows. What stands there is refused as the whole schedule would be: nothing behind it is waited for.
 #[derive(Drop)]
 pub struct ShortSchedule<S> {
     source: S,
     reader: Reader,
-    /// The run that the last byte ended, if any.
+    /// The run that the last byte ended, if any: there is room for it, so none is lost.
     ended: Vec<Run>,
     choices: u64,
     /// Whether the last byte was a blank, or none has come.
@@ -49,7 +52,7 @@ impl<S> ShortSchedule<S> {
     {
         let was_between = self.is_between;
         self.is_between = is_blank(byte);
-        if was_between && self.is_between {
+        if was_between && self.is_between || self.reader.bytes_read() > LONGEST {
             return false;
         }
         self.ended.clear();

@@ -11,32 +11,16 @@ use std::env::{Env, FillError};
 /// How long a word may be that is looked at; no command has a longer name.
 const LONGEST_WORD: usize = 64;
 
-/// A word of the command line, of which a long one is left out, and one that isn't UTF-8.
-enum Word {
-    Plain(usize),
-    Other,
-    None,
-}
-
-/// The word with this number, in `room`.
-fn word(rt: &HostRuntime, number: usize, room: &mut [u8]) -> Word {
-    match rt.arg(number, room) {
-        Ok(length) => Word::Plain(length),
-        Err(FillError::TooLong) => Word::Other,
-        Err(FillError::NotPresent) => Word::None,
-    }
-}
-
 /// The first word that is no option, and not the value of `--expect`, where it is a command's name: the command that was meant.
 fn meant(rt: &HostRuntime) -> Result<Option<&'static str>, AllocError> {
     let program = program(rt.alloc(), VERSION)?;
     let mut room = [0u8; LONGEST_WORD];
     let mut is_value = false;
     for number in 1..usize::MAX {
-        let word = match word(rt, number, &mut room) {
-            Word::Plain(length) => &room[..length.min(LONGEST_WORD)],
-            Word::Other => &[],
-            Word::None => return Ok(None),
+        let word = match rt.arg(number, &mut room) {
+            Ok(length) => &room[..length],
+            Err(FillError::TooLong) => &[],
+            Err(FillError::NotPresent) => return Ok(None),
         };
         if !is_value && !word.starts_with(b"-") {
             return Ok(
@@ -74,17 +58,21 @@ pub fn with_usage(rt: &HostRuntime, why: &str) -> Result<String, AllocError> {
     format!(in rt.alloc(); "{why}\n\n{usage}\n\nFor more information, try '--help'.\n")
 }
 
-/// What is told of an error of the words. That of an option's value has no usage but the program's, and that of a value that is
-/// missing none.
+/// How much of a text tells what is wrong, where it has no usage of the command that was meant: that of an option's value has the
+/// program's, and that of a value that is missing none.
+fn length_of_why(text: &str, kind: ErrorKind) -> Option<usize> {
+    match text.find("\n\nUsage: ") {
+        Some(length) if kind == ErrorKind::ValueValidation => Some(length),
+        Some(_) => None,
+        None => text.find("\n\nFor more information"),
+    }
+}
+
+/// What is told of an error of the words.
 pub fn told(rt: &HostRuntime, error: &WordsError) -> Result<String, AllocError> {
     let text = format!(in rt.alloc(); "{error}")?;
-    let why = match text.as_str().split_once("\n\nUsage: ") {
-        Some((why, _)) if error.kind() == ErrorKind::ValueValidation => why,
-        Some(_) => return Ok(text),
-        None => match text.as_str().split_once("\n\nFor more information") {
-            Some((why, _)) => why,
-            None => return Ok(text),
-        },
-    };
-    with_usage(rt, why)
+    match length_of_why(text.as_str(), error.kind()) {
+        Some(length) => with_usage(rt, text.as_str().get(..length).unwrap_or("")),
+        None => Ok(text),
+    }
 }
