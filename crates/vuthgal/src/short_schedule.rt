@@ -1,6 +1,6 @@
 //! A schedule, read no further than a picture needs.
 
-ghost use Rattle.std.specs.Prelude.{◌≡◌, ◌≤◌, ◌+◌, IfOk, None, length};
+ghost use Rattle.std.specs.Prelude.{◌≤◌, ◌+◌, IfOk, IfSome, None, length};
 ghost use Rattle.std.specs.Io.KnownBytes.{ReadConsumes};
 ghost use Rattle.byte_ports.specs.Port.{FailsForGood};
 
@@ -12,44 +12,35 @@ use std::alloc::{AllocError, Global};
 /// How long a schedule is that a picture takes.
 const LONGEST: u64 = 16_777_216;
 
-/// A source over that of a schedule, which ends behind the byte that makes the schedule's fault, or a choice more than a picture
-/// shows. What stands there is refused as the whole schedule would be: nothing behind it is waited for.
+/// Whether a byte stands between tokens.
+fn is_blank(byte: u8) -> bool {
+    matches!(byte, b' ' | b'\t' | b'\r' | b'\n')
+}
+
+/// What was seen of a schedule: whether a picture needs more of it.
 #[derive(Drop)]
-pub struct ShortSchedule<S> {
-    source: S,
+struct Seen {
     reader: Reader,
     /// The run that the last byte ended, if any: there is room for it, so none is lost.
     ended: Vec<Run>,
     choices: u64,
     /// Whether the last byte was a blank, or none has come.
     is_between: bool,
-    is_over: bool,
 }
 
-/// Whether a byte stands between tokens.
-fn is_blank(byte: u8) -> bool {
-    matches!(byte, b' ' | b'\t' | b'\r' | b'\n')
-}
-
-impl<S: Drop> ShortSchedule<S> {
-    /// Over a source of which nothing was read. This alone takes memory.
-    pub fn new(alloc: Global, source: S) -> Result<ShortSchedule<S>, AllocError> {
-        Ok(ShortSchedule {
-            source,
+impl Seen {
+    /// Nothing so far.
+    fn new(alloc: Global) -> Result<Seen, AllocError> {
+        Ok(Seen {
             reader: Reader::new(),
             ended: Vec::with_capacity(alloc, 1)?,
             choices: 0,
             is_between: true,
-            is_over: false,
         })
     }
-}
 
-impl<S> ShortSchedule<S> {
-    /// Whether the picture needs nothing behind this byte.
-    fn ends_at(&mut self, byte: u8) -> bool
-        ensures { self.new.source ≡ self.old.source }
-    {
+    /// Whether a picture needs nothing behind this byte: it makes the schedule's fault, or ends a choice too many.
+    fn is_enough_with(&mut self, byte: u8) -> bool {
         let was_between = self.is_between;
         self.is_between = is_blank(byte);
         if was_between && self.is_between || self.reader.bytes_read() > LONGEST {
@@ -63,18 +54,36 @@ impl<S> ShortSchedule<S> {
         told.is_err() || self.choices > MOST_CHOICES as u64
     }
 
-    /// How many of these bytes the picture needs.
-    fn needed(&mut self, bytes: &[u8]) -> usize
-        ensures source { self.new.source ≡ self.old.source }
-        ensures bound { result ≤ length bytes.now }
+    /// How many of these bytes a picture needs, where it needs nothing behind one of them.
+    fn needed(&mut self, bytes: &[u8]) -> Option<usize>
+        ensures { IfSome result (λ n. n ≤ length bytes.now) }
     {
         for (at, byte) in bytes.iter().enumerate() {
-            if self.ends_at(*byte) {
-                self.is_over = true;
-                return at + 1;
+            if self.is_enough_with(*byte) {
+                return Some(at + 1);
             }
         }
-        bytes.len()
+        None
+    }
+}
+
+/// A source over that of a schedule, which ends behind the byte that makes the schedule's fault, or a choice more than a picture
+/// shows. What stands there is refused as the whole schedule would be: nothing behind it is waited for.
+#[derive(Drop)]
+pub struct ShortSchedule<S> {
+    source: S,
+    seen: Seen,
+    is_over: bool,
+}
+
+impl<S: Drop> ShortSchedule<S> {
+    /// Over a source of which nothing was read. This alone takes memory.
+    pub fn new(alloc: Global, source: S) -> Result<ShortSchedule<S>, AllocError> {
+        Ok(ShortSchedule {
+            source,
+            seen: Seen::new(alloc)?,
+            is_over: false,
+        })
     }
 }
 
@@ -95,6 +104,12 @@ impl<S: Source> Source for ShortSchedule<S> {
             return Ok(0);
         }
         let count = self.source.pull(buffer)?;
-        Ok(self.needed(&buffer[..count]))
+        match self.seen.needed(&buffer[..count]) {
+            Some(needed) => {
+                self.is_over = true;
+                Ok(needed)
+            }
+            None => Ok(count),
+        }
     }
 }
