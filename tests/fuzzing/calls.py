@@ -1,5 +1,6 @@
 """Calls of the program in a folder of their own, each judged by the table of exit statuses: the status, and what standard error says
 with it; no signal; the last byte of its output; time and memory."""
+import functools
 import os
 import re
 import resource
@@ -11,17 +12,18 @@ REFUSED = rb"""(?x)refused[ ](
     | image[ ]([12368]|[45][ ]\d+)
     | load[ ]([29]|1[ ](row|thread|phaser|barrier)[ ]\d+|[3-6][ ]\d+|7[ ]\d+[ ][1-6]|8[ ]\d+)
     | schedule[ ][1-3][ ]\d+
+    | plan[ ]\d+[ ][1-8]
     | (show|draw)[ ]2000
     )\n"""
-# Of two faults of arguments no usage is shown, and of `explain` what it can be asked in its place.
+# of `explain` what it can be asked stands in place of the usage; where a file stands in place of a command more is told
 WRONG_WORDS = rb"""(?xs)error:[ ](
-    .*\nUsage:[ ]vuthgal.*
+    .*\n\nUsage:[ ]vuthgal[^\n]*(\n\nFor[ ]more[ ]information,[ ]try[ ]'--help'\.)?(\n.*[ ]is[ ]a[ ]file:[ ].*)?
     | no[ ]line[ ]on[ ]standard[ ]error[ ]has[ ]these[ ]words.*
-    | a[ ]word[ ]of[ ]the[ ]command[ ]line[ ]isn't[ ]UTF-8
-    | a[ ]value[ ]is[ ]required[ ]for[ ].*
     )\n"""
+# a run that ended otherwise, or a plan that wanted more choices than there are
+UNLIKE = rb"(expected [^\n]+\n)*|stopped at 1000000 choices\n"
 # what standard error says with each status
-SAID = {0: rb"", 1: rb"", 2: WRONG_WORDS, 3: REFUSED, 4: rb"(memory|spawn)\n", 5: rb"(read|write)\n"}
+SAID = {0: rb"", 1: UNLIKE, 2: WRONG_WORDS, 3: REFUSED, 4: rb"(memory|spawn)\n", 5: rb"(read|write)\n"}
 SECONDS_OF_PROCESSOR = 5
 SECONDS = 60
 MEMORY = 96 * 2**20
@@ -51,6 +53,7 @@ class Room:
         self.program = program
         self.folder = folder
         self.calls = []
+        self.is_checked = is_checked(program)
 
     def put(self, name, data):
         """Writes a file, and answers its name."""
@@ -68,7 +71,7 @@ class Room:
         self.calls.append(shlex.join([self.program, *map(os.fsdecode, words)]) + " < " + reads)
         status, used = self.spawned(words, reads)
         answer = Answer(status, self.get("output"), self.get("errors"))
-        judge(answer, used)
+        judge(answer, used, self.is_checked)
         if answer.status not in may:
             raise Finding(f"status {answer.status}, {answer.errors[:200]!r}, where only {may} can be")
         return answer
@@ -83,7 +86,8 @@ class Room:
             (os.POSIX_SPAWN_OPEN, 2, "errors", made, 0o644),
         ]
         process = os.posix_spawn(self.program, [b"vuthgal", *words], {}, file_actions=streams)
-        resource.prlimit(process, resource.RLIMIT_AS, (ADDRESSES, ADDRESSES))
+        if not self.is_checked:
+            resource.prlimit(process, resource.RLIMIT_AS, (ADDRESSES, ADDRESSES))
         signal.signal(signal.SIGALRM, lambda number, frame: os.kill(process, signal.SIGKILL))
         signal.alarm(SECONDS)
         _, ended, used = os.wait4(process, 0)
@@ -91,7 +95,15 @@ class Room:
         return os.waitstatus_to_exitcode(ended), used
 
 
-def judge(answer, used):
+@functools.cache
+def is_checked(program):
+    """Whether a program looks at each access of its own, as `rt try` builds it: that one is slow, and takes as much memory as it
+    likes."""
+    with open(program, "rb") as file:
+        return b"AddressSanitizer" in file.read()
+
+
+def judge(answer, used, is_checked):
     """Whether an answer is one of the table, within the bounds."""
     said = SAID.get(answer.status)
     if said is None:
@@ -105,5 +117,5 @@ def judge(answer, used):
         raise Finding(f"status {answer.status}, and an output: {answer.output[:80]!r}")
     if used.ru_utime + used.ru_stime > SECONDS_OF_PROCESSOR:
         raise Finding(f"it took {used.ru_utime + used.ru_stime:.1f} s of a processor")
-    if used.ru_maxrss * 1024 > MEMORY:
+    if used.ru_maxrss * 1024 > MEMORY and not is_checked:
         raise Finding(f"it took {used.ru_maxrss} kB of memory")

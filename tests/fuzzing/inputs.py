@@ -76,6 +76,31 @@ def schedule(chance, threads=5):
     return chance.choice([" ", " ", "\n", "\r\n", "\t "]).join(tokens).encode() + chance.choice([b"", b"\n"])
 
 
+def plan_word(chance, names):
+    """A word of a plan that plays threads."""
+    name = chance.choice([*names, *(f"t{number}" for number in range(len(names)))])
+    count = chance.choice(["", "", f"*{chance.randint(1, 9)}", f"*{chance.randint(1, 60)}"])
+    rule = chance.choice(["..", f"?{chance.choice([0, 7, chance.randrange(2**64)])}"])
+    return chance.choice([name, f"{name}.", f"{name}{count}", f"{name}.", f"x{name}", rule + (count or "*30")])
+
+
+def plan(chance, names):
+    """A plan, of which most are faultless."""
+    words, depth = [], 0
+    for _ in range(chance.randint(0, 20)):
+        words.append(plan_word(chance, names))
+        if chance.random() < 0.2:
+            words.append("(")
+            depth += 1
+        elif depth and chance.random() < 0.4:
+            words.append(f")*{chance.randint(1, 5)}")
+            depth -= 1
+        if chance.random() < 0.1:
+            words.append("; as far as here\n")
+    words += [")*2"] * depth + chance.choice([[], [], [".."], ["?3"]])
+    return " ".join(words).encode() + chance.choice([b"", b"\n"])
+
+
 def session(chance):
     """Lines of `debug`."""
     lines = []

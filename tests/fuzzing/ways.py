@@ -6,6 +6,7 @@ from calls import Finding
 from formats import BLANKS, Schedule, choices_of_trace, image_fault, schedule_of, verdict
 
 MOST_CHOICES = 5_000
+MOST_PLANNED = 1_000_000
 SHOWN = 2_000
 KEPT = 4_096
 RUN_LINE = re.compile(rb"(?m)^[ \t\r]*\.run[ \t\r]*(;.*)?$")
@@ -190,8 +191,8 @@ def play_live(room, chance, program):
         _, word, schedule = line.split(b" ", 2) if line.count(b" ") > 1 else (*line.split(b" "), b"")
         room.put("schedule", schedule)
         _, state = split_trace(room.call("run", program, "schedule", may=(0,)).output)
-        if word != b"live":
-            agrees(state.split()[3], word, "the end of a live run's schedule")
+        if not word.startswith(b"live"):
+            agrees(state.split()[3], word.removesuffix(b"+died"), "the end of a live run's schedule")
 
 
 def compare_trace(room, chance, sources):
@@ -331,7 +332,38 @@ def hold_session(room, chance, sources):
     agrees([line or told[at] for at, line in enumerate(session.lines)], told[: len(session.lines)], "the replies to s that stand")
 
 
+def has_plans(room):
+    """Whether the program has the command `plan`."""
+    return room.call("help", "plan", may=(0, 2)).status == 0
+
+
+def play_plan(room, chance, sources):
+    """A plan: the same schedule each time, and each choice of it can be made."""
+    if not has_plans(room):
+        return
+    text = accepted(room, chance, sources)
+    names = [name.decode() for name in re.findall(rb"(?m)^[ \t]*\.thread[ \t]+(\w+)", text)]
+    plan = inputs.plan(chance, names)
+    room.put("plan", inputs.changed(chance, plan) if chance.random() < 0.3 else plan)
+    made = room.call("plan", "text", "plan", may=(0, 1, 3))
+    agrees(room.call("plan", "text", "-", reads="plan", may=(0, 1, 3)), made, "plan of standard input, beside that of a file")
+    if made.status == 3:
+        if not re.fullmatch(rb"refused plan \d+ \d\n", made.errors):
+            raise Finding(f"plan of a program that is loaded: {made.errors!r}")
+        agrees(1 <= int(made.errors.split()[2]) <= room.get("plan").count(b"\n") + 1, True, "the line of a plan's fault")
+        return
+    schedule = Schedule(made.output)
+    agrees(schedule.fault, None, "the fault of a plan's schedule")
+    agrees((schedule.count() <= MOST_PLANNED, made.status == 0 or schedule.count() == MOST_PLANNED), (True, True), "a plan's choices")
+    if schedule.count() <= MOST_CHOICES:
+        room.put("schedule", made.output)
+        events, _ = split_trace(room.call("run", "text", "schedule", may=(0,)).output)
+        agrees((events.count(b"\n"), b" - none\n" in events), (schedule.count(), False), "run of a plan's schedule")
+
+
 COMMANDS = [
+    "plan text schedule",
+    "plan text -",
     "run text schedule",
     "run text -",
     "run image schedule --expect all",
@@ -390,5 +422,6 @@ KINDS = {
     "schedules": play_schedule,
     "traces": compare_trace,
     "sessions": hold_session,
+    "plans": play_plan,
     "arguments": read_arguments,
 }

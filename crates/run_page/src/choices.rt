@@ -12,7 +12,7 @@ use std::alloc::Global;
 use thread_machine::Choice;
 
 /// How many choices a page shows at most.
-const MOST: usize = 2000;
+pub const MOST_CHOICES: usize = 2000;
 
 /// What is told of a schedule's fault.
 fn fault_of(fault: ScheduleFault) -> PageFault
@@ -62,7 +62,7 @@ fn add_run(choices: &mut Vec<Choice>, run: Run) -> Result<(), PageFault>
         → most_choices < length (choices.old.items ++ replicate run.times run.choice) }
     ensures others { IfErr result (λ fault. (fault ≡ PageFault.Choices) ⊎ (fault ≡ PageFault.Memory)) }
 {
-    if run.times as usize > MOST - choices.len() {
+    if run.times as usize > MOST_CHOICES - choices.len() {
         return Err(PageFault::Choices);
     }
     choices.resize(choices.len() + run.times as usize, run.choice)?;

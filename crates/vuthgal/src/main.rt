@@ -15,9 +15,11 @@ mod origin;
 mod planning;
 mod printable;
 mod progress;
+mod short_schedule;
 mod standings;
 mod trouble;
 mod until_failure;
+mod usage;
 mod words;
 
 use byte_ports::{BlockPort, BlockSource, ReadPort, Sink, Source, WritePort};
@@ -40,6 +42,7 @@ use race::write_race;
 use refusal_words::explain::explain;
 use row_code::is_image_file;
 use schedule_reader::Run;
+use short_schedule::ShortSchedule;
 use std::fs::File;
 use std::io::{BufWriter, IsTerminal, Stdout};
 use std::process::ExitCode;
@@ -270,8 +273,8 @@ fn debug<'a>(rt: &HostRuntime, file: &'a str, trace: Option<&'a str>) -> Answer<
     }
 }
 
-/// Writes the picture of the program in a file under a schedule, which stands in the same file where none is named. It is written
-/// at once, so nothing is kept back.
+/// Writes the picture of the program in a file under a schedule, which is read as far as its fault or a choice too many, or stands
+/// in the same file where none is named. It is written at once, so nothing is kept back.
 fn draw<'a, P: Picture>(
     rt: &HostRuntime,
     picture: &P,
@@ -280,7 +283,7 @@ fn draw<'a, P: Picture>(
 ) -> Answer<'a> {
     let mut program = ReadPort::new(files::read(rt, file)?);
     let schedule = match schedule {
-        Some(word) => Some(ReadPort::new(Input::named(rt, word)?)),
+        Some(word) => Some(ShortSchedule::new(rt.alloc(), ReadPort::new(Input::named(rt, word)?))?),
         None => None,
     };
     let mut output = WritePort::new(rt.stdout());

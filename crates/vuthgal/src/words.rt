@@ -6,15 +6,40 @@ ghost use Rattle.command_line.specs.Request.{Asks, IsInRange};
 use crate::no_command::NoCommand;
 use crate::origin::VERSION;
 use command_line::request::{Request, parse};
-use std::{env, io};
+use std::alloc::AllocError;
+use std::env::{Env, FillError};
+use std::str;
 
-/// The program's name and its words: a word may be no text.
+/// The program's name, by whatever name it was called.
+const NAME: &str = "vuthgal";
+
+/// More bytes than the system lets a word have.
+const LONGEST_WORD: usize = 131_072;
+
+/// One word more.
+fn push_word(rt: &HostRuntime, words: &mut Vec<String>, word: &str) -> Result<(), AllocError> {
+    words.push(String::from_str(rt.alloc(), word)?)?;
+    Ok(())
+}
+
+/// The program's name and its words: a word may be no text. The name that it was called by isn't looked at, so the name of its
+/// folder may be any.
 pub fn given(rt: &HostRuntime) -> Result<Vec<String>, NoCommand<'static>> {
-    match env::args(rt) {
-        Ok(words) => words.collect(rt.alloc()).map_err(|_| NoCommand::Memory),
-        Err(error) if error.kind() == io::ErrorKind::OutOfMemory => Err(NoCommand::Memory),
-        Err(_) => Err(NoCommand::NotText),
+    let mut words = Vec::new(rt.alloc());
+    push_word(rt, &mut words, NAME)?;
+    let mut room = Vec::from_elem(rt.alloc(), 0u8, LONGEST_WORD)?;
+    for number in 1..usize::MAX {
+        let length = match rt.arg(number, room.as_mut_slice()) {
+            Ok(length) => length,
+            Err(FillError::TooLong) => return Err(NoCommand::Memory),
+            Err(FillError::NotPresent) => break,
+        };
+        match str::from_utf8(&room[..length]) {
+            Ok(word) => push_word(rt, &mut words, word)?,
+            Err(_) => return Err(NoCommand::NotText),
+        }
     }
+    Ok(words)
 }
 
 /// What the words ask for.

@@ -1,0 +1,78 @@
+//! What is told of words that ask for nothing: what is wrong, and the usage of the command that was meant.
+
+use crate::origin::VERSION;
+use clap::Error as WordsError;
+use clap::error::ErrorKind;
+use command_help::commands::program;
+use command_help::names::EXPECT;
+use std::alloc::AllocError;
+use std::env::{Env, FillError};
+
+/// How long a word may be that is looked at; no command has a longer name.
+const LONGEST_WORD: usize = 64;
+
+/// The first word that is no option, and not the value of `--expect`, where it is a command's name: the command that was meant.
+fn meant(rt: &HostRuntime) -> Result<Option<&'static str>, AllocError> {
+    let program = program(rt.alloc(), VERSION)?;
+    let mut room = [0u8; LONGEST_WORD];
+    let mut is_value = false;
+    for number in 1..usize::MAX {
+        let word = match rt.arg(number, &mut room) {
+            Ok(length) => &room[..length],
+            Err(FillError::TooLong) => &[],
+            Err(FillError::NotPresent) => return Ok(None),
+        };
+        if !is_value && !word.starts_with(b"-") {
+            return Ok(
+                program
+                    .get_subcommands()
+                    .iter()
+                    .map(|command| command.get_name())
+                    .find(|name| name.as_bytes() == word),
+            );
+        }
+        is_value = !is_value && word.strip_prefix(b"--") == Some(EXPECT.as_bytes());
+    }
+    Ok(None)
+}
+
+/// The line of a help that tells the usage.
+fn usage_line(help: &str) -> &str {
+    help.lines()
+        .find(|line| line.starts_with("Usage: "))
+        .unwrap_or("")
+}
+
+/// Why the words ask for nothing, the usage of the command that was meant, and where more is told.
+pub fn with_usage(rt: &HostRuntime, why: &str) -> Result<String, AllocError> {
+    let words = match meant(rt)? {
+        Some(command) => ["vuthgal", command, "--help"],
+        None => ["vuthgal", "--help", "--help"],
+    };
+    let mut program = program(rt.alloc(), VERSION)?;
+    let help = match program.try_get_matches_from_mut(&words) {
+        Ok(_) => String::new(rt.alloc()),
+        Err(help) => format!(in rt.alloc(); "{help}")?,
+    };
+    let usage = usage_line(help.as_str());
+    format!(in rt.alloc(); "{why}\n\n{usage}\n\nFor more information, try '--help'.\n")
+}
+
+/// How much of a text tells what is wrong, where it has no usage of the command that was meant: that of an option's value has the
+/// program's, and that of a value that is missing none.
+fn length_of_why(text: &str, kind: ErrorKind) -> Option<usize> {
+    match text.find("\n\nUsage: ") {
+        Some(length) if kind == ErrorKind::ValueValidation => Some(length),
+        Some(_) => None,
+        None => text.find("\n\nFor more information"),
+    }
+}
+
+/// What is told of an error of the words.
+pub fn told(rt: &HostRuntime, error: &WordsError) -> Result<String, AllocError> {
+    let text = format!(in rt.alloc(); "{error}")?;
+    match length_of_why(text.as_str(), error.kind()) {
+        Some(length) => with_usage(rt, text.as_str().get(..length).unwrap_or("")),
+        None => Ok(text),
+    }
+}
