@@ -3,6 +3,8 @@
 use line_reader::directive::is_directive;
 use line_reader::label::{before_last, is_label};
 use line_reader::words::{before_comment, is_blank};
+use refusal_words::table::directive::DIRECTIVES;
+use refusal_words::table::row::ROWS;
 use std::alloc::{AllocError, Global};
 use strsim::levenshtein;
 
@@ -39,6 +41,33 @@ fn distance(alloc: Global, a: &[u8], b: &[u8]) -> Result<usize, AllocError> {
         (Ok(a), Ok(b)) => levenshtein(alloc, a, b),
         _ => Ok(usize::MAX),
     }
+}
+
+/// The word in small letters.
+fn in_small_letters(alloc: Global, word: &[u8]) -> Result<Vec<u8>, AllocError> {
+    let mut small = Vec::new(alloc);
+    for byte in word {
+        small.push(byte.to_ascii_lowercase())?;
+    }
+    Ok(small)
+}
+
+/// The other word of the language that is nearest to this one, where it is near at all: more than half of its letters are right.
+pub fn nearest_word(alloc: Global, word: &[u8]) -> Result<Option<&'static str>, AllocError> {
+    if word == b".run".as_slice() {
+        return Ok(None);
+    }
+    let small = in_small_letters(alloc, word)?;
+    let mut found = None;
+    let mut least = small.len().div_ceil(2).min(3);
+    for entry in ROWS.iter().chain(DIRECTIVES.iter()) {
+        let far = distance(alloc, entry.word.as_bytes(), small.as_slice())?;
+        if far < least {
+            found = Some(entry.word);
+            least = far;
+        }
+    }
+    Ok(found)
 }
 
 /// The name of the text that is nearest to this one, where it is near at all.
