@@ -75,9 +75,11 @@ impl Played {
     fn push(&mut self, choice: Choice, times: u32) -> Result<(), AllocError> {
         if let Some(run) = self.last_with(choice, times) {
             let _ = self.runs.pop();
-            return self.runs.push(run);
+            self.runs.push(run)?;
+        } else {
+            self.runs.push(Run { choice, times })?;
         }
-        self.runs.push(Run { choice, times })
+        Ok(())
     }
 
     /// So many choices of these runs, from the first on.
