@@ -106,11 +106,12 @@ standard output before the next line is read:
   p          the state of all threads, phasers and barriers
   q          the end, as the end of standard input
 
-What is none of these is answered with `?`. At a terminal `help` lists them, `w`
-writes the choices so far as a schedule, and behind each answer stands who may
-go on, and at which row, by the names of the program. With `--at TRACE` the first command
+What is none of these is answered with `?`. With `--at TRACE` the first command
 is a `g` with the choices of the trace in that file; of what is no trace it
 writes `not a trace LINE`, and reads no commands.
+
+At a terminal `help` lists the commands, `w` writes the choices so far as a
+schedule, and behind each answer stands who may go on, and at which row.
 
 It may tell `refused asm`, `refused image`, `refused load`, `memory`, `read` or
 `write`.

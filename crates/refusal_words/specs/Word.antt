@@ -1,8 +1,8 @@
 -- What is told of a word of the language.
-use Rattle.std.specs.Prelude.{◌≡◌, ◌≢◌, ℕ, List, [], ◌∷◌, ◌++◌, Some, codes, true}
+use Rattle.std.specs.Prelude.{◌≡◌, ◌≢◌, ◌⊎◌, ◌≤◌, ◌<◌, ⊥, ⊤, ℕ, List, [], ◌∷◌, ◌++◌, None, Some, codes, slice_index_or, true}
 use Rattle.instruction_table.specs.declared.shape.OperandKind.{OperandKind}
 use Rattle.instruction_table.specs.declared.shape.OperandKind.TheVariants.{Register, Number, Target, Phaser, Barrier, Thread, Cell}
-use Rattle.instruction_table.specs.Table.{Entry, entry_named, table}
+use Rattle.instruction_table.specs.Table.{Entry, entry_named, no_entry, table}
 use Rattle.line_reader.specs.Reading.{is_directive}
 use Rattle.refusal_words.specs.declared.word.WordEntry.{WordEntry}
 use Rattle.refusal_words.specs.Entry.{line}
@@ -28,9 +28,23 @@ lettered (kind ∷ kinds) names = codes " " ++ (letter kind ++ lettered kinds na
 abbrev pub form_of : Entry → List ℕ
 form_of row = row.word ++ lettered row.operands (codes "abc")
 
--- the entry is that of this word, and its form that of the instruction table where the word is a row's
+-- the row of this opcode has this entry: its word and its form are those of the instruction table
+abbrev pub IsRowEntry : ℕ → WordEntry → Type 0
+IsRowEntry opcode e =
+    (e.word.now ≡ (slice_index_or table opcode no_entry).word)
+    × (e.form.now ≡ form_of (slice_index_or table opcode no_entry))
+
+-- not one of the opcodes from the first on, before the second
+abbrev pub IsOutside : ℕ → ℕ → ℕ → Type 0
+IsOutside from end opcode = from ≤ opcode → opcode < end → ⊥
+
+-- the entry is that of this word: the row's that it begins, as the instruction table has it, or, where it begins none, its own
+abbrev pub IsItsRow : WordEntry → List ℕ → Type 0
+IsItsRow e word =
+    (row : Entry) × (entry_named table word ≡ Some row) × (e.word.now ≡ row.word) × (e.form.now ≡ form_of row)
+
 abbrev pub IsItsWord : WordEntry → List ℕ → Type 0
-IsItsWord e word = (e.word.now ≡ word) × ((row : Entry) → entry_named table word ≡ Some row → e.form.now ≡ form_of row)
+IsItsWord e word = IsItsRow e word ⊎ ((entry_named table word ≡ None) × (e.word.now ≡ word))
 
 -- neither a row nor a directive begins with this word
 abbrev pub IsNoWord : List ℕ → Type 0

@@ -1,15 +1,13 @@
 //! What is told of a word of the language: a row of the instruction table, or a word that begins with a dot.
-ghost use Rattle.std.specs.Prelude.{◌≡◌, ◌≢◌, IfSome, IsTrue, MatchOption, None, OnErr, OnOk, bytes_eq, find, true};
+ghost use Rattle.std.specs.Prelude.{IsTrue, MatchOption, OnErr, OnOk};
 ghost use Rattle.std.specs.Io.KnownBytes.{Appends};
-ghost use Rattle.std.specs.Option.{option_map};
-ghost use Rattle.instruction_table.specs.Table.{entry_named, table};
-ghost use Rattle.line_reader.specs.Reading.{is_directive};
-ghost use Rattle.refusal_words.specs.Word.{IsItsWord, IsNoWord, form_of, word_text};
+ghost use Rattle.refusal_words.specs.Word.{IsItsWord, IsNoWord, word_text};
 
 use crate::entry::push_line;
-use crate::table::directive::DIRECTIVES;
-use crate::table::row::ROWS;
+use crate::table::directive::directive_entry;
+use crate::table::row::row_entry;
 use byte_ports::{Failed, Sink};
+use instruction_table::shape_of;
 
 /// What is told of a word.
 #[derive(Clone, Copy, Debug)]
@@ -52,35 +50,12 @@ impl WordEntry {
     }
 }
 
-/// The entry of a word among these.
-fn entry_in(entries: &[WordEntry], word: &str) -> Option<WordEntry>
-    ensures { result ≡ find (λ e. bytes_eq e.word.now word.now) entries.now }
-{
-    entries.iter().find(|entry| entry.word == word).copied()
-}
-
-/// The entry of a row, by the word that begins it.
-fn row_entry(word: &str) -> Option<WordEntry>
-    ensures word { IfSome result (λ e. e.word.now ≡ word.now) }
-    ensures form { option_map (λ e. e.form.now) result ≡ option_map form_of (entry_named table word.now) }
-{
-    entry_in(&ROWS, word)
-}
-
-/// The entry of a word that begins with a dot.
-fn directive_entry(word: &str) -> Option<WordEntry>
-    ensures word { IfSome result (λ e. e.word.now ≡ word.now) }
-    ensures directive { result ≡ None → is_directive word.now ≢ true }
-{
-    entry_in(&DIRECTIVES, word)
-}
-
 /// The entry of a word, if it is one of the language.
 pub fn word_entry(word: &str) -> Option<WordEntry>
     ensures { MatchOption result (IsNoWord word.now) (λ e. IsItsWord e word.now) }
 {
-    match row_entry(word) {
-        Some(entry) => Some(entry),
+    match shape_of(word.as_bytes()) {
+        Some(shape) => row_entry(shape.opcode),
         None => directive_entry(word),
     }
 }
