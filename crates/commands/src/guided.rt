@@ -1,29 +1,26 @@
-//! A session of the debugger for a person at a terminal.
+//! The commands of a person at a terminal.
 //!
-//! It answers each line on `output` as `debug` does. Beside that it tells on `notes` who may go on and at which row, by the names
-//! of the program, and it knows two words more: `help`, and `w`, which writes the choices that were played as a schedule.
+//! The session stays `debug`'s: `GuidedCommands` is the source from which it takes its lines. Before a line is waited for, `notes`
+//! is told who may go on and at which row, by the names of the program. Two words more are answered here and not handed on:
+//! `help`, and `w`, which writes the choices that were played as a schedule. So that it knows who may go on, the source plays what
+//! it hands on in a session of its own.
 
-ghost use Rattle.std.specs.Prelude.{All, IfSome};
+ghost use Rattle.std.specs.Prelude.{◌≤◌, All, IfOk, IfSome, None, length};
+ghost use Rattle.std.specs.Io.KnownBytes.{ReadConsumes};
+ghost use Rattle.byte_ports.specs.Port.{FailsForGood};
 ghost use Rattle.schedule_reader.specs.Schedule.{IsRun};
 
-use crate::drawing::named_program;
-use crate::may_go::push_may_go;
-use crate::picture_fault::start_fault;
-use crate::played::Played;
-use assembler::Symbols;
+use crate::mirror::Mirror;
 use byte_ports::{Failed, Sink, Source};
-use debugger::{CommandFault, Debugger};
 use schedule_reader::Run;
-use std::alloc::{AllocError, Global};
-use trace_compare::start::first_machine;
+use std::alloc::Global;
 use workbench::fault::Fault;
-use workbench::input_line::read_line;
 
-/// How many choices can be taken back.
-const MOST_KEPT: u16 = 4096;
+/// How long a line is at most that is looked at; a terminal hands on no longer one.
+const LONGEST_LINE: usize = 4096;
 
-/// How often the commands are read at most.
-const MOST_READS: u64 = 1_000_000_000;
+/// How many lines a person writes at most.
+const MOST_LINES: u64 = 1_000_000_000;
 
 /// What can be written.
 const HELP: &[u8] = b"  s tN      one choice: thread N's turn; `s xN` lets its timed wait run out
@@ -35,156 +32,185 @@ const HELP: &[u8] = b"  s tN      one choice: thread N's turn; `s xN` lets its t
   q         the end
 ";
 
-/// What a line asks for that is no command of the debugger.
+/// What a line asks for.
 #[derive(Clone, Copy)]
-enum Asked {
+enum Wanted {
     Help,
     Schedule,
     Command,
 }
 
 /// What a line asks for.
-fn asked(line: &[u8]) -> Asked {
+fn wanted_by(line: &[u8]) -> Wanted {
     match line.trim_ascii() {
-        b"help" | b"?" => Asked::Help,
-        b"w" => Asked::Schedule,
-        _ => Asked::Command,
+        b"help" | b"?" => Wanted::Help,
+        b"w" => Wanted::Schedule,
+        _ => Wanted::Command,
     }
 }
 
-/// A session: the debugger, the names of the program, and the choices that were played.
-#[derive(Drop)]
-struct Session<'a> {
-    debugger: Debugger,
-    symbols: Symbols<'a>,
-    played: Played,
-}
-
-/// A fault of the debugger among those of the commands.
-fn fault_of(fault: CommandFault) -> Fault {
-    match fault {
-        CommandFault::Memory => Fault::Memory,
-        CommandFault::Write => Fault::Write,
-    }
-}
-
-/// Out of memory.
-fn memory(_error: AllocError) -> Fault {
-    Fault::Memory
-}
-
-/// Tells something beside the answers. Where it can't be told the session goes on.
-fn note(told: Result<(), Failed>) {
+/// Tells something beside the session. Where it can't be told the session goes on.
+fn note<T: Drop, F: Drop>(told: Result<T, F>) {
     let _ = told;
 }
 
-impl<'a> Session<'a> {
-    /// The session of a program's file before the first choice.
-    fn of(alloc: Global, program: &'a [u8]) -> Result<Session<'a>, Fault> {
-        let (image, symbols) = named_program(alloc, program)?;
-        let machine = match first_machine(alloc, image) {
-            Ok(machine) => machine,
-            Err(fault) => return Err(start_fault(fault)),
-        };
-        Ok(Session {
-            debugger: Debugger::new(alloc, machine, MOST_KEPT).map_err(memory)?,
-            symbols,
-            played: Played::new(alloc),
-        })
+/// The lines of a person, and what is known of them.
+#[derive(Drop)]
+struct Guide<'a, S, K, E> {
+    source: S,
+    output: K,
+    notes: E,
+    alloc: Global,
+    mirror: Mirror<'a>,
+    /// The line that is handed on, with its LF, and how much of it was.
+    line: Vec<u8>,
+    given: usize,
+    /// Whether the session isn't followed any more: a line was too long, or there was no memory for it. All is handed on then.
+    is_lost: bool,
+}
+
+impl<'a, S: Source + Drop, K: Sink + Drop, E: Sink + Drop> Guide<'a, S, K, E> {
+    /// Takes a line in place of the one that was handed on, with its LF, if it has one: nothing at the end.
+    fn take_line(&mut self) -> Result<(), Failed> {
+        self.line.clear();
+        self.given = 0;
+        let mut byte = [0u8; 1];
+        for _ in 0..LONGEST_LINE {
+            if self.source.pull(&mut byte)? == 0 {
+                return Ok(());
+            }
+            if self.line.push(byte[0]).is_err() || byte[0] == b'\n' {
+                return Ok(());
+            }
+        }
+        self.is_lost = true;
+        Ok(())
     }
 
-    /// Plays runs as `g` does, and tells how far they went.
-    fn go<K: Sink>(&mut self, runs: &[Run], output: &mut K) -> Result<(), Fault>
-        requires { All IsRun runs.now }
+    /// Answers the line, where that is asked for here; whether it is to be handed on.
+    fn is_handed_on(&mut self) -> bool {
+        match wanted_by(self.line.as_slice()) {
+            Wanted::Help => {
+                note(self.notes.push(HELP));
+                false
+            }
+            Wanted::Schedule => {
+                note(self.mirror.write_played(self.alloc, &mut self.output));
+                false
+            }
+            Wanted::Command => {
+                let line = self.line.as_slice();
+                let line = line.strip_suffix(b"\n").unwrap_or(line);
+                self.is_lost = self.mirror.follow(self.alloc, line).is_err();
+                true
+            }
+        }
+    }
+
+    /// Takes the next line that is to be handed on, and answers those before it.
+    fn refill(&mut self) -> Result<(), Failed> {
+        for _ in 0..MOST_LINES {
+            note(self.mirror.tell_may_go(self.alloc, &mut self.notes));
+            self.take_line()?;
+            if self.line.is_empty() || self.is_lost || self.is_handed_on() {
+                return Ok(());
+            }
+        }
+        Err(Failed)
+    }
+
+    /// Hands on as much of the line as there is room for.
+    fn give(&mut self, buffer: &mut [u8]) -> usize
+        ensures { result ≤ length buffer.new }
     {
-        let before = self.debugger.machine().choices();
-        let done = self.debugger.go_command(runs, output);
-        let after = self.debugger.machine().choices();
-        self.played.push_runs(runs, before, after).map_err(memory)?;
-        done.map_err(fault_of)
+        let held = &self.line.as_slice()[self.given.min(self.line.len())..];
+        let count = buffer.len().min(held.len());
+        buffer[..count].copy_from_slice(&held[..count]);
+        self.given = self.given.saturating_add(count);
+        count
     }
 
-    /// Carries out a command of the debugger; whether the session goes on.
-    fn command<K: Sink>(
-        &mut self,
-        alloc: Global,
-        line: &[u8],
-        output: &mut K,
-    ) -> Result<bool, Fault> {
-        let before = self.debugger.machine().choices();
-        let done = self.debugger.command(alloc, line, output);
-        let after = self.debugger.machine().choices();
-        self.played
-            .follow(alloc, line, before, after)
-            .map_err(memory)?;
-        done.map_err(fault_of)
-    }
-
-    /// Answers a line; whether the session goes on.
-    fn answer<K: Sink, E: Sink>(
-        &mut self,
-        alloc: Global,
-        line: &[u8],
-        output: &mut K,
-        notes: &mut E,
-    ) -> Result<bool, Fault> {
-        let goes_on = match asked(line) {
-            Asked::Help => {
-                note(notes.push(HELP));
-                true
+    /// Hands on what comes next.
+    fn pull(&mut self, buffer: &mut [u8]) -> Result<usize, Failed>
+        ensures { IfOk result (λ n. n ≤ length buffer.new) }
+    {
+        if self.given >= self.line.len() {
+            if self.is_lost {
+                return self.source.pull(buffer);
             }
-            Asked::Schedule => {
-                self.played.write(alloc, output)?;
-                true
-            }
-            Asked::Command => self.command(alloc, line, output)?,
-        };
-        if goes_on {
-            note(push_may_go(alloc, notes, &self.symbols, self.debugger.machine()));
+            self.refill()?;
         }
-        Ok(goes_on)
-    }
-
-    /// Reads lines and answers each before the next, up to `q` or to the end.
-    fn converse<S: Source, K: Sink, E: Sink>(
-        &mut self,
-        alloc: Global,
-        commands: &mut S,
-        output: &mut K,
-        notes: &mut E,
-    ) -> Result<(), Fault> {
-        let mut line = Vec::new(alloc);
-        let mut reads = MOST_READS;
-        while reads > 0 {
-            let is_ended = read_line(commands, &mut reads, &mut line)?;
-            if !is_ended && line.is_empty() {
-                return Ok(());
-            }
-            let goes_on = self.answer(alloc, line.as_slice(), output, notes)?;
-            if !is_ended || !goes_on {
-                return Ok(());
-            }
-        }
-        Err(Fault::Read)
+        Ok(self.give(buffer))
     }
 }
 
-/// Debugs the program in a file, whose runs of choices, if there are some, are played first and told as the command `g` tells
-/// them. `notes` gets what stands beside the answers.
-pub fn debug_guided<S: Source, K: Sink, E: Sink>(
-    alloc: Global,
-    program: &[u8],
-    runs: Option<&[Run]>,
-    commands: &mut S,
-    output: &mut K,
-    notes: &mut E,
-) -> Result<(), Fault>
-    requires { IfSome runs (λ runs. All IsRun runs.now) }
-{
-    let mut session = Session::of(alloc, program)?;
-    if let Some(runs) = runs {
-        session.go(runs, output)?;
+/// The lines of a person: the debugger's are handed on, and the others answered.
+#[derive(Drop)]
+pub struct GuidedCommands<'a, S, K, E> {
+    guide: Guide<'a, S, K, E>,
+    failed: bool,
+}
+
+impl<'a, S: Source + Drop, K: Sink + Drop, E: Sink + Drop> GuidedCommands<'a, S, K, E> {
+    /// Over a source of lines, which are about a program behind runs of choices, if there are some. `output` gets schedules, `notes`
+    /// what stands beside the answers.
+    pub fn new(
+        alloc: Global,
+        program: &'a [u8],
+        runs: Option<&[Run]>,
+        source: S,
+        output: K,
+        notes: E,
+    ) -> Result<GuidedCommands<'a, S, K, E>, Fault>
+        requires { IfSome runs (λ runs. All IsRun runs.now) }
+    {
+        let mut mirror = Mirror::of(alloc, program)?;
+        let is_lost = match runs {
+            Some(runs) => mirror.go(runs).is_err(),
+            None => false,
+        };
+        let Ok(line) = Vec::with_capacity(alloc, LONGEST_LINE) else {
+            return Err(Fault::Memory);
+        };
+        let guide = Guide {
+            source,
+            output,
+            notes,
+            alloc,
+            mirror,
+            line,
+            given: 0,
+            is_lost,
+        };
+        Ok(GuidedCommands {
+            guide,
+            failed: false,
+        })
     }
-    note(push_may_go(alloc, notes, &session.symbols, session.debugger.machine()));
-    session.converse(alloc, commands, output, notes)
+}
+
+impl<'a, S: Source + Drop, K: Sink + Drop, E: Sink + Drop> Source for GuidedCommands<'a, S, K, E> {
+    ghost left = { λ _. None };
+
+    ghost has_failed = { λ g. g.failed };
+
+    ghost reads = { λ _. 0 };
+
+    fn pull(&mut self, buffer: &mut [u8]) -> Result<usize, Failed>
+        ensures failed { FailsForGood self.old.failed self.new.failed result }
+        ensures bound { IfOk result (λ n. n ≤ length buffer.new) }
+        ensures bytes { ReadConsumes None None result buffer.new }
+        ensures reads { 0 ≤ 1 }
+    {
+        if self.failed {
+            return Err(Failed);
+        }
+        match self.guide.pull(buffer) {
+            Ok(count) => Ok(count),
+            Err(_) => {
+                self.failed = true;
+                Err(Failed)
+            }
+        }
+    }
 }

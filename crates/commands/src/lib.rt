@@ -20,18 +20,20 @@
 //! where the trace is none, what a line of a trace has to be. The trace is read once: the run's line comes with the verdict, and
 //! the trace's is among the bytes that went by last (`lines_seen`).
 //!
-//! `debug_guided` is `debug` for a person: beside the answers stands who may go on (`may_go`), and the choices that were played
-//! can be written as a schedule (`played`).
+//! `GuidedCommands` is where `debug` takes the lines of a person from: beside the answers stands who may go on (`may_go`), and the
+//! choices that were played can be written as a schedule (`played`).
 #![tactic(auto)]
 
 pub mod choices;
 pub mod difference;
 pub mod drawing;
-pub mod guided;
+mod guided;
 mod image_rows;
 mod law;
 pub mod lines_seen;
 mod may_go;
+mod mirror;
+mod nowhere;
 pub mod page;
 pub mod picture;
 pub mod picture_fault;
@@ -44,6 +46,7 @@ mod text_rows;
 pub mod unplanned;
 
 pub use difference::show_comparison;
+pub use guided::GuidedCommands;
 pub use law::{
     a_file_has_one_listing, a_line_of_a_schedule_is_the_schedule,
     a_row_is_told_with_the_line_that_says_it,

@@ -1,11 +1,10 @@
 //! The program: finds the command that its words ask for, opens the files, and hands them to the command.
 #![tactic(auto)]
 
-ghost use Rattle.std.specs.Prelude.{◌≤◌, All, IfOk, IfSome};
+ghost use Rattle.std.specs.Prelude.{◌≤◌, IfSome};
 ghost use Rattle.command_line.specs.Request.{IsInRange};
-ghost use Rattle.schedule_reader.specs.Schedule.{IsRun};
-ghost use Rattle.trace_choices.specs.Named.{AreRuns};
 
+mod debugging;
 mod ending;
 mod expectation;
 mod files;
@@ -24,15 +23,15 @@ mod until_failure;
 mod usage;
 mod words;
 
-use byte_ports::{BlockPort, BlockSource, ReadPort, Sink, Source, WritePort};
+use byte_ports::{BlockPort, ReadPort, Source, WritePort};
 use command_line::request::Request;
 use commands::choices::choices;
 use commands::drawing::Drawing;
-use commands::guided::debug_guided;
 use commands::page::Page;
 use commands::picture::Picture;
 use commands::pictures::{make, make_of_both};
 use commands::{LinesSeen, list_rows, show_comparison};
+use debugging::debug;
 use ending::{flushed, handed_on};
 use expectation::{as_expected, expectations, tell_unmet};
 use help::Files;
@@ -44,22 +43,18 @@ use progress::{BehindProgress, ShownGate, ShownPace, ShownSource, ShownWriter, t
 use race::write_race;
 use refusal_words::explain::explain;
 use row_code::is_image_file;
-use schedule_reader::Run;
 use short_schedule::ShortSchedule;
-use std::fs::File;
 use std::io::{BufWriter, IsTerminal, Stdout};
 use std::process::ExitCode;
 use std::sync::Wait;
 use std::thread::Threads;
-use trace_choices::naming::{Named, NamingFault, choices_in};
 use trace_compare::RunEnd;
 use trouble::{Trouble, fault_of_race};
 use until_failure::UntilFailure;
 use workbench::asm::asm;
 use workbench::compare::{compared, done_by};
-use workbench::debug::debug_behind;
 use workbench::done::{Done, as_asked};
-use workbench::fault::{Fault, push_counted_line};
+use workbench::fault::Fault;
 use workbench::input::read_all;
 use workbench::list::list;
 use workbench::run_line::split_at_run;
@@ -73,13 +68,6 @@ type Answer<'a> = Result<Done, Trouble<'a>>;
 
 /// Where the trace of a run goes.
 type TracePort<'a> = BlockPort<WritePort<ShownWriter<'a, Stdout>>>;
-
-/// Tells a person at a terminal what is waited for.
-fn push_waiting(rt: &HostRuntime, text: &[u8]) {
-    if rt.stdin().is_terminal() {
-        let _ = WritePort::new(rt.stderr()).push(text);
-    }
-}
 
 /// What a run comes to whose trace was handed on: whether it ended as it was expected to. What didn't is told, and on a terminal
 /// also a choice of a thread that isn't there.
@@ -97,7 +85,7 @@ fn ended<'a>(
 
 /// Plays what standard input holds.
 fn play_both<'a>(rt: &HostRuntime, expected: &[&str]) -> Answer<'a> {
-    push_waiting(
+    notes::push_waiting(
         rt,
         b"reading a program text from the terminal (--help tells more)\n",
     );
@@ -203,112 +191,6 @@ fn compare<'a>(rt: &HostRuntime, file: &'a str, trace: &'a str, is_shown: bool) 
         compared(rt.alloc(), &mut program, &mut trace, &mut output)
     };
     Ok(done_by(flushed(verdict, &mut output)?))
-}
-
-/// Answers the commands on standard input, which are about a program, behind the choices of a trace if there is one. Nothing is
-/// kept back: standard output is flushed at each line's end, and commands are waited for only where none that has come is left.
-fn session<'a, F: Source>(rt: &HostRuntime, program: &mut F, runs: Option<Vec<Run>>) -> Answer<'a> {
-    let mut commands = BlockSource::new(rt.alloc(), ReadPort::new(rt.stdin()))?;
-    let mut output = WritePort::new(rt.stdout());
-    let answer = match runs {
-        Some(runs) => debug_behind(
-            rt.alloc(),
-            program,
-            runs.as_slice(),
-            &mut commands,
-            &mut output,
-        ),
-        None => headline::debug(rt.alloc(), program, &mut commands, &mut output),
-    };
-    Ok(as_asked(flushed(answer, &mut output))?)
-}
-
-/// Writes which line is the first that is no line of a trace.
-fn not_a_trace<'a>(rt: &HostRuntime, line: u64) -> Answer<'a> {
-    let mut output = WritePort::new(rt.stdout());
-    let answer = match push_counted_line(&mut output, b"not a trace ", line) {
-        Ok(()) => Ok(Done::Unlike),
-        Err(_) => Err(Fault::Write),
-    };
-    Ok(flushed(answer, &mut output)?)
-}
-
-/// What a trace names, if there is one.
-fn named_in<'a>(rt: &HostRuntime, trace: Option<File>) -> Result<Option<Named>, Trouble<'a>>
-    ensures runs { IfOk result (λ named. IfSome named AreRuns) }
-{
-    let Some(trace) = trace else {
-        return Ok(None);
-    };
-    match choices_in(rt.alloc(), &mut ReadPort::new(trace)) {
-        Ok(named) => Ok(Some(named)),
-        Err(NamingFault::Memory) => Err(Trouble::Fault(Fault::Memory)),
-        Err(NamingFault::Read) => Err(Trouble::Fault(Fault::Read)),
-    }
-}
-
-/// Answers the commands on standard input, which are about a program, behind a trace if there is one.
-fn session_at<'a, F: Source>(rt: &HostRuntime, program: &mut F, trace: Option<File>) -> Answer<'a> {
-    push_waiting(
-        rt,
-        b"reading commands from the terminal (debug --help lists them)\n",
-    );
-    match named_in(rt, trace)? {
-        Some(Named::Choices(runs)) => session(rt, program, Some(runs)),
-        Some(Named::NotATrace { line }) => not_a_trace(rt, line),
-        None => session(rt, program, None),
-    }
-}
-
-/// The same for a person, who is told beside the answers who may go on.
-fn guided_session<'a>(rt: &HostRuntime, program: &[u8], runs: Option<&[Run]>) -> Answer<'a>
-    requires { IfSome runs (λ runs. All IsRun runs.now) }
-{
-    let mut commands = BlockSource::new(rt.alloc(), ReadPort::new(rt.stdin()))?;
-    let mut output = WritePort::new(rt.stdout());
-    let answer = debug_guided(
-        rt.alloc(),
-        program,
-        runs,
-        &mut commands,
-        &mut output,
-        &mut WritePort::new(printable::errors(rt)),
-    );
-    Ok(as_asked(flushed(answer, &mut output))?)
-}
-
-/// The same for a person, who is shown the program's rows first. The file is read once.
-fn session_with_rows<'a>(rt: &HostRuntime, program: File, trace: Option<File>) -> Answer<'a> {
-    let bytes = read_all(rt.alloc(), &mut ReadPort::new(program))?;
-    let mut rows = WritePort::new(printable::errors(rt));
-    list_rows(
-        rt.alloc(),
-        &mut SliceSource::new(bytes.as_slice()),
-        &mut rows,
-    )?;
-    push_waiting(
-        rt,
-        b"reading commands from the terminal (`help` lists them)\n",
-    );
-    match named_in(rt, trace)? {
-        Some(Named::Choices(runs)) => guided_session(rt, bytes.as_slice(), Some(runs.as_slice())),
-        Some(Named::NotATrace { line }) => not_a_trace(rt, line),
-        None => guided_session(rt, bytes.as_slice(), None),
-    }
-}
-
-/// Answers the commands on standard input, which are about the program in a file.
-fn debug<'a>(rt: &HostRuntime, file: &'a str, trace: Option<&'a str>) -> Answer<'a> {
-    let program = files::read(rt, file)?;
-    let trace = match trace {
-        Some(trace) => Some(files::read(rt, trace)?),
-        None => None,
-    };
-    if rt.stdin().is_terminal() && rt.stderr().is_terminal() {
-        session_with_rows(rt, program, trace)
-    } else {
-        session_at(rt, &mut ReadPort::new(program), trace)
-    }
 }
 
 /// Writes the picture of the program in a file under a schedule, which is read as far as its fault or a choice too many, or stands

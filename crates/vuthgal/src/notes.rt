@@ -19,6 +19,13 @@ fn push_note(rt: &HostRuntime, parts: &[&[u8]]) -> Result<(), Failed> {
     Ok(())
 }
 
+/// Tells a person at a terminal what is waited for.
+pub fn push_waiting(rt: &HostRuntime, text: &[u8]) {
+    if rt.stdin().is_terminal() {
+        let _ = WritePort::new(rt.stderr()).push(text);
+    }
+}
+
 /// A text without a line `.run` has no schedule.
 pub fn push_no_schedule(rt: &HostRuntime) {
     let _ = push_note(
