@@ -2,6 +2,7 @@ pub mod Blanks
 mod Drawings
 mod NoPicture
 mod Pages
+pub mod PlanLine
 pub mod ListedRows
 pub mod Told
 mod Written
