@@ -3,6 +3,7 @@ mod Drawings
 mod NoPicture
 mod Pages
 pub mod PlanLine
+pub mod PlanParts
 pub mod ListedRows
 pub mod Told
 mod Written
