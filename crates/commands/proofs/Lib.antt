@@ -2,6 +2,8 @@ pub mod Blanks
 mod Drawings
 mod NoPicture
 mod Pages
+pub mod PlanLine
+pub mod PlanParts
 pub mod ListedRows
 pub mod Told
 mod Written

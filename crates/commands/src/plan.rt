@@ -111,7 +111,10 @@ fn planned_in(alloc: Global, file: &[u8], plan: &[u8]) -> Result<Planned, Unplan
         × (result ≢ Err (why.Fault Fault.Spawn)) }
 {
     let (program, names) = loaded_program(alloc, file)?;
-    let words = plan_words(alloc, plan, names.as_slice())?;
+    let words = match plan_words(alloc, plan, names.as_slice()) {
+        Ok(words) => words,
+        Err(reason) => return Err(reason),
+    };
     match plan_runs(alloc, program, words.as_slice()) {
         Ok(planned) => Ok(planned),
         Err(_) => Err(Unplanned::Fault(Fault::Memory)),
@@ -162,6 +165,9 @@ pub fn plan<F: Source, S: Source, K: Sink>(
     let bytes = read_all(alloc, file)?;
     let steps = read_all(alloc, plan)?;
     let (program, _) = parts_of(bytes.as_slice());
-    let planned = planned_in(alloc, program, steps.as_slice())?;
+    let planned = match planned_in(alloc, program, steps.as_slice()) {
+        Ok(planned) => planned,
+        Err(reason) => return Err(reason),
+    };
     Ok(push_planned(alloc, &planned, output)?)
 }
