@@ -97,8 +97,8 @@ class Room:
 
 @functools.cache
 def is_checked(program):
-    """Whether a program looks at each access of its own, as `rt try` builds it: that one is slow, and takes as much memory as it
-    likes."""
+    """Whether a program looks at each access of its own, as `rt try` builds it: that one may take ten times as long, and as much
+    memory as it likes."""
     with open(program, "rb") as file:
         return b"AddressSanitizer" in file.read()
 
@@ -115,7 +115,7 @@ def judge(answer, used, is_checked):
     is_schedule = answer.errors.startswith(b"refused schedule ")
     if answer.status in (2, 3) and answer.output and not is_schedule:
         raise Finding(f"status {answer.status}, and an output: {answer.output[:80]!r}")
-    if used.ru_utime + used.ru_stime > SECONDS_OF_PROCESSOR:
+    if used.ru_utime + used.ru_stime > (10 * SECONDS_OF_PROCESSOR if is_checked else SECONDS_OF_PROCESSOR):
         raise Finding(f"it took {used.ru_utime + used.ru_stime:.1f} s of a processor")
     if used.ru_maxrss * 1024 > MEMORY and not is_checked:
         raise Finding(f"it took {used.ru_maxrss} kB of memory")

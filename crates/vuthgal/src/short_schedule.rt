@@ -1,6 +1,6 @@
 //! A schedule, read no further than a picture needs.
 
-ghost use Rattle.std.specs.Prelude.{◌≤◌, ◌+◌, IfOk, IfSome, None, length};
+ghost use Rattle.std.specs.Prelude.{◌≤◌, ◌+◌, if◌then◌else◌, false, IfOk, IfSome, None, length};
 ghost use Rattle.std.specs.Io.KnownBytes.{ReadConsumes};
 ghost use Rattle.byte_ports.specs.Port.{FailsForGood};
 
@@ -90,12 +90,13 @@ impl<S: Drop> ShortSchedule<S> {
 impl<S: Source> Source for ShortSchedule<S> {
     ghost left = { λ _. None };
 
-    ghost has_failed = { λ s. S.has_failed s.source };
+    ghost has_failed = { λ s. if s.is_over then false else S.has_failed s.source };
 
     ghost reads = { λ s. S.reads s.source };
 
     fn pull(&mut self, buffer: &mut [u8]) -> Result<usize, Failed>
-        ensures failed { FailsForGood (S.has_failed self.old.source) (S.has_failed self.new.source) result }
+        ensures failed { FailsForGood (if self.old.is_over then false else S.has_failed self.old.source)
+            (if self.new.is_over then false else S.has_failed self.new.source) result }
         ensures bound { IfOk result (λ n. n ≤ length buffer.new) }
         ensures bytes { ReadConsumes None None result buffer.new }
         ensures reads { S.reads self.new.source ≤ S.reads self.old.source + 1 }
