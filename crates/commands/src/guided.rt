@@ -3,9 +3,6 @@
 //! It answers each line on `output` as `debug` does. Beside that it tells on `notes` who may go on and at which row, by the names
 //! of the program, and it knows two words more: `help`, and `w`, which writes the choices that were played as a schedule.
 
-ghost use Rattle.std.specs.Prelude.{All, IfSome};
-ghost use Rattle.schedule_reader.specs.Schedule.{IsRun};
-
 use crate::drawing::named_program;
 use crate::may_go::push_may_go;
 use crate::picture_fault::start_fault;
@@ -73,6 +70,11 @@ fn memory(_error: AllocError) -> Fault {
     Fault::Memory
 }
 
+/// The output has failed.
+fn failed(_failed: Failed) -> Fault {
+    Fault::Write
+}
+
 /// Tells something beside the answers. Where it can't be told the session goes on.
 fn note(told: Result<(), Failed>) {
     let _ = told;
@@ -94,9 +96,7 @@ impl<'a> Session<'a> {
     }
 
     /// Plays runs as `g` does, and tells how far they went.
-    fn go<K: Sink>(&mut self, runs: &[Run], output: &mut K) -> Result<(), Fault>
-        requires { All IsRun runs.now }
-    {
+    fn go<K: Sink>(&mut self, runs: &[Run], output: &mut K) -> Result<(), Fault> {
         let before = self.debugger.machine().choices();
         let done = self.debugger.go_command(runs, output);
         let after = self.debugger.machine().choices();
@@ -134,7 +134,7 @@ impl<'a> Session<'a> {
                 true
             }
             Asked::Schedule => {
-                self.played.write(alloc, output)?;
+                self.played.write(output).map_err(failed)?;
                 true
             }
             Asked::Command => self.command(alloc, line, output)?,
@@ -178,9 +178,7 @@ pub fn debug_guided<S: Source, K: Sink, E: Sink>(
     commands: &mut S,
     output: &mut K,
     notes: &mut E,
-) -> Result<(), Fault>
-    requires { IfSome runs (λ runs. All IsRun runs.now) }
-{
+) -> Result<(), Fault> {
     let mut session = Session::of(alloc, program)?;
     if let Some(runs) = runs {
         session.go(runs, output)?;

@@ -1,10 +1,8 @@
 //! The program: finds the command that its words ask for, opens the files, and hands them to the command.
 #![tactic(auto)]
 
-ghost use Rattle.std.specs.Prelude.{◌≤◌, All, IfOk, IfSome};
+ghost use Rattle.std.specs.Prelude.{◌≤◌, IfSome};
 ghost use Rattle.command_line.specs.Request.{IsInRange};
-ghost use Rattle.schedule_reader.specs.Schedule.{IsRun};
-ghost use Rattle.trace_choices.specs.Named.{AreRuns};
 
 mod ending;
 mod expectation;
@@ -257,9 +255,7 @@ fn not_a_trace<'a>(rt: &HostRuntime, line: u64) -> Answer<'a> {
 }
 
 /// What a trace names, if there is one.
-fn named_in<'a>(rt: &HostRuntime, trace: Option<File>) -> Result<Option<Named>, Trouble<'a>>
-    ensures runs { IfOk result (λ named. IfSome named AreRuns) }
-{
+fn named_in<'a>(rt: &HostRuntime, trace: Option<File>) -> Result<Option<Named>, Trouble<'a>> {
     let Some(trace) = trace else {
         return Ok(None);
     };
@@ -284,9 +280,7 @@ fn session_at<'a, F: Source>(rt: &HostRuntime, program: &mut F, trace: Option<Fi
 }
 
 /// The same for a person, who is told beside the answers who may go on.
-fn guided_session<'a>(rt: &HostRuntime, program: &[u8], runs: Option<&[Run]>) -> Answer<'a>
-    requires { IfSome runs (λ runs. All IsRun runs.now) }
-{
+fn guided_session<'a>(rt: &HostRuntime, program: &[u8], runs: Option<&[Run]>) -> Answer<'a> {
     let mut commands = BlockSource::new(rt.alloc(), ReadPort::new(rt.stdin()))?;
     let mut output = WritePort::new(rt.stdout());
     let answer = debug_guided(
