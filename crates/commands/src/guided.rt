@@ -155,7 +155,7 @@ impl<'a> Session<'a> {
     ) -> Result<(), Fault> {
         let mut line = Vec::new(alloc);
         let mut reads = MOST_READS;
-        while reads > 0 {
+        for _ in 0..MOST_READS {
             let is_ended = read_line(commands, &mut reads, &mut line)?;
             if !is_ended && line.is_empty() {
                 return Ok(());
