@@ -5,10 +5,9 @@
 //! `help`, and `w`, which writes the choices that were played as a schedule. So that it knows who may go on, the source plays what
 //! it hands on in a session of its own.
 
-ghost use Rattle.std.specs.Prelude.{◌≤◌, All, IfOk, IfSome, None, length};
+ghost use Rattle.std.specs.Prelude.{◌≤◌, IfOk, None, length};
 ghost use Rattle.std.specs.Io.KnownBytes.{ReadConsumes};
 ghost use Rattle.byte_ports.specs.Port.{FailsForGood};
-ghost use Rattle.schedule_reader.specs.Schedule.{IsRun};
 
 use crate::mirror::Mirror;
 use byte_ports::{Failed, Sink, Source};
@@ -50,7 +49,7 @@ fn wanted_by(line: &[u8]) -> Wanted {
 }
 
 /// Tells something beside the session. Where it can't be told the session goes on.
-fn note<T: Drop, F: Drop>(told: Result<T, F>) {
+fn note(told: Result<(), Failed>) {
     let _ = told;
 }
 
@@ -95,7 +94,7 @@ impl<'a, S: Source + Drop, K: Sink + Drop, E: Sink + Drop> Guide<'a, S, K, E> {
                 false
             }
             Wanted::Schedule => {
-                note(self.mirror.write_played(self.alloc, &mut self.output));
+                note(self.mirror.write_played(&mut self.output));
                 false
             }
             Wanted::Command => {
@@ -161,9 +160,7 @@ impl<'a, S: Source + Drop, K: Sink + Drop, E: Sink + Drop> GuidedCommands<'a, S,
         source: S,
         output: K,
         notes: E,
-    ) -> Result<GuidedCommands<'a, S, K, E>, Fault>
-        requires { IfSome runs (λ runs. All IsRun runs.now) }
-    {
+    ) -> Result<GuidedCommands<'a, S, K, E>, Fault> {
         let mut mirror = Mirror::of(alloc, program)?;
         let is_lost = match runs {
             Some(runs) => mirror.go(runs).is_err(),

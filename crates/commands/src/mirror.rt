@@ -1,8 +1,5 @@
 //! A session of the debugger, followed by the lines that are handed on to it.
 
-ghost use Rattle.std.specs.Prelude.{All};
-ghost use Rattle.schedule_reader.specs.Schedule.{IsRun};
-
 use crate::drawing::named_program;
 use crate::may_go::push_may_go;
 use crate::nowhere::Nowhere;
@@ -46,9 +43,7 @@ impl<'a> Mirror<'a> {
     }
 
     /// Plays runs as `g` does.
-    pub fn go(&mut self, runs: &[Run]) -> Result<(), AllocError>
-        requires { All IsRun runs.now }
-    {
+    pub fn go(&mut self, runs: &[Run]) -> Result<(), AllocError> {
         let before = self.debugger.machine().choices();
         let _ = self.debugger.go_command(runs, &mut Nowhere);
         let after = self.debugger.machine().choices();
@@ -71,7 +66,7 @@ impl<'a> Mirror<'a> {
     }
 
     /// Writes the choices that were played and not taken back, as a schedule.
-    pub fn write_played<K: Sink>(&self, alloc: Global, output: &mut K) -> Result<(), Fault> {
-        self.played.write(alloc, output)
+    pub fn write_played<K: Sink>(&self, output: &mut K) -> Result<(), Failed> {
+        self.played.write(output)
     }
 }

@@ -1,14 +1,10 @@
 //! The choices that a session of the debugger has played and not taken back.
 
-ghost use Rattle.std.specs.Prelude.{All, IfOk};
-ghost use Rattle.schedule_reader.specs.Schedule.{IsRun};
-
-use byte_ports::Sink;
-use schedule_reader::{Reader, Run, ScheduleFault, write_schedule};
+use byte_ports::{Failed, Sink};
+use schedule_reader::{Reader, Run, ScheduleFault};
 use std::alloc::{AllocError, Global};
-use std::marker::Model;
 use thread_machine::Choice;
-use workbench::fault::Fault;
+use trace_choices::writing::push_token;
 
 /// How often a run names its choice at most.
 const MOST_TIMES: u32 = 1_000_000_000;
@@ -19,22 +15,8 @@ pub struct Played {
     runs: Vec<Run>,
 }
 
-impl Model for Played {
-    ghost use Rattle.std.specs.Prelude.{All, List};
-    ghost use Rattle.schedule_reader.specs.declared.run.Run.{Run};
-    ghost use Rattle.schedule_reader.specs.Schedule.{IsRun};
-
-    ghost Value = { List Run };
-
-    ghost view = { λ played. played.runs.items };
-
-    ghost invariant = { λ played. All IsRun played.runs.items };
-}
-
 /// The runs of the tokens behind the letter of a line.
-fn runs_behind(alloc: Global, line: &[u8]) -> Result<Vec<Run>, AllocError>
-    ensures { IfOk result (λ runs. All IsRun runs.items) }
-{
+fn runs_behind(alloc: Global, line: &[u8]) -> Result<Vec<Run>, AllocError> {
     let mut reader = Reader::new();
     let mut runs = Vec::new(alloc);
     let [_, tokens @ ..] = line.trim_ascii() else {
@@ -83,16 +65,17 @@ impl Played {
     }
 
     /// So many choices of these runs, from the first on.
-    pub fn push_runs(&mut self, runs: &[Run], before: u64, after: u64) -> Result<(), AllocError>
-        requires { All IsRun runs.now }
-    {
+    pub fn push_runs(&mut self, runs: &[Run], before: u64, after: u64) -> Result<(), AllocError> {
         let mut left = after.saturating_sub(before);
         for run in runs {
-            let times = u64::from(run.times).min(left);
+            let times = match u32::try_from(left) {
+                Ok(left) => run.times.min(left),
+                Err(_) => run.times,
+            };
             if times > 0 {
-                self.push(run.choice, times as u32)?;
+                self.push(run.choice, times)?;
             }
-            left = left.saturating_sub(times);
+            left = left.saturating_sub(u64::from(times));
         }
         Ok(())
     }
@@ -127,21 +110,16 @@ impl Played {
         Ok(())
     }
 
-    /// The line of their schedule.
-    fn line(&self, alloc: Global) -> Result<String, AllocError> {
-        let mut text = write_schedule(alloc, self.runs.as_slice())?;
-        text.push('\n')?;
-        Ok(text)
-    }
-
     /// Writes them as a schedule, in a line.
-    pub fn write<K: Sink>(&self, alloc: Global, output: &mut K) -> Result<(), Fault> {
-        let Ok(line) = self.line(alloc) else {
-            return Err(Fault::Memory);
-        };
-        match output.push(line.as_bytes()) {
-            Ok(()) => Ok(()),
-            Err(_) => Err(Fault::Write),
+    pub fn write<K: Sink>(&self, output: &mut K) -> Result<(), Failed> {
+        let mut left = self.runs.len();
+        if left == 0 {
+            return output.push(b"\n");
         }
+        for run in self.runs.as_slice() {
+            left = left.saturating_sub(1);
+            push_token(output, *run, if left == 0 { b'\n' } else { b' ' })?;
+        }
+        Ok(())
     }
 }

@@ -1,6 +1,6 @@
 -- The entries of words, beside the instruction table.
-use Rattle.std.proofs.Common.{◌≡◌, ◌≤◌, ◌<◌, ◌∙◌, ℕ, List, Option, Some, None, IfSome, option_map, slice_index_or, length, ap, sym, subst, refl, arith, zero-add}
-use Rattle.std.specs.Prelude.{MatchOption, ◌≢◌, true, inl, inr}
+use Rattle.std.proofs.Common.{◌≡◌, ◌≤◌, ◌<◌, ◌∙◌, ℕ, List, Option, Some, None, IfSome, option_map, slice_index_or, length, ap, sym, subst, refl, arith, zero-add, inl, inr}
+use Rattle.std.specs.Prelude.{MatchOption, ◌≢◌, true}
 use Rattle.instruction_table.specs.declared.shape.Shape.{Shape}
 use Rattle.instruction_table.specs.Table.{Entry, entry_named, entry_of, no_entry, table}
 use Rattle.instruction_table.proofs.TableLemmas.{found_is_entry, opcode-at, table_placed}
@@ -28,5 +28,5 @@ row_told word s (Some e) named placed (is, form) =
 pub directive_told : (word : List ℕ) (told : Option WordEntry) → None ≡ entry_named table word
     → MatchOption told (is_directive word ≢ true) (λ (e : WordEntry). e.word.now ≡ word)
     → MatchOption told (IsNoWord word) (λ e. IsItsWord e word)
-directive_told word None named none = ((λ row is. grind (named, is)), none)
+directive_told word None named none = ((λ row is. grind (arith, named, is)), none)
 directive_told word (Some e) named is = inr (sym named, is)

@@ -1,5 +1,5 @@
 -- What is told of a word of the language.
-use Rattle.std.specs.Prelude.{◌≡◌, ◌≢◌, ◌⊎◌, ◌≤◌, ◌<◌, ⊥, ⊤, ℕ, List, [], ◌∷◌, ◌++◌, None, Some, codes, slice_index_or, true}
+use Rattle.std.specs.Prelude.{◌≡◌, ◌≢◌, ◌⊎◌, ◌≤◌, ◌<◌, ⊤, ℕ, List, [], ◌∷◌, ◌++◌, None, Some, codes, slice_index_or, true}
 use Rattle.instruction_table.specs.declared.shape.OperandKind.{OperandKind}
 use Rattle.instruction_table.specs.declared.shape.OperandKind.TheVariants.{Register, Number, Target, Phaser, Barrier, Thread, Cell}
 use Rattle.instruction_table.specs.Table.{Entry, entry_named, no_entry, table}

@@ -1,9 +1,5 @@
 //! Sessions of the debugger.
 
-ghost use Rattle.std.specs.Prelude.{All, IfOk, IfSome};
-ghost use Rattle.schedule_reader.specs.Schedule.{IsRun};
-ghost use Rattle.trace_choices.specs.Named.{AreRuns};
-
 use crate::ending::flushed;
 use crate::trouble::Trouble;
 use crate::{files, notes, printable};
@@ -29,9 +25,7 @@ fn session<'a, F: Source, S: Source>(
     program: &mut F,
     runs: Option<&[Run]>,
     commands: &mut S,
-) -> Answer<'a>
-    requires { IfSome runs (λ runs. All IsRun runs.now) }
-{
+) -> Answer<'a> {
     let mut output = WritePort::new(rt.stdout());
     let answer = match runs {
         Some(runs) => debug_behind(rt.alloc(), program, runs, commands, &mut output),
@@ -45,17 +39,13 @@ fn session_of_input<'a, F: Source>(
     rt: &HostRuntime,
     program: &mut F,
     runs: Option<&[Run]>,
-) -> Answer<'a>
-    requires { IfSome runs (λ runs. All IsRun runs.now) }
-{
+) -> Answer<'a> {
     let mut commands = BlockSource::new(rt.alloc(), ReadPort::new(rt.stdin()))?;
     session(rt, program, runs, &mut commands)
 }
 
 /// The commands are those of a person, who is told beside the answers who may go on.
-fn session_of_person<'a>(rt: &HostRuntime, program: &[u8], runs: Option<&[Run]>) -> Answer<'a>
-    requires { IfSome runs (λ runs. All IsRun runs.now) }
-{
+fn session_of_person<'a>(rt: &HostRuntime, program: &[u8], runs: Option<&[Run]>) -> Answer<'a> {
     let mut commands = GuidedCommands::new(
         rt.alloc(),
         program,
@@ -78,9 +68,7 @@ fn not_a_trace<'a>(rt: &HostRuntime, line: u64) -> Answer<'a> {
 }
 
 /// What a trace names, if there is one.
-fn named_in<'a>(rt: &HostRuntime, trace: Option<File>) -> Result<Option<Named>, Trouble<'a>>
-    ensures runs { IfOk result (λ named. IfSome named AreRuns) }
-{
+fn named_in<'a>(rt: &HostRuntime, trace: Option<File>) -> Result<Option<Named>, Trouble<'a>> {
     let Some(trace) = trace else {
         return Ok(None);
     };
