@@ -96,7 +96,7 @@ pub fn nearest_word(alloc: Global, word: &[u8]) -> Result<Option<&'static str>, 
 }
 
 /// The name of the text that is nearest to this one, where it is near at all.
-pub fn nearest<'a>(
+pub fn nearest_name<'a>(
     alloc: Global,
     text: &'a [u8],
     name: &[u8],

@@ -2,7 +2,7 @@
 
 use crate::about::question_about;
 use crate::kinds::called;
-use crate::names::{first_line, nearest, nearest_word};
+use crate::names::{first_line, nearest_name, nearest_word};
 use crate::shown::{push_file, push_line, push_marked, push_shown};
 use assembler::made::line_that_makes;
 use assembler::placed::{PlacedFault, UnknownName, assemble_placed};
@@ -84,7 +84,7 @@ fn push_name<E: Sink>(
         errors.push(b" is wanted\n")?;
         return Ok(());
     }
-    if let Some(name) = nearest(alloc, text, word)? {
+    if let Some(name) = nearest_name(alloc, text, word)? {
         errors.push(b"  Near:    ")?;
         push_shown(errors, name)?;
         errors.push(b"\n")?;
