@@ -5,6 +5,7 @@ use Rattle.row_code.specs.declared.image.Image.{Image}
 use Rattle.schedule_reader.specs.declared.fault.ScheduleFault.{ScheduleFault}
 use Rattle.schedule_reader.specs.declared.run.Run.{Run}
 use Rattle.schedule_reader.specs.Schedule.{Schedule, open_schedule, finished_schedule, choices_of}
+use Rattle.thread_machine.specs.declared.choice.Choice.{Choice}
 use Rattle.thread_machine.specs.World.{World}
 use Rattle.thread_machine.specs.Standing.{standing_of}
 use Rattle.thread_machine.specs.Execution.{Execution, execution}

@@ -1,4 +1,4 @@
-ghost use Rattle.std.specs.Prelude.{◌≡◌, ◌≢◌, ◌⊎◌, ◌+◌, ◌<◌, ◌≤◌, ◌++◌, [], List, ℕ, Option, Some, None, Err, IsTrue, IfErr, IfOk, false, OnOk, is_some, length, not};
+ghost use Rattle.std.specs.Prelude.{◌≡◌, ◌≢◌, ◌⊎◌, ◌↔◌, ◌+◌, ◌<◌, ◌≤◌, ◌++◌, [], List, ℕ, Option, Some, None, Err, IsTrue, IfErr, IfOk, false, OnOk, length};
 ghost use Rattle.std.specs.Io.KnownBytes.{Appends};
 ghost use Rattle.schedule_reader.specs.Schedule.{choices_of, finished_schedule, open_schedule};
 ghost use Rattle.thread_machine.specs.World.{World, world_of};

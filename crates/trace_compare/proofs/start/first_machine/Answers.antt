@@ -18,8 +18,8 @@ returns-in-Err c =
           subst (λ told. is_want_of_memory told ≡ false) same (no_want c.args.image c.in-Err.fault first);
     }
 
-pub returns-in-Ok-new-clause-machine : goal.returns-in-Ok-new-clause-machine
-returns-in-Ok-new-clause-machine c = (
+pub returns-in-Ok-begun-clause-machine : goal.returns-in-Ok-begun-clause-machine
+returns-in-Ok-begun-clause-machine c = (
   c.in-Ok.ensures.none,
-  subst (IsFirstOf c.args.image 1000000000) (sym c.in-Ok-new.ensures) (is_first c.args.image c.in-Ok.program 1000000000 c.in-Ok.ensures.loaded),
+  subst (IsFirstOf c.args.image 1000000000) (sym c.in-Ok-begun.ensures) (is_first c.args.image c.in-Ok.program 1000000000 c.in-Ok.ensures.loaded),
 )
