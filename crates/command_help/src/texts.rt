@@ -156,7 +156,7 @@ half of its turns, so that other runs come about too; what is written is still
 the trace of the run that came about, whatever the pauses.
 
 Time passes only where no thread can go on otherwise: a timed wait never runs
-out before an arrival that is still possible. A schedule with `xN` shows that.
+out before an arrival that is still possible. A plan with `xNAME` shows that.
 
 With `--runs N` it plays N runs and writes no trace, but a line for each state
 that a run ended in, the most frequent first: how often one did, `all`, `stuck`

@@ -70,17 +70,27 @@ pub plan_played : (file plan : List ℕ) (program : Program) (planned : Planned)
     → (progress : Progress) × (Plays file plan progress × Shows planned progress)
 plan_played file plan program planned names given words taken (image, (has, of)) same read (steps, spelled) also shows =
     let whole = subst (λ (ns : List (Bor (List ℕ))). words_in_plan (map name_seen ns) plan ≡ Ok words) same read in
-    let written = subst (λ (ws : List Word). words_in_plan (map name_seen names) plan ≡ Ok ws) (sym spelled) whole in
-    (plays steps (begun program),
-    ((image, (map name_seen names, (program, (steps, (has, of, written, refl))))), shows steps (spelled ∙ sym also)))
+    let written = subst (λ (ws : List Word). words_in_plan (map name_seen names) plan ≡ Ok ws) (sym spelled) whole in (
+      plays steps (begun program),
+      ((image, (map name_seen names, (program, (steps, (has, of, written, refl))))), shows steps (spelled ∙ sym also)),
+    )
 
 -- there is no schedule of what was read
 pub none_planned : (reason : Unplanned) (bytes steps program taken : List ℕ) (fb fa pb pa : Option (List ℕ))
     → GivesAll fb fa bytes → GivesAll pb pa steps → program ≡ program_of bytes → taken ≡ steps
     → HasNoSchedule reason program taken → HasNone reason fb fa pb pa
-none_planned reason bytes steps program taken fb fa pb pa gives more is also none =
-    (bytes, (steps, (gives, more, subst (λ (p : List ℕ). HasNoSchedule reason (program_of bytes) p) also
-    (subst (λ (f : List ℕ). HasNoSchedule reason f taken) is none))))
+none_planned reason bytes steps program taken fb fa pb pa gives more is also none = (
+  bytes,
+  (
+    steps,
+    (
+      gives,
+      more,
+      subst (λ (p : List ℕ). HasNoSchedule reason (program_of bytes) p) also
+          (subst (λ (f : List ℕ). HasNoSchedule reason f taken) is none),
+    ),
+  ),
+)
 
 -- what was read was played, and its schedule was written
 pub plan_written : (stopped : Bool) (planned : Planned) (bytes steps program taken : List ℕ) (fb fa pb pa old new : Option (List ℕ))
@@ -90,6 +100,13 @@ pub plan_written : (stopped : Bool) (planned : Planned) (bytes steps program tak
     → HasPlanned stopped fb fa pb pa old new
 plan_written stopped planned bytes steps program taken fb fa pb pa old new gives more is also (progress, (played, shows)) are told appends =
     let there = subst (λ (p : List ℕ). Plays (program_of bytes) p progress) also
-    (subst (λ (f : List ℕ). Plays f taken progress) is played) in
-    (bytes, (steps, (schedule_line planned.runs.items,
-    (gives, more, (progress, (there, (planned.runs.items, (are, shows.choices, refl, told ∙ shows.stopped)))), appends))))
+    (subst (λ (f : List ℕ). Plays f taken progress) is played) in (
+      bytes,
+      (
+        steps,
+        (
+          schedule_line planned.runs.items,
+          (gives, more, (progress, (there, (planned.runs.items, (are, shows.choices, refl, told ∙ shows.stopped)))), appends),
+        ),
+      ),
+    )

@@ -1,4 +1,5 @@
 //! The place of a plan's fault, and its words.
+ghost use Rattle.std.specs.Prelude.{◌≤◌, length};
 
 use crate::names::distance;
 use crate::place::{Named, ProgramFile, Unshown};
@@ -76,7 +77,9 @@ fn never_closed(alloc: Global, plan: &[u8]) -> Result<Option<WordPlace>, AllocEr
 }
 
 /// Whether this fault comes already where a plan ends here.
-fn comes_before(alloc: Global, plan: &[u8], names: &[&[u8]], fault: PlanFault, end: usize) -> bool {
+fn comes_before(alloc: Global, plan: &[u8], names: &[&[u8]], fault: PlanFault, end: usize) -> bool
+    requires { length names.now ≤ 64 }
+{
     match read_plan(alloc, plan.get(..end).unwrap_or(plan), names) {
         Ok(_) => false,
         Err(found) => found == fault,
@@ -91,20 +94,22 @@ fn faulty_word(
     fault: PlanFault,
     begin: usize,
     places: &[WordPlace],
-) -> Option<WordPlace> {
+) -> Option<WordPlace>
+    requires { length names.now ≤ 64 }
+{
     let mut low = 0;
     let mut high = places.len();
     for _ in 0..64 {
         if low >= high {
             break;
         }
-        let middle = low + (high - low) / 2;
+        let middle = low.saturating_add(high.saturating_sub(low) / 2);
         let place = *places.get(middle)?;
         let end = begin.saturating_add(place.at).saturating_add(place.length);
         if comes_before(alloc, plan, names, fault, end) {
             high = middle;
         } else {
-            low = middle + 1;
+            low = middle.saturating_add(1);
         }
     }
     places.get(low).copied()
@@ -131,7 +136,9 @@ fn place_in(
     names: &[&[u8]],
     fault: PlanFault,
     line: &[u8],
-) -> Result<Option<WordPlace>, AllocError> {
+) -> Result<Option<WordPlace>, AllocError>
+    requires { length names.now ≤ 64 }
+{
     if fault.kind == PlanFaultKind::NotClosed {
         return never_closed(alloc, plan);
     }
@@ -144,7 +151,7 @@ fn place_in(
 fn name_in(word: &[u8]) -> &[u8] {
     let stem = word.get(..length_before(b'*', word)).unwrap_or(word);
     if stem.last() == Some(&b'.') {
-        stem.get(..stem.len() - 1).unwrap_or(stem)
+        stem.get(..stem.len().saturating_sub(1)).unwrap_or(stem)
     } else {
         stem
     }
@@ -214,7 +221,9 @@ fn push_shown_place<E: Sink>(
     fault: PlanFault,
     names: &[&[u8]],
     plan: Named<'_>,
-) -> Result<(), Unshown> {
+) -> Result<(), Unshown>
+    requires { length names.now ≤ 64 }
+{
     let Some(line) = line_at(plan.bytes, fault.line) else {
         return Ok(());
     };
