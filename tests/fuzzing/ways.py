@@ -142,7 +142,8 @@ def look_at(room, chance, program, asked):
         if chance.random() < 0.5:
             continue
         answer = room.call(*words)
-        if asked.count() > SHOWN and answer.errors == b"refused %s %d\n" % (words[0].encode(), SHOWN):
+        if asked.count() > SHOWN:
+            agrees((answer.status, answer.errors), (3, b"refused %s %d\n" % (words[0].encode(), SHOWN)), f"{words[0]} of too many choices")
             continue
         agrees((answer.status, answer.errors), (3 if fault else 0, fault), words[0])
         if any(byte not in b"\n\r\t" and not 32 <= byte < 127 for byte in answer.output):
