@@ -1,5 +1,6 @@
 //! Why words that the commands take ask for nothing.
 ghost use Rattle.std.specs.Prelude.{◌≡◌};
+ghost use Rattle.command_line.specs.Told.{told_of};
 ghost use Rattle.command_line.specs.declared.refusal.Refusal.{Refusal};
 ghost use Rattle.command_line.specs.declared.refusal.Refusal.TheVariants as refusal;
 
@@ -45,7 +46,9 @@ impl From<WrongOption> for Refusal {
 
 impl WrongOption {
     /// What is told of it.
-    pub fn told(self) -> &'static str {
+    pub fn told(self) -> &'static str
+        ensures { result.now ≡ told_of self }
+    {
         match self {
             WrongOption::Width => "--width N: N is 60 to 1000, in digits alone",
             WrongOption::Limit => "--limit N: N is 1 to 1000000000, in digits alone",

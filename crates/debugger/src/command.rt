@@ -1,10 +1,10 @@
-ghost use Rattle.std.specs.Prelude.{◌≡◌, ◌↔◌, Err, true, ◌==◌, ◌+◌, ◌≤◌, ◌<◌, IfOk, Some, None, length};
+ghost use Rattle.std.specs.Prelude.{◌≡◌, ◌↔◌, Err, OnErr, true, ◌==◌, ◌+◌, ◌≤◌, ◌<◌, IfOk, Some, None, length};
 ghost use Rattle.std.specs.Char.{is_ascii_digit};
 ghost use Rattle.std.specs.List.{AllPass, list_all, list_any, position, position_or_len};
 ghost use Rattle.std.specs.Option.{option_map};
 ghost use Rattle.std.specs.Str.Parse.{digits_value};
 ghost use Rattle.schedule_reader.specs.Schedule.{is_blank};
-ghost use Rattle.debugger.specs.Command.{Unknown, Break, Clear, alone, by_row, go_by, goes_on, is_letter, is_row, letter_of, line_order, order_of, rest_of, row_in, runs_in, step_by, word_of};
+ghost use Rattle.debugger.specs.Command.{Unknown, Break, Clear, alone, by_row, go_by, goes_on, has_tokens, is_letter, is_row, letter_of, line_order, order_of, rest_of, row_in, runs_in, step_by, word_of};
 
 use schedule_reader::{Reader, Run, ScheduleFault};
 use std::alloc::AllocError;
@@ -252,7 +252,8 @@ fn clear_of(row: Option<usize>) -> Command
 
 /// Reads a line, its runs into a list of which only the room is used.
 pub fn command_of(room: Vec<Run>, line: &[u8]) -> Result<Command, AllocError>
-    ensures { IfOk result (λ command. order_of command ≡ line_order line.now) }
+    ensures order { IfOk result (λ command. order_of command ≡ line_order line.now) }
+    ensures wants { OnErr result (has_tokens (letter_of (word_of line.now)) ≡ true) }
 {
     let (word, rest) = split_word(line);
     match letter_of(word) {

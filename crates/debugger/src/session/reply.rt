@@ -1,4 +1,4 @@
-ghost use Rattle.std.specs.Prelude.{◌≡◌, ◌≢◌, ◌+◌, ◌≤◌, ◌∷◌, [], ◌++◌, length, codes, if◌then◌else◌, IsTrue, IfOk, OnOk, OnErr, Err};
+ghost use Rattle.std.specs.Prelude.{◌≡◌, ◌≢◌, ◌+◌, ◌≤◌, ◌∷◌, [], ◌++◌, length, codes, if◌then◌else◌, true, IsTrue, IfOk, OnOk, OnErr, Err};
 ghost use Rattle.std.specs.Fmt.{decimal};
 ghost use Rattle.std.specs.Io.KnownBytes.{Appends};
 ghost use Rattle.thread_machine.specs.World.{world_of};
@@ -6,7 +6,7 @@ ghost use Rattle.thread_machine.specs.Step.{refusal_of};
 ghost use Rattle.trace_compare.specs.State.{state_text};
 ghost use Rattle.trace_compare.specs.Trace.{lines_of};
 ghost use Rattle.debugger.specs.declared.stop.Stop.{Stop};
-ghost use Rattle.debugger.specs.Command.{Back, Break, Clear, Go, Step, goes_on, line_order, order_of};
+ghost use Rattle.debugger.specs.Command.{MayWantMemory, Back, Break, Clear, Go, Step, goes_on, line_order, order_of, wants_memory};
 ghost use Rattle.debugger.specs.Reply.{IsCarriedOut, IsStepUnless, number_line, stop_text};
 
 use crate::command::{Command, command_of};
@@ -232,6 +232,7 @@ impl Debugger {
         ensures memory { result ≡ Err CommandFault.Memory
             → (self.new ≡ self.old) × (W.written output.new ≡ W.written output.old) }
         ensures write { result ≡ Err CommandFault.Write → IsTrue (W.has_failed output.new) }
+        ensures wants { result ≡ Err CommandFault.Memory → wants_memory (order_of command) ≡ true }
     {
         match command {
             Command::Step(choice) => self.step_command(alloc, choice, output),
@@ -271,6 +272,7 @@ impl Debugger {
         ensures memory { result ≡ Err CommandFault.Memory
             → (self.new ≡ self.old) × (W.written output.new ≡ W.written output.old) }
         ensures write { result ≡ Err CommandFault.Write → IsTrue (W.has_failed output.new) }
+        ensures wants { result ≡ Err CommandFault.Memory → MayWantMemory line.now }
     {
         let room = self.take_room(alloc);
         let command = command_of(room, line)?;

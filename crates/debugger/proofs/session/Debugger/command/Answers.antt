@@ -10,7 +10,7 @@ returns-in-Err-clause-replies g c other =
       replied.0,
       (
         subst (λ (s : Session). Replies s (line_order c.args.line.now) c.carry_out.new.self replied.0) c.take_room-room.ensures
-            (subst (λ (o : Order). Replies c.take_room-room.new.self o c.carry_out.new.self replied.0) c.in_ok-command.ensures replied.1.0),
+            (subst (λ (o : Order). Replies c.take_room-room.new.self o c.carry_out.new.self replied.0) c.in_ok-command.ensures.order replied.1.0),
         tt,
       ),
     )
