@@ -110,6 +110,9 @@ What is none of these is answered with `?`. With `--at TRACE` the first command
 is a `g` with the choices of the trace in that file; of what is no trace it
 writes `not a trace LINE`, and reads no commands.
 
+At a terminal `help` lists the commands, `w` writes the choices so far as a
+schedule, and behind each answer stands who may go on, and at which row.
+
 It may tell `refused asm`, `refused image`, `refused load`, `memory`, `read` or
 `write`.
 
@@ -194,12 +197,15 @@ Example: vuthgal choices examples/two-threads-meet.trace";
 
 pub const EXPLAIN: &str = "\
 Says in words what a line on standard error means: what is wrong, what helps, a
-command that makes it, and where the documents say more.
+command that makes it, and where the documents say more. Or what a row of a
+program is, or a word that begins with a dot: its operands, Java's method, what
+it answers, and a text with its schedule in which it is played.
 
 The words are those of the line. A place may be left out: `explain asm 5` is the
 fifth kind of a program text's fault. `explain status 4` is an exit status,
 `explain exception 6` the number of an exception; `explain not a trace`,
-`explain none` and `explain ?` are words of traces and sessions. Without words
-it lists what can be asked.
+`explain none` and `explain ?` are words of traces and sessions. `explain paaa`
+is a row, `explain .thread` a directive. Without words it lists what can be
+asked.
 
 Example: vuthgal explain refused asm 2 5";

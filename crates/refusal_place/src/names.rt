@@ -3,6 +3,8 @@
 use line_reader::directive::is_directive;
 use line_reader::label::{before_last, is_label};
 use line_reader::words::{before_comment, is_blank};
+use refusal_words::table::directive::DIRECTIVES;
+use refusal_words::table::row::row_entry;
 use std::alloc::{AllocError, Global};
 use strsim::levenshtein;
 
@@ -39,6 +41,58 @@ fn distance(alloc: Global, a: &[u8], b: &[u8]) -> Result<usize, AllocError> {
         (Ok(a), Ok(b)) => levenshtein(alloc, a, b),
         _ => Ok(usize::MAX),
     }
+}
+
+/// The word in small letters.
+fn in_small_letters(alloc: Global, word: &[u8]) -> Result<Vec<u8>, AllocError> {
+    let mut small = Vec::new(alloc);
+    for byte in word {
+        small.push(byte.to_ascii_lowercase())?;
+    }
+    Ok(small)
+}
+
+/// The nearest word so far, and how far it is.
+#[derive(Clone, Copy)]
+struct Nearest {
+    word: Option<&'static str>,
+    far: usize,
+}
+
+impl Nearest {
+    /// This word where it is nearer.
+    fn or(self, alloc: Global, word: &'static str, small: &[u8]) -> Result<Nearest, AllocError> {
+        let far = distance(alloc, word.as_bytes(), small)?;
+        if far < self.far {
+            Ok(Nearest {
+                word: Some(word),
+                far,
+            })
+        } else {
+            Ok(self)
+        }
+    }
+}
+
+/// The other word of the language that is nearest to this one, where it is near at all: more than half of its letters are right.
+pub fn nearest_word(alloc: Global, word: &[u8]) -> Result<Option<&'static str>, AllocError> {
+    if word == b".run".as_slice() {
+        return Ok(None);
+    }
+    let small = in_small_letters(alloc, word)?;
+    let mut nearest = Nearest {
+        word: None,
+        far: small.len().div_ceil(2).min(3),
+    };
+    for opcode in 0..=255 {
+        if let Some(entry) = row_entry(opcode) {
+            nearest = nearest.or(alloc, entry.word, small.as_slice())?;
+        }
+    }
+    for directive in &DIRECTIVES {
+        nearest = nearest.or(alloc, *directive, small.as_slice())?;
+    }
+    Ok(nearest.word)
 }
 
 /// The name of the text that is nearest to this one, where it is near at all.

@@ -2,7 +2,7 @@
 
 use crate::about::question_about;
 use crate::kinds::called;
-use crate::names::{first_line, nearest};
+use crate::names::{first_line, nearest, nearest_word};
 use crate::shown::{push_file, push_line, push_marked, push_shown};
 use assembler::made::line_that_makes;
 use assembler::placed::{PlacedFault, UnknownName, assemble_placed};
@@ -17,6 +17,7 @@ use loader::{LoadFault, Place};
 use refusal_words::entry::Entry;
 use refusal_words::question::Question;
 use refusal_words::subject::Subject;
+use refusal_words::word::{WordEntry, word_entry};
 use std::alloc::{AllocError, Global};
 use workbench::fault::Fault;
 
@@ -89,6 +90,45 @@ fn push_name<E: Sink>(
         errors.push(b"\n")?;
     }
     Ok(())
+}
+
+/// The word of the language that may have been meant.
+fn push_near_word<E: Sink>(alloc: Global, errors: &mut E, word: &[u8]) -> Result<(), Unshown> {
+    if let Some(near) = nearest_word(alloc, word)? {
+        errors.push(b"  Near:    ")?;
+        errors.push(near.as_bytes())?;
+        errors.push(b"\n")?;
+    }
+    Ok(())
+}
+
+/// The operands of what the line says, where the wrong word is one of them or there are too few.
+fn push_form<E: Sink>(errors: &mut E, line: &[u8], wrong: WordPlace) -> Result<(), Unshown> {
+    let Some(first) = place_of_first(line) else {
+        return Ok(());
+    };
+    let word = line
+        .get(first.at..first.at.saturating_add(first.length))
+        .unwrap_or(&[]);
+    if wrong.at < first.at {
+        return Ok(());
+    }
+    if let Some(entry) = word_of(word) {
+        errors.push(b"  Form:    ")?;
+        errors.push(entry.form.as_bytes())?;
+        errors.push(b" (`vuthgal explain ")?;
+        errors.push(entry.word.as_bytes())?;
+        errors.push(b"`)\n")?;
+    }
+    Ok(())
+}
+
+/// What is told of a word of the language.
+fn word_of(word: &[u8]) -> Option<WordEntry> {
+    match str::from_utf8(word) {
+        Ok(word) => word_entry(word),
+        Err(_) => None,
+    }
 }
 
 /// The line that gave a name first; the word may be a label's.
@@ -169,24 +209,38 @@ fn push_text_place<E: Sink>(
     match kind {
         AsmFaultKind::UnknownName => push_name(alloc, errors, file.bytes, unknown, word)?,
         AsmFaultKind::NameTwice => push_given(errors, file.bytes, word)?,
+        AsmFaultKind::UnknownWord => push_near_word(alloc, errors, word)?,
+        AsmFaultKind::OperandCount
+        | AsmFaultKind::BadRegister
+        | AsmFaultKind::BadNumber
+        | AsmFaultKind::OutOfRange
+        | AsmFaultKind::BadName
+        | AsmFaultKind::BadOption => push_form(errors, line, at)?,
         _ => {}
     }
     Ok(helps_at(file.bytes, kind, number, word))
 }
 
-/// The place of what a line says, its label left out.
-fn place_of_statement(line: &[u8]) -> Option<WordPlace> {
+/// The place of the first word of what a line says, its label left out.
+fn place_of_first(line: &[u8]) -> Option<WordPlace> {
     let text = before_comment(line);
     let first = place_of_word(text, 0)?;
     let word = text
         .get(first.at..first.at.saturating_add(first.length))
         .unwrap_or(&[]);
-    let at = if is_label(word) {
-        place_of_word(text, 1)?.at
+    if is_label(word) {
+        place_of_word(text, 1)
     } else {
-        first.at
-    };
-    let last = text.iter().rposition(|byte| !is_blank(*byte))?;
+        Some(first)
+    }
+}
+
+/// The place of what a line says, its label left out.
+fn place_of_statement(line: &[u8]) -> Option<WordPlace> {
+    let at = place_of_first(line)?.at;
+    let last = before_comment(line)
+        .iter()
+        .rposition(|byte| !is_blank(*byte))?;
     Some(WordPlace {
         at,
         length: last.saturating_add(1).saturating_sub(at),

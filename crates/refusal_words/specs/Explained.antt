@@ -8,6 +8,8 @@ use Rattle.refusal_words.specs.declared.question.Question.{Question}
 use Rattle.refusal_words.specs.Entry.{place_line, text_of}
 use Rattle.refusal_words.specs.Question.{AsksFor}
 use Rattle.refusal_words.specs.Subject.{place_word}
+use Rattle.refusal_words.specs.declared.word.WordEntry.{WordEntry}
+use Rattle.refusal_words.specs.Word.{AreItsWord, word_text}
 
 -- the entry of the question's subject was written whole, with the place that was told
 abbrev pub HasAnswer : Question → Option (List ℕ) → Option (List ℕ) → Type 0
@@ -15,10 +17,15 @@ HasAnswer q before after =
     (entry : Entry) × (entry.subject ≡ q.subject)
     × Appends before after (text_of entry (place_line (place_word q.subject) q.place))
 
--- what can be asked, where there are no words, and else the answer to what they ask for
+-- the entry of the one word of the language that the words are was written whole
+abbrev pub HasForm : List (List ℕ) → Option (List ℕ) → Option (List ℕ) → Type 0
+HasForm words before after = (entry : WordEntry) × AreItsWord entry words × Appends before after (word_text entry)
+
+-- what can be asked, where there are no words, and else what is told of their word, or the answer to what they ask for
 abbrev pub HasExplained : List ℕ → List (List ℕ) → Option (List ℕ) → Option (List ℕ) → Type 0
 HasExplained questions words before after =
-    ((words ≡ []) × Appends before after questions) ⊎ ((q : Question) × AsksFor words q × HasAnswer q before after)
+    ((words ≡ []) × Appends before after questions)
+    ⊎ (HasForm words before after ⊎ ((q : Question) × AsksFor words q × HasAnswer q before after))
 
 -- the exit status of what isn't explained, and what is told of it
 abbrev pub unexplained_status : Unexplained → ℕ

@@ -3,3 +3,4 @@ pub mod Explained
 pub mod Numbers
 pub mod Question
 pub mod Subject
+pub mod Word

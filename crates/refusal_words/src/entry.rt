@@ -26,7 +26,7 @@ pub struct Entry {
 }
 
 /// A line that begins with this label.
-fn push_line<W: Sink>(output: &mut W, label: &[u8], text: &str) -> Result<(), Failed>
+pub fn push_line<W: Sink>(output: &mut W, label: &[u8], text: &str) -> Result<(), Failed>
     ensures bytes { OnOk result (Appends (W.written output.old) (W.written output.new)
         (line label.now text.now)) }
     ensures failed { OnErr result (IsTrue (W.has_failed output.new)) }

@@ -1,11 +1,13 @@
 //! The command.
-ghost use Rattle.std.specs.Prelude.{◌≡◌, ◌++◌, Err, IsTrue, OnErr, OnOk, map};
+ghost use Rattle.std.specs.Prelude.{◌≡◌, ◌++◌, Err, IsTrue, MatchOption, OnErr, OnOk, map};
 ghost use Rattle.std.specs.Io.KnownBytes.{Appends};
 ghost use Rattle.refusal_words.specs.declared.question.Question.{Question};
 ghost use Rattle.refusal_words.specs.Explained.{HasAnswer, HasExplained, unexplained_status, unexplained_text};
 ghost use Rattle.refusal_words.specs.Question.{AsksFor};
+ghost use Rattle.refusal_words.specs.Word.{AreItsWord, AreNoWord};
 
 use crate::question::{Question, question_of};
+use crate::word::{WordEntry, word_entry};
 use byte_ports::{Failed, Sink};
 
 /// What can be asked.
@@ -22,6 +24,7 @@ explain none, limit                 a choice that is refused, in a trace
 explain ?, no history               answers of `debug`
 explain status 0 .. status 5        an exit status
 explain exception 1 .. exception 8  the number of an exception
+explain paaa, .thread, ..           a row of a program, or what begins with a dot
 ";
 
 /// What is told where no line has the words, before what can be asked.
@@ -88,23 +91,38 @@ impl Unexplained {
     }
 }
 
-/// Writes the entry that the words ask for, the words being those of a line on standard error, or what can be asked where
-/// there are none.
+/// The entry of the one word that is asked for, where it is one of the language.
+fn entry_asked(words: &[&str]) -> Option<WordEntry>
+    ensures { MatchOption result (AreNoWord (map (λ w. w.now) words.now)) (λ e. AreItsWord e (map (λ w. w.now) words.now)) }
+{
+    match words {
+        [word] => word_entry(word),
+        _ => None,
+    }
+}
+
+/// Writes the entry that the words ask for, the words being those of a line on standard error or one word of the language, or
+/// what can be asked where there are none.
 pub fn explain<W: Sink>(words: &[&str], output: &mut W) -> Result<(), Unexplained>
-    // The entry of the question that the words ask for is written, and nothing else; without words, what can be asked.
+    // The entry of the word of the language, or of the question that the words ask for, is written, and nothing else; without
+    // words, what can be asked.
     ensures told { OnOk result (HasExplained QUESTIONS.now (map (λ w. w.now) words.now) (W.written output.old) (W.written output.new)) }
 
-    // Words of no line: nothing is written.
+    // Words of no line, nor a word of the language: nothing is written.
     ensures none { result ≡ Err Unexplained.NoLine → (q : Question) → AsksFor (map (λ w. w.now) words.now) q → ⊥ }
+    ensures no_word { result ≡ Err Unexplained.NoLine → AreNoWord (map (λ w. w.now) words.now) }
     ensures untold { result ≡ Err Unexplained.NoLine → W.written output.new ≡ W.written output.old }
     ensures failed { result ≡ Err Unexplained.Write → IsTrue (W.has_failed output.new) }
 {
     let pushed = if words.is_empty() {
         push_questions(output)
     } else {
-        match question_of(words) {
-            Some(question) => push_answer(output, question),
-            None => return Err(Unexplained::NoLine),
+        match entry_asked(words) {
+            Some(entry) => entry.push(output),
+            None => match question_of(words) {
+                Some(question) => push_answer(output, question),
+                None => return Err(Unexplained::NoLine),
+            },
         }
     };
     match pushed {

@@ -15,6 +15,9 @@ pub mod subject;
 // The table.
 pub mod table;
 
+// The words of the language.
+pub mod word;
+
 // Which words ask for which entry.
 pub mod kinds;
 pub mod question;

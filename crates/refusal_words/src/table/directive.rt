@@ -1,0 +1,89 @@
+//! What begins with a dot in a program's text.
+ghost use Rattle.std.specs.Prelude.{◌≡◌, ◌≢◌, MatchOption, bytes_eq, true};
+ghost use Rattle.line_reader.specs.Reading.{is_directive};
+
+use crate::word::WordEntry;
+
+/// The words that begin with a dot.
+pub const DIRECTIVES: [&str; 5] = [".phaser", ".barrier", ".thread", ".cell", ".run"];
+
+const PHASER: WordEntry = WordEntry {
+    word: ".phaser",
+    form: ".phaser NAME PARTIES [parent P] [phase N] [never | until N | onadvance L]",
+    operands: "NAME: its name; PARTIES: 0 to 65535, children not counted; [..] may be left out, and stands in this order",
+    java: "new Phaser(parent, parties)",
+    means: "makes the next phaser; `never`, `until N` and `onadvance L` say when a phase's end terminates it",
+    event: "none",
+    more: "docs/FORMATS.md, \"Directives\"",
+    example: ".phaser house 1 phase 3 until 9\n.phaser room 1 parent house\n.thread ann main\nmain: parr r0 room\nhalt\n.run\nt0*2",
+};
+
+const BARRIER: WordEntry = WordEntry {
+    word: ".barrier",
+    form: ".barrier NAME PARTIES [action L]",
+    operands: "NAME: its name; PARTIES: 1 to 65535; [action L]: the last to come plays the rows from L on, to their `ret`",
+    java: "new CyclicBarrier(parties, action)",
+    means: "makes the next cyclic barrier",
+    event: "none",
+    more: "docs/FORMATS.md, \"Directives\"",
+    example: ".barrier gate 1 action greet\n.thread ann main\nmain: cawait r0 gate\nhalt\ngreet: out r0\nret\n.run\nt0*4",
+};
+
+const THREAD: WordEntry = WordEntry {
+    word: ".thread",
+    form: ".thread NAME L",
+    operands: "NAME: its name; L: the row that it begins at, a label or # and a number",
+    java: "new Thread(..).start()",
+    means: "makes the next thread; the first is t0",
+    event: "none",
+    more: "docs/FORMATS.md, \"Directives\"",
+    example: ".thread ann main\nmain: self r0\nout r0\nhalt\n.run\nt0*3",
+};
+
+const CELL: WordEntry = WordEntry {
+    word: ".cell",
+    form: ".cell NAME",
+    operands: "NAME: its name",
+    java: "a field that threads share",
+    means: "makes the next shared cell, which holds 0",
+    event: "none",
+    more: "docs/FORMATS.md, \"Directives\"",
+    example: ".thread ann main\n.cell total\nmain: ldi r0 5\nsts r0 total\nhalt\n.run\nt0*3",
+};
+
+const RUN: WordEntry = WordEntry {
+    word: ".run",
+    form: ".run",
+    operands: "none; it stands alone in its line",
+    java: "none",
+    means: "ends the program; what follows is its schedule: `t0` a turn of thread 0, `t0*3` three, `x0` the end of its time",
+    event: "none",
+    more: "docs/FORMATS.md, \"Program text\"",
+    example: ".thread ann main\nmain: halt\n.run\nt0",
+};
+
+/// Whether a word is this one.
+fn is_word(word: &str, told: &str) -> bool
+    ensures { result ≡ bytes_eq word.now told.now }
+{
+    word == told
+}
+
+/// What the table says of a word that begins with a dot.
+pub fn directive_entry(word: &str) -> Option<WordEntry>
+    ensures { MatchOption result (is_directive word.now ≢ true) (λ e. e.word.now ≡ word.now) }
+{
+    if is_word(word, ".phaser") {
+        Some(PHASER)
+    } else if is_word(word, ".barrier") {
+        Some(BARRIER)
+    } else if is_word(word, ".thread") {
+        Some(THREAD)
+    } else if is_word(word, ".cell") {
+        Some(CELL)
+    } else if is_word(word, ".run") {
+        Some(RUN)
+    } else {
+        None
+    }
+}
