@@ -128,7 +128,18 @@ def standing(state, t):
     return {"runs": "|", "throws": "!", "ended": "", "died": ""}[status.split(":")[0]]
 
 
-def closing(run, state, names, room):
+def missing_for(run, state, number):
+    """Where somebody is missing for whom one waits at this phaser: a phaser all of whose parties have arrived has at its parent."""
+    parents = re.findall(r"^\.phaser \S+ \d+(?: parent #(\d+))?", run.listing, re.M)
+    while parents[number]:
+        _, view, parties, arrived, _ = state["p"][number]
+        if int(view) < 0 or parties == "0" or parties != arrived:
+            break
+        number = int(parents[number])
+    return number
+
+
+def closing(run, state, names, room, width):
     out = []
     for t, words in enumerate(state["t"]):
         who = shortened(room, names.name("t", t))
@@ -148,7 +159,13 @@ def closing(run, state, names, room):
             parties = re.findall(r"^\.barrier \S+ (\d+)", run.listing, re.M)[number]
         hope = (": can go on" if "t%d" % t in state["ready"] else ": can expire" if "x%d" % t in state["ready"]
                 else ": stuck" if state["word"] == "stuck" else "")
-        out.append("%s waits at %s (%s of %s arrived)%s" % (who, shortened(room, names.name(letter, number)), arrived, parties, hope))
+        front = "%s waits at %s" % (who, shortened(room, names.name(letter, number)))
+        at = missing_for(run, state, number) if letter == "p" else number
+        if at == number:
+            out.append(kept_behind(width, "%s (%s of %s arrived)" % (front, arrived, parties), hope))
+        else:
+            front += " (arrived at " + shortened(room, names.name("p", at))
+            out.append(kept_behind(width, front, ": %s of %s)" % (state["p"][at][3], state["p"][at][2]) + hope))
     return out
 
 
@@ -179,7 +196,7 @@ def drawn(run, names, width):
                 line = put_at(8 + n * column, did if t == turn else standing(state, t), line)
             out.append(put_at(marks, told, line))
     state = run.states[-1]
-    return out + closing(run, state, names, (width - 46) // 2)
+    return out + closing(run, state, names, (width - 46) // 2, width)
 
 
 def told_of(run, names, words, room, mark_room, refused):

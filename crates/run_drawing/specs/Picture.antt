@@ -1,11 +1,12 @@
 -- The picture of a run: for each block of threads a line with their names and a line for each choice, and then a line for
 -- each thread that waits or died. No line is longer than the sheet is wide.
-use Rattle.std.specs.Prelude.{◌≡◌, ℕ, ℤ, zero, suc, ◌+◌, ◌-◌, ◌*◌, ◌/◌, ◌==◌, min, Bool, true, false, if◌then◌else◌, List, [], ◌∷◌, ◌++◌, length, take, map, flat_map, codes, decimal, Option, Some, None, slice_get}
+use Rattle.std.specs.Prelude.{◌≡◌, ℕ, ℤ, zero, suc, ◌+◌, ◌-◌, ◌*◌, ◌/◌, ◌==◌, ◌&&◌, not, nat_lt, min, Bool, true, false, if◌then◌else◌, List, [], ◌∷◌, ◌++◌, length, take, map, flat_map, codes, decimal, Option, Some, None, slice_get}
 use Rattle.std.specs.Fmt.{signed_decimal}
 use Rattle.assembler.specs.Symbols.{SymbolTable}
 use Rattle.cyclic_barrier.specs.Barrier.{BarrierState, number_waiting}
 use Rattle.instruction_table.specs.declared.row.Row.{Row}
 use Rattle.instruction_table.specs.declared.row.Row.TheVariants.{Paaa, Pawait, Pawaiti, Pawaitt, Cawait, Cawaitt}
+use Rattle.instruction_table.specs.declared.shape.OperandKind.{OperandKind}
 use Rattle.instruction_table.specs.declared.shape.OperandKind.TheVariants as kind
 use Rattle.loader.specs.Program.{row_at}
 use Rattle.machine_scene.specs.Outcomes.{is_ready}
@@ -22,7 +23,8 @@ use Rattle.thread_state.specs.declared.status.Status.{Status}
 use Rattle.thread_state.specs.declared.status.Status.TheVariants as status
 use Rattle.row_code.specs.declared.image.Image.{Image}
 use Rattle.trace_compare.specs.Start.{Begins}
-use Rattle.tier_tree.specs.Forest.{PhaserState}
+use Rattle.packed_phaser.specs.Flat.{Flat}
+use Rattle.tier_tree.specs.Forest.{PhaserState, flat_at, phaser_at}
 use Rattle.run_drawing.specs.declared.sheet.Sheet.{Sheet}
 use Rattle.run_drawing.specs.Caption.{called, row_caption}
 use Rattle.run_drawing.specs.Sheet.{column_room, kept_behind, mark_column, mark_room, number_text, other_blocks, put_at, sheet_of, shortened}
@@ -124,26 +126,60 @@ abbrev pub arrived_text : ℕ → ℕ → List ℕ
 arrived_text arrived parties =
     codes " (" ++ (decimal arrived ++ (codes " of " ++ (decimal parties ++ codes " arrived)")))
 
-abbrev pub phaser_arrived : Option PhaserState → List ℕ
-phaser_arrived None = []
-phaser_arrived (Some phaser) = arrived_text phaser.flat.arrived phaser.flat.parties
+-- the same behind the name of a phaser further up
+abbrev pub above_text : ℕ → ℕ → List ℕ
+above_text arrived parties = codes ": " ++ (decimal arrived ++ (codes " of " ++ (decimal parties ++ codes ")")))
 
 abbrev pub barrier_arrived : Option BarrierState → List ℕ
 barrier_arrived None = []
 barrier_arrived (Some barrier) = arrived_text (number_waiting barrier) barrier.parties
 
+-- a phaser whose parties have all arrived has arrived at its parent: who is missing is missing there, or further up
+abbrev pub have_all_arrived : Flat → Bool
+have_all_arrived flat = not flat.ended && (not (flat.parties == 0) && (flat.arrived == flat.parties))
+
+abbrev pub missing_above : List PhaserState → ℕ → ℕ → ℕ
+missing_above phasers p zero = p
+missing_above phasers p (suc levels) =
+    if have_all_arrived (flat_at phasers p)
+    then elim (slice_get (phaser_at phasers p).line 1) [ None ↦ p | Some parent ↦ missing_above phasers parent levels ]
+    else p
+
+-- where somebody is missing for whom a thread at this phaser waits; a tree has 8 levels at most
+abbrev pub missing_for : List PhaserState → ℕ → ℕ
+missing_for phasers p = missing_above phasers p 8
+
 -- the room of a name: two of them fit into a line beside all else
 abbrev pub name_room : Sheet → ℕ
 name_room sheet = (sheet.width - 46) / 2
 
+abbrev pub place_name : Sheet → SymbolTable → OperandKind → ℕ → List ℕ
+place_name sheet symbols k number = shortened (name_room sheet) (called symbols k number)
+
+-- who has arrived at a phaser, where that is the one at which somebody is missing, else the name of that one
+abbrev pub arrived_at : Sheet → SymbolTable → List PhaserState → ℕ → ℕ → List ℕ
+arrived_at sheet symbols phasers p at =
+    if at == p then arrived_text (flat_at phasers p).arrived (flat_at phasers p).parties
+    else codes " (arrived at " ++ place_name sheet symbols kind.Phaser at
+
+-- behind that name, who has arrived there
+abbrev pub arrived_above : List PhaserState → ℕ → ℕ → List ℕ
+arrived_above phasers p at =
+    if at == p then [] else above_text (flat_at phasers at).arrived (flat_at phasers at).parties
+
 -- a phaser, or a barrier, and who has arrived there
 abbrev pub at_phaser : Sheet → SymbolTable → Scene → ℕ → List ℕ
 at_phaser sheet symbols scene p =
-    shortened (name_room sheet) (called symbols kind.Phaser p) ++ phaser_arrived (slice_get scene.phasers p)
+    place_name sheet symbols kind.Phaser p
+    ++ (if nat_lt p (length scene.phasers)
+    then arrived_at sheet symbols scene.phasers p (missing_for scene.phasers p) else [])
+
+abbrev pub behind_phaser : Scene → ℕ → List ℕ
+behind_phaser scene p =
+    if nat_lt p (length scene.phasers) then arrived_above scene.phasers p (missing_for scene.phasers p) else []
 
 abbrev pub at_barrier : Sheet → SymbolTable → Scene → ℕ → List ℕ
-at_barrier sheet symbols scene b =
-    shortened (name_room sheet) (called symbols kind.Barrier b) ++ barrier_arrived (slice_get scene.barriers b)
+at_barrier sheet symbols scene b = place_name sheet symbols kind.Barrier b ++ barrier_arrived (slice_get scene.barriers b)
 
 -- what a thread waits at that stands at this row
 abbrev pub awaited_text : Sheet → SymbolTable → Scene → Row → List ℕ
@@ -155,6 +191,13 @@ awaited_text sheet symbols scene (Cawait into barrier) = at_barrier sheet symbol
 awaited_text sheet symbols scene (Cawaitt into barrier timeout) = at_barrier sheet symbols scene barrier
 awaited_text sheet symbols scene _ = []
 
+abbrev pub behind_text : Scene → Row → List ℕ
+behind_text scene (Paaa into phaser) = behind_phaser scene phaser
+behind_text scene (Pawait into phaser phase) = behind_phaser scene phaser
+behind_text scene (Pawaiti into phaser phase) = behind_phaser scene phaser
+behind_text scene (Pawaitt into phaser phase timeout) = behind_phaser scene phaser
+behind_text scene _ = []
+
 -- whether its wait can end, or run out, or whether the program is stuck
 abbrev pub hope_text : World → ℕ → List ℕ
 hope_text world t =
@@ -165,11 +208,13 @@ hope_text world t =
 abbrev pub thread_caption : Sheet → SymbolTable → ℕ → List ℕ
 thread_caption sheet symbols t = shortened (name_room sheet) (called symbols kind.Thread t)
 
--- the line of a thread that waits
+-- the line of a thread that waits: the names in it are cut where it is too long
 abbrev pub waiting_line : Sheet → SymbolTable → World → ℕ → List ℕ
 waiting_line sheet symbols world t =
-    thread_caption sheet symbols t ++ (codes " waits at "
-    ++ (awaited_text sheet symbols world.scene (row_at world.program.rows (thread_at world.scene t).pc) ++ hope_text world t))
+    let row = row_at world.program.rows (thread_at world.scene t).pc in
+    kept_behind sheet.width
+    (thread_caption sheet symbols t ++ (codes " waits at " ++ awaited_text sheet symbols world.scene row))
+    (behind_text world.scene row ++ hope_text world t)
 
 -- the line of a thread that died of an exception
 abbrev pub dead_line : Sheet → SymbolTable → ℕ → ℤ → List ℕ

@@ -7,11 +7,11 @@
 #![tactic(auto)]
 
 mod block;
-mod caption;
+pub mod caption;
 mod closing;
 mod fitting;
 mod law;
-mod line;
+pub mod line;
 pub mod picture;
 mod sheet;
 mod turn;
