@@ -16,18 +16,24 @@
 //! `show_comparison` gives the verdict of `compare_cmd`, and writes behind it the trace's line of that number and the run's; or,
 //! where the trace is none, what a line of a trace has to be. The trace is read once: the run's line comes with the verdict, and
 //! the trace's is among the bytes that went by last (`lines_seen`).
+//!
+//! `debug_guided` is `debug` for a person: beside the answers stands who may go on (`may_go`), and the choices that were played
+//! can be written as a schedule (`played`).
 #![tactic(auto)]
 
 pub mod choices;
 pub mod difference;
 pub mod drawing;
+pub mod guided;
 mod image_rows;
 mod law;
 pub mod lines_seen;
+mod may_go;
 pub mod page;
 pub mod picture;
 pub mod picture_fault;
 pub mod pictures;
+mod played;
 pub mod rows;
 mod shown;
 mod text_rows;

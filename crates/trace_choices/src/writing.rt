@@ -51,7 +51,7 @@ fn put_letter(line: &mut LineEnd, expiry: bool)
 }
 
 /// Writes a run's token, and a byte behind it.
-fn push_token<K: Sink>(output: &mut K, run: Run, behind: u8) -> Result<(), Failed>
+pub fn push_token<K: Sink>(output: &mut K, run: Run, behind: u8) -> Result<(), Failed>
     ensures token { OnOk result (Appends (K.written output.old) (K.written output.new) (token_of run ++ behind ∷ [])) }
     ensures failed { OnErr result (IsTrue (K.has_failed output.new)) }
 {

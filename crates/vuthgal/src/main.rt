@@ -24,6 +24,7 @@ use byte_ports::{BlockPort, BlockSource, ReadPort, Sink, Source, WritePort};
 use command_line::request::Request;
 use commands::choices::choices;
 use commands::drawing::Drawing;
+use commands::guided::debug_guided;
 use commands::page::Page;
 use commands::picture::Picture;
 use commands::pictures::{make, make_of_both};
@@ -253,21 +254,44 @@ fn not_a_trace<'a>(rt: &HostRuntime, line: u64) -> Answer<'a> {
     Ok(flushed(answer, &mut output)?)
 }
 
+/// What a trace names, if there is one.
+fn named_in<'a>(rt: &HostRuntime, trace: Option<File>) -> Result<Option<Named>, Trouble<'a>> {
+    let Some(trace) = trace else {
+        return Ok(None);
+    };
+    match choices_in(rt.alloc(), &mut ReadPort::new(trace)) {
+        Ok(named) => Ok(Some(named)),
+        Err(NamingFault::Memory) => Err(Trouble::Fault(Fault::Memory)),
+        Err(NamingFault::Read) => Err(Trouble::Fault(Fault::Read)),
+    }
+}
+
 /// Answers the commands on standard input, which are about a program, behind a trace if there is one.
 fn session_at<'a, F: Source>(rt: &HostRuntime, program: &mut F, trace: Option<File>) -> Answer<'a> {
     push_waiting(
         rt,
         b"reading commands from the terminal (debug --help lists them)\n",
     );
-    let Some(trace) = trace else {
-        return session(rt, program, None);
-    };
-    match choices_in(rt.alloc(), &mut ReadPort::new(trace)) {
-        Ok(Named::Choices(runs)) => session(rt, program, Some(runs)),
-        Ok(Named::NotATrace { line }) => not_a_trace(rt, line),
-        Err(NamingFault::Memory) => Err(Trouble::Fault(Fault::Memory)),
-        Err(NamingFault::Read) => Err(Trouble::Fault(Fault::Read)),
+    match named_in(rt, trace)? {
+        Some(Named::Choices(runs)) => session(rt, program, Some(runs)),
+        Some(Named::NotATrace { line }) => not_a_trace(rt, line),
+        None => session(rt, program, None),
     }
+}
+
+/// The same for a person, who is told beside the answers who may go on.
+fn guided_session<'a>(rt: &HostRuntime, program: &[u8], runs: Option<&[Run]>) -> Answer<'a> {
+    let mut commands = BlockSource::new(rt.alloc(), ReadPort::new(rt.stdin()))?;
+    let mut output = WritePort::new(rt.stdout());
+    let answer = debug_guided(
+        rt.alloc(),
+        program,
+        runs,
+        &mut commands,
+        &mut output,
+        &mut WritePort::new(printable::errors(rt)),
+    );
+    Ok(as_asked(flushed(answer, &mut output))?)
 }
 
 /// The same for a person, who is shown the program's rows first. The file is read once.
@@ -279,7 +303,15 @@ fn session_with_rows<'a>(rt: &HostRuntime, program: File, trace: Option<File>) -
         &mut SliceSource::new(bytes.as_slice()),
         &mut rows,
     )?;
-    session_at(rt, &mut SliceSource::new(bytes.as_slice()), trace)
+    push_waiting(
+        rt,
+        b"reading commands from the terminal (`help` lists them)\n",
+    );
+    match named_in(rt, trace)? {
+        Some(Named::Choices(runs)) => guided_session(rt, bytes.as_slice(), Some(runs.as_slice())),
+        Some(Named::NotATrace { line }) => not_a_trace(rt, line),
+        None => guided_session(rt, bytes.as_slice(), None),
+    }
 }
 
 /// Answers the commands on standard input, which are about the program in a file.

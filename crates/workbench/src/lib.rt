@@ -15,7 +15,7 @@ pub mod debug;
 pub mod done;
 pub mod fault;
 pub mod input;
-mod input_line;
+pub mod input_line;
 pub mod list;
 pub mod live;
 mod play;

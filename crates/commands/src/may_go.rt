@@ -1,0 +1,98 @@
+//! Who may go on, told to a person.
+
+ghost use Rattle.std.specs.Prelude.{◌<◌, length};
+
+use assembler::Symbols;
+use byte_ports::{Failed, Sink};
+use instruction_table::OperandKind;
+use itoa::Buffer;
+use run_drawing::caption::{push_called, push_row};
+use run_drawing::line::row_of;
+use std::alloc::{AllocError, Global};
+use thread_machine::{Machine, Status};
+
+/// How many threads are named at most.
+const MOST_NAMED: usize = 8;
+
+/// Adds a choice of a thread, `t1` or `x1`.
+fn push_choice(text: &mut Vec<u8>, letter: u8, thread: u8) -> Result<(), AllocError> {
+    text.push(letter)?;
+    text.extend_from_slice(Buffer::new().format(thread).as_bytes())
+}
+
+/// What its next choice does, where it isn't its row.
+fn standing(machine: &Machine, thread: u8) -> &'static [u8]
+    requires { thread < length machine.now.scene.threads }
+{
+    if !machine.is_ready(thread) {
+        return b" (its time runs out)";
+    }
+    match machine.status(thread) {
+        Status::AwaitsPhase(_) | Status::AwaitsBarrier(_) => b" (its wait ends)",
+        Status::Throws(_) => b" (it throws)",
+        _ => b"",
+    }
+}
+
+/// Adds the line of a thread: the choices of it that do something, its name, and the row at which it stands.
+fn push_thread(
+    text: &mut Vec<u8>,
+    symbols: &Symbols<'_>,
+    machine: &Machine,
+    thread: u8,
+) -> Result<(), AllocError>
+    requires { thread < length machine.now.scene.threads }
+{
+    let row = row_of(machine, thread);
+    text.extend_from_slice(b"  ")?;
+    let letter = if machine.is_ready(thread) { b't' } else { b'x' };
+    push_choice(text, letter, thread)?;
+    text.extend_from_slice(b" ")?;
+    push_called(text, symbols, OperandKind::Thread, u32::from(thread))?;
+    text.extend_from_slice(b" at row ")?;
+    text.extend_from_slice(Buffer::new().format(machine.pc(thread)).as_bytes())?;
+    text.extend_from_slice(b": ")?;
+    push_row(text, symbols, row)?;
+    text.extend_from_slice(standing(machine, thread))?;
+    text.extend_from_slice(b"\n")
+}
+
+/// The lines of the threads that may go on.
+fn may_go(alloc: Global, symbols: &Symbols<'_>, machine: &Machine) -> Result<Vec<u8>, AllocError> {
+    let mut text = Vec::new(alloc);
+    let mut named: usize = 0;
+    for number in 0..machine.thread_count() {
+        let thread = number as u8;
+        if machine.is_ready(thread) || machine.can_expire(thread) {
+            if named < MOST_NAMED {
+                push_thread(&mut text, symbols, machine, thread)?;
+            }
+            named += 1;
+        }
+    }
+    if named == 0 {
+        text.extend_from_slice(if machine.stuck() {
+            b"  nobody can go on: stuck\n".as_slice()
+        } else {
+            b"  all have ended\n".as_slice()
+        })?;
+    } else if named > MOST_NAMED {
+        text.extend_from_slice(b"  and ")?;
+        text.extend_from_slice(Buffer::new().format(named - MOST_NAMED).as_bytes())?;
+        text.extend_from_slice(b" more\n")?;
+    }
+    Ok(text)
+}
+
+/// Tells who may go on, nothing where there is no memory for it.
+pub fn push_may_go<E: Sink>(
+    alloc: Global,
+    notes: &mut E,
+    symbols: &Symbols<'_>,
+    machine: &Machine,
+) -> Result<(), Failed> {
+    match may_go(alloc, symbols, machine) {
+        Ok(text) => notes.push(text.as_slice()),
+        Err(_) => Ok(()),
+    }
+}
