@@ -66,11 +66,11 @@ TellsEnd last all end =
     (end.standing ≡ standing_of last) × (end.state.items ≡ state_text last) × (is_some end.refused ≡ not all)
 
 pub tells_end : {E : Type 0} (result : Result RunEnd E) (last : World) (all : Bool) (refused : Option NumberedLine)
-    → is_some refused ≡ not all → IfOk result (λ end. end.standing ≡ standing_of last)
-    → IfOk result (λ end. end.state.items ≡ state_text last) → IfOk result (λ end. end.refused ≡ refused)
+    → is_some refused ≡ not all
+    → IfOk result (λ end. (end.standing ≡ standing_of last) × (end.state.items ≡ state_text last) × (end.refused ≡ refused))
     → IfOk result (TellsEnd last all)
-tells_end (Ok end) last all refused is standing text same = (standing, text, ap is_some same ∙ is)
-tells_end (Err e) last all refused is standing text same = standing
+tells_end (Ok end) last all refused is (standing, text, same) = (standing, text, ap is_some same ∙ is)
+tells_end (Err e) last all refused is told = told
 
 end_of : (first last : World) (choices : List Choice) (all : Bool) (end : RunEnd) (old new : Option (List ℕ))
     → Plays first last choices all old new → TellsEnd last all end → IsEndOf (execution first choices) end
@@ -80,17 +80,23 @@ end_of first last choices all end old new plays (standing, text, refused) = (
     refused ∙ refused_where all (execution first choices).refusal plays.answer)
 
 -- the lines, and then the state that they leave
-pub are_traced : {E : Type 0} (result : Result RunEnd E) (first last : World) (choices : List Choice) (all : Bool)
-    (old between new : Option (List ℕ)) → Plays first last choices all old between
-    → IfOk result (TellsEnd last all) → OnOk result (Appends between new (state_text last))
-    → OnOk result (HasNoLongLine (state_text last)) → IfOk result (λ end. AreTraced first choices end old new)
-are_traced (Ok end) first last choices all old between new plays tells appends short =
+traced_by : (end : RunEnd) (first last : World) (choices : List Choice) (all : Bool) (old between new : Option (List ℕ))
+    → Plays first last choices all old between → TellsEnd last all end → Appends between new (state_text last)
+    → HasNoLongLine (state_text last) → AreTraced first choices end old new
+traced_by end first last choices all old between new plays tells appends short =
     let state = λ (world : World). state_text world in (
       subst (λ (world : World). HasNoLongLine (state_text world)) plays.world short,
       end_of first last choices all end old between plays tells,
       subst (λ text. Appends old new (lines_of first choices ++ text)) (ap state plays.world)
           (Appends-trans old between new _ (state_text last) plays.lines appends),
     )
+
+pub are_traced : {E : Type 0} (result : Result RunEnd E) (first last : World) (choices : List Choice) (all : Bool)
+    (old between new : Option (List ℕ)) → Plays first last choices all old between
+    → IfOk result (TellsEnd last all) → OnOk result (Appends between new (state_text last))
+    → OnOk result (HasNoLongLine (state_text last)) → IfOk result (λ end. AreTraced first choices end old new)
+are_traced (Ok end) first last choices all old between new plays tells appends short =
+    traced_by end first last choices all old between new plays tells appends short
 are_traced (Err e) first last choices all old between new plays tells appends short = appends
 
 -- the same of a whole schedule
@@ -103,7 +109,7 @@ pub traced-all : {E : Type 0} (result : Result RunEnd E) (first last : World) (a
 traced-all (Ok end) first last all schedule_before schedule_after old between new
     (bytes, (runs, (consumed, at_end, is, plays))) tells appends short =
     (bytes, (runs, (consumed, at_end, is,
-    are_traced (Ok {E = ⊥} end) first last (choices_of runs) all old between new plays tells appends short)))
+    traced_by end first last (choices_of runs) all old between new plays tells appends short)))
 traced-all (Err e) first last all schedule_before schedule_after old between new played tells appends short = appends
 
 -- the verdict on a trace, beside the program that it is of
@@ -128,7 +134,7 @@ pub begun : {E : Type 0} (result : Result RunEnd E) (image : Image) (world : Wor
     → IfOk result (λ end. HasTraced world end schedule_before schedule_after old new)
     → OnOk result (HasRun image schedule_before schedule_after old new)
 begun (Ok end) image world schedule_before schedule_after old new begins p =
-    let (bytes, (runs, (consumed, at_end, is, short, ends, appends))) = p in
+    let (bytes, (runs, (consumed, at_end, is, (short, ends, appends)))) = p in
     (bytes, (trace_of world (choices_of runs), (consumed, at_end, (world, (runs, (begins, is, refl))), appends)))
 begun (Err e) image world schedule_before schedule_after old new begins p = p
 
@@ -138,7 +144,7 @@ pub begun-ends : {E : Type 0} (result : Result RunEnd E) (image : Image) (world 
     → IfOk result (λ end. HasTraced world end schedule_before schedule_after old new)
     → IfOk result (λ end. EndsAs image end schedule_before schedule_after)
 begun-ends (Ok end) image world schedule_before schedule_after old new begins p =
-    let (bytes, (runs, (consumed, at_end, is, short, ends, appends))) = p in
+    let (bytes, (runs, (consumed, at_end, is, (short, ends, appends)))) = p in
     (bytes, (world, (runs, (consumed, at_end, begins, is, ends))))
 begun-ends (Err e) image world schedule_before schedule_after old new begins p = p
 
@@ -148,7 +154,7 @@ pub begun-same : {E : Type 0} (result : Result RunEnd E) (image : Image) (world 
     → IfOk result (λ end. HasTraced world end schedule_before schedule_after old new)
     → OnOk result (HasWrittenTheSame image old new)
 begun-same (Ok end) image world schedule_before schedule_after old new begins p =
-    let (bytes, (runs, (consumed, at_end, is, short, ends, appends))) = p in
+    let (bytes, (runs, (consumed, at_end, is, (short, ends, appends)))) = p in
     let trace = trace_of world (choices_of runs) in
     (trace, (appends, found-same image world trace begins (begun-verdict image world (choices_of runs) begins (named-threads bytes runs None is) short)))
 begun-same (Err e) image world schedule_before schedule_after old new begins p = p

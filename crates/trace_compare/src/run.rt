@@ -1,4 +1,4 @@
-ghost use Rattle.std.specs.Prelude.{◌≡◌, ◌≢◌, ◌⊎◌, ◌↔◌, ◌+◌, ◌<◌, ◌≤◌, ◌++◌, [], List, ℕ, Option, Some, None, Err, IsTrue, IfErr, IfOk, false, OnOk, length};
+ghost use Rattle.std.specs.Prelude.{◌≡◌, ◌≢◌, ◌⊎◌, ◌+◌, ◌<◌, ◌≤◌, ◌++◌, [], List, ℕ, Option, Some, None, Err, IsTrue, IfErr, IfOk, false, OnOk, length};
 ghost use Rattle.std.specs.Io.KnownBytes.{Appends};
 ghost use Rattle.schedule_reader.specs.Schedule.{choices_of, finished_schedule, open_schedule};
 ghost use Rattle.thread_machine.specs.World.{World, world_of};
@@ -44,18 +44,6 @@ pub enum RunFault {
     Read,
     /// The trace can't be written.
     Write,
-}
-
-impl From<PlayFault> for RunFault {
-    fn from(fault: PlayFault) -> RunFault
-        ensures memory { (result ≡ RunFault.Memory) ↔ (fault ≡ PlayFault.Memory) }
-        ensures write { (result ≡ RunFault.Write) ↔ (fault ≡ PlayFault.Write) }
-    {
-        match fault {
-            PlayFault::Memory => RunFault::Memory,
-            PlayFault::Write => RunFault::Write,
-        }
-    }
 }
 
 /// Plays the runs in order, unless a choice was refused before; whether all choices so far were accepted.
@@ -117,7 +105,11 @@ fn play_added<W: Sink>(
 {
     let played = play_on(machine, accepted, runs.as_slice(), line, output);
     runs.clear();
-    let accepted = played?;
+    let accepted = match played {
+        Ok(accepted) => accepted,
+        Err(PlayFault::Memory) => return Err(RunFault::Memory),
+        Err(PlayFault::Write) => return Err(RunFault::Write),
+    };
     match told {
         Ok(()) => Ok(accepted),
         Err(fault) => Err(fault_of(fault)),
@@ -245,6 +237,29 @@ fn play_stream<S: Source, W: Sink>(
     Err(RunFault::Read)
 }
 
+/// Writes the state, and answers how the run has ended.
+fn end_run<W: Sink>(
+    alloc: Global,
+    machine: &Machine,
+    refused: Option<KeptLine>,
+    output: &mut W,
+) -> Result<RunEnd, RunFault>
+    ensures tells { IfOk result (λ end. (end.standing ≡ standing_of (world_of machine.now))
+        × (end.state.items ≡ state_text (world_of machine.now)) × (end.refused ≡ refused)) }
+    ensures state { OnOk result (Appends (W.written output.old) (W.written output.new)
+        (state_text (world_of machine.now))) }
+    ensures lines { OnOk result (HasNoLongLine (state_text (world_of machine.now))) }
+    ensures memory { result ≡ Err RunFault.Memory → W.written output.new ≡ W.written output.old }
+    ensures write { result ≡ Err RunFault.Write → IsTrue (W.has_failed output.new) }
+    ensures others { IfErr result (λ fault. (fault ≡ RunFault.Memory) ⊎ (fault ≡ RunFault.Write)) }
+{
+    match push_end(alloc, machine, refused, output) {
+        Ok(end) => Ok(end),
+        Err(PlayFault::Memory) => Err(RunFault::Memory),
+        Err(PlayFault::Write) => Err(RunFault::Write),
+    }
+}
+
 /// Plays a schedule to its end, and writes the trace. The list of runs has its room before anything is read.
 fn play_all<S: Source, W: Sink>(
     alloc: Global,
@@ -275,7 +290,7 @@ fn play_all<S: Source, W: Sink>(
     };
     let mut line = KeptLine::new();
     match play_stream(machine, schedule, &mut runs, &mut line, output) {
-        Ok(accepted) => Ok(push_end(alloc, machine, refused_in(accepted, line), output)?),
+        Ok(accepted) => end_run(alloc, machine, refused_in(accepted, line), output),
         Err(fault) => Err(fault),
     }
 }

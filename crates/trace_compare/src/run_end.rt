@@ -36,9 +36,8 @@ pub fn push_end<W: Sink>(
     refused: Option<KeptLine>,
     output: &mut W,
 ) -> Result<RunEnd, PlayFault>
-    ensures standing { IfOk result (λ end. end.standing ≡ standing_of (world_of machine.now)) }
-    ensures text { IfOk result (λ end. end.state.items ≡ state_text (world_of machine.now)) }
-    ensures refused { IfOk result (λ end. end.refused ≡ refused) }
+    ensures tells { IfOk result (λ end. (end.standing ≡ standing_of (world_of machine.now))
+        × (end.state.items ≡ state_text (world_of machine.now)) × (end.refused ≡ refused)) }
     ensures state { OnOk result (Appends (W.written output.old) (W.written output.new)
         (state_text (world_of machine.now))) }
     ensures lines { OnOk result (HasNoLongLine (state_text (world_of machine.now))) }

@@ -8,10 +8,11 @@ use Rattle.trace_compare.proofs.loaded.play_known.Goals as goal
 
 pub returns-clause-traced : goal.returns-clause-traced
 returns-clause-traced g c =
-    are_traced c.push_end.result (world_of c.args.machine.now) _ (choices_of c.args.runs.now) c.in-Ok.accepted _ _ _
+    let last = world_of c.play_runs.new.machine in
+    are_traced c.push_end.result (world_of c.args.machine.now) last (choices_of c.args.runs.now) c.in-Ok.accepted _ _ _
     c.in-Ok.ensures.plays
-    (tells_end c.push_end.result _ c.in-Ok.accepted _ c.refused_in.ensures c.push_end.ensures.standing
-    c.push_end.ensures.text c.push_end.ensures.refused) c.push_end.ensures.state c.push_end.ensures.lines
+    (tells_end c.push_end.result last c.in-Ok.accepted _ c.refused_in.ensures c.push_end.ensures.tells)
+    c.push_end.ensures.state c.push_end.ensures.lines
 
 pub returns-clause-memory : goal.returns-clause-memory
 returns-clause-memory g c = λ want.

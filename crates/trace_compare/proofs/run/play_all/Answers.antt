@@ -9,9 +9,11 @@ use Rattle.trace_compare.proofs.run.play_all.Goals as goal
 
 pub returns-in-Ok-play_stream-clause-done : goal.returns-in-Ok-play_stream-clause-done
 returns-in-Ok-play_stream-clause-done g c =
-    traced-all c.push_end.result _ _ _ _ _ _ _ _ c.in-Ok-play_stream.ensures.done
-    (tells_end c.push_end.result _ c.in-Ok-play_stream.accepted _ c.refused_in.ensures c.push_end.ensures.standing
-    c.push_end.ensures.text c.push_end.ensures.refused) c.push_end.ensures.state c.push_end.ensures.lines
+    let last = world_of c.play_stream.new.machine in
+    let all = c.in-Ok-play_stream.accepted in
+    traced-all c.end_run.result _ last all _ _ _ _ _ c.in-Ok-play_stream.ensures.done
+    (tells_end c.end_run.result last all _ c.refused_in.ensures c.end_run.ensures.tells)
+    c.end_run.ensures.state c.end_run.ensures.lines
 
 pub returns-in-Ok-play_stream-clause-memory : goal.returns-in-Ok-play_stream-clause-memory
 returns-in-Ok-play_stream-clause-memory g c = λ want.
@@ -28,7 +30,7 @@ returns-in-Ok-play_stream-clause-memory g c = λ want.
         (
           consumed,
           inr (end, refl),
-          subst (λ out. AppendsPartOf old out lines) (sym (c.push_end.ensures.memory want)) (Part-whole old between lines whole),
+          subst (λ out. AppendsPartOf old out lines) (sym (c.end_run.ensures.memory want)) (Part-whole old between lines whole),
         ),
       ),
     )
