@@ -168,34 +168,34 @@ arrived_above phasers p at =
     if at == p then [] else above_text (flat_at phasers at).arrived (flat_at phasers at).parties
 
 -- a phaser, or a barrier, and who has arrived there
-abbrev pub at_phaser : Sheet → SymbolTable → Scene → ℕ → List ℕ
-at_phaser sheet symbols scene p =
+abbrev pub at_phaser : Sheet → SymbolTable → List PhaserState → ℕ → List ℕ
+at_phaser sheet symbols phasers p =
     place_name sheet symbols kind.Phaser p
-    ++ (if nat_lt p (length scene.phasers)
-    then arrived_at sheet symbols scene.phasers p (missing_for scene.phasers p) else [])
+    ++ (if nat_lt p (length phasers)
+    then arrived_at sheet symbols phasers p (missing_for phasers p) else [])
 
-abbrev pub behind_phaser : Scene → ℕ → List ℕ
-behind_phaser scene p =
-    if nat_lt p (length scene.phasers) then arrived_above scene.phasers p (missing_for scene.phasers p) else []
+abbrev pub behind_phaser : List PhaserState → ℕ → List ℕ
+behind_phaser phasers p =
+    if nat_lt p (length phasers) then arrived_above phasers p (missing_for phasers p) else []
 
 abbrev pub at_barrier : Sheet → SymbolTable → Scene → ℕ → List ℕ
 at_barrier sheet symbols scene b = place_name sheet symbols kind.Barrier b ++ barrier_arrived (slice_get scene.barriers b)
 
 -- what a thread waits at that stands at this row
 abbrev pub awaited_text : Sheet → SymbolTable → Scene → Row → List ℕ
-awaited_text sheet symbols scene (Paaa into phaser) = at_phaser sheet symbols scene phaser
-awaited_text sheet symbols scene (Pawait into phaser phase) = at_phaser sheet symbols scene phaser
-awaited_text sheet symbols scene (Pawaiti into phaser phase) = at_phaser sheet symbols scene phaser
-awaited_text sheet symbols scene (Pawaitt into phaser phase timeout) = at_phaser sheet symbols scene phaser
+awaited_text sheet symbols scene (Paaa into phaser) = at_phaser sheet symbols scene.phasers phaser
+awaited_text sheet symbols scene (Pawait into phaser phase) = at_phaser sheet symbols scene.phasers phaser
+awaited_text sheet symbols scene (Pawaiti into phaser phase) = at_phaser sheet symbols scene.phasers phaser
+awaited_text sheet symbols scene (Pawaitt into phaser phase timeout) = at_phaser sheet symbols scene.phasers phaser
 awaited_text sheet symbols scene (Cawait into barrier) = at_barrier sheet symbols scene barrier
 awaited_text sheet symbols scene (Cawaitt into barrier timeout) = at_barrier sheet symbols scene barrier
 awaited_text sheet symbols scene _ = []
 
 abbrev pub behind_text : Scene → Row → List ℕ
-behind_text scene (Paaa into phaser) = behind_phaser scene phaser
-behind_text scene (Pawait into phaser phase) = behind_phaser scene phaser
-behind_text scene (Pawaiti into phaser phase) = behind_phaser scene phaser
-behind_text scene (Pawaitt into phaser phase timeout) = behind_phaser scene phaser
+behind_text scene (Paaa into phaser) = behind_phaser scene.phasers phaser
+behind_text scene (Pawait into phaser phase) = behind_phaser scene.phasers phaser
+behind_text scene (Pawaiti into phaser phase) = behind_phaser scene.phasers phaser
+behind_text scene (Pawaitt into phaser phase timeout) = behind_phaser scene.phasers phaser
 behind_text scene _ = []
 
 -- whether its wait can end, or run out, or whether the program is stuck

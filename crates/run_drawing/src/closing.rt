@@ -106,14 +106,13 @@ fn push_phaser(
     back: &mut Vec<u8>,
     sheet: Sheet,
     symbols: &Symbols,
-    machine: &Machine,
+    forest: &Forest,
     number: u16,
 ) -> Result<(), AllocError>
     ensures front { OnOk result (front.new.items
-        ≡ front.old.items ++ at_phaser sheet symbols.now (scene_of machine.now.scene) number) }
-    ensures back { OnOk result (back.new.items ≡ back.old.items ++ behind_phaser (scene_of machine.now.scene) number) }
+        ≡ front.old.items ++ at_phaser sheet symbols.now (phasers_of forest.now) number) }
+    ensures back { OnOk result (back.new.items ≡ back.old.items ++ behind_phaser (phasers_of forest.now) number) }
 {
-    let forest = machine.forest();
     push_name(
         alloc,
         front,
@@ -190,7 +189,13 @@ fn push_awaited(
         | Row::Pawait { phaser, .. }
         | Row::Pawaiti { phaser, .. }
         | Row::Pawaitt { phaser, .. } => push_phaser(
-            alloc, front, back, sheet, symbols, machine, phaser,
+            alloc,
+            front,
+            back,
+            sheet,
+            symbols,
+            machine.forest(),
+            phaser,
         ),
         Row::Cawait { barrier, .. } | Row::Cawaitt { barrier, .. } => {
             push_name(
