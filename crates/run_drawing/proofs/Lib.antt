@@ -1,2 +1,3 @@
+mod Awaited
 pub mod Cells
 pub mod Drawings
