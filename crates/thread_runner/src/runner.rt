@@ -247,9 +247,9 @@ pub fn record_live<R: Threads + Wait + Sync, G: Gate + Sync>(
 ) -> Result<LiveRecord, LiveFault>
     requires { limit ≤ 1000000000 }
     ensures replay { IfOk result (λ run. IsReplay (record {
-          first = first_world program limit;
-          choices = choices_of run.runs.items;
-        }) (world_of run.machine)) }
+      first = first_world program limit;
+      choices = choices_of run.runs.items;
+    }) (world_of run.machine)) }
     ensures runs { IfOk result (λ run. All IsRun run.runs.items) }
     ensures ending { IfOk result (λ run. ending_of (world_of run.machine) ≡ Some run.ending) }
     ensures memory { (left : Recording) → result ≡ Err (LiveFault.Memory left)

@@ -75,9 +75,10 @@ tells_end (Err e) last all refused is told = told
 end_of : (first last : World) (choices : List Choice) (all : Bool) (end : RunEnd) (old new : Option (List ℕ))
     → Plays first last choices all old new → TellsEnd last all end → IsEndOf (execution first choices) end
 end_of first last choices all end old new plays (standing, text, refused) = (
-    standing ∙ ap standing_of plays.world,
-    text ∙ ap (λ (world : World). state_text world) plays.world,
-    refused ∙ refused_where all (execution first choices).refusal plays.answer)
+  standing ∙ ap standing_of plays.world,
+  text ∙ ap (λ (world : World). state_text world) plays.world,
+  refused ∙ refused_where all (execution first choices).refusal plays.answer,
+)
 
 -- the lines, and then the state that they leave
 traced_by : (end : RunEnd) (first last : World) (choices : List Choice) (all : Bool) (old between new : Option (List ℕ))
@@ -107,9 +108,18 @@ pub traced-all : {E : Type 0} (result : Result RunEnd E) (first last : World) (a
     → OnOk result (HasNoLongLine (state_text last))
     → IfOk result (λ end. HasTraced first end schedule_before schedule_after old new)
 traced-all (Ok end) first last all schedule_before schedule_after old between new
-    (bytes, (runs, (consumed, at_end, is, plays))) tells appends short =
-    (bytes, (runs, (consumed, at_end, is,
-    traced_by end first last (choices_of runs) all old between new plays tells appends short)))
+    (bytes, (runs, (consumed, at_end, is, plays))) tells appends short = (
+      bytes,
+      (
+        runs,
+        (
+          consumed,
+          at_end,
+          is,
+          traced_by end first last (choices_of runs) all old between new plays tells appends short,
+        ),
+      ),
+    )
 traced-all (Err e) first last all schedule_before schedule_after old between new played tells appends short = appends
 
 -- the verdict on a trace, beside the program that it is of
@@ -123,9 +133,14 @@ pub traced-same : {E : Type 0} (result : Result RunEnd E) (image : Image) (world
     (old new : Option (List ℕ)) → Begins image world → All IsRun runs
     → IfOk result (λ end. AreTraced world (choices_of runs) end old new) → OnOk result (HasWrittenTheSame image old new)
 traced-same (Ok end) image world runs old new begins are (short, ends, appends) =
-    let trace = trace_of world (choices_of runs) in
-    (trace, (appends, found-same image world trace begins
-    (begun-verdict image world (choices_of runs) begins (named-runs runs are) short)))
+    let trace = trace_of world (choices_of runs) in (
+      trace,
+      (
+        appends,
+        found-same image world trace begins
+            (begun-verdict image world (choices_of runs) begins (named-runs runs are) short),
+      ),
+    )
 traced-same (Err e) image world runs old new begins are traced = traced
 
 -- the same of an image whose program begins in that world

@@ -26,11 +26,11 @@ pub mod start;
 pub mod state;
 pub mod trace_line;
 
+pub use kept_line::KeptLine;
 pub use law::{
     every_trace_of_an_accepted_program_is_the_same, the_trace_of_any_choices_is_the_same,
     what_is_the_same_is_the_trace_of_its_choices,
 };
-pub use kept_line::KeptLine;
 pub use line_end::LineEnd;
 pub use play::{PlayFault, line_of_choice};
 pub use run_end::RunEnd;
