@@ -38,7 +38,7 @@ pub record Known (limit : ℕ) (file : List ℕ) (program : Program) (choices : 
   pub image : Image
   pub world : World
   pub ending : Ending
-  pub file : IsProgramFile file image
+  pub is_file : IsProgramFile file image
   pub none : first_fault image ≡ None
   pub loaded : IsProgramOf image program
   pub replay : IsReplay (record { first = first_world program limit; choices = choices }) world
@@ -55,17 +55,43 @@ is_recorded limit file program choices known = (
 pub lived : (limit : ℕ) (file : List ℕ) (program : Program) (choices : List Choice) (end : RunEnd) (old new : Option (List ℕ))
     → Known limit file program choices → AreTraced (first_world program 1000000000) choices end old new
     → IsLived limit file end old new
-lived limit file program choices end old new known (short, ends, appends) =
-    (known.image, (choices, (first_world program 1000000000, (known.file, is_recorded limit file program choices known,
-    (known.none, is_first known.image program 1000000000 known.loaded), ends, appends))))
+lived limit file program choices end old new known (short, ends, appends) = (
+  known.image,
+  (
+    choices,
+    (
+      first_world program 1000000000,
+      (
+        known.is_file,
+        is_recorded limit file program choices known,
+        (known.none, is_first known.image program 1000000000 known.loaded),
+        ends,
+        appends,
+      ),
+    ),
+  ),
+)
 
 -- a part of its lines was
 pub lived_in_part : (limit : ℕ) (file : List ℕ) (program : Program) (choices : List Choice) (old new : Option (List ℕ))
     → Known limit file program choices → AppendsPartOf old new (lines_of (first_world program 1000000000) choices)
     → IsLivedAtMost limit file old new
 lived_in_part limit file program choices old new known part =
-    inr (known.image, (choices, (first_world program 1000000000, (known.file, is_recorded limit file program choices known,
-    (known.none, is_first known.image program 1000000000 known.loaded), part))))
+    inr (
+      known.image,
+      (
+        choices,
+        (
+          first_world program 1000000000,
+          (
+            known.is_file,
+            is_recorded limit file program choices known,
+            (known.none, is_first known.image program 1000000000 known.loaded),
+            part,
+          ),
+        ),
+      ),
+    )
 
 refusal_port : (number : Option ℕ) → refusal_status number ≡ 5 → ⊥
 refusal_port (Some n) five = absurd (omega (arith, five))

@@ -49,10 +49,11 @@ pub fn both_cmd<S: Source, K: Sink, E: Sink>(
         ⊎ (GivesTooMuch (S.left input.old) (S.left input.new)
         ⊎ IsTrue (K.has_failed output.new)) }
 {
-    match both(alloc, input, output) {
-        Ok(_) => settled(Ok(Done::AsAsked), errors),
-        Err(fault) => settled(Err(fault), errors),
-    }
+    let fault = match both(alloc, input, output) {
+        Ok(_) => return settled(Ok(Done::AsAsked), errors),
+        Err(fault) => fault,
+    };
+    settled(Err(fault), errors)
 }
 
 /// The same: how the run has ended, or the fault that decides the status.

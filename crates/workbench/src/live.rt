@@ -62,10 +62,11 @@ pub fn live_cmd<R: Threads + Wait + Sync, F: Source, K: Sink, E: Sink>(
         ⊎ (GivesTooMuch (F.left file.old) (F.left file.new)
         ⊎ IsTrue (K.has_failed output.new)) }
 {
-    match live(threads, alloc, limit, &NoGate, file, output) {
-        Ok(_) => settled(Ok(Done::AsAsked), errors),
-        Err(fault) => settled(Err(fault), errors),
-    }
+    let fault = match live(threads, alloc, limit, &NoGate, file, output) {
+        Ok(_) => return settled(Ok(Done::AsAsked), errors),
+        Err(fault) => fault,
+    };
+    settled(Err(fault), errors)
 }
 
 /// The same: how the run has ended, or the fault that decides the status. Each thread passes a gate before each time that it
@@ -166,9 +167,9 @@ fn recorded<R: Threads + Wait + Sync, G: Gate + Sync>(
 ) -> Result<LiveRecord, Fault>
     requires { limit ≤ 1000000000 }
     ensures replay { IfOk result (λ run. IsReplay (record {
-          first = first_world program limit;
-          choices = choices_of run.runs.items;
-        }) (world_of run.machine)) }
+      first = first_world program limit;
+      choices = choices_of run.runs.items;
+    }) (world_of run.machine)) }
     ensures runs { IfOk result (λ run. All IsRun run.runs.items) }
     ensures ending { IfOk result (λ run. ending_of (world_of run.machine) ≡ Some run.ending) }
     ensures fault { IfErr result (λ fault. (fault ≡ Fault.Memory) ⊎ (fault ≡ Fault.Spawn)) }

@@ -46,10 +46,11 @@ pub fn run_cmd<F: Source, S: Source, K: Sink, E: Sink>(
         ⊎ GivesOnAndOn (S.left schedule.old) (S.left schedule.new))
         ⊎ IsTrue (K.has_failed output.new)) }
 {
-    match run(alloc, file, schedule, output) {
-        Ok(_) => settled(Ok(Done::AsAsked), errors),
-        Err(fault) => settled(Err(fault), errors),
-    }
+    let fault = match run(alloc, file, schedule, output) {
+        Ok(_) => return settled(Ok(Done::AsAsked), errors),
+        Err(fault) => fault,
+    };
+    settled(Err(fault), errors)
 }
 
 /// The same: how the run has ended, or the fault that decides the status.
