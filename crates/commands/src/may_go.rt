@@ -67,7 +67,7 @@ fn may_go(alloc: Global, symbols: &Symbols<'_>, machine: &Machine) -> Result<Vec
             if named < MOST_NAMED {
                 push_thread(&mut text, symbols, machine, thread)?;
             }
-            named += 1;
+            named = named.saturating_add(1);
         }
     }
     if named == 0 {

@@ -31,8 +31,22 @@ fn letter_of(kind: OperandKind) -> Option<&'static [u8]> {
     }
 }
 
-/// Adds the word with which the line of the thing of this name begins; the name itself where nothing has it.
+/// Whether a word numbers a thing, as `t0` does.
+fn is_numbered(word: &[u8]) -> bool {
+    match word {
+        [b't' | b'p' | b'b' | b'c', digits @ ..] => {
+            !digits.is_empty() && digits.iter().all(|byte| byte.is_ascii_digit())
+        }
+        _ => false,
+    }
+}
+
+/// Adds the word with which the line of the thing of this name begins; the name itself where nothing has it, and where it numbers a
+/// thing: the number goes before the name, as in a plan.
 fn push_subject(text: &mut Vec<u8>, symbols: &Symbols<'_>, name: &[u8]) -> Result<(), AllocError> {
+    if is_numbered(name) {
+        return text.extend_from_slice(name);
+    }
     for symbol in symbols.names() {
         if symbol.name == name {
             if let Some(letter) = letter_of(symbol.kind) {

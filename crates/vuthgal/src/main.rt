@@ -23,7 +23,7 @@ mod until_failure;
 mod usage;
 mod words;
 
-use byte_ports::{BlockPort, ReadPort, Source, WritePort};
+use byte_ports::{BlockPort, ReadPort, Sink, Source, WritePort};
 use command_line::request::Request;
 use commands::choices::choices;
 use commands::drawing::Drawing;
@@ -193,6 +193,21 @@ fn compare<'a>(rt: &HostRuntime, file: &'a str, trace: &'a str, is_shown: bool) 
     Ok(done_by(flushed(verdict, &mut output)?))
 }
 
+/// Writes the picture of a file that holds program and schedule.
+fn draw_both<P: Picture, F: Source, K: Sink>(
+    rt: &HostRuntime,
+    picture: &P,
+    file: &mut F,
+    output: &mut K,
+) -> Result<(), Fault> {
+    let file = read_all(rt.alloc(), file)?;
+    let file = file.as_slice();
+    if parts_of(file).0.len() == file.len() {
+        notes::push_no_schedule(rt);
+    }
+    make_of_both(rt.alloc(), picture, &mut SliceSource::new(file), output)
+}
+
 /// Writes the picture of the program in a file under a schedule, which is read as far as its fault or a choice too many, or stands
 /// in the same file where none is named. It is written at once, so nothing is kept back.
 fn draw<'a, P: Picture>(
@@ -215,7 +230,7 @@ fn draw<'a, P: Picture>(
             &mut schedule,
             &mut output,
         ),
-        None => make_of_both(rt.alloc(), picture, &mut program, &mut output),
+        None => draw_both(rt, picture, &mut program, &mut output),
     };
     Ok(as_asked(flushed(answer, &mut output))?)
 }

@@ -6,7 +6,7 @@ use Rattle.thread_machine.specs.World.{first_world, world_of}
 use Rattle.thread_runner.specs.Replay.{IsReplay}
 use Rattle.trace_compare.specs.RunText.{AreTraced}
 use Rattle.trace_compare.specs.Trace.{AppendsPartOf, lines_of}
-use Rattle.workbench.proofs.Lives.{Known, lived, lived_in_part}
+use Rattle.workbench.proofs.Lives.{lived, lived_in_part}
 use Rattle.workbench.proofs.live.play_live.Goals as goal
 
 pub returns-in-Ok-run_loaded-clause-done : goal.returns-in-Ok-run_loaded-clause-done
