@@ -56,11 +56,42 @@ file-debugged file_before file_after commands_before commands_after output_befor
 pub live-shown : (limit : ℕ) (end : RunEnd) (file_before file_after output_before output_after : Option (List ℕ))
     → HasLived limit end file_before file_after output_before output_after
     → HasShownLive limit file_before file_after output_before output_after
-live-shown limit end file_before file_after output_before output_after
-    (file, (gives, (image, (choices, (world, (is, (first, (last, (ending, (loads, begun, replay, over)))),
-    (accepted, begins), ends, appends)))))) =
-    (file, (image, (choices, (gives, (is, loads), (first, (last, (begun, replay))),
-    subst (Appends output_before output_after) (trace-first image 1000000000 world choices begins) appends))))
+live-shown limit end file_before file_after output_before output_after (
+  file,
+  (
+    gives,
+    (
+      image,
+      (
+        choices,
+        (
+          world,
+          (
+            is,
+            (first, (last, (ending, (loads, begun, replay, over)))),
+            (accepted, begins),
+            ends,
+            appends,
+          ),
+        ),
+      ),
+    ),
+  ),
+) = (
+  file,
+  (
+    image,
+    (
+      choices,
+      (
+        gives,
+        (is, loads),
+        (first, (last, (begun, replay))),
+        subst (Appends output_before output_after) (trace-first image 1000000000 world choices begins) appends,
+      ),
+    ),
+  ),
+)
 
 pub live_ok : {E : Type 0} (result : Result RunEnd E) (limit : ℕ) (file_before file_after output_before output_after : Option (List ℕ))
     → IfOk result (λ end. HasLived limit end file_before file_after output_before output_after)
