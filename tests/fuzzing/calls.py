@@ -117,5 +117,7 @@ def judge(answer, used, is_checked):
         raise Finding(f"status {answer.status}, and an output: {answer.output[:80]!r}")
     if used.ru_utime + used.ru_stime > (10 * SECONDS_OF_PROCESSOR if is_checked else SECONDS_OF_PROCESSOR):
         raise Finding(f"it took {used.ru_utime + used.ru_stime:.1f} s of a processor")
-    if used.ru_maxrss * 1024 > MEMORY and not is_checked:
+    # a process that is spawned has this one's memory for a moment, and its peak says so
+    own = resource.getrusage(resource.RUSAGE_SELF).ru_maxrss
+    if used.ru_maxrss * 1024 > MEMORY and used.ru_maxrss > own and not is_checked:
         raise Finding(f"it took {used.ru_maxrss} kB of memory")
