@@ -5,6 +5,7 @@ use schedule_reader::{Reader, Run, ScheduleFault};
 use std::alloc::{AllocError, Global};
 use thread_machine::Choice;
 use trace_choices::writing::push_token;
+use trace_compare::LineEnd;
 
 /// How often a run names its choice at most.
 const MOST_TIMES: u32 = 1_000_000_000;
@@ -116,9 +117,11 @@ impl Played {
         if left == 0 {
             return output.push(b"\n");
         }
+        let mut line = LineEnd::new();
         for run in self.runs.as_slice() {
             left = left.saturating_sub(1);
-            push_token(output, *run, if left == 0 { b'\n' } else { b' ' })?;
+            let behind = if left == 0 { b'\n' } else { b' ' };
+            push_token(output, &mut line, *run, behind)?;
         }
         Ok(())
     }

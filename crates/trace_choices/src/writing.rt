@@ -26,6 +26,7 @@ pub enum WritingFault {
 }
 
 /// How often, where it is more than once.
+#[inline(always)]
 fn put_times(line: &mut LineEnd, times: u32)
     requires { length line.old ≤ 1 }
     ensures text { line.new ≡ times_text times ++ line.old }
@@ -50,22 +51,32 @@ fn put_letter(line: &mut LineEnd, expiry: bool)
     }
 }
 
-/// Writes a run's token, and a byte behind it.
-pub fn push_token<K: Sink>(output: &mut K, run: Run, behind: u8) -> Result<(), Failed>
+/// Writes a run's token, and a byte behind it. They are put together in this line, whatever is there.
+pub fn push_token<K: Sink>(
+    output: &mut K,
+    line: &mut LineEnd,
+    run: Run,
+    behind: u8,
+) -> Result<(), Failed>
     ensures token { OnOk result (Appends (K.written output.old) (K.written output.new) (token_of run ++ behind ∷ [])) }
     ensures failed { OnErr result (IsTrue (K.has_failed output.new)) }
 {
-    let mut line = LineEnd::new();
+    line.clear();
     line.put_word(&[behind]);
-    put_times(&mut line, run.times);
+    put_times(line, run.times);
     line.put_count(u64::from(run.choice.thread));
-    put_letter(&mut line, run.choice.expiry);
+    put_letter(line, run.choice.expiry);
     output.push(line.as_slice())
 }
 
 /// Goes on with a choice behind the run that may get more: answers the one that may now. Where that is another, the first is
 /// written.
-fn take<K: Sink>(last: Option<Run>, choice: Choice, output: &mut K) -> Result<Run, Failed>
+fn take<K: Sink>(
+    last: Option<Run>,
+    choice: Choice,
+    output: &mut K,
+    line: &mut LineEnd,
+) -> Result<Run, Failed>
     requires thread { choice.thread ≤ 63 }
     requires few { MatchOption last Unit (λ run. run.times ≤ 1000000000) }
     ensures taken { (start : Option (List ℕ)) → (choices : List Choice) → HasWritten start last (K.written output.old) choices
@@ -79,18 +90,23 @@ fn take<K: Sink>(last: Option<Run>, choice: Choice, output: &mut K) -> Result<Ru
     if let Some(more) = run.with(choice) {
         return Ok(more);
     }
-    push_token(output, run, b' ')?;
+    push_token(output, line, run, b' ')?;
     Ok(Run::once(choice))
 }
 
 /// Ends the line behind the last run. Where the trace is none, no choice may have stood before: then nothing is written.
-fn end<K: Sink>(last: Option<Run>, is_trace: bool, output: &mut K) -> Result<(), Failed>
+fn end<K: Sink>(
+    last: Option<Run>,
+    is_trace: bool,
+    output: &mut K,
+    line: &mut LineEnd,
+) -> Result<(), Failed>
     ensures ended { (start : Option (List ℕ)) → (choices : List Choice) → HasWritten start last (K.written output.old) choices
         → OnOk result (HasWrittenUpTo is_trace choices start (K.written output.new)) }
     ensures failed { OnErr result (IsTrue (K.has_failed output.new)) }
 {
     match last {
-        Some(run) => push_token(output, run, b'\n'),
+        Some(run) => push_token(output, line, run, b'\n'),
         None if is_trace => output.push(b"\n"),
         None => Ok(()),
     }
@@ -121,20 +137,23 @@ pub fn write_choices<S: Source, K: Sink>(
     let Ok(mut lines) = SourceLines::new(alloc) else {
         return Err(WritingFault::Memory);
     };
+    let mut line = LineEnd::new();
     let mut last = None;
     for before in 0..MOST_LINES {
         match next_name(&mut lines, trace) {
-            Ok(NextName::Made(choice)) => match take(last, choice, output) {
+            Ok(NextName::Made(choice)) => match take(last, choice, output, &mut line) {
                 Ok(run) => last = Some(run),
                 Err(_) => return Err(WritingFault::Write),
             },
-            Ok(NextName::State) => return ended(end(last, true, output), None),
-            Ok(NextName::NotATrace) => return ended(end(last, false, output), Some(before + 1)),
+            Ok(NextName::State) => return ended(end(last, true, output, &mut line), None),
+            Ok(NextName::NotATrace) => {
+                return ended(end(last, false, output, &mut line), Some(before + 1));
+            }
             Ok(NextName::CutOff(choice)) => {
-                let Ok(run) = take(last, choice, output) else {
+                let Ok(run) = take(last, choice, output, &mut line) else {
                     return Err(WritingFault::Write);
                 };
-                return ended(end(Some(run), false, output), Some(before + 2));
+                return ended(end(Some(run), false, output, &mut line), Some(before + 2));
             }
             Err(_) => return Err(WritingFault::Read),
         }

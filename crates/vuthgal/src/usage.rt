@@ -52,6 +52,7 @@ pub fn with_usage(rt: &HostRuntime, why: &str) -> Result<String, AllocError> {
     let mut program = program(rt.alloc(), VERSION)?;
     let help = match program.try_get_matches_from_mut(&words) {
         Ok(_) => String::new(rt.alloc()),
+        Err(help) if help.kind() == ErrorKind::OutOfMemory => return Err(AllocError),
         Err(help) => format!(in rt.alloc(); "{help}")?,
     };
     let usage = usage_line(help.as_str());
