@@ -88,11 +88,7 @@ fn add_row<'a>(
 
 /// Adds what the words of the line of this number say.
 #[tactic(auto, unfolding(crate::specs::Reading::words_behind))]
-fn add_words<'a>(
-    draft: &mut Draft<'a>,
-    number: u64,
-    words: &[&'a [u8]],
-) -> Result<(), AsmFaultKind>
+fn add_words<'a>(draft: &mut Draft<'a>, number: u64, words: &[&'a [u8]]) -> Result<(), AsmFaultKind>
     ensures { AnswersAt (λ _. draft.new) (at_line number result)
         (behind draft.old number (words_behind draft.old (map name_seen words.now))) }
 {

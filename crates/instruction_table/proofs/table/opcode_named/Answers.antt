@@ -1,4 +1,4 @@
-use Rattle.std.proofs.Common.{◌≡◌, ◌∙◌, ◌<◌, IfSome, MatchOption, option_map, Option, Some, None, List, ℕ, ap, sym, refl, subst, slice_index_or}
+use Rattle.std.proofs.Common.{◌≡◌, ◌∙◌, ◌<◌, IfSome, MatchOption, option_map, Option, Some, None, List, ℕ, ap, sym, subst, slice_index_or}
 use Rattle.instruction_table.specs.Table.{Entry, no_entry, entry_named, table}
 use Rattle.instruction_table.proofs.TableLemmas.{named_is_placed, named_is_within}
 use Rattle.instruction_table.proofs.WordSlots.{found_there}

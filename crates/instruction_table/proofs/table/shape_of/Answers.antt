@@ -1,4 +1,4 @@
-use Rattle.std.proofs.Common.{◌≡◌, ◌∙◌, All, IfSome, Option, Some, None, slice_index_or, List, ℕ, ◌≤◌, length, ap, sym, subst, refl}
+use Rattle.std.proofs.Common.{◌≡◌, ◌∙◌, IfSome, Some, slice_index_or, List, ℕ, ◌≤◌, length, ap, sym, subst}
 use Rattle.instruction_table.specs.Table.{Entry, no_entry, entry_of, entry_named, table}
 use Rattle.instruction_table.proofs.TableLemmas.{named_is_only, named_is_placed, named_is_short}
 use Rattle.instruction_table.proofs.table.shape_of.Goals as goal

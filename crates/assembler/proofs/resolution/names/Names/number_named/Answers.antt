@@ -1,4 +1,4 @@
-use Rattle.std.proofs.Common.{◌∙◌, Some, None, ap, subst, sym}
+use Rattle.std.proofs.Common.{◌∙◌, Some, ap, subst, sym}
 use Rattle.std.proofs.lemmas.Slice.Eq.{bytes_eq-Decides}
 use Rattle.assembler.proofs.Lookups.{anywhere}
 use Rattle.assembler.specs.Found.{IsFoundIn}
