@@ -1,5 +1,5 @@
 -- What a call answers, held against what is read: memory can be missing in place of anything.
-use Rattle.std.specs.Prelude.{Bool, true, false, Result}
+use Rattle.std.specs.Prelude.{ℕ, Bool, true, false, Result, Ok, Err}
 use Rattle.row_code.specs.Answers.{Answers, FailsUnless}
 use Rattle.line_reader.specs.declared.asm_fault.AsmFault.{AsmFault}
 use Rattle.line_reader.specs.declared.asm_fault.AsmFaultKind.{AsmFaultKind}
@@ -13,6 +13,11 @@ is_memory _ = false
 -- a fault of this kind is the one that is read, unless it is want of memory
 abbrev pub FailsAt : {Y : Type 0} → AsmFaultKind → AsmFault → Result Y AsmFault → Type 0
 FailsAt kind e read = FailsUnless (is_memory kind) e read
+
+-- what was answered of the line of this number
+abbrev pub at_line : {X : Type 0} → ℕ → Result X AsmFaultKind → Result X AsmFault
+at_line number (Ok x) = Ok x
+at_line number (Err kind) = Err (record { line = number; kind = kind })
 
 -- what was answered, seen by view, is what is read, unless memory was refused
 abbrev pub AnswersAt : {X Y : Type 0} → (X → Y) → Result X AsmFault → Result Y AsmFault → Type 0

@@ -8,3 +8,4 @@ pub mod Answers
 pub mod Draft
 pub mod PlainLine
 pub mod KeptLine
+pub mod Found

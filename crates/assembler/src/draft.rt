@@ -174,8 +174,9 @@ fn add_name<'a>(
 }
 
 /// The number of a place that is of this kind.
-fn number_there(kind: OperandKind, place: Option<&Place>) -> Option<u16>
-    ensures { result ≡ number_there kind (option_copied place.entry) }
+#[inline(always)]
+pub fn number_there(kind: OperandKind, place: Option<Place>) -> Option<u16>
+    ensures { result ≡ number_there kind place }
 {
     match place {
         Some(place) => {
@@ -230,14 +231,13 @@ impl<'a> Draft<'a> {
         self.names.get(&NameKey { bytes: name }).is_some()
     }
 
-    /// The kind of what a name names, where it names anything.
-    pub fn kind_given(&self, name: &[u8]) -> Option<OperandKind>
-        ensures { is_some result ≡ is_given name.now self.now }
+    /// What a name names, where it names anything.
+    pub fn place_named(&self, name: &[u8]) -> Option<Place>
+        ensures given { is_some result ≡ is_given name.now self.now }
+        ensures number { (kind : OperandKind) →
+            number_there kind result ≡ number_named kind name.now self.now }
     {
-        match self.names.get(&NameKey { bytes: name }) {
-            Some(place) => Some(place.kind),
-            None => None,
-        }
+        self.names.get(&NameKey { bytes: name }).copied()
     }
 
     /// Whether there is room for what a statement adds.
@@ -265,7 +265,7 @@ impl<'a> Draft<'a> {
     pub fn number_named(&self, kind: OperandKind, name: &[u8]) -> Option<u16>
         ensures { result ≡ number_named kind name.now self.now }
     {
-        number_there(kind, self.names.get(&NameKey { bytes: name }))
+        number_there(kind, self.place_named(name))
     }
 
     /// The number of the row or the object of this kind that is referred to, where there is one.

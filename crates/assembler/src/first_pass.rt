@@ -1,7 +1,8 @@
-ghost use Rattle.std.specs.Prelude.{◌≡◌, [], ◌∷◌, IfErr, false, map, true};
+ghost use Rattle.std.specs.Prelude.{◌≡◌, [], ◌∷◌, IfErr, IsErr, Ok, OnOk, false, map, true};
 ghost use Rattle.line_reader.specs.Reading.{is_directive, is_label};
 ghost use Rattle.std.specs.List.{list_all};
-ghost use Rattle.assembler.specs.Answers.{AnswersAt};
+ghost use Rattle.assembler.specs.Answers.{AnswersAt, at_line};
+ghost use Rattle.line_reader.specs.declared.asm_fault.AsmFaultKind.TheVariants as fault;
 ghost use Rattle.assembler.specs.Passes.{behind, lines_read};
 ghost use Rattle.assembler.specs.PlainLine.{is_plain};
 ghost use Rattle.assembler.specs.Reading.{line_behind, words_behind};
@@ -16,10 +17,22 @@ use crate::reading::{directive_behind, label_behind, row_behind};
 use line_reader::asm_fault::{AsmFault, AsmFaultKind};
 use line_reader::directive::is_directive;
 use line_reader::label::is_label;
-use std::alloc::Global;
+use std::alloc::{AllocError, Global};
 
 /// The most bytes that a line holds.
 const LONGEST_LINE: usize = 256;
+
+/// Whether a line was added: it is read, so only memory can be missing.
+#[inline(always)]
+fn pushed(added: Result<(), AllocError>) -> Result<(), AsmFaultKind>
+    ensures ok { OnOk result (added ≡ Ok tt) }
+    ensures err { IfErr result (λ kind. (kind ≡ fault.Memory) × IsErr added) }
+{
+    match added {
+        Ok(()) => Ok(()),
+        Err(_) => Err(AsmFaultKind::Memory),
+    }
+}
 
 /// Adds what a label in the line of this number says, and what follows it.
 #[inline(never)]
@@ -29,22 +42,13 @@ fn add_labelled<'a>(
     number: u64,
     word: &'a [u8],
     words: &[&'a [u8]],
-) -> Result<(), AsmFault>
+) -> Result<(), AsmFaultKind>
     requires { is_label word.now ≡ true }
-    ensures read { AnswersAt (λ _. draft.new) result
+    ensures { AnswersAt (λ _. draft.new) (at_line number result)
         (behind draft.old number (words_behind draft.old (word.now ∷ map name_seen words.now))) }
-    ensures line { IfErr result (λ e. e.line ≡ number) }
 {
-    match label_behind(&*draft, number, word, words) {
-        Err(kind) => Err(AsmFault { line: number, kind }),
-        Ok(line) => match draft.push(line) {
-            Ok(()) => Ok(()),
-            Err(_) => Err(AsmFault {
-                line: number,
-                kind: AsmFaultKind::Memory,
-            }),
-        },
-    }
+    let line = label_behind(&*draft, number, word, words)?;
+    pushed(draft.push(line))
 }
 
 /// Adds what a directive in the line of this number says.
@@ -55,23 +59,14 @@ fn add_directive<'a>(
     number: u64,
     word: &'a [u8],
     words: &[&'a [u8]],
-) -> Result<(), AsmFault>
+) -> Result<(), AsmFaultKind>
     requires label { is_label word.now ≡ false }
     requires directive { is_directive word.now ≡ true }
-    ensures read { AnswersAt (λ _. draft.new) result
+    ensures { AnswersAt (λ _. draft.new) (at_line number result)
         (behind draft.old number (words_behind draft.old (word.now ∷ map name_seen words.now))) }
-    ensures line { IfErr result (λ e. e.line ≡ number) }
 {
-    match directive_behind(&*draft, word, words) {
-        Err(kind) => Err(AsmFault { line: number, kind }),
-        Ok(said) => match draft.push_directive(number, said) {
-            Ok(()) => Ok(()),
-            Err(_) => Err(AsmFault {
-                line: number,
-                kind: AsmFaultKind::Memory,
-            }),
-        },
-    }
+    let said = directive_behind(&*draft, word, words)?;
+    pushed(draft.push_directive(number, said))
 }
 
 /// Adds what a row in the line of this number says.
@@ -81,31 +76,21 @@ fn add_row<'a>(
     number: u64,
     word: &'a [u8],
     words: &[&'a [u8]],
-) -> Result<(), AsmFault>
+) -> Result<(), AsmFaultKind>
     requires label { is_label word.now ≡ false }
     requires directive { is_directive word.now ≡ false }
-    ensures read { AnswersAt (λ _. draft.new) result
+    ensures { AnswersAt (λ _. draft.new) (at_line number result)
         (behind draft.old number (words_behind draft.old (word.now ∷ map name_seen words.now))) }
-    ensures line { IfErr result (λ e. e.line ≡ number) }
 {
-    match row_behind(&*draft, word, words) {
-        Err(kind) => Err(AsmFault { line: number, kind }),
-        Ok(row) => match draft.push(KeptLine::Row(number, row)) {
-            Ok(()) => Ok(()),
-            Err(_) => Err(AsmFault {
-                line: number,
-                kind: AsmFaultKind::Memory,
-            }),
-        },
-    }
+    let row = row_behind(&*draft, word, words)?;
+    pushed(draft.push(KeptLine::Row(number, row)))
 }
 
 /// Adds what the words of the line of this number say.
 #[tactic(auto, unfolding(crate::specs::Reading::words_behind))]
-fn add_words<'a>(draft: &mut Draft<'a>, number: u64, words: &[&'a [u8]]) -> Result<(), AsmFault>
-    ensures read { AnswersAt (λ _. draft.new) result
+fn add_words<'a>(draft: &mut Draft<'a>, number: u64, words: &[&'a [u8]]) -> Result<(), AsmFaultKind>
+    ensures { AnswersAt (λ _. draft.new) (at_line number result)
         (behind draft.old number (words_behind draft.old (map name_seen words.now))) }
-    ensures line { IfErr result (λ e. e.line ≡ number) }
 {
     match words {
         [] => Ok(()),
@@ -128,30 +113,20 @@ fn read_line<'a>(
     words: &mut Vec<&'a [u8]>,
     number: u64,
     line: FirstLine<'a>,
-) -> Result<(), AsmFault>
+) -> Result<(), AsmFaultKind>
     requires { line.is_plain ≡ true → list_all is_plain line.bytes.now ≡ true }
-    ensures read { AnswersAt (λ _. draft.new) result
+    ensures { AnswersAt (λ _. draft.new) (at_line number result)
         (behind draft.old number (line_behind draft.old line.entry.bytes.now)) }
-    ensures line { IfErr result (λ e. e.line ≡ number) }
 {
     if !are_allowed(line) {
-        return Err(AsmFault {
-            line: number,
-            kind: AsmFaultKind::BadByte,
-        });
+        return Err(AsmFaultKind::BadByte);
     }
     if line.bytes.len() > LONGEST_LINE {
-        return Err(AsmFault {
-            line: number,
-            kind: AsmFaultKind::LongLine,
-        });
+        return Err(AsmFaultKind::LongLine);
     }
     match put_words(words, before_comment(line)) {
         Ok(()) => add_words(draft, number, words),
-        Err(_) => Err(AsmFault {
-            line: number,
-            kind: AsmFaultKind::Memory,
-        }),
+        Err(_) => Err(AsmFaultKind::Memory),
     }
 }
 
@@ -167,8 +142,8 @@ pub fn lines_read(alloc: Global, text: &[u8]) -> Result<(Draft<'_>, u64), AsmFau
         let line = first_line(rest);
         let after = line.after;
         number += 1;
-        if let Err(fault) = read_line(&mut draft, &mut words, number, line) {
-            return Err(fault);
+        if let Err(kind) = read_line(&mut draft, &mut words, number, line) {
+            return Err(AsmFault { line: number, kind });
         }
         rest = after;
     }

@@ -170,7 +170,7 @@ fn placed_name(
         return without_place(fault);
     };
     let given = match words.get(number) {
-        Some(name) => draft.kind_given(*name),
+        Some(name) => draft.place_named(*name).map(|place| place.kind),
         None => None,
     };
     PlacedFault {

@@ -1,4 +1,4 @@
-use Rattle.std.proofs.Common.{◌≡◌, ℕ, zero, suc, ◌+◌, ◌<◌, ◌≤◌, nat_lt, Bool, true, false, cond, not, ◌&&◌, ◌==◌, List, [], ◌∷◌, length, Some, unwrap_or, IfSome, All, slice_index_or, bytes_eq, refl, ap, sym, ◌∙◌, arith, rules, zero-add}
+use Rattle.std.proofs.Common.{◌≡◌, ℕ, zero, suc, ◌+◌, ◌<◌, ◌≤◌, nat_lt, Bool, true, false, cond, not, ◌&&◌, ◌==◌, List, [], ◌∷◌, length, Some, unwrap_or, IfSome, All, slice_index_or, bytes_eq, refl, ap, sym, subst, ◌∙◌, arith, rules, zero-add}
 use Rattle.std.proofs.lemmas.Bool.Decides.{nat_tests}
 use Rattle.std.proofs.lemmas.Grind.{common_steps}
 use Rattle.std.proofs.lemmas.List.{get_or_default}
@@ -85,6 +85,12 @@ named_is_placed word =
     found_is_entry P table word
     (λ k d within. ap (λ at. slice_index_or table at no_entry) (opcode-at table 0 k d table_placed within ∙ zero-add k)
     ∙ get_or_default table k no_entry d within)
+
+-- an entry that a look-up finds stands within the table
+pub named_is_within : (word : List ℕ) → IfSome (entry_named table word) (λ e. e.opcode < 42)
+named_is_within word =
+    found_is_entry (λ e. e.opcode < 42) table word
+    (λ k d within. subst (λ n. n < 42) (sym (opcode-at table 0 k d table_placed within ∙ zero-add k)) within)
 
 -- an entry that a look-up finds is the only one with its word
 pub named_is_only : (word : List ℕ) (a : Entry) → entry_named table word ≡ Some a → All (λ e. e.word ≡ word → e ≡ a) table

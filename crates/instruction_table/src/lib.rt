@@ -28,4 +28,4 @@ pub use register::Reg;
 pub use registers::Regs;
 pub use row::{Row, is_timed, opcode};
 pub use shape::{OperandKind, Shape};
-pub use table::{mnemonic, row_shape, shape_of};
+pub use table::{mnemonic, opcode_named, operands_of, row_shape, shape_of};

@@ -1,4 +1,4 @@
-ghost use Rattle.std.specs.Prelude.{◌≡◌, ◌<◌, ◌≤◌, All, IfSome, Some, map, option_map, length, slice_index_or, slice_get};
+ghost use Rattle.std.specs.Prelude.{◌≡◌, ◌<◌, ◌≤◌, All, IfSome, MatchOption, Some, None, map, option_map, length, slice_index_or, slice_get};
 ghost use Rattle.instruction_table.specs.Row.{opcode_of};
 ghost use Rattle.instruction_table.specs.Table.{Entry, no_entry, entry_listed, filled_by, entry_of, entry_named, table, entry_for};
 
@@ -80,6 +80,7 @@ const PLACES: [u8; 128] = [
 
 /// The place of the entry that has this word, where there is one. It is found by the word's slot,
 /// which is made of its length and three of its letters.
+#[inline(always)]
 fn place_of(word: &[u8]) -> u8
     ensures { (e : Entry) → entry_named table word.now ≡ Some e → result ≡ e.opcode }
 {
@@ -92,15 +93,16 @@ fn place_of(word: &[u8]) -> u8
     }
 }
 
-/// The shape at this place, where there is one that has this word.
-fn shape_there(entries: &[Listed], place: u8, word: &[u8]) -> Option<Shape>
-    ensures { option_map entry_of result
-        ≡ filled_by word.now (slice_get (map entry_listed entries.now) place) }
+/// The opcode of the entry at this place, where there is one that has this word.
+#[inline(always)]
+fn opcode_there(entries: &[Listed], place: u8, word: &[u8]) -> Option<u8>
+    ensures { result ≡ option_map (λ e. e.opcode)
+        (filled_by word.now (slice_get (map entry_listed entries.now) place)) }
 {
     match entries.get(usize::from(place)) {
         Some(listed) => {
             if listed.1.as_bytes() == word {
-                Some(shape_listed(*listed))
+                Some(listed.0)
             } else {
                 None
             }
@@ -109,10 +111,32 @@ fn shape_there(entries: &[Listed], place: u8, word: &[u8]) -> Option<Shape>
     }
 }
 
-fn shape_named(word: &[u8]) -> Option<Shape>
-    ensures { option_map entry_of result ≡ entry_named table word.now }
+/// The opcode of the rows that begin with this word in a program's text, which counts as `shape_of` has it.
+#[inline(always)]
+pub fn opcode_named(word: &[u8]) -> Option<u8>
+    ensures opcode { result ≡ option_map (λ e. e.opcode) (entry_named table word.now) }
+    ensures entry { MatchOption result (entry_named table word.now ≡ None)
+        (λ opcode. entry_named table word.now ≡ Some (slice_index_or table opcode no_entry)) }
+    ensures there { IfSome result (λ opcode. opcode < 42) }
 {
-    shape_there(&TABLE, place_of(word), word)
+    opcode_there(&TABLE, place_of(word), word)
+}
+
+#[inline(always)]
+fn operands_at(entries: &[Listed], place: u8) -> &'static [OperandKind]
+    requires { place < length entries.now }
+    ensures { result.now ≡ (slice_index_or (map entry_listed entries.now) place no_entry).operands }
+{
+    entries[usize::from(place)].2
+}
+
+/// The kinds of the operands of the rows of this opcode, in the order of the text: at most four.
+#[inline(always)]
+pub fn operands_of(opcode: u8) -> &'static [OperandKind]
+    requires { opcode < 42 }
+    ensures { result.now ≡ (slice_index_or table opcode no_entry).operands }
+{
+    operands_at(&TABLE, opcode)
 }
 
 fn shape_at(entries: &[Listed], place: u8) -> Shape
@@ -132,7 +156,10 @@ pub fn shape_of(word: &[u8]) -> Option<Shape>
     ensures place { IfSome result (λ s. slice_index_or table s.opcode no_entry ≡ entry_of s) }
     ensures short { IfSome result (λ s. length s.operands.now ≤ 4) }
 {
-    shape_named(word)
+    match opcode_named(word) {
+        Some(opcode) => Some(shape_at(&TABLE, opcode)),
+        None => None,
+    }
 }
 
 /// The row's shape: what `shape_of` answers to its word.

@@ -3,8 +3,7 @@ use Rattle.std.proofs.Common.{◌≡◌, ◌∙◌, ℕ, Bool, true, false, not,
 use Rattle.std.specs.Prelude.{bytes_eq}
 use Rattle.std.specs.List.{list_all}
 use Rattle.instruction_table.specs.declared.shape.OperandKind.{OperandKind}
-use Rattle.instruction_table.specs.declared.shape.Shape.{Shape}
-use Rattle.instruction_table.specs.Table.{Entry, entry_named, entry_of, table}
+use Rattle.instruction_table.specs.Table.{Entry, entry_named, table}
 use Rattle.line_reader.specs.declared.symbolic_row.Operand.{Operand}
 use Rattle.line_reader.specs.Reading.{operand_there, row_of_kinds}
 use Rattle.line_reader.specs.Symbols.{Name}
@@ -30,9 +29,8 @@ found_passes word (x ∷ entries) e all found =
     by rest false true is all found = rest all found
     by rest here false is all found = absurd (cc)
 
-pub shape_has_one : (word : List ℕ) (shape : Shape) → Some (entry_of shape) ≡ entry_named table word →
-    one_other shape.operands.now ≡ true
-shape_has_one word shape found = found_passes word table (entry_of shape) table_has_one found
+pub entry_has_one : (word : List ℕ) (e : Entry) → entry_named table word ≡ Some e → one_other e.operands ≡ true
+entry_has_one word e found = found_passes word table e table_has_one (sym found)
 
 -- a place that holds what stands there by itself
 by_itself : (before after : Held) (operand : KeptOperand) → is_register operand ≡ true →

@@ -11,14 +11,20 @@ use crate::symbolic_phaser::phaser_at;
 use crate::symbolic_thread::thread_at;
 use crate::words::is_word;
 
-/// Whether a word begins a directive.
+/// Whether a word begins a directive. Few words begin with a dot.
+#[inline(always)]
 pub fn is_directive(word: &[u8]) -> bool
     ensures { result ≡ is_directive word.now }
 {
-    is_word(word, ".phaser")
-        || is_word(word, ".barrier")
-        || is_word(word, ".thread")
-        || is_word(word, ".cell")
+    match word {
+        [b'.', ..] => {
+            is_word(word, ".phaser")
+                || is_word(word, ".barrier")
+                || is_word(word, ".thread")
+                || is_word(word, ".cell")
+        }
+        _ => false,
+    }
 }
 
 /// Reads the operand of `.cell`.

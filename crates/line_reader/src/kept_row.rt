@@ -7,7 +7,7 @@ use crate::asm_fault::AsmFaultKind;
 use crate::number::number_at;
 use crate::reference::{Reference, reference_at};
 use crate::words::is_word;
-use instruction_table::{OperandKind, Reg, shape_of};
+use instruction_table::{OperandKind, Reg, opcode_named, operands_of};
 
 /// What stands at one of the four places of a row.
 #[derive(Clone, Copy)]
@@ -173,13 +173,14 @@ fn row_of_kinds<'a>(
 pub fn row_at<'a>(word: &[u8], words: &[&'a [u8]]) -> Result<KeptRow<'a>, AsmFaultKind>
     ensures { seen row_kept result ≡ row_at word.now (map name_seen words.now) }
 {
-    let Some(shape) = shape_of(word) else {
+    let Some(opcode) = opcode_named(word) else {
         return Err(AsmFaultKind::UnknownWord);
     };
-    if words.len() != shape.operands.len() {
+    let kinds = operands_of(opcode);
+    if words.len() != kinds.len() {
         return Err(AsmFaultKind::OperandCount);
     }
-    row_of_kinds(shape.opcode, shape.operands, words)
+    row_of_kinds(opcode, kinds, words)
 }
 
 /// The place, from 0, of the first word that isn't what its kind wants.
@@ -204,9 +205,9 @@ fn wrong_of_kinds(kinds: &[OperandKind], words: &[&[u8]]) -> Option<usize>
 pub fn wrong_operand(word: &[u8], words: &[&[u8]]) -> Option<usize>
     ensures { IfSome result (λ place. place < length words.now) }
 {
-    let shape = shape_of(word)?;
-    if words.len() == shape.operands.len() {
-        wrong_of_kinds(shape.operands, words)
+    let kinds = operands_of(opcode_named(word)?);
+    if words.len() == kinds.len() {
+        wrong_of_kinds(kinds, words)
     } else {
         None
     }

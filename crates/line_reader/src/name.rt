@@ -32,6 +32,7 @@ fn is_name(word: &[u8]) -> bool
 }
 
 /// Reads a name: a letter or `_`, then letters, digits and `_`, at most 32 bytes in all.
+#[inline(always)]
 #[tactic(auto, unfolding(crate::specs::Reading::name_at))]
 pub fn name_at(word: &[u8]) -> Result<&[u8], AsmFaultKind>
     ensures { seen name_seen result ≡ name_at word.now }

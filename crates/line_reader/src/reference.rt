@@ -15,6 +15,7 @@ pub enum Reference<N> {
 }
 
 /// Reads a name, or `#` and a number from 0 to `high`.
+#[inline(always)]
 #[tactic(auto, unfolding(crate::specs::Reading::reference_at))]
 pub fn reference_at(high: u16, word: &[u8]) -> Result<Reference<&[u8]>, AsmFaultKind>
     ensures { seen reference_seen result ≡ reference_at high word.now }

@@ -8,6 +8,7 @@ ghost use Rattle.line_reader.specs.Symbols.{operands_in};
 ghost use Rattle.line_reader.specs.Seen.{barrier_seen, phaser_seen, policy_seen, reference_seen, thread_seen};
 ghost use Rattle.line_reader.specs.KeptRow.{operand_kept, row_kept};
 
+use super::names::Names;
 use crate::draft::Draft;
 use instruction_table::{OperandKind, Reg, Row};
 use line_reader::kept_row::{Held, KeptOperand, KeptRow};
@@ -96,14 +97,16 @@ pub fn thread_of<'a>(draft: &Draft<'a>, thread: &SymbolicThread<&'a [u8]>) -> Op
 }
 
 /// One more operand of a row before these; nothing where its name is not known.
+#[inline(always)]
 fn with_operand<'a>(
-    draft: &Draft<'a>,
+    names: &mut Names<'_, 'a>,
     held: &Held<'a>,
     operand: KeptOperand,
     operands: Operands,
 ) -> Option<Operands>
-    ensures { result ≡ (if is_operand_known draft.now (operand_kept held.now operand)
-        then Some (with_operand draft.now (operand_kept held.now operand) operands) else None) }
+    ensures found { result ≡ (if is_operand_known names.old (operand_kept held.now operand)
+        then Some (with_operand names.old (operand_kept held.now operand) operands) else None) }
+    ensures same { names.new ≡ names.old }
 {
     match operand {
         KeptOperand::Absent => Some(operands),
@@ -122,17 +125,18 @@ fn with_operand<'a>(
             ..operands
         }),
         KeptOperand::Named(kind) => {
-            let object = draft.number_named(kind, held.name)?;
+            let object = names.number_named(kind, held.name)?;
             Some(Operands { object, ..operands })
         }
     }
 }
 
 /// The operands of a row; nothing where a name is not known.
-fn operands_of<'a>(draft: &Draft<'a>, row: &KeptRow<'a>) -> Option<Operands>
-    ensures { result
-        ≡ (if list_all (is_operand_known draft.now) (operands_in (row_kept row.now))
-        then Some (operands_of draft.now (operands_in (row_kept row.now))) else None) }
+fn operands_of<'a>(names: &mut Names<'_, 'a>, row: &KeptRow<'a>) -> Option<Operands>
+    ensures found { result
+        ≡ (if list_all (is_operand_known names.old) (operands_in (row_kept row.now))
+        then Some (operands_of names.old (operands_in (row_kept row.now))) else None) }
+    ensures same { names.new ≡ names.old }
 {
     let none = Operands {
         a: Reg::R0,
@@ -141,20 +145,21 @@ fn operands_of<'a>(draft: &Draft<'a>, row: &KeptRow<'a>) -> Option<Operands>
         number: 0,
         object: 0,
     };
-    let operands = with_operand(draft, &row.held, row.fourth, none)?;
-    let operands = with_operand(draft, &row.held, row.third, operands)?;
-    let operands = with_operand(draft, &row.held, row.second, operands)?;
-    with_operand(draft, &row.held, row.first, operands)
+    let operands = with_operand(names, &row.held, row.fourth, none)?;
+    let operands = with_operand(names, &row.held, row.third, operands)?;
+    let operands = with_operand(names, &row.held, row.second, operands)?;
+    with_operand(names, &row.held, row.first, operands)
 }
 
 /// A row; nothing where a name is not known.
 #[inline(always)]
-pub fn row_of<'a>(draft: &Draft<'a>, row: &KeptRow<'a>) -> Option<Row>
-    ensures { result
-        ≡ (if list_all (is_operand_known draft.now) (operands_in (row_kept row.now))
-        then Some (row_of draft.now (row_kept row.now)) else None) }
+pub fn row_of<'a>(names: &mut Names<'_, 'a>, row: &KeptRow<'a>) -> Option<Row>
+    ensures found { result
+        ≡ (if list_all (is_operand_known names.old) (operands_in (row_kept row.now))
+        then Some (row_of names.old (row_kept row.now)) else None) }
+    ensures same { names.new ≡ names.old }
 {
-    match operands_of(draft, row) {
+    match operands_of(names, row) {
         Some(operands) => Some(row_with(row.held.opcode, operands)),
         None => None,
     }

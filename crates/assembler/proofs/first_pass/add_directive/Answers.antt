@@ -5,5 +5,5 @@ use Rattle.assembler.proofs.first_pass.add_directive.Goals as goal
 
 pub push_directive-requires-clause-follows : goal.push_directive-requires-clause-follows
 push_directive-requires-clause-follows c =
-    directive_follows c.args.draft.now c.args.word.now (map name_seen c.args.words.now) (statement_seen c.in-Ok.said)
-    c.requires.directive c.in-Ok.ensures.said
+    directive_follows c.args.draft.now c.args.word.now (map name_seen c.args.words.now) (statement_seen c.in_ok-said.said)
+    c.requires.directive c.in_ok-said.ensures.said

@@ -5,4 +5,4 @@ use Rattle.assembler.proofs.first_pass.add_labelled.Goals as goal
 
 pub push-requires : goal.push-requires
 push-requires c =
-    (statement_takes c.args.draft.now _ _ (statement_kept c.in-Ok.line) (sym c.in-Ok.ensures.said)).1
+    (statement_takes c.args.draft.now _ _ (statement_kept c.in_ok-line.line) (sym c.in_ok-line.ensures.said)).1

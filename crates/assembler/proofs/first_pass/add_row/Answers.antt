@@ -6,4 +6,4 @@ use Rattle.assembler.proofs.first_pass.add_row.Goals as goal
 
 pub push-requires : goal.push-requires
 push-requires c =
-    row_follows c.args.draft.now c.args.word.now (map name_seen c.args.words.now) (row_kept c.in-Ok.row) (c.in-Ok.ensures None)
+    row_follows c.args.draft.now c.args.word.now (map name_seen c.args.words.now) (row_kept c.in_ok-row.row) (c.in_ok-row.ensures None)

@@ -1,4 +1,5 @@
 use Rattle.std.proofs.Common.{◌∙◌, ◌+◌, Ok, sym, ap, subst, refl, arith}
+use Rattle.line_reader.specs.declared.asm_fault.AsmFault.{AsmFault}
 use Rattle.assembler.specs.Answers.{FailsAt}
 use Rattle.line_reader.specs.Words.{lines_of}
 use Rattle.assembler.specs.Passes.{lines_read, behind}
@@ -26,11 +27,11 @@ returns-in-Err c =
     let line = c.first_line-line.result.bytes.now in
     let more = lines_of c.first_line-line.result.after.now in
     let next = next_line texts k draft line more before.met (sym before.left ∙ c.first_line-line.ensures.lines) in
-    let fault = c.in-Err.fault in
+    let fault : AsmFault = record { line = k + 1; kind = c.in-Err.kind } in
     record {
       read = subst (λ r. FailsAt fault.kind fault r) (sym next)
           (fails_then fault.kind fault (behind draft (k + 1) (line_behind draft line))
-          (λ lines. lines_read (k + 1 + 1) lines more) c.in-Err.ensures.read);
+          (λ lines. lines_read (k + 1 + 1) lines more) c.in-Err.ensures);
     }
 
 pub loop-rest-preserved : goal.loop-rest-preserved
@@ -43,7 +44,7 @@ loop-rest-preserved c =
     let left = sym before.left ∙ c.first_line-line.ensures.lines in
     let within = one_left texts k line more left in
     record {
-      met = one_more texts k c.loop-rest.draft c.read_line.new.draft line more before.met left c.in_default.ensures.read;
+      met = one_more texts k c.loop-rest.draft c.read_line.new.draft line more before.met left c.in_default.ensures;
       left = sym (one_less texts k line more left);
       count = omega (arith, within);
       room = omega (arith, before.room, c.first_line-line.ensures.shorter);

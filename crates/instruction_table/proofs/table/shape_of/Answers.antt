@@ -1,35 +1,32 @@
-use Rattle.std.proofs.Common.{◌≡◌, All, IfSome, option_map, Option, Some, None, slice_index_or, List, ℕ, ◌≤◌, length, sym, subst}
-use Rattle.instruction_table.specs.declared.shape.Shape.{Shape}
+use Rattle.std.proofs.Common.{◌≡◌, ◌∙◌, IfSome, Some, slice_index_or, List, ℕ, ◌≤◌, length, ap, sym, subst}
 use Rattle.instruction_table.specs.Table.{Entry, no_entry, entry_of, entry_named, table}
 use Rattle.instruction_table.proofs.TableLemmas.{named_is_only, named_is_placed, named_is_short}
 use Rattle.instruction_table.proofs.table.shape_of.Goals as goal
 
--- the answer is the only entry with the word
-only : (word : List ℕ) (found : Option Shape) → option_map entry_of found ≡ entry_named table word →
-    IfSome found (λ s. All (λ e. e.word ≡ word → e ≡ entry_of s) table)
-only word None is = tt
-only word (Some s) is = named_is_only word (entry_of s) (sym is)
+-- the entry of the shape is the one with the word
+found : (word : List ℕ) (e at : Entry) → e ≡ at → entry_named table word ≡ Some at → Some e ≡ entry_named table word
+found word e at same is = ap (λ (x : Entry). Some x) same ∙ sym is
 
--- the answer is the entry at the place of its opcode
-placed : (word : List ℕ) (found : Option Shape) → option_map entry_of found ≡ entry_named table word →
-    IfSome found (λ s. slice_index_or table s.opcode no_entry ≡ entry_of s)
-placed word None is = tt
-placed word (Some s) is =
-    let P : Option Entry → Type 0 = λ o. IfSome o (λ e. slice_index_or table e.opcode no_entry ≡ e) in
-    subst P (sym is) (named_is_placed word)
+placed : (word : List ℕ) (e : Entry) → Some e ≡ entry_named table word → slice_index_or table e.opcode no_entry ≡ e
+placed word e is = subst (λ o. IfSome o (λ e. slice_index_or table e.opcode no_entry ≡ e)) (sym is) (named_is_placed word)
 
--- the answer has at most four operands
-short : (word : List ℕ) (found : Option Shape) → option_map entry_of found ≡ entry_named table word →
-    IfSome found (λ s. length s.operands.now ≤ 4)
-short word None is = tt
-short word (Some s) is =
-    subst (λ o. IfSome o (λ e. length e.operands ≤ 4)) (sym is) (named_is_short word)
+short : (word : List ℕ) (e : Entry) → Some e ≡ entry_named table word → length e.operands ≤ 4
+short word e is = subst (λ o. IfSome o (λ e. length e.operands ≤ 4)) (sym is) (named_is_short word)
 
-pub returns-clause-only : goal.returns-clause-only
-returns-clause-only c = only c.args.word.now c.shape_named.result c.shape_named.ensures
+pub returns-in-Some-clause-entry : goal.returns-in-Some-clause-entry
+returns-in-Some-clause-entry c = found c.args.word.now (entry_of c.shape_at.result) _ c.shape_at.ensures c.in-Some.ensures.entry
 
-pub returns-clause-place : goal.returns-clause-place
-returns-clause-place c = placed c.args.word.now c.shape_named.result c.shape_named.ensures
+pub returns-in-Some-clause-only : goal.returns-in-Some-clause-only
+returns-in-Some-clause-only c =
+    named_is_only c.args.word.now (entry_of c.shape_at.result)
+    (sym (found c.args.word.now (entry_of c.shape_at.result) _ c.shape_at.ensures c.in-Some.ensures.entry))
 
-pub returns-clause-short : goal.returns-clause-short
-returns-clause-short c = short c.args.word.now c.shape_named.result c.shape_named.ensures
+pub returns-in-Some-clause-place : goal.returns-in-Some-clause-place
+returns-in-Some-clause-place c =
+    placed c.args.word.now (entry_of c.shape_at.result)
+    (found c.args.word.now (entry_of c.shape_at.result) _ c.shape_at.ensures c.in-Some.ensures.entry)
+
+pub returns-in-Some-clause-short : goal.returns-in-Some-clause-short
+returns-in-Some-clause-short c =
+    short c.args.word.now (entry_of c.shape_at.result)
+    (found c.args.word.now (entry_of c.shape_at.result) _ c.shape_at.ensures c.in-Some.ensures.entry)
