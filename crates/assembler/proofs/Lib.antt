@@ -2,6 +2,7 @@ pub mod Drafts
 pub mod FirstLines
 pub mod PlainLines
 pub mod PlainWords
+pub mod PlainSplits
 pub mod KeptLines
 pub mod SpelledLines
 pub mod ReadLines

@@ -10,7 +10,7 @@ use Rattle.line_reader.proofs.Places.{position_some, position_within, position_n
 use Rattle.assembler.specs.PlainLine.{word_alone}
 use Rattle.assembler.proofs.FirstLines.{to_end}
 
-kept_piece : (piece : List ℕ) (pieces : List (List ℕ)) →
+pub kept_piece : (piece : List ℕ) (pieces : List (List ℕ)) →
     filter (λ one. not (length one == 0)) (piece ∷ pieces) ≡ word_alone piece ++ filter (λ one. not (length one == 0)) pieces
 kept_piece [] pieces = refl
 kept_piece (byte ∷ bytes) pieces =

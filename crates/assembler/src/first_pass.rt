@@ -7,16 +7,17 @@ ghost use Rattle.assembler.specs.Passes.{behind, lines_read};
 ghost use Rattle.assembler.specs.PlainLine.{is_plain};
 ghost use Rattle.assembler.specs.Reading.{line_behind, words_behind};
 ghost use Rattle.line_reader.specs.Seen.{name_seen};
-ghost use Rattle.line_reader.specs.Words.{lines_of};
+ghost use Rattle.line_reader.specs.Words.{lines_of, words_in};
 
 use crate::draft::Draft;
 use crate::kept_line::KeptLine;
 use crate::name_hash::NameHash;
-use crate::plain_line::{FirstLine, are_allowed, before_comment, first_line, put_words};
+use crate::plain_line::{FirstLine, first_line, put_words};
 use crate::reading::{directive_behind, label_behind, row_behind};
 use line_reader::asm_fault::{AsmFault, AsmFaultKind};
 use line_reader::directive::is_directive;
 use line_reader::label::is_label;
+use line_reader::words::{are_allowed, before_comment};
 use std::alloc::{AllocError, Global};
 
 /// The most bytes that a line holds.
@@ -70,6 +71,7 @@ fn add_directive<'a>(
 }
 
 /// Adds what a row in the line of this number says.
+#[inline(always)]
 #[tactic(auto, unfolding(crate::specs::Reading::words_behind, crate::specs::Reading::statement_behind))]
 fn add_row<'a>(
     draft: &mut Draft<'a>,
@@ -87,6 +89,7 @@ fn add_row<'a>(
 }
 
 /// Adds what the words of the line of this number say.
+#[inline(always)]
 #[tactic(auto, unfolding(crate::specs::Reading::words_behind))]
 fn add_words<'a>(draft: &mut Draft<'a>, number: u64, words: &[&'a [u8]]) -> Result<(), AsmFaultKind>
     ensures { AnswersAt (λ _. draft.new) (at_line number result)
@@ -107,26 +110,67 @@ fn add_words<'a>(draft: &mut Draft<'a>, number: u64, words: &[&'a [u8]]) -> Resu
 }
 
 /// Adds what the line of this number says. The list is only a place to put its words.
+#[inline(never)]
 #[tactic(auto, unfolding(crate::specs::Reading::line_behind))]
+fn read_any<'a>(
+    draft: &mut Draft<'a>,
+    words: &mut Vec<&'a [u8]>,
+    number: u64,
+    line: &'a [u8],
+) -> Result<(), AsmFaultKind>
+    ensures { AnswersAt (λ _. draft.new) (at_line number result)
+        (behind draft.old number (line_behind draft.old line.now)) }
+{
+    if !are_allowed(line) {
+        return Err(AsmFaultKind::BadByte);
+    }
+    if line.len() > LONGEST_LINE {
+        return Err(AsmFaultKind::LongLine);
+    }
+    match put_words(words, before_comment(line)) {
+        Ok(()) => add_words(draft, number, words),
+        Err(_) => Err(AsmFaultKind::Memory),
+    }
+}
+
+/// Adds what the line of this number says, which is plain and has these words.
+#[inline(always)]
+#[tactic(auto, unfolding(crate::specs::Reading::line_behind), using(crate::proofs::PlainLines::plain_allowed, crate::proofs::PlainLines::plain_words))]
+fn read_plain<'a>(
+    draft: &mut Draft<'a>,
+    words: &[&'a [u8]],
+    number: u64,
+    line: &'a [u8],
+) -> Result<(), AsmFaultKind>
+    requires plain { list_all is_plain line.now ≡ true }
+    requires words { map name_seen words.now ≡ words_in line.now }
+    ensures { AnswersAt (λ _. draft.new) (at_line number result)
+        (behind draft.old number (line_behind draft.old line.now)) }
+{
+    if line.len() > LONGEST_LINE {
+        return Err(AsmFaultKind::LongLine);
+    }
+    add_words(draft, number, words)
+}
+
+/// Adds what the line of this number says. The list has its words, where it is split.
+#[inline(always)]
 fn read_line<'a>(
     draft: &mut Draft<'a>,
     words: &mut Vec<&'a [u8]>,
     number: u64,
     line: FirstLine<'a>,
 ) -> Result<(), AsmFaultKind>
-    requires { line.is_plain ≡ true → list_all is_plain line.bytes.now ≡ true }
+    requires plain { line.is_split ≡ true → list_all is_plain line.bytes.now ≡ true }
+    requires words { line.is_split ≡ true
+        → map name_seen words.old.items ≡ words_in line.bytes.now }
     ensures { AnswersAt (λ _. draft.new) (at_line number result)
         (behind draft.old number (line_behind draft.old line.entry.bytes.now)) }
 {
-    if !are_allowed(line) {
-        return Err(AsmFaultKind::BadByte);
-    }
-    if line.bytes.len() > LONGEST_LINE {
-        return Err(AsmFaultKind::LongLine);
-    }
-    match put_words(words, before_comment(line)) {
-        Ok(()) => add_words(draft, number, words),
-        Err(_) => Err(AsmFaultKind::Memory),
+    if line.is_split {
+        read_plain(draft, words, number, line.bytes)
+    } else {
+        read_any(draft, words, number, line.bytes)
     }
 }
 
@@ -139,9 +183,14 @@ pub fn lines_read(alloc: Global, text: &[u8]) -> Result<(Draft<'_>, u64), AsmFau
     let mut rest = text;
     let mut number = 0u64;
     while !rest.is_empty() {
-        let line = first_line(rest);
-        let after = line.after;
         number += 1;
+        let Ok(line) = first_line(&mut words, rest) else {
+            return Err(AsmFault {
+                line: number,
+                kind: AsmFaultKind::Memory,
+            });
+        };
+        let after = line.after;
         if let Err(kind) = read_line(&mut draft, &mut words, number, line) {
             return Err(AsmFault { line: number, kind });
         }

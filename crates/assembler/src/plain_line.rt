@@ -1,10 +1,10 @@
-ghost use Rattle.std.specs.Prelude.{drop, take, ◌-◌, ◌≤◌, ◌≡◌, ◌<◌, ◌++◌, ◌∷◌, IfOk, length, map, not, true};
-ghost use Rattle.std.specs.List.{before_first, list_all, position};
-ghost use Rattle.assembler.specs.PlainLine.{is_plain, word_alone};
+ghost use Rattle.std.specs.Prelude.{drop, take, ◌-◌, ◌≤◌, ◌≡◌, ◌<◌, ◌++◌, ◌∷◌, IfOk, IfSome, length, map, not, true};
+ghost use Rattle.std.specs.List.{list_all, position};
+ghost use Rattle.assembler.specs.PlainLine.{IsSplit, is_letter, is_plain, word_alone};
 ghost use Rattle.line_reader.specs.Seen.{name_seen};
-ghost use Rattle.line_reader.specs.Words.{begins_comment, is_allowed, is_blank, lines_of, words_in};
+ghost use Rattle.line_reader.specs.Words.{is_blank, lines_of, words_in};
 
-use line_reader::words::{self, is_blank, is_line_end, place_of};
+use line_reader::words::{is_blank, is_line_end, place_of};
 use std::alloc::AllocError;
 
 /// A line of a text, and what follows its end.
@@ -12,22 +12,23 @@ use std::alloc::AllocError;
 pub struct FirstLine<'a> {
     pub bytes: &'a [u8],
     pub after: &'a [u8],
-    /// Whether no byte needs a second look: each is allowed, and none begins a comment.
-    pub is_plain: bool,
+    /// Whether its words are put into the list already: no byte needs a second look, since each is allowed and none begins a
+    /// comment.
+    pub is_split: bool,
 }
 
-/// A byte from space to `~` that begins no comment.
-fn is_plain(byte: u8) -> bool
-    ensures { result ≡ is_plain byte }
+/// A byte of a word: from `!` to `~`, but `;`.
+fn is_letter(byte: u8) -> bool
+    ensures { result ≡ is_letter byte }
 {
-    31 < byte && byte < 127 && byte != b';'
+    32 < byte && byte < 127 && byte != b';'
 }
 
-/// Where a byte first stands that isn't plain.
-fn place_of_other(bytes: &[u8]) -> Option<usize>
-    ensures { result ≡ position (λ byte. not (is_plain byte)) bytes.now }
+/// Where a byte first stands that is of no word.
+fn place_of_end(bytes: &[u8]) -> Option<usize>
+    ensures { result ≡ position (λ byte. not (is_letter byte)) bytes.now }
 {
-    bytes.iter().position(|byte| !is_plain(*byte))
+    bytes.iter().position(|byte| !is_letter(*byte))
 }
 
 /// The first line of a text, whatever it holds, and what follows its end.
@@ -43,59 +44,69 @@ pub fn any_line(text: &[u8]) -> (&[u8], &[u8])
     }
 }
 
-/// The first line of a text. Most lines are plain, and are found by looking at each byte once.
-pub fn first_line(text: &[u8]) -> FirstLine<'_>
-    requires { 0 < length text.now }
-    ensures lines { lines_of text.now ≡ result.bytes.now ∷ lines_of result.after.now }
-    ensures shorter { length result.after.now < length text.now }
-    ensures plain { result.is_plain ≡ true → list_all is_plain result.bytes.now ≡ true }
+/// Adds a piece to the list, where it isn't empty.
+#[inline(always)]
+fn push_piece<'a>(words: &mut Vec<&'a [u8]>, piece: &'a [u8]) -> Result<(), AllocError>
+    ensures { IfOk result (λ _. map name_seen words.new.items
+        ≡ map name_seen words.old.items ++ word_alone piece.now) }
 {
-    match place_of_other(text) {
-        Some(place) => {
-            if is_line_end(text[place]) {
-                return FirstLine {
-                    bytes: &text[..place],
-                    after: &text[place + 1..],
-                    is_plain: true,
-                };
-            }
+    if !piece.is_empty() {
+        words.push(piece)?;
+    }
+    Ok(())
+}
+
+/// Puts the words of the first line of a text in the place of what the list held, where the line ends with LF and has spaces and
+/// words alone: answers its length then. Else the list may hold anything.
+#[inline(always)]
+fn put_plain<'a>(words: &mut Vec<&'a [u8]>, text: &'a [u8]) -> Result<Option<usize>, AllocError>
+    ensures { IfOk result (λ end. IfSome end
+        (λ length. IsSplit length (map name_seen words.new.items) text.now)) }
+{
+    words.clear();
+    let mut rest = text;
+    while !rest.is_empty() {
+        let Some(place) = place_of_end(rest) else {
+            return Ok(None);
+        };
+        push_piece(words, &rest[..place])?;
+        if is_line_end(rest[place]) {
+            return Ok(Some(text.len() - rest.len() + place));
         }
-        None => {
-            return FirstLine {
-                bytes: text,
-                after: &text[text.len()..],
-                is_plain: true,
-            };
+        if rest[place] != b' ' {
+            return Ok(None);
         }
+        rest = &rest[place + 1..];
+    }
+    Ok(None)
+}
+
+/// The first line of a text. Most lines are spaces and words, and are split when their end is found: each byte is looked at once.
+#[inline(always)]
+pub fn first_line<'a>(
+    words: &mut Vec<&'a [u8]>,
+    text: &'a [u8],
+) -> Result<FirstLine<'a>, AllocError>
+    requires { 0 < length text.now }
+    ensures lines { IfOk result (λ line. lines_of text.now ≡ line.bytes.now ∷ lines_of line.after.now) }
+    ensures shorter { IfOk result (λ line. length line.after.now < length text.now) }
+    ensures plain { IfOk result (λ line. line.is_split ≡ true → list_all is_plain line.bytes.now ≡ true) }
+    ensures words { IfOk result (λ line. line.is_split ≡ true
+        → map name_seen words.new.items ≡ words_in line.bytes.now) }
+{
+    if let Some(length) = put_plain(words, text)? {
+        return Ok(FirstLine {
+            bytes: &text[..length],
+            after: &text[length + 1..],
+            is_split: true,
+        });
     }
     let (bytes, after) = any_line(text);
-    FirstLine {
+    Ok(FirstLine {
         bytes,
         after,
-        is_plain: false,
-    }
-}
-
-/// Whether a line may hold each of its bytes.
-#[tactic(auto, using(crate::proofs::PlainLines::plain_allowed))]
-pub fn are_allowed(line: FirstLine<'_>) -> bool
-    requires { line.is_plain ≡ true → list_all is_plain line.bytes.now ≡ true }
-    ensures { result ≡ list_all is_allowed line.entry.bytes.now }
-{
-    line.is_plain || words::are_allowed(line.bytes)
-}
-
-/// What stands before the line's comment.
-#[tactic(auto, using(crate::proofs::PlainLines::plain_uncommented))]
-pub fn before_comment<'a>(line: FirstLine<'a>) -> &'a [u8]
-    requires { line.is_plain ≡ true → list_all is_plain line.bytes.now ≡ true }
-    ensures { result.now ≡ before_first begins_comment line.entry.bytes.now }
-{
-    if line.is_plain {
-        line.bytes
-    } else {
-        words::before_comment(line.bytes)
-    }
+        is_split: false,
+    })
 }
 
 /// Where the first blank stands.

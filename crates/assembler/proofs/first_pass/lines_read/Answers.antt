@@ -24,9 +24,9 @@ returns-in-Err c =
     let texts = lines_of c.args.text.now in
     let k = c.loop-rest.number in
     let draft = c.loop-rest.draft in
-    let line = c.first_line-line.result.bytes.now in
-    let more = lines_of c.first_line-line.result.after.now in
-    let next = next_line texts k draft line more before.met (sym before.left ∙ c.first_line-line.ensures.lines) in
+    let line = c.in-Ok.line.bytes.now in
+    let more = lines_of c.in-Ok.line.after.now in
+    let next = next_line texts k draft line more before.met (sym before.left ∙ c.in-Ok.ensures.lines) in
     let fault : AsmFault = record { line = k + 1; kind = c.in-Err.kind } in
     record {
       read = subst (λ r. FailsAt fault.kind fault r) (sym next)
@@ -39,15 +39,15 @@ loop-rest-preserved c =
     let before = c.loop-rest.invariant in
     let texts = lines_of c.args.text.now in
     let k = c.loop-rest.number in
-    let line = c.first_line-line.result.bytes.now in
-    let more = lines_of c.first_line-line.result.after.now in
-    let left = sym before.left ∙ c.first_line-line.ensures.lines in
+    let line = c.in-Ok.line.bytes.now in
+    let more = lines_of c.in-Ok.line.after.now in
+    let left = sym before.left ∙ c.in-Ok.ensures.lines in
     let within = one_left texts k line more left in
     record {
-      met = one_more texts k c.loop-rest.draft c.read_line.new.draft line more before.met left c.in_default.ensures;
+      met = one_more texts k c.loop-rest.draft c.read_line.new.draft line more before.met left c.in_default-read_line.ensures;
       left = sym (one_less texts k line more left);
       count = omega (arith, within);
-      room = omega (arith, before.room, c.first_line-line.ensures.shorter);
+      room = omega (arith, before.room, c.in-Ok.ensures.shorter);
     }
 
 pub returns : goal.returns

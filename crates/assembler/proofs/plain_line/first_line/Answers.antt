@@ -1,19 +1,14 @@
-use Rattle.std.proofs.Common.{◌∙◌, sym}
-use Rattle.assembler.proofs.PlainLines.{plain_at, plain_line_alone, plain_line_at, plain_whole}
+use Rattle.std.proofs.Common.{map, subst}
+use Rattle.std.specs.Prelude.{IfSome}
+use Rattle.line_reader.specs.Seen.{name_seen}
+use Rattle.assembler.specs.PlainLine.{IsSplit}
+use Rattle.assembler.proofs.PlainLines.{plain_line_to}
 use Rattle.assembler.proofs.plain_line.first_line.Goals as goal
 
-pub returns-then-is_line_end-clause-lines : goal.returns-then-is_line_end-clause-lines
-returns-then-is_line_end-clause-lines c =
-    plain_line_at c.args.text.now c.in-Some.place (sym c.in-Some.is ∙ c.place_of_other.ensures)
-    (sym c.is_line_end.ensures ∙ c.if-is_line_end.true)
-
-pub returns-then-is_line_end-clause-plain : goal.returns-then-is_line_end-clause-plain
-returns-then-is_line_end-clause-plain c = λ plain.
-    plain_at c.args.text.now c.in-Some.place (sym c.in-Some.is ∙ c.place_of_other.ensures)
-
-pub returns-in-None-clause-lines : goal.returns-in-None-clause-lines
-returns-in-None-clause-lines c =
-    plain_line_alone c.args.text.now c.requires (sym c.in-None.is ∙ c.place_of_other.ensures)
-
-pub returns-in-None-clause-plain : goal.returns-in-None-clause-plain
-returns-in-None-clause-plain c = λ plain. plain_whole c.args.text.now (sym c.in-None.is ∙ c.place_of_other.ensures)
+pub returns-in-Some-clause-lines : goal.returns-in-Some-clause-lines
+returns-in-Some-clause-lines c =
+    let text = c.args.text.now in
+    let split : IsSplit c.in-Some.length (map name_seen c.put_plain.new.words.items) text =
+    subst (λ end. IfSome end (λ length. IsSplit length (map name_seen c.put_plain.new.words.items) text)) c.in-Some.is
+    c.in_ok-length.ensures in
+    plain_line_to text c.in-Some.length split.within split.plain split.ends
