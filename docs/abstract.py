@@ -41,12 +41,13 @@ def marks():
 
 
 class Call:
-    """An exported function: its name with its crate, and its file; whether it is a law, which takes and answers nothing; its
-    clauses, each a text with what it is; and what the words in these stand for."""
+    """An exported function: its name with its crate, and its file; whether it is a law, which takes and answers nothing, or at
+    least answers and changes nothing; its clauses, each a text with what it is; and what the words in these stand for."""
 
     def __init__(self, name, file, contract, scope):
         self.name, self.file, self.scope = name, file, scope
         self.is_law = re.match(r"\(\)(?! ->)", contract.strip()) is not None
+        self.only_says = not re.search(r"->|&mut", re.split(r"\b(?:requires|ensures)\b", contract)[0])
         self.clauses = []
         for found in re.finditer(r"\b(requires|ensures)\b[ \w*]*\{", contract):
             end = closing(contract, found.end() - 1)
@@ -56,12 +57,15 @@ class Call:
     def of_others(cls, file, texts, scope):
         """What others see of a file beside its functions."""
         it = cls(file, file, "", scope)
-        it.clauses = [(text, WITHIN) for text in texts]
+        it.clauses, it.only_says = [(text, WITHIN) for text in texts], False
         return it
 
     def uses(self):
         """The names in its clauses, each with what it is there."""
         return {(name, its) for text, sign in self.clauses for part, its in parts(text, sign) for name in self.named(part)}
+
+    def names(self):
+        return {name for name, _ in self.uses()}
 
     def named(self, text):
         names, modules = self.scope
