@@ -10,9 +10,9 @@ reader takes each as a word without a meaning of its own, and loses nothing that
 
 That is checked. A statement stands in clauses of exported functions alone, and in no definition that is believed. There it is
 a whole part: the clause itself, one of the parts that `×` or `⊎` joins, what a premise implies, what holds behind `OnOk` and
-its like; or else a premise. Whoever gives it first doesn't take it; who takes it is no law, and no law ends in it. Of a type no
-field is named in what is believed, but by the calls of its own file. A view has such a type among its own, and two calls promise
-something by it."""
+its like; or else a premise. Who gives it first doesn't take it; who takes it answers or changes something; and no law, which has
+no arguments, ends in it. Of a type no field is named in what is believed, but by the calls of its own file. A view is from or to
+such a type, and two calls promise something by it."""
 import re
 import sys
 from pathlib import Path
@@ -41,8 +41,8 @@ def marks():
 
 
 class Call:
-    """An exported function: its name with its crate, and its file; whether it is a law, which takes and answers nothing, or at
-    least answers and changes nothing; its clauses, each a text with what it is; and what the words in these stand for."""
+    """An exported function: its name with its crate, and its file; whether it answers and changes nothing, and whether it is a
+    law, which has no arguments either; its clauses, each a text with what it is; and what the words in these stand for."""
 
     def __init__(self, name, file, contract, scope):
         self.name, self.file, self.scope = name, file, scope
@@ -123,16 +123,25 @@ def parts(text, sign):
 
 
 def whole_part(text, sign):
-    first = re.match(rf"{WORD}(?:\.{WORD})?(?=\s|$)", text)
-    if first is None or len(split(text, "≡≢<≤")) > 1:
+    """The same of a part that no sign joins: a name and what it is said of; or what holds behind `OnOk` of a result."""
+    first, *rest = split(" ".join(text.split()), " ")
+    if not re.fullmatch(rf"{WORD}(?:\.{WORD})?", first) or len(split(text, "≡≢<≤")) > 1:
         yield text, WITHIN
-    elif first.group() in BEHIND:
-        subject = split(" ".join(text[first.end():].split()), " ")[0]
-        yield subject, WITHIN
-        yield from parts(" ".join(text[first.end():].split()).removeprefix(subject), sign)
+    elif first in BEHIND:
+        yield rest[0], WITHIN
+        yield from parts(" ".join(rest[1:]), sign)
     else:
-        yield first.group(), sign
-        yield text[first.end():], WITHIN
+        yield first, sign
+        yield " ".join(rest), WITHIN
+
+
+def fields_of(it):
+    """The fields that a record or a struct declares."""
+    return set(re.findall(rf"(?m)^ +(?:pub )?({WORD}) ?:", "\n".join(it.lines)))
+
+
+def signature_of(name, it):
+    return re.split(rf"(?m)^{re.escape(name)}\b", "\n".join(it.lines))[0]
 
 
 def fields_named(text):
@@ -145,21 +154,22 @@ class Believed:
     """What is believed, and the calls whose contracts lead to it."""
 
     def __init__(self, definitions, believed, calls):
-        self.definitions, self.believed, self.uses, self.laws = definitions, believed, {}, set()
-        self.calls = calls
-        self.fields = {key: self.fields_of(definitions[key]) for key in believed}
+        self.definitions, self.believed, self.calls, self.uses = definitions, believed, calls, {}
+        self.fields = {key: fields_of(definitions[key]) for key in believed}
         for call in calls:
             self.uses.setdefault(call.name, set()).update(call.uses())
-            self.laws |= {call.name} if call.is_law else set()
+        self.laws = {call.name for call in calls if call.is_law}
+        self.sayings = {call.name for call in calls if call.only_says}
 
     def wrong(self, mark):
         """What is wrong with a line, if anything."""
-        for name in {mark.giver, mark.taker} - {None, *self.uses}:
-            return f"no exported function is {name}"
+        unknown = {mark.giver, mark.taker} - {None, *self.uses}
+        if unknown:
+            return f"no exported function is {unknown.pop()}"
         return {None: self.wrong_statement, "type": self.wrong_type, "view": self.wrong_view}[mark.kind](mark)
 
     def wrong_statement(self, mark):
-        for key in self.believed:
+        for key in sorted(self.believed):
             if mark.key in self.definitions[key].names:
                 return f"{key[2]} names it, and is believed"
         for name, its in self.uses.items():
@@ -169,16 +179,13 @@ class Believed:
                 return f"the law {name} ends in it"
         if (mark.key, GIVEN) not in self.uses[mark.giver] or (mark.key, TAKEN) in self.uses[mark.giver]:
             return f"{mark.giver} doesn't give it, or takes it too"
-        if mark.taker in self.laws or (mark.key, TAKEN) not in self.uses[mark.taker]:
-            return f"{mark.taker} doesn't take it, or is a law"
+        if mark.taker in self.sayings or (mark.key, TAKEN) not in self.uses[mark.taker]:
+            return f"{mark.taker} doesn't take it, or neither answers nor changes anything"
         return None
 
-    def fields_of(self, it):
-        return set(re.findall(rf"(?m)^ +(?:pub )?({WORD}) ?:", "\n".join(it.lines)))
-
     def wrong_type(self, mark):
-        fields = self.fields_of(self.definitions[mark.key])
-        for key in self.believed:
+        fields = fields_of(self.definitions[mark.key])
+        for key in sorted(self.believed):
             other = self.definitions[key]
             beside = set().union(*(self.fields.get(name, set()) for name in other.names))
             named = fields & fields_named("\n".join(other.lines)) - beside
@@ -192,9 +199,11 @@ class Believed:
         return None
 
     def wrong_view(self, mark):
-        named = [self.definitions[name].mark for name in self.definitions[mark.key].names if name in self.definitions]
-        if not any(it and it.kind == "type" for it in named):
-            return "it has no abstract type"
+        it = self.definitions[mark.key]
+        types = [name for name in it.names if name in self.definitions and self.definitions[name].mark]
+        signature = set(re.findall(WORD, signature_of(mark.key[2], it)))
+        if not any(self.definitions[name].mark.kind == "type" and name[2] in signature for name in types):
+            return "it is neither from nor to an abstract type"
         for name in mark.giver, mark.taker:
             if not self.leads_to(name, mark.key):
                 return f"{name} promises nothing by it"
