@@ -10,7 +10,7 @@ reader takes each as a word without a meaning of its own, and loses nothing that
 
 That is checked. A statement stands in clauses of exported functions alone, and in no definition that is believed. There it is
 a whole part: the clause itself, one of the parts that `×` or `⊎` joins, what a premise implies, what holds behind `OnOk` and
-its like; or else a premise. Who gives it first doesn't take it; who takes it answers or changes something; and no law, which has
+its like; or else a premise. A record that calls ask for, and that stands nowhere else, is as its fields. Who gives it first doesn't take it; who takes it answers or changes something; and no law, which has
 no arguments, ends in it. Of a type no field is named in what is believed, but by the calls of its own file. A view is from or to
 such a type, and two calls promise something by it."""
 import re
@@ -62,15 +62,17 @@ class Call:
 
     def uses(self):
         """The names in its clauses, each with what it is there."""
-        return {(name, its) for text, sign in self.clauses for part, its in parts(text, sign) for name in self.named(part)}
+        return {(name, its) for text, sign in self.clauses for part, its in parts(text, sign) for name in named(part, self.scope)}
 
     def names(self):
         return {name for name, _ in self.uses()}
 
-    def named(self, text):
-        names, modules = self.scope
-        found = {names[word] for word in re.findall(WORD, text) if word in names}
-        return found | {(*modules[it], word) for it, word in re.findall(rf"\b({WORD})\.({WORD})", text) if it in modules}
+
+def named(text, scope):
+    """The names in a text."""
+    names, modules = scope
+    found = {names[word] for word in re.findall(WORD, text) if word in names}
+    return found | {(*modules[it], word) for it, word in re.findall(rf"\b({WORD})\.({WORD})", text) if it in modules}
 
 
 # -- the parts of a statement
@@ -169,8 +171,9 @@ class Believed:
         return {None: self.wrong_statement, "type": self.wrong_type, "view": self.wrong_view}[mark.kind](mark)
 
     def wrong_statement(self, mark):
-        for key in sorted(self.believed):
-            if mark.key in self.definitions[key].names:
+        holders = [key for key in sorted(self.believed) if mark.key in self.definitions[key].names]
+        for key in holders:
+            if not self.is_asked_for(key) or not self.is_field(mark.key, self.definitions[key]):
                 return f"{key[2]} names it, and is believed"
         for name, its in self.uses.items():
             if (mark.key, WITHIN) in its:
@@ -179,9 +182,21 @@ class Believed:
                 return f"the law {name} ends in it"
         if (mark.key, GIVEN) not in self.uses[mark.giver] or (mark.key, TAKEN) in self.uses[mark.giver]:
             return f"{mark.giver} doesn't give it, or takes it too"
-        if mark.taker in self.sayings or (mark.key, TAKEN) not in self.uses[mark.taker]:
+        if mark.taker in self.sayings or not any((key, TAKEN) in self.uses[mark.taker] for key in [mark.key, *holders]):
             return f"{mark.taker} doesn't take it, or neither answers nor changes anything"
         return None
+
+    def is_asked_for(self, key):
+        """Whether a definition is a record that calls ask for, and that stands nowhere else."""
+        its_uses = {its for uses in self.uses.values() for name, its in uses if name == key}
+        is_named = any(key in self.definitions[other].names for other in self.believed)
+        return self.definitions[key].lines[0].startswith("pub record") and its_uses == {TAKEN} and not is_named
+
+    def is_field(self, name, it):
+        """Whether a name stands in a record as whole fields alone."""
+        fields = re.split(rf"(?m)^  (?:pub )?{WORD} :", "\n".join(it.lines))[1:]
+        found = [sign for field in fields for part, sign in parts(field, GIVEN) if name in named(part, it.scope)]
+        return set(found) == {GIVEN}
 
     def wrong_type(self, mark):
         fields = fields_of(self.definitions[mark.key])
