@@ -24,7 +24,7 @@ pub struct Drawing {
 }
 
 /// The program of a file, with its names.
-pub fn named_program(alloc: Global, file: &[u8]) -> Result<(Image, Symbols<'_>), Fault>
+pub(crate) fn named_program(alloc: Global, file: &[u8]) -> Result<(Image, Symbols<'_>), Fault>
     ensures program { IfOk result (λ both. IsNamedProgram file.now both.0 both.1) }
     ensures refused { IfErr result (λ fault. status_of fault ≡ 3 → IsNoProgramFor fault file.now) }
     ensures other { (result ≢ Err Fault.Read) × (result ≢ Err Fault.Write) × (result ≢ Err Fault.Spawn) }

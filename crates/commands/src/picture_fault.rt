@@ -19,7 +19,7 @@ pub fn fault_of(fault: PageFault, kind: PictureKind) -> Fault
 }
 
 /// Where a program isn't loaded.
-pub fn start_fault(fault: StartFault) -> Fault
+pub(crate) fn start_fault(fault: StartFault) -> Fault
     ensures { result ≡ start_fault fault }
 {
     match fault {

@@ -25,7 +25,7 @@ use schedule_reader::ScheduleFault;
 use tier_tree::DeclareFault;
 
 /// The kind of a text's fault that has this number.
-pub fn asm_of(number: u64) -> Option<AsmFaultKind>
+pub(crate) fn asm_of(number: u64) -> Option<AsmFaultKind>
     ensures found { IfSome result (λ kind. asm_number kind ≡ Some number) }
     ensures all { (kind : AsmFaultKind) → asm_number kind ≡ Some number → is_some result ≡ true }
 {
@@ -65,7 +65,7 @@ pub fn image_of(number: u64) -> Option<ImageFault>
 }
 
 /// The loader's fault that has this number.
-pub fn load_of(number: u64) -> Option<LoadFault>
+pub(crate) fn load_of(number: u64) -> Option<LoadFault>
     ensures found { IfSome result (λ fault. load_number fault ≡ Some number) }
     ensures all { (fault : LoadFault) → load_number fault ≡ Some number → is_some result ≡ true }
 {
@@ -84,7 +84,7 @@ pub fn load_of(number: u64) -> Option<LoadFault>
 }
 
 /// The reason, why a phaser can't be declared, that has this number.
-pub fn declare_of(number: u64) -> Option<DeclareFault>
+pub(crate) fn declare_of(number: u64) -> Option<DeclareFault>
     ensures found { IfSome result (λ fault. declare_number fault ≡ Some number) }
     ensures all { (fault : DeclareFault) → declare_number fault ≡ Some number → is_some result ≡ true }
 {
@@ -100,7 +100,7 @@ pub fn declare_of(number: u64) -> Option<DeclareFault>
 }
 
 /// The schedule's fault that has this number.
-pub fn schedule_of(number: u64) -> Option<ScheduleFault>
+pub(crate) fn schedule_of(number: u64) -> Option<ScheduleFault>
     ensures found { IfSome result (λ fault. schedule_number fault ≡ Some number) }
     ensures all { (fault : ScheduleFault) → schedule_number fault ≡ Some number → is_some result ≡ true }
 {
@@ -113,7 +113,7 @@ pub fn schedule_of(number: u64) -> Option<ScheduleFault>
 }
 
 /// The plan's fault that has this number.
-pub fn plan_of(number: u64) -> Option<PlanFaultKind>
+pub(crate) fn plan_of(number: u64) -> Option<PlanFaultKind>
     ensures found { IfSome result (λ kind. plan_number kind ≡ Some number) }
     ensures all { (kind : PlanFaultKind) → plan_number kind ≡ Some number → is_some result ≡ true }
 {
@@ -147,7 +147,7 @@ pub fn status_of(number: u64) -> Option<Status>
 }
 
 /// The exception of this number.
-pub fn exception_of(number: u64) -> Option<Exception>
+pub(crate) fn exception_of(number: u64) -> Option<Exception>
     ensures found { IfSome result (λ exception. exception_number exception ≡ number) }
     ensures all { (exception : Exception) → exception_number exception ≡ number → is_some result ≡ true }
 {

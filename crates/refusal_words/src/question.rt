@@ -398,7 +398,7 @@ fn without_refused<'a, 'b>(words: &'b [&'a str]) -> &'b [&'a str]
 }
 
 /// What the words of a line ask for. A place may be left out, and so may the word `refused`.
-pub fn question_of(words: &[&str]) -> Option<Question>
+pub(crate) fn question_of(words: &[&str]) -> Option<Question>
     ensures { MatchOption result ((q : Question) → AsksFor (map (λ w. w.now) words.now) q → ⊥)
         (AsksFor (map (λ w. w.now) words.now)) }
 {

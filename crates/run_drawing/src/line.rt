@@ -65,7 +65,7 @@ fn put_cells(
 }
 
 /// The line of a choice of this number behind which the machine stands so.
-pub fn choice_line(
+pub(crate) fn choice_line(
     alloc: Global,
     machine: &Machine,
     sheet: Sheet,
@@ -101,7 +101,7 @@ fn name_cell(
 
 /// The names of a block's threads.
 #[tactic(auto, using(crate::proofs::Cells::cell_steps))]
-pub fn names_line(
+pub(crate) fn names_line(
     alloc: Global,
     sheet: Sheet,
     symbols: &Symbols,

@@ -22,7 +22,7 @@ pub enum LineNames {
 }
 
 /// What a line without its LF names.
-pub fn line_names(line: &[u8]) -> LineNames
+pub(crate) fn line_names(line: &[u8]) -> LineNames
     ensures names { result ≡ line_names line.now }
     ensures thread { (choice : Choice) → result ≡ Made choice → choice.thread ≤ 63 }
 {

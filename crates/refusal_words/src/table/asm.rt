@@ -6,7 +6,7 @@ use crate::subject::Subject;
 use line_reader::asm_fault::AsmFaultKind;
 
 /// What the table says of a fault of a program's text.
-pub fn asm_entry(kind: AsmFaultKind) -> Entry
+pub(crate) fn asm_entry(kind: AsmFaultKind) -> Entry
     ensures { result.subject ≡ subject.Asm kind }
 {
     match kind {

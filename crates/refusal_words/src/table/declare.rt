@@ -6,7 +6,7 @@ use crate::subject::Subject;
 use tier_tree::DeclareFault;
 
 /// What the table says of a phaser that can't be declared.
-pub fn declare_entry(fault: DeclareFault) -> Entry
+pub(crate) fn declare_entry(fault: DeclareFault) -> Entry
     ensures { result.subject ≡ subject.Declare fault }
 {
     match fault {

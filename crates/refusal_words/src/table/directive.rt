@@ -70,7 +70,7 @@ fn is_word(word: &str, told: &str) -> bool
 }
 
 /// What the table says of a word that begins with a dot.
-pub fn directive_entry(word: &str) -> Option<WordEntry>
+pub(crate) fn directive_entry(word: &str) -> Option<WordEntry>
     ensures { MatchOption result (is_directive word.now ≢ true) (λ e. e.word.now ≡ word.now) }
 {
     if is_word(word, ".phaser") {

@@ -5,7 +5,7 @@ use crate::entry::Entry;
 use crate::subject::{Exception, Subject};
 
 /// What the table says of an exception's number.
-pub fn exception_entry(exception: Exception) -> Entry
+pub(crate) fn exception_entry(exception: Exception) -> Entry
     ensures { result.subject ≡ subject.Exception exception }
 {
     match exception {

@@ -6,7 +6,7 @@ use crate::subject::Subject;
 use row_code::ImageFault;
 
 /// What the table says of an image's fault.
-pub fn image_entry(fault: ImageFault) -> Entry
+pub(crate) fn image_entry(fault: ImageFault) -> Entry
     ensures { result.subject ≡ subject.Image fault }
 {
     match fault {

@@ -5,7 +5,7 @@ use crate::entry::Entry;
 use crate::subject::{Line, Subject};
 
 /// What the table says of a line that is a fixed word.
-pub fn line_entry(line: Line) -> Entry
+pub(crate) fn line_entry(line: Line) -> Entry
     ensures { result.subject ≡ subject.Line line }
 {
     match line {

@@ -6,7 +6,7 @@ use crate::subject::Subject;
 use loader::LoadFault;
 
 /// What the table says of a program that isn't loaded.
-pub fn load_entry(fault: LoadFault) -> Entry
+pub(crate) fn load_entry(fault: LoadFault) -> Entry
     ensures { result.subject ≡ subject.Load fault }
 {
     match fault {

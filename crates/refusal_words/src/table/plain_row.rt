@@ -5,7 +5,7 @@ ghost use Rattle.refusal_words.specs.Word.{IsRowEntry, IsOutside};
 use crate::word::WordEntry;
 
 /// What the table says of the row of this opcode, where it is one of these.
-pub fn plain_row(opcode: u8) -> Option<WordEntry>
+pub(crate) fn plain_row(opcode: u8) -> Option<WordEntry>
     ensures { MatchOption result (IsOutside 0 9 opcode) (IsRowEntry opcode) }
 {
     let entry = match opcode {

@@ -6,7 +6,7 @@ use crate::subject::Subject;
 use plan_reader::fault::PlanFaultKind;
 
 /// What the table says of a plan's fault.
-pub fn plan_entry(kind: PlanFaultKind) -> Entry
+pub(crate) fn plan_entry(kind: PlanFaultKind) -> Entry
     ensures { result.subject ≡ subject.Plan kind }
 {
     match kind {

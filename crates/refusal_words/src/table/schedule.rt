@@ -6,7 +6,7 @@ use crate::subject::Subject;
 use schedule_reader::ScheduleFault;
 
 /// What the table says of a schedule's fault.
-pub fn schedule_entry(fault: ScheduleFault) -> Entry
+pub(crate) fn schedule_entry(fault: ScheduleFault) -> Entry
     ensures { result.subject ≡ subject.Schedule fault }
 {
     match fault {

@@ -5,7 +5,7 @@ use crate::entry::Entry;
 use crate::subject::{Status, Subject};
 
 /// What the table says of an exit status.
-pub fn status_entry(status: Status) -> Entry
+pub(crate) fn status_entry(status: Status) -> Entry
     ensures { result.subject ≡ subject.Status status }
 {
     match status {

@@ -5,7 +5,7 @@ ghost use Rattle.refusal_words.specs.Word.{IsRowEntry, IsOutside};
 use crate::word::WordEntry;
 
 /// What the table says of the row of this opcode, where it is one of these.
-pub fn view_row(opcode: u8) -> Option<WordEntry>
+pub(crate) fn view_row(opcode: u8) -> Option<WordEntry>
     ensures { MatchOption result (IsOutside 28 35 opcode) (IsRowEntry opcode) }
 {
     let entry = match opcode {
