@@ -1,11 +1,8 @@
 //! Where the bytes come from and where they go.
 //!
 //! The workbench reads from a `Source` and writes to a `Sink`, and never sees a file or a
-//! terminal. A contract above can name the bytes that were read or written. A port that has
-//! failed answers `Failed` for good.
-//!
-//! For a Java porter: a `Source` is an `InputStream` and a `Sink` an `OutputStream`, with
-//! `Failed` in place of `IOException`.
+//! terminal; a contract above can name the bytes. A port that has failed answers `Failed` for
+//! good: Java's streams, with `Failed` for `IOException`.
 #![tactic(auto)]
 
 // How a port fails.

@@ -1,9 +1,8 @@
 //! The commands beyond those of `workbench`: pictures of a run, listed rows, schedules of traces and plans, lines that
 //! differ, and a debugger for a person.
 //!
-//! `show` and `draw` are `make` and `make_of_both`: the whole picture is made in memory, and then written at once. `choices`
-//! and `plan` write a schedule, `list_rows` each row behind its number. `show_comparison` adds to the verdict of
-//! `compare_cmd` the lines that differ. `GuidedCommands` is where `debug` takes a person's lines from.
+//! `show` and `draw` are `make` and `make_of_both`: a picture is made in memory, and then written at once. `show_comparison`
+//! adds to the verdict of `compare_cmd` the lines that differ. `GuidedCommands` is where `debug` takes a person's lines from.
 #![tactic(auto)]
 
 pub mod choices;

@@ -2,8 +2,8 @@
 //! memory and is copied like a number.
 //!
 //! No call waits: a thread that would wait is told its arrival index, and asks later what its
-//! wait has come to. Each call is one equation on a plain record. A law says that the calls do
-//! what Java says of generations, whatever past led to the barrier.
+//! wait has come to. Each call is one equation on a plain record; a law says that the calls do
+//! what Java says of generations.
 #![tactic(auto)]
 
 mod answer;

@@ -1,7 +1,7 @@
 //! What the whole project promises, on one page (`specs/Headline.antt`), and the functions that keep it.
 //!
-//! The program's commands go through `shown` and `lived`; `law` says what holds of every accepted program whatever is chosen.
-//! `beneath` has a function each for a tree whose words lag and for the word that threads share.
+//! The program's commands go through `shown` and `lived`; `law` says what holds of every accepted program. `beneath` is for a
+//! tree whose words lag and for the word that threads share.
 #![tactic(auto)]
 
 // What is shown.

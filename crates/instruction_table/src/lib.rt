@@ -2,7 +2,6 @@
 //!
 //! One table gives each kind of row its opcode, its word and the kinds of its operands. `local`
 //! is the whole effect of the eight kinds that touch nothing but their own thread's registers.
-//! No call takes memory.
 #![tactic(auto)]
 
 // The rows, and the registers that they name.

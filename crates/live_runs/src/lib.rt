@@ -1,8 +1,7 @@
 //! Many live runs of one program, and what they came to.
 //!
-//! `report_runs` plays the program on real threads as often as it is asked to, and writes a line for each state that a run
-//! ended in. How many choices it took makes no difference. A `Stirred` gate lets workers pause by a seed, so that rare orders
-//! come about. It touches nothing under the lock, so each run replays; the order isn't the seed's.
+//! `report_runs` plays the program on real threads as often as asked, and writes a line for each state that a run ended in. A
+//! `Stirred` gate lets workers pause by a seed, so that rare orders come about; each run replays all the same.
 #![tactic(auto)]
 
 pub mod command;

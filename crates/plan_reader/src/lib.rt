@@ -1,7 +1,7 @@
 //! Plans: texts that a person writes, and that say whose turn it is.
 //!
-//! A plan names threads, repeats groups in parentheses, and leaves choices to a rule. `read_plan` answers its words
-//! (`specs/Plan.antt`, `specs/Tree.antt`), or the first fault with its line. What a plan plays is the matter of `planner`.
+//! `read_plan` answers a plan's words (`specs/Plan.antt`, `specs/Tree.antt`), or the first fault with its line. What a plan
+//! plays is the matter of `planner`.
 #![tactic(auto)]
 
 mod draft;

@@ -1,7 +1,7 @@
 //! Plans played on a program: the schedule that a plan stands for.
 //!
-//! `plan_runs` plays a plan's words on a loaded program, from its first world. `specs/Play.antt` says what a plan plays,
-//! `specs/Rules.antt` who makes the next choice where the plan leaves it open. A plan makes 1,000,000 choices at most.
+//! `specs/Play.antt` says what a plan plays, `specs/Rules.antt` who makes the next choice where the plan leaves it open. A
+//! plan makes 1,000,000 choices at most.
 #![tactic(auto)]
 
 pub mod plan_runs;

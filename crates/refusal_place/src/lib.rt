@@ -1,8 +1,7 @@
 //! Where a refusal is in the file that it is about, shown to a person: the line, a mark below the word, and what may have
 //! been meant.
 //!
-//! The file is read again, and the assembler is asked for the place, so nothing is parsed a second way. Where nothing is
-//! found, nothing is written.
+//! The file is read again, and the assembler is asked for the place, so nothing is parsed a second way.
 #![tactic(auto)]
 
 // What a fault is about.

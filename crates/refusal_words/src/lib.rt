@@ -1,7 +1,7 @@
 //! What the program's refusals mean, in words, and the command that writes them.
 //!
-//! An entry says of a line such as `refused asm 2 5` what is wrong, what helps, a command that makes just this refusal, and
-//! where the documents say more. Contracts tie each number to its kind and each kind to its own entry.
+//! An entry says what is wrong, what helps, a command that makes just this refusal, and where the documents say more.
+//! Contracts tie each number to its kind and each kind to its own entry.
 #![tactic(auto)]
 
 // An entry, and how it is written.

@@ -1,8 +1,7 @@
 //! Rows and whole programs as bytes: the image format.
 //!
 //! Each row and each image has one spelling. `encode` and `write_image` write it; `decode` and
-//! `read_image` accept it and nothing else, or answer the first fault with its place. Whether a
-//! row or an object that is named is there isn't asked.
+//! `read_image` accept it and nothing else, or answer the first fault with its place.
 #![tactic(auto)]
 
 // The operands of a row, in their fields, and the bytes of a row.

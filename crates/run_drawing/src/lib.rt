@@ -1,7 +1,7 @@
 //! A run as a picture of text, for a terminal: a column for each thread, a line for each choice.
 //!
-//! `picture` plays a machine under a list of choices and answers exactly the text that `specs/Picture.antt` defines. Threads
-//! that don't fit side by side stand in further blocks. Names are those of the program's text.
+//! `picture` answers exactly the text that `specs/Picture.antt` defines. Threads that don't fit side by side stand in further
+//! blocks.
 #![tactic(auto)]
 
 mod block;

@@ -1,8 +1,8 @@
 //! Schedules: texts that say whose turn it is.
 //!
-//! A token `t3` is a turn of thread 3, `x3` the expiry of its timed wait, `t3*20` twenty turns
-//! in a row. A `Reader` takes a text in whatever pieces it comes; `specs/Schedule.antt` says
-//! which runs and which fault. `write_schedule` is the way back.
+//! A token `t3` is a turn of thread 3, `x3` the expiry of its timed wait, `t3*20` twenty turns.
+//! A `Reader` takes a text in whatever pieces it comes (`specs/Schedule.antt`).
+//! `write_schedule` is the way back.
 #![tactic(auto)]
 
 mod fault;

@@ -1,9 +1,8 @@
 //! One `java.util.concurrent.Phaser` without tiers, shared by the threads of this process.
 //!
-//! The phaser is one packed word, which a call exchanges once: no lock is taken. Each thread calls with a token of its own, a
-//! `Party`, which isn't a registered party. Whatever the threads do at once, their calls stand in one legal history
-//! (`specs/History.antt`). The `.._within` calls wait for nobody, those under `Wait` are tried until they have an answer.
-//! Only `SharedPhaser::new` takes memory.
+//! It is one packed word, which a call exchanges once. Each thread calls with a token of its own, a `Party`. Whatever the
+//! threads do at once, their calls stand in one legal history (`specs/History.antt`). The `.._within` calls wait for nobody,
+//! those under `Wait` are tried until they have an answer.
 #![tactic(auto)]
 
 mod attempt;

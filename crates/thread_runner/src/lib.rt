@@ -1,8 +1,7 @@
 //! Real threads that play a loaded program under one lock, and the record of what they did.
 //!
-//! A `Journaled` is a machine with the choices that led to it: whoever gets the lock finds the replay of the recorded
-//! choices. `run_live` has a worker for each of the program's threads, and gives back schedule, machine and ending.
-//! `record_live` gives the choices as runs.
+//! Whoever gets the lock finds a `Journaled`, the replay of the recorded choices. `run_live` has a worker for each of the
+//! program's threads, and gives back schedule, machine and ending; `record_live` gives the choices as runs.
 #![tactic(auto)]
 
 mod ending;

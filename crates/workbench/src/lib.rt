@@ -1,8 +1,7 @@
 //! The commands of the workbench, each a function over sources and sinks of bytes that answers the program's exit status.
 //!
-//! `asm_cmd` and `list_cmd` make an image and a canonical text. `run_cmd` and `both_cmd` play a program and write its trace,
-//! `live_cmd` on real threads. `compare_cmd` compares a trace with its run, `debug_cmd` answers commands. Contracts say what
-//! was written with which status.
+//! `asm_cmd` and `list_cmd` make an image and a canonical text. `run_cmd`, `both_cmd` and `live_cmd` play a program and write
+//! its trace, `compare_cmd` compares one with its run, `debug_cmd` answers commands.
 #![tactic(auto)]
 
 pub mod asm;
