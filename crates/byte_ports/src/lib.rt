@@ -1,12 +1,8 @@
-//! Where the bytes come from and where they go. The rest of the workbench reads a program, a
-//! schedule or a trace from a `Source`, writes a trace or an image to a `Sink`, and never sees a
-//! file or a terminal. A contract above this crate can name the bytes that were read or written,
-//! and every port keeps one rule about failing: a call answers `Failed` exactly where its port has
-//! failed by then, and a port that has failed answers `Failed` for good.
+//! Where the bytes come from and where they go.
 //!
-//! For a Java porter: a `Source` is an `InputStream` and a `Sink` an `OutputStream`, with the one
-//! exception `Failed` in place of `IOException`, which the stream then throws from every later
-//! call.
+//! The workbench reads from a `Source` and writes to a `Sink`, and never sees a file or a
+//! terminal; a contract above can name the bytes. A port that has failed answers `Failed` for
+//! good: Java's streams, with `Failed` for `IOException`.
 #![tactic(auto)]
 
 // How a port fails.

@@ -1,5 +1,5 @@
 //! The program's commands as a command line's reader sees them: their names, the words and options of each, and the texts of
-//! their help. What the words of a command line ask for is read elsewhere, by this table.
+//! their help.
 #![tactic(auto)]
 
 // The names of the commands and of their words.

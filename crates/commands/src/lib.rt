@@ -1,27 +1,8 @@
-//! The commands beyond those of `workbench`: pictures of a run, the rows of a program, the schedule of a trace or of a plan, the
-//! lines at which a trace differs, and a debugger for a person.
+//! The commands beyond those of `workbench`: pictures of a run, listed rows, schedules of traces and plans, lines that
+//! differ, and a debugger for a person.
 //!
-//! `show` and `draw` are `make` and `make_of_both` (`pictures`). Both read what they are given to its end, make the whole picture
-//! in memory, and write it at once, so only a failed write leaves a part of one. `make` takes the program and the schedule from
-//! two sources, `make_of_both` from one; what is made of them is a `Picture`: a `Page`, or a `Drawing` of so many columns.
-//!
-//! A trace names a row by its number, and so does a refusal of the loader. `list_rows` tells what stands there: of a program's
-//! text the line in which the row was written, with that line's number, and of an image the row's canonical text. Rows are
-//! counted from 0, as a machine counts them, and lines from 1, as the faults of a text have them.
-//!
-//! `choices` reads a trace, as `run`, `live` and the program without words write it, and writes the schedule of its
-//! choices: what `run` takes as its schedule, and `show` and `draw`. So a recorded run can be played again, looked at, or
-//! held against a changed program. What is no trace is told as `compare` tells it.
-//!
-//! `plan` writes the schedule that a plan stands for on a program, by the names that the program's text gives its threads. Why
-//! there is none is told as the other commands tell it, but that a fault of the plan has a line of its own (`unplanned`).
-//!
-//! `show_comparison` gives the verdict of `compare_cmd`, and writes behind it the trace's line of that number and the run's; or,
-//! where the trace is none, what a line of a trace has to be. The trace is read once: the run's line comes with the verdict, and
-//! the trace's is among the bytes that went by last (`lines_seen`).
-//!
-//! `GuidedCommands` is where `debug` takes the lines of a person from: beside the answers stands who may go on (`may_go`), and the
-//! choices that were played can be written as a schedule (`played`).
+//! `show` and `draw` are `make` and `make_of_both`: a picture is made in memory, and then written at once. `show_comparison`
+//! adds to the verdict of `compare_cmd` the lines that differ. `GuidedCommands` is where `debug` takes a person's lines from.
 #![tactic(auto)]
 
 pub mod choices;

@@ -1,15 +1,9 @@
 //! A cyclic barrier as Java's `CyclicBarrier`, played one call at a time: a value that takes no
-//! memory and is copied like a number. No call waits. A thread that would wait is told its arrival
-//! index, and asks later what its wait has come to.
+//! memory and is copied like a number.
 //!
-//! Contracts see a plain record: the parties, the action, whether the barrier is broken, who runs
-//! the action, and for each of 64 threads what its wait has come to. Each call is one equation on
-//! that record. Beside it stands a law: for each past that leads to a barrier, that is how each
-//! generation ended, in order, and who waits for which, the calls do what Java says of generations.
-//! So a waiter finds the end of its own generation, whatever came after it, and a breakage reaches
-//! all who wait and no one who was released before.
-//!
-//! Two barriers of one record are the same: a copy from before a call, put back, undoes it.
+//! No call waits: a thread that would wait is told its arrival index, and asks later what its
+//! wait has come to. Each call is one equation on a plain record; a law says that the calls do
+//! what Java says of generations.
 #![tactic(auto)]
 
 mod answer;

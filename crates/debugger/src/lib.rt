@@ -1,9 +1,7 @@
 //! A debugger over the machine: single steps, steps back and breakpoints.
 //!
-//! A `Debugger` has a machine, a ring of what the machine keeps of its last choices so that they can be undone, and a mark
-//! for each row. The crate promises that the machine is at each moment the one of the choices played and not taken back, the
-//! stored words of its phasers included; that `go` plays the shortest prefix of its choices that leads to a breakpoint; and
-//! that `command` does what a line says and writes just the reply of `specs/Reply.antt`.
+//! Its machine is at each moment the one of the choices played and not taken back, stored words included. `command` does what
+//! a line says and writes just the reply of `specs/Reply.antt`.
 #![tactic(auto)]
 
 mod command;

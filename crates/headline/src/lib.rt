@@ -1,6 +1,7 @@
-//! What the whole project promises, on one page (`specs/Headline.antt`), and the functions that keep it: the program's
-//! commands go through `shown` and `lived`, and `law` says what holds of every accepted program whatever is chosen. Beside
-//! them `beneath` has one function each for what lies below: a tree whose words lag, and the word that threads share.
+//! What the whole project promises, on one page (`specs/Headline.antt`), and the functions that keep it.
+//!
+//! The program's commands go through `shown` and `lived`; `law` says what holds of every accepted program. `beneath` is for a
+//! tree whose words lag and for the word that threads share.
 #![tactic(auto)]
 
 // What is shown.

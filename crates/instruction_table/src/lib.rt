@@ -1,12 +1,7 @@
-//! The instruction set of the machine: what each row of a program is, how it is spelled, and what
-//! the rows do that touch nothing but their own thread's registers.
+//! The instruction set of the machine: what each row of a program is, and how it is spelled.
 //!
-//! A program is a list of rows. One table gives each kind of row its opcode, its word in a
-//! program's text and the kinds of its operands, and everything here is derived from it: a word
-//! names at most one kind of row, an opcode is a place in the table, and a row finds its own entry
-//! by its opcode. Eight kinds of row only load, copy, add and subtract registers, or jump: `local` is
-//! their whole effect, for all registers, and sums and differences wrap as Java's `int` does. All
-//! values here are plain: no call takes memory or touches anything but its arguments.
+//! One table gives each kind of row its opcode, its word and the kinds of its operands. `local`
+//! is the whole effect of the eight kinds that touch nothing but their own thread's registers.
 #![tactic(auto)]
 
 // The rows, and the registers that they name.

@@ -1,8 +1,7 @@
 //! The canonical text of an image: what `disassemble` writes of it.
 //!
-//! A line for each phaser, barrier, thread and row, in this order; a line is its words with one
-//! space between each two. `listing::specs::Listing` is that text. That it stands for the image,
-//! and for no other, are laws of the crate `assembler`.
+//! It has a line for each phaser, barrier, thread and row. That it stands for the image, and
+//! for no other, are laws of `assembler`.
 #![tactic(auto)]
 
 ghost use Rattle.std.specs.Prelude.{◌≡◌, IfOk, OnOk};

@@ -1,12 +1,8 @@
 //! The checks that a program passes before it is played.
 //!
-//! `load` takes an image and answers the program that it declares: its rows, its threads, its phasers
-//! in their trees and its barriers. It does so exactly where nothing is missing that a row, a thread,
-//! a phaser or a barrier names. Otherwise it answers the first fault in one fixed order, with its
-//! place. What was checked is true of every `Loaded`, so that a machine need not look again before
-//! it goes to a row or calls a phaser.
-//!
-//! For a Java porter: what a class loader's verifier does for a class file, this does for an image.
+//! `load` answers the program that an image declares, or the first fault in one fixed order,
+//! with its place. What was checked is true of every `Loaded`, as what a verifier checked is of
+//! a class.
 #![tactic(auto)]
 
 // Why an image is refused.

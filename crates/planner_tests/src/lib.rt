@@ -1,4 +1,4 @@
-//! Tests of plans by public calls, on assembled programs: a plan's text to the schedule that it stands for.
+//! Tests of plans by public calls, on assembled programs.
 #![tactic(auto)]
 
 #[cfg(test)]

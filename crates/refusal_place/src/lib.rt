@@ -1,9 +1,7 @@
 //! Where a refusal is in the file that it is about, shown to a person: the line, a mark below the word, and what may have
 //! been meant.
 //!
-//! A fault tells a place by numbers. Here the file is read again, and the assembler is asked which word makes
-//! the fault of a text and which line makes the row, the thread, the phaser or the barrier that isn't loaded: nothing is parsed
-//! a second way. It is help alone: where nothing is found, nothing is written.
+//! The file is read again, and the assembler is asked for the place, so nothing is parsed a second way.
 #![tactic(auto)]
 
 // What a fault is about.

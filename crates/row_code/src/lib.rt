@@ -1,14 +1,7 @@
-//! Rows and whole programs as bytes: the image format, in which an assembled program is stored.
+//! Rows and whole programs as bytes: the image format.
 //!
-//! Each row and each image has one spelling. `encode` and `write_image` write it, and `decode` and
-//! `read_image` accept it and nothing else: a byte that isn't used must be 0, a number must be in
-//! its range, and no byte may follow. Where bytes are no image, `read_image` answers the first
-//! fault in a fixed order, with the place of the field or the number of the row. What was written
-//! is read again as the same image. An image says nothing yet of whether a row or an object that
-//! is named is there.
-//!
-//! For a Java porter: `write_image` and `read_image` are a `writeExternal` and a `readExternal`
-//! whose format is proved both ways.
+//! Each row and each image has one spelling. `encode` and `write_image` write it; `decode` and
+//! `read_image` accept it and nothing else, or answer the first fault with its place.
 #![tactic(auto)]
 
 // The operands of a row, in their fields, and the bytes of a row.

@@ -1,9 +1,7 @@
 //! A run as a picture of text, for a terminal: a column for each thread, a line for each choice.
 //!
-//! `picture` plays a machine under a list of choices and answers exactly the text that `specs/Picture.antt` defines. None of
-//! its lines is longer than the width that was asked for. Threads that don't fit side by side stand in further blocks, each
-//! over the whole run. The things of the program are called by the names of the text that it was assembled from, where
-//! there is one.
+//! `picture` answers exactly the text that `specs/Picture.antt` defines. Threads that don't fit side by side stand in further
+//! blocks.
 #![tactic(auto)]
 
 mod block;

@@ -1,7 +1,5 @@
-//! Tests of runs by public calls, of what no command of the program shows.
-//!
-//! Ports fail at each of their calls, streams are cut anywhere, choices go up to the last one that a machine takes, and real
-//! threads come in a forced order. The crate stands above the assembler, so that no library is proved twice for its tests.
+//! Tests of runs by public calls, of what no command of the program shows: ports that fail, streams cut anywhere, threads in
+//! a forced order.
 #![tactic(auto)]
 
 #[cfg(test)]

@@ -1,5 +1,4 @@
-//! Tests of the lowest crates by their public calls: ports, packed words, words between real threads, and races at them. They
-//! stand in a crate of their own, so that no library is proved twice for them.
+//! Tests of the lowest crates by their public calls: ports, packed words, words between real threads, and races at them.
 #![tactic(auto)]
 
 // Ports.

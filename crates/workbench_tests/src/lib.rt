@@ -1,5 +1,4 @@
-//! Tests of the commands over ports that fail, by their public calls. They stand in a crate of their own, so that no library is
-//! proved twice for them.
+//! Tests of the commands over ports that fail, by their public calls.
 #![tactic(auto)]
 
 #[cfg(test)]
