@@ -1,9 +1,7 @@
 //! What one line of a program's text says: its words, and what they spell.
 //!
-//! A line is cut into words, and its words are read as a directive, a label or a row, with names
-//! where there may be names. Which names there are, and what stood before, is the assembler's
-//! matter: here a line is read alone. `line_reader::specs::Spelling` is the grammar, as a relation
-//! that knows nothing of faults; `line_reader::specs::Reading` says which of a line's faults is told.
+//! A line is read alone: which names there are, and what stood before, is the assembler's matter. `specs/Spelling.antt` is
+//! the grammar, `specs/Reading.antt` says which of a line's faults is reported.
 #![tactic(auto)]
 
 // What a line consists of.

@@ -1,10 +1,7 @@
 //! One `java.util.concurrent.Phaser` without tiers, packed into 64 bits.
 //!
-//! The phase, the registered parties, those that haven't arrived and the termination of a phaser
-//! stand in one `Word`, and each call answers a new word: the flat phaser's rules on plain counts
-//! (`specs/Flat.antt`) are all that the answers promise, and which word stands for which counts is
-//! said once (`specs/Word.antt`). `Policy` is what `onAdvance` answers. No call takes memory, and a
-//! `Word` is copied as a number.
+//! Each call on a `Word` answers a new word, by the flat phaser's rules on plain counts (`specs/Flat.antt`).
+//! `specs/Word.antt` says which word stands for which counts, `Policy` what `onAdvance` answers. No call takes memory.
 #![tactic(auto)]
 
 mod law;

@@ -1,12 +1,8 @@
 //! The machine that plays small thread programs against phasers and barriers, one choice at a time.
 //!
-//! A program was loaded, so that no row of it meets a missing thing; each of its threads has registers, a stack, an output
-//! and a place in the rows. A choice names the thread whose turn it is, or whose timed wait runs out. The crate promises
-//! that `Machine::step` does exactly what the definitions say of that choice: what the row at the thread's place does, one
-//! popped stack entry while it throws, one finished wait, or nothing where the thread isn't ready. A step takes no memory
-//! but for a value put out, and a refused one changes nothing.
-//!
-//! What the rows do is defined in the crate `machine_scene`, and what a turn makes of its own thread in `thread_state`.
+//! A choice names the thread whose turn it is, or whose timed wait runs out. `Machine::step` makes of it just what the
+//! definitions say. It takes no memory but for a value put out, and a refused step changes nothing. What the rows do is
+//! defined in `machine_scene`, and what a turn makes of its own thread in `thread_state`.
 #![tactic(auto)]
 
 mod choice;

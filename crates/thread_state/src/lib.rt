@@ -1,8 +1,7 @@
 //! One thread of a program: its place in the rows, its registers, its stack, its status and its output.
 //!
-//! Each method is what one kind of turn makes of the thread itself, and answers what the turn shows. What a turn does
-//! beside its own thread, to phasers, barriers, cells and other threads, is another crate's. A thread takes all the room
-//! of its stack when it is made, so that only a value put out may want memory.
+//! Each method is what one kind of turn makes of the thread itself, and answers what the turn shows. Phasers, barriers, cells
+//! and other threads are another crate's.
 #![tactic(auto)]
 
 mod event;

@@ -1,12 +1,7 @@
 //! The schedule of a trace: the choices that its lines name, up to its state.
 //!
-//! A trace says of each choice what it did, and a schedule says the choices alone. `choices_in` reads a trace line by line. It
-//! answers the runs of its choices, with repeated choices joined, or the first line that is no line of a trace. `write_choices`
-//! writes each run when the next one begins. Both play nothing, so a trace of another program, or one that was edited, has a
-//! schedule too; `trace_compare` says whether it is the run's.
-//!
-//! The laws: the choices of a schedule's trace are the schedule's, up to the first that is refused, and their trace is the same
-//! trace again.
+//! `choices_in` answers the runs of a trace's choices, or the first line that is no line of a trace; `write_choices` writes
+//! each run when the next one begins. Both play nothing: `trace_compare` says whether a trace is the run's.
 #![tactic(auto)]
 
 mod law;

@@ -1,13 +1,7 @@
 //! Traces: what they say, how a schedule's trace is written, and how a trace is compared with the run that it names.
 //!
-//! A trace has a line for each choice of a schedule, and then the state of the machine. `run_text` plays an image's program
-//! under a schedule, which it reads a piece at a time, and writes each line as it comes: what was written is exactly the trace
-//! of the schedule's choices, and after a fault just the lines before it. `compare` goes the other way: it plays the choices
-//! that a trace's lines name, and answers the first line that isn't the run's, byte for byte, the state too; a trace that was
-//! written it finds the same.
-//!
-//! How a machine is made of an image stands in `start`, and what is shown of its state in `state`; the rest knows a machine by
-//! its steps alone.
+//! `run_text` plays an image's program under a schedule, a piece at a time, and writes each line as it comes. `compare` plays
+//! the choices that a trace's lines name, and answers the first line that isn't the run's.
 #![tactic(auto)]
 
 pub mod compare;

@@ -1,4 +1,8 @@
 //! The program: finds the command that its words ask for, opens the files, and hands them to the command.
+//!
+//! Each command is a function of a library, over ports. Here stands what meets the world: files and streams (`files`,
+//! `input`), the last flush and the status (`ending`, `trouble`), and what a terminal is shown (`notes`, `progress`,
+//! `printable`, `help`).
 #![tactic(auto)]
 
 ghost use Rattle.std.specs.Prelude.{◌≤◌, IfSome};
