@@ -1,4 +1,4 @@
-ghost use Rattle.std.specs.Prelude.{◌≡◌, ℕ, ℤ, pos, ◌<◌, ◌≤◌, ◌^◌, max, true, false, IsTrue, ◌↔◌};
+ghost use Rattle.std.specs.Prelude.{◌≡◌, ℕ, ℤ, pos, ◌-◌, ◌<◌, ◌≤◌, ◌^◌, max, true, false, if◌then◌else◌, IsTrue, ◌↔◌};
 ghost use Rattle.std.specs.Option.{SomeIff};
 ghost use Rattle.packed_phaser.specs.Flat.{Flat, fresh, view_of, unarrived_of, is_empty, register};
 ghost use Rattle.packed_phaser.specs.Flat.{arrive, advance, vacate, renew, force};
@@ -237,6 +237,27 @@ impl Word {
         Registered::At(packed(after), self.phase_view())
     }
 
+    /// With one party fewer to arrive, which is registered no more where it leaves.
+    #[inline(always)]
+    fn without_one(self, leave: bool) -> Word
+        requires awaited { 0 < (fields_of self).unarrived }
+        requires registered { 0 < (fields_of self).parties }
+        ensures { fields_of result ≡ record (fields_of self) {
+          unarrived = (fields_of self).unarrived - 1;
+          parties = if leave then (fields_of self).parties - 1 else (fields_of self).parties;
+        } }
+    {
+        if leave {
+            Word {
+                bits: self.bits - 0x1_0001,
+            }
+        } else {
+            Word {
+                bits: self.bits - 1,
+            }
+        }
+    }
+
     /// `arrive`, or `arriveAndDeregister` where the party leaves. The word of `Turned` waits for
     /// `advance`.
     pub fn arrive(self, leave: bool) -> Arrived
@@ -249,19 +270,11 @@ impl Word {
         if fields.unarrived == 0 || fields.parties == 0 {
             return Arrived::NotThere;
         }
-        let after = Fields {
-            unarrived: fields.unarrived - 1,
-            parties: if leave {
-                fields.parties - 1
-            } else {
-                fields.parties
-            },
-            ..fields
-        };
-        if after.unarrived == 0 {
-            Arrived::Turned(packed(after))
+        let after = self.without_one(leave);
+        if fields.unarrived == 1 {
+            Arrived::Turned(after)
         } else {
-            Arrived::Counted(packed(after))
+            Arrived::Counted(after)
         }
     }
 

@@ -327,6 +327,12 @@ top_read forest i r own stored there read is =
     let within = top_there forest i stored there in
     omega (arith, same, within)
 
+pub top_word_read : (forest : List Stored) (i r w : ℕ) (own top : Stored) → IsStored forest → i < length forest → own ≡ get_or forest i own → r ≡ top_of own
+    → top ≡ get_or forest r top → w ≡ top.word → w ≡ (stored_at forest (root_at (phasers_of forest) i)).word
+top_word_read forest i r w own top stored there read_own is_top read_top is_w =
+    let r_is : r ≡ root_at (phasers_of forest) i = is_top ∙ ap top_of (get_or_read forest i own there read_own no_stored) ∙ sym (root_shown forest i there) in
+    is_w ∙ ap (λ (s : Stored). s.word) (get_or_read forest r top (top_read forest i r own stored there read_own is_top) read_top no_stored ∙ ap (stored_at forest) r_is)
+
 pub word_read : (forest : List Stored) (i r w wt wo : ℕ) (own top : Stored) → IsStored forest → i < length forest → own ≡ get_or forest i own → r ≡ top_of own
     → top ≡ get_or forest r top → wt ≡ top.word → wo ≡ own.word → record_of w ≡ present (record_of wt) (record_of wo)
     → record_of w ≡ flat_at (phasers_of forest) i

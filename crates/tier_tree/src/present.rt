@@ -17,8 +17,9 @@ pub fn phase_of(word: Word) -> Phase
     Phase::prevailing(word.phase_view())
 }
 
-/// What a word says at present, beside that of its root.
-fn brought_up(root: Word, own: Word) -> Word
+/// `brought_up` of a word that may lag.
+#[inline(never)]
+fn renewed(root: Word, own: Word) -> Word
     ensures { record_of result ≡ present (record_of root) (record_of own) }
 {
     let phase = phase_of(root);
@@ -28,6 +29,19 @@ fn brought_up(root: Word, own: Word) -> Word
         own
     } else {
         own.renew(phase)
+    }
+}
+
+/// What a word says at present, beside that of its root.
+#[inline(always)]
+#[tactic(auto, using(crate::proofs::View::stands_as_it_is))]
+fn brought_up(root: Word, own: Word) -> Word
+    ensures { record_of result ≡ present (record_of root) (record_of own) }
+{
+    if own.raw() >> 32 == root.raw() >> 32 {
+        own
+    } else {
+        renewed(root, own)
     }
 }
 
@@ -54,6 +68,17 @@ pub fn root_of(nodes: &[Node], i: usize) -> u8
     ensures top { root_at (phasers_of nodes.now) result ≡ result }
 {
     nodes[i].root()
+}
+
+/// The word of one phaser's root.
+#[inline(always)]
+pub fn top_at(nodes: &[Node], i: usize) -> Word
+    requires stored { IsStored nodes.now }
+    requires there { i < length nodes.now }
+    ensures { result ≡ (stored_at nodes.now (root_at (phasers_of nodes.now) i)).word }
+{
+    let root = nodes[i].root();
+    nodes[root as usize].word()
 }
 
 /// The present word of one phaser.
