@@ -333,6 +333,27 @@ top_word_read forest i r w own top stored there read_own is_top read_top is_w =
     let r_is : r ≡ root_at (phasers_of forest) i = is_top ∙ ap top_of (get_or_read forest i own there read_own no_stored) ∙ sym (root_shown forest i there) in
     is_w ∙ ap (λ (s : Stored). s.word) (get_or_read forest r top (top_read forest i r own stored there read_own is_top) read_top no_stored ∙ ap (stored_at forest) r_is)
 
+-- the root of a phaser that isn't terminated isn't
+pub live_top : (forest : List Stored) (i top : ℕ) (f : Flat) → i < length forest → top ≡ (stored_at forest (root_at (phasers_of forest) i)).word
+    → f ≡ flat_at (phasers_of forest) i → f.ended ≡ false → (record_of top).ended ≡ false
+live_top forest i top f there is found live =
+    ap (λ (w : ℕ). (record_of w).ended) (is ∙ ap (λ (n : ℕ). (stored_at forest n).word) (root_shown forest i there))
+    ∙ present_live (kept_flat (stored_at forest (top_at forest i))) (kept_flat (stored_at forest i))
+    (ap (λ (x : Flat). x.ended) (sym (found ∙ flat_shown forest i there)) ∙ live)
+
+-- a word below a live root's
+pub below_read : (forest : List Stored) (i w top own_word : ℕ) (own : Stored) → IsStored forest → i < length forest → own ≡ get_or forest i own
+    → own_word ≡ own.word → top ≡ (stored_at forest (root_at (phasers_of forest) i)).word → (record_of top).ended ≡ false
+    → ((record_of own_word).ended ≡ false → record_of w ≡ present (record_of top) (record_of own_word)) → record_of w ≡ flat_at (phasers_of forest) i
+below_read forest i w top own_word own stored there read is_own is_top live is =
+    let own_is : own_word ≡ (stored_at forest i).word = is_own ∙ ap (λ (s : Stored). s.word) (get_or_read forest i own there read no_stored) in
+    let top_is : top ≡ (stored_at forest (top_at forest i)).word = is_top ∙ ap (λ (n : ℕ). (stored_at forest n).word) (root_shown forest i there) in
+    let own_live : (record_of own_word).ended ≡ false =
+    ap (λ (n : ℕ). (record_of n).ended) own_is ∙ stored.live i there (ap (λ (n : ℕ). (record_of n).ended) (sym top_is) ∙ live) in
+    is own_live ∙ ap (λ (n : ℕ). present (record_of n) (record_of own_word)) top_is
+    ∙ ap (λ (n : ℕ). present (kept_flat (stored_at forest (top_at forest i))) (record_of n)) own_is
+    ∙ sym (flat_shown forest i there)
+
 pub word_read : (forest : List Stored) (i r w wt wo : ℕ) (own top : Stored) → IsStored forest → i < length forest → own ≡ get_or forest i own → r ≡ top_of own
     → top ≡ get_or forest r top → wt ≡ top.word → wo ≡ own.word → record_of w ≡ present (record_of wt) (record_of wo)
     → record_of w ≡ flat_at (phasers_of forest) i

@@ -1,5 +1,5 @@
 -- The number of a phase, from its view; and a word in its root's phase.
-use Rattle.std.proofs.Common.{◌≡◌, ◌∙◌, ℕ, ◌-◌, ◌<◌, ◌/◌, ◌%◌, ◌==◌, Bool, true, false, ap, refl, sym, arith, if◌then◌else◌}
+use Rattle.std.proofs.Common.{◌≡◌, ◌≢◌, ◌∙◌, ℕ, ◌-◌, ◌<◌, ◌/◌, ◌%◌, ◌==◌, Bool, true, false, ap, refl, sym, arith, if◌then◌else◌}
 use Rattle.std.specs.Prelude.{ℤ, pos, negsuc, not, ◌&&◌}
 use Rattle.std.proofs.lemmas.Bool.Decides.{nat_tests}
 use Rattle.packed_phaser.specs.Flat.{Flat, renew, force}
@@ -47,3 +47,21 @@ stands_as_it_is top own same =
     alike (record_of own) (record_of top).phase (record_of top).ended
     (phase_high own ∙ ap (λ (n : ℕ). n % 2147483648) same ∙ sym (phase_high top)) ended
     (λ is. all_there (fields_of own).ended (fields_of own).parties (fields_of own).unarrived (ended ∙ is))
+
+-- of words that aren't terminated, in another phase
+phase_of_live : (w : ℕ) → w < 18446744073709551616 → (fields_of w).ended ≡ false → (fields_of w).phase ≡ w / 4294967296
+unfolding fields_of
+phase_of_live w small live =
+    let high : w / 9223372036854775808 ≡ 0 = grind (arith, nat_tests, small, live) in
+    omega (arith, high)
+
+pub lags : (top own : ℕ) → top < 18446744073709551616 → own < 18446744073709551616 → (record_of top).ended ≡ false → (record_of own).ended ≡ false
+    → own / 4294967296 ≢ top / 4294967296 → renew (record_of top).phase (record_of own) ≡ present (record_of top) (record_of own)
+lags top own small_top small_own live_top live_own apart =
+    let top_is = phase_of_live top small_top live_top in
+    let own_is = phase_of_live own small_own live_own in
+    let other : ((fields_of own).phase == (fields_of top).phase) ≡ false = grind (arith, nat_tests, top_is, own_is, apart) in
+    let t = record_of top in
+    let f = record_of own in
+    ap (λ (same : Bool). if same then f else renew t.phase f) (sym other)
+    ∙ ap (λ (ended : Bool). if ended then force (renew t.phase f) else (if f.phase == t.phase then f else renew t.phase f)) (sym live_top)

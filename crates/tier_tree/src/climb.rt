@@ -61,6 +61,7 @@ pub fn arrive_along(nodes: &mut [Node], line: &[u8], top: Word, leave: bool) -> 
     requires there { All (λ id. id < length nodes.old) line.now }
     requires top { All (λ id. top ≡ (stored_at nodes.old (root_at (phasers_of nodes.old) id)).word)
         line.now }
+    requires live { (record_of top).ended ≡ false }
     ensures climbed { record { phasers = phasers_of nodes.new; climb = result }
         ≡ climbed line.now leave (phasers_of nodes.old) }
     ensures stored { IsStored nodes.new }
@@ -128,6 +129,7 @@ fn count_along(nodes: &mut [Node], line: &[u8], top: Word) -> bool
     requires there { All (λ id. id < length nodes.old) line.now }
     requires top { All (λ id. top ≡ (stored_at nodes.old (root_at (phasers_of nodes.old) id)).word)
         line.now }
+    requires live { (record_of top).ended ≡ false }
     ensures counted { result ≡ true → record { phasers = phasers_of nodes.new; climb = Climb.Counted }
         ≡ climbed line.now false (phasers_of nodes.old) }
     ensures last { result ≡ false

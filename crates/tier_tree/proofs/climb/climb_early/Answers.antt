@@ -4,7 +4,7 @@ use Rattle.packed_phaser.specs.Flat.{Turns}
 use Rattle.packed_phaser.specs.Word.{record_of}
 use Rattle.tier_tree.specs.Forest.{flat_at, root_at}
 use Rattle.tier_tree.specs.Stored.{phasers_of}
-use Rattle.tier_tree.proofs.Shown.{only_more}
+use Rattle.tier_tree.proofs.Shown.{live_top, only_more}
 use Rattle.tier_tree.proofs.Times.{IsArrival, arrival_is, climb_ready}
 use Rattle.tier_tree.proofs.Ascent.{first_is, one_top, counted_above, last_above, arrives_early, arrives_otherwise}
 use Rattle.tier_tree.proofs.climb.climb_early.Goals as goal
@@ -55,3 +55,9 @@ returns-else-count_along-clause-last c =
     λ none. arrives_otherwise c.args.i c.line_at-line.result ps c.line_at-line.ensures.line
     (last_above c.line_at-line.result c.in-Some.above.now c.args.i ps (flat_at ps c.args.i) (record_of c.args.word) line_is refl c.requires.turned
     (c.count_along.ensures.last c.if-count_along.false))
+
+pub count_along-requires-clause-live : goal.count_along-requires-clause-live
+count_along-requires-clause-live c =
+    let f = flat_at (phasers_of c.args.nodes.now) c.args.i in
+    let late : IsArrival f (Turns (record_of c.args.word)) = subst (IsArrival f) (sym c.requires.turned) (arrival_is false f) in
+    live_top c.args.nodes.now c.args.i c.top_at-top.result f c.requires.there c.top_at-top.ensures refl late.1
