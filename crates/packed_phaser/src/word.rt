@@ -278,6 +278,30 @@ impl Word {
         }
     }
 
+    /// `arrive` of a party that stays, in the phase of another word and not in its own: all parties
+    /// are to arrive again before.
+    pub fn arrive_anew(self, other: Word) -> Arrived
+        ensures { arrival_of result
+            ≡ arrive false (renew (record_of other).phase (record_of self)) }
+    {
+        let parties = self.parties();
+        let turned = Fields {
+            unarrived: 0,
+            parties: 1,
+            phase: unpacked(other.bits).phase,
+            ended: false,
+        };
+        match parties {
+            1 => Arrived::Turned(packed(turned)),
+            0 => Arrived::NotThere,
+            _ => Arrived::Counted(packed(Fields {
+                unarrived: parties - 1,
+                parties,
+                ..turned
+            })),
+        }
+    }
+
     /// Ends the phase of a turned phaser, and terminates the phaser where `ends` says so. Nobody is
     /// counted as still to arrive in a word that this terminates.
     pub fn advance(self, ends: bool) -> Word

@@ -1,22 +1,25 @@
 -- A climb along a line.
-use Rattle.std.proofs.Common.{inl, inr, ◌≡◌, ◌≢◌, ◌∙◌, ℕ, ◌+◌, ◌<◌, ◌==◌, Bool, true, false, List, [], ◌∷◌, length, get_or, ap, refl, sym, subst, arith, if◌then◌else◌}
-use Rattle.std.specs.Prelude.{All, ℤ}
+use Rattle.std.proofs.Common.{inl, inr, ◌≡◌, ◌≢◌, ◌∙◌, ℕ, zero, suc, ◌+◌, ◌-◌, ◌<◌, ◌≤◌, drop, ◌==◌, Bool, true, false, List, [], ◌∷◌, length, get_or, ap, refl, sym, subst, arith, if◌then◌else◌}
+use Rattle.std.specs.Prelude.{All, ℤ, slice_set}
+use Rattle.std.proofs.lemmas.Bool.{cases_eq}
 use Rattle.std.proofs.lemmas.Bool.Decides.{nat_tests}
 use Rattle.std.proofs.lemmas.List.Elements.{All-cons, All-nil}
 use Rattle.packed_phaser.specs.Flat.{Flat, Arrival, Counts, Turns, ComesLate, IsUnregistered, arrive, settled, view_of}
+use Rattle.packed_phaser.specs.Word.{record_of}
 use Rattle.tier_tree.specs.declared.climb.Climb.{Climb}
 use Rattle.tier_tree.specs.declared.climb.Climb.TheVariants as climb
 use Rattle.tier_tree.specs.declared.arrived.Arrived.TheVariants as arrived
 use Rattle.tier_tree.specs.Forest.{PhaserState, phaser_at, flat_at, root_at, with_flat}
 use Rattle.tier_tree.specs.Sound.{IsForest}
-use Rattle.tier_tree.specs.Stored.{Stored, no_stored, stored_at, IsStored, phasers_of}
+use Rattle.tier_tree.specs.Stored.{Stored, no_stored, stored_at, IsStored, ChangedOnly, phasers_of}
 use Rattle.tier_tree.specs.Arrival.{Climbed, is_top, with_child, climbed_by, climbed, arrival_by, arrival}
-use Rattle.std.proofs.lemmas.List.{get_or_read}
+use Rattle.std.proofs.lemmas.List.{get_or_read, get_or-set_same, get_or-set_other, drop_all}
+use Rattle.std.proofs.Math.Seq.{drop-cons}
 use Rattle.tier_tree.proofs.Changed.{there_shown}
-use Rattle.tier_tree.proofs.Shown.{shown_at}
+use Rattle.tier_tree.proofs.Shown.{shown_at, only_same}
 use Rattle.tier_tree.proofs.Safe.{linked, line_own, rest_of, root-parent}
 use Rattle.phase_number.specs.Phase.{phase_view}
-use Rattle.tier_tree.proofs.Times.{IsAsLate}
+use Rattle.tier_tree.proofs.Times.{IsAsLate, IsArrival, arrival_is, climb_ready}
 
 -- all phasers of a line are in one tree
 pub line_tree : (phasers : List PhaserState) → IsForest phasers → (line : List ℕ) (id : ℕ) → id < length phasers → (phaser_at phasers id).line ≡ line
@@ -216,3 +219,105 @@ arrives_otherwise i line phasers line_is not phase = by_end (flat_at phasers i).
     by_end false is =
         otherwise (climbed (phaser_at phasers i).line false phasers).climb i (climbed (phaser_at phasers i).line false phasers).phasers phasers phase
         (subst (λ (l : List ℕ). (climbed l false phasers).climb ≢ climb.Counted) line_is not) is
+
+-- a climb of one look at each phaser, and then of one write at each: so far each is turned by a party that stays
+abbrev pub HaveTurned : List ℕ → List ℕ → ℕ → List PhaserState → Type 0
+HaveTurned line words k phasers =
+    (m d : ℕ) → m < k → Turns (record_of (get_or words m d)) ≡ arrive false (flat_at phasers (get_or line m 0))
+
+-- and from this place on up all are written
+pub record IsWritten (line : List ℕ) (before after : List Stored) (low : ℕ) : Type 0 where
+  pub counted : record { phasers = phasers_of after; climb = climb.Counted } ≡ climbed (drop low line) false (phasers_of before)
+  pub stored : IsStored after
+  pub only : ChangedOnly line before after
+
+pub one_more_turned : (line words : List ℕ) (k word : ℕ) (phasers : List PhaserState) → k < length words → HaveTurned line words k phasers
+    → Turns (record_of word) ≡ arrive false (flat_at phasers (get_or line k 0)) → HaveTurned line (slice_set words k word) (k + 1) phasers
+one_more_turned line words k word phasers room so_far turns m d below =
+    elim (cases_eq m k) as (λ _. Turns (record_of (get_or (slice_set words k word) m d)) ≡ arrive false (flat_at phasers (get_or line m 0))) [
+      | inl same ↦
+          subst (λ (n : ℕ). Turns (record_of (get_or (slice_set words k word) n d)) ≡ arrive false (flat_at phasers (get_or line n 0))) (sym same)
+          (ap (λ (w : ℕ). Turns (record_of w)) (get_or-set_same words k word d room) ∙ turns)
+      | inr other ↦
+          ap (λ (w : ℕ). Turns (record_of w)) (get_or-set_other words k m word d other)
+          ∙ so_far m d (omega (arith, below, other))
+    ]
+
+pub only_more_of : (line : List ℕ) (k : ℕ) (before mid after : List Stored) → k < length line → ChangedOnly line before mid
+    → ChangedOnly (get_or line k 0 ∷ []) mid after → ChangedOnly line before after
+only_more_of line k before mid after here first second = record {
+  many = second.many ∙ first.many;
+  places = λ id. second.places id ∙ first.places id;
+  others = λ id away.
+      second.others id (All-cons (λ (n : ℕ). id ≢ n) (get_or line k 0) [] (away k 0 here) (All-nil (λ (n : ℕ). id ≢ n))) ∙ first.others id away;
+}
+
+pub written_first : (line : List ℕ) (k : ℕ) (before nodes after : List Stored) (g : Flat) → nodes ≡ before → k < length line
+    → Counts g ≡ arrive false (flat_at (phasers_of nodes) (get_or line k 0))
+    → phasers_of after ≡ with_flat (phasers_of nodes) (get_or line k 0) g → IsStored after → ChangedOnly (get_or line k 0 ∷ []) nodes after
+    → IsWritten line before after k
+written_first line k before nodes after g same here counts set stored only =
+    let ps = phasers_of nodes in
+    subst (λ (b : List Stored). IsWritten line b after k) same (record {
+      counted = counted_here (get_or line k 0) (drop k line) (drop (suc k) line) ps (phasers_of after) (flat_at ps (get_or line k 0)) g
+          (drop-cons line k 0 here) refl counts set;
+      stored = stored;
+      only = only_more_of line k nodes nodes after here (only_same line nodes) only;
+    })
+
+-- the word of the next one below is of its phase
+pub record IsNext (id word : ℕ) (nodes : List Stored) : Type 0 where
+  pub phase : (record_of word).phase ≡ (flat_at (phasers_of nodes) id).phase
+  pub before : (flat_at (phasers_of nodes) id).ended ≡ false
+  pub live : (record_of word).ended ≡ false
+
+pub next_ready : (line words : List ℕ) (k high low d : ℕ) (before nodes : List Stored) → high ≤ k → 0 < high → low ≡ high - 1
+    → HaveTurned line words k (phasers_of before) → IsWritten line before nodes high → IsNext (get_or line low 0) (get_or words low d) nodes
+next_ready line words k high low d before nodes within some is turned written =
+    let below : low < k = omega (arith, within, some, is) in
+    let ps = phasers_of before in
+    let id = get_or line low 0 in
+    let g = record_of (get_or words low d) in
+    let late : IsArrival (flat_at ps id) (Turns g) = subst (IsArrival (flat_at ps id)) (sym (turned low d below)) (arrival_is false (flat_at ps id)) in
+    let ready = climb_ready (drop high line) false false ps (phasers_of nodes) climb.Counted id (flat_at ps id) g written.counted refl (turned low d below) in
+    record { phase = ready.0; before = ready.1; live = late.0.1 ∙ late.1 }
+
+pub written_next : (line words : List ℕ) (k high low d : ℕ) (before nodes after : List Stored) → high ≤ k → 0 < high → low ≡ high - 1 → k < length line
+    → HaveTurned line words k (phasers_of before) → IsWritten line before nodes high
+    → phasers_of after ≡ with_flat (phasers_of nodes) (get_or line low 0) (record_of (get_or words low d)) → IsStored after
+    → ChangedOnly (get_or line low 0 ∷ []) nodes after → IsWritten line before after low
+written_next line words k high low d before nodes after within some is here turned written set stored only =
+    let ps = phasers_of before in
+    let below : low < k = omega (arith, within, some, is) in
+    let there : low < length line = omega (arith, below, here) in
+    let suc_is : suc low ≡ high = omega (arith, some, is) in
+    let split : drop low line ≡ get_or line low 0 ∷ drop high line =
+    drop-cons line low 0 there ∙ ap (λ (n : ℕ). get_or line low 0 ∷ drop n line) suc_is in
+    record {
+      counted = counted_above (drop low line) (drop high line) (get_or line low 0) ps (phasers_of nodes) (phasers_of after)
+          (flat_at ps (get_or line low 0)) (record_of (get_or words low d)) split refl (turned low d below) written.counted set;
+      stored = stored;
+      only = only_more_of line low before nodes after there written.only only;
+    }
+
+-- a climb that isn't counted further up isn't counted
+pub last_along : (line words : List ℕ) (k : ℕ) (phasers : List PhaserState) → k ≤ length line → HaveTurned line words k phasers
+    → (climbed (drop k line) false phasers).climb ≢ climb.Counted → (climbed line false phasers).climb ≢ climb.Counted
+last_along line words zero phasers here turned not = not
+last_along line words (suc k) phasers here turned not =
+    let there : k < length line = omega (arith, here) in
+    last_along line words k phasers (omega (arith, here)) (λ m d below. turned m d (omega (arith, below)))
+    (last_above (drop k line) (drop (suc k) line) (get_or line k 0) phasers (flat_at phasers (get_or line k 0)) (record_of (get_or words k 0))
+    (drop-cons line k 0 there) refl (turned k 0 (omega arith)) not)
+
+pub last_here : (line words : List ℕ) (k : ℕ) (phasers : List PhaserState) (a : Arrival) → k < length line → HaveTurned line words k phasers
+    → a ≡ arrive false (flat_at phasers (get_or line k 0)) → IsRefusal a → (climbed line false phasers).climb ≢ climb.Counted
+last_here line words k phasers a here turned is refuses =
+    last_along line words k phasers (omega (arith, here)) turned
+    (none_counts (drop k line) (drop (suc k) line) (get_or line k 0) phasers (flat_at phasers (get_or line k 0)) a (drop-cons line k 0 here) refl is refuses)
+
+pub last_of_all : (line words : List ℕ) (k : ℕ) (phasers : List PhaserState) → k ≡ length line → HaveTurned line words k phasers
+    → (climbed line false phasers).climb ≢ climb.Counted
+last_of_all line words k phasers all turned =
+    last_along line words k phasers (omega (arith, all)) turned
+    (λ is. absurd (cc (sym (ap (λ (l : List ℕ). (climbed l false phasers).climb) (drop_all k line (omega (arith, all)))) ∙ is)))

@@ -1,4 +1,5 @@
-ghost use Rattle.std.specs.Prelude.{◌≡◌, ◌≢◌, ℤ, ◌<◌, [], ◌∷◌, length, All, true, false, None, IfSome};
+ghost use Rattle.std.specs.Prelude.{◌≡◌, ◌≢◌, ℤ, ◌<◌, ◌≤◌, [], ◌∷◌, length, All, true, false, None, IfSome};
+ghost use Rattle.packed_phaser.specs.Answer.{arrival_of};
 ghost use Rattle.packed_phaser.specs.Flat.{Turns, arrive};
 ghost use Rattle.packed_phaser.specs.Word.{record_of};
 ghost use Rattle.tier_tree.specs.Forest.{flat_at, root_at};
@@ -8,6 +9,7 @@ ghost use Rattle.tier_tree.specs.Stored.{IsStored, ChangedOnly, ChangedAt, store
 
 use crate::arrived::Arrived;
 use crate::id::PhaserId;
+use crate::line::MOST_LEVELS;
 use crate::node::Node;
 use crate::present::{line_at, set_word, top_at, word_at, word_below};
 use packed_phaser::Word;
@@ -122,11 +124,47 @@ pub fn arrive(nodes: &mut [Node], i: usize, leave: bool) -> Arrived
     }
 }
 
+/// What an arrival of a party that stays comes to at one phaser.
+#[inline(always)]
+fn arrival_at(nodes: &[Node], i: usize) -> packed_phaser::Arrived
+    requires stored { IsStored nodes.now }
+    requires there { i < length nodes.now }
+    ensures { arrival_of result ≡ arrive false (flat_at (phasers_of nodes.now) i) }
+{
+    let top = top_at(nodes, i);
+    let own = nodes[i].word();
+    if own.raw() >> 32 == top.raw() >> 32 {
+        own.arrive(false)
+    } else if top.is_terminated() {
+        packed_phaser::Arrived::Dead(top.phase_view())
+    } else {
+        own.arrive_anew(top)
+    }
+}
+
+/// `arrival_at` where the word of the phaser's root is at hand, and not terminated.
+#[inline(always)]
+fn arrival_below(nodes: &[Node], i: usize, top: Word) -> packed_phaser::Arrived
+    requires stored { IsStored nodes.now }
+    requires there { i < length nodes.now }
+    requires top { top ≡ (stored_at nodes.now (root_at (phasers_of nodes.now) i)).word }
+    requires live { (record_of top).ended ≡ false }
+    ensures { arrival_of result ≡ arrive false (flat_at (phasers_of nodes.now) i) }
+{
+    let own = nodes[i].word();
+    if own.raw() >> 32 == top.raw() >> 32 {
+        own.arrive(false)
+    } else {
+        own.arrive_anew(top)
+    }
+}
+
 /// `arrive_along` of a party that stays, where others are still to arrive. Whether it was counted; nothing has
-/// changed where it wasn't.
+/// changed where it wasn't. What it makes of a child is kept until it is known how far it comes.
 fn count_along(nodes: &mut [Node], line: &[u8], top: Word) -> bool
     requires stored { IsStored nodes.old }
     requires there { All (λ id. id < length nodes.old) line.now }
+    requires few { length line.now ≤ 8 }
     requires top { All (λ id. top ≡ (stored_at nodes.old (root_at (phasers_of nodes.old) id)).word)
         line.now }
     requires live { (record_of top).ended ≡ false }
@@ -138,24 +176,23 @@ fn count_along(nodes: &mut [Node], line: &[u8], top: Word) -> bool
     ensures stored { IsStored nodes.new }
     ensures only { ChangedOnly line.now nodes.old nodes.new }
 {
-    let Some((id, above)) = line.split_first() else {
-        return false;
-    };
-    let i = *id as usize;
-    match word_below(nodes, i, top).arrive(false) {
-        packed_phaser::Arrived::Counted(word) => {
-            set_word(nodes, i, word);
-            true
-        }
-        packed_phaser::Arrived::Turned(word) => {
-            let is_counted = count_along(nodes, above, top);
-            if is_counted {
-                set_word(nodes, i, word);
+    let mut words = [top; MOST_LEVELS];
+    for (k, id) in line.iter().enumerate() {
+        match arrival_below(nodes, *id as usize, top) {
+            packed_phaser::Arrived::Counted(word) => {
+                set_word(nodes, *id as usize, word);
+                let mut low = k;
+                while low > 0 {
+                    low -= 1;
+                    set_word(nodes, line[low] as usize, words[low]);
+                }
+                return true;
             }
-            is_counted
+            packed_phaser::Arrived::Turned(word) => words[k] = word,
+            packed_phaser::Arrived::Dead(_) | packed_phaser::Arrived::NotThere => return false,
         }
-        packed_phaser::Arrived::Dead(_) | packed_phaser::Arrived::NotThere => false,
     }
+    false
 }
 
 /// `arrive_early` where the phaser's own parties have all arrived by it: its word after that is this one.
@@ -200,7 +237,7 @@ pub fn arrive_early(nodes: &mut [Node], i: usize) -> Option<i32>
     ensures stored { IsStored nodes.new }
     ensures only { ChangedAt i nodes.old nodes.new }
 {
-    match word_at(nodes, i).arrive(false) {
+    match arrival_at(nodes, i) {
         packed_phaser::Arrived::Counted(word) => {
             set_word(nodes, i, word);
             Some(word.phase_view())

@@ -3,7 +3,7 @@ use Rattle.packed_phaser.specs.declared.word.Arrived.{Arrived}
 use Rattle.packed_phaser.specs.Answer.{arrival_of}
 use Rattle.packed_phaser.specs.Flat.{Counts}
 use Rattle.packed_phaser.specs.Word.{record_of}
-use Rattle.tier_tree.specs.Forest.{phaser_at}
+use Rattle.tier_tree.specs.Forest.{phaser_at, flat_at}
 use Rattle.tier_tree.specs.Stored.{phasers_of}
 use Rattle.tier_tree.proofs.Shown.{only_more, only_same}
 use Rattle.tier_tree.proofs.Times.{IsArrival, arrival_is}
@@ -14,11 +14,11 @@ pub returns-in-Counted-clause-arrival : goal.returns-in-Counted-clause-arrival
 returns-in-Counted-clause-arrival c =
     let ps = phasers_of c.args.nodes.now in
     let own = own_line c.args.nodes.now c.args.i c.requires.stored c.requires.there in
-    let f = record_of c.word_at.result in
+    let f = flat_at ps c.args.i in
     let g = record_of c.in-Counted.word in
     let late : IsArrival f (Counts g) = subst (IsArrival f) (sym c.in-Counted.ensures) (arrival_is false f) in
-    let is = arrives_early c.args.i (phaser_at ps c.args.i).line ps (phasers_of c.set_word.new.nodes) f g c.word_at.ensures late refl
-    (counted_here c.args.i (phaser_at ps c.args.i).line own.0 ps (phasers_of c.set_word.new.nodes) f g own.2 c.word_at.ensures c.in-Counted.ensures
+    let is = arrives_early c.args.i (phaser_at ps c.args.i).line ps (phasers_of c.set_word.new.nodes) f g refl late refl
+    (counted_here c.args.i (phaser_at ps c.args.i).line own.0 ps (phasers_of c.set_word.new.nodes) f g own.2 refl c.in-Counted.ensures
     c.set_word.ensures.present) in
     search (rules, is)
 
@@ -32,8 +32,8 @@ returns-in-Dead-clause-last c =
     let ps = phasers_of c.args.nodes.now in
     let own = own_line c.args.nodes.now c.args.i c.requires.stored c.requires.there in
     λ none. arrives_otherwise c.args.i (phaser_at ps c.args.i).line ps refl
-    (none_counts (phaser_at ps c.args.i).line own.0 c.args.i ps (record_of c.word_at.result) (arrival_of c.arrive.result) own.2 c.word_at.ensures c.arrive.ensures
-    (elim c.in-Dead.is as (λ _. IsRefusal (arrival_of c.arrive.result)) [
+    (none_counts (phaser_at ps c.args.i).line own.0 c.args.i ps (flat_at ps c.args.i) (arrival_of c.arrival_at.result) own.2 refl c.arrival_at.ensures
+    (elim c.in-Dead.is as (λ _. IsRefusal (arrival_of c.arrival_at.result)) [
       | inl dead ↦ subst (λ (r : Arrived). IsRefusal (arrival_of r)) (sym dead.1) tt
       | inr missing ↦ subst (λ (r : Arrived). IsRefusal (arrival_of r)) (sym missing) tt
     ]))

@@ -7,8 +7,8 @@ use Rattle.tier_tree.proofs.present.word_below.Goals as goal
 
 pub returns-then-raw : goal.returns-then-raw
 returns-then-raw c =
-    below_read c.args.nodes.now c.args.i c.word-own.result c.args.top c.word-own.result c.index-nodes-i.result c.requires.stored c.requires.there
-    c.index-nodes-i.is c.word-own.ensures c.requires.top c.requires.live
+    below_read c.args.nodes.now c.args.i c.args.top c.word-own.result c.index-nodes-i.result (record_of c.word-own.result) c.requires.stored c.requires.there
+    c.index-nodes-i.is c.word-own.ensures c.requires.top
     (λ _. stands_as_it_is c.args.top c.word-own.result (ap (λ (n : ℕ). n / 4294967296) (sym c.raw.ensures) ∙ c.if-raw.true ∙ ap (λ (n : ℕ). n / 4294967296) c.raw-2.ensures))
 
 pub returns-else-raw : goal.returns-else-raw
@@ -18,7 +18,7 @@ returns-else-raw c =
     let apart : c.word-own.result / 4294967296 ≢ c.args.top / 4294967296 =
     subst (λ (n : ℕ). n / 4294967296 ≢ c.args.top / 4294967296) c.raw.ensures
     (subst (λ (n : ℕ). c.raw.result / 4294967296 ≢ n / 4294967296) c.raw-2.ensures c.if-raw.false) in
-    below_read c.args.nodes.now c.args.i c.renew.result c.args.top c.word-own.result c.index-nodes-i.result c.requires.stored c.requires.there
-    c.index-nodes-i.is c.word-own.ensures c.requires.top c.requires.live
-    (λ live. c.renew.ensures ∙ ap (λ (n : ℕ). renew n (record_of c.word-own.result)) c.phase_of.ensures
-    ∙ lags c.args.top c.word-own.result small_top small_own c.requires.live live apart)
+    below_read c.args.nodes.now c.args.i c.args.top c.word-own.result c.index-nodes-i.result (record_of c.renew.result) c.requires.stored c.requires.there
+    c.index-nodes-i.is c.word-own.ensures c.requires.top
+    (λ own_live. c.renew.ensures ∙ ap (λ (n : ℕ). renew n (record_of c.word-own.result)) c.phase_of.ensures
+    ∙ lags c.args.top c.word-own.result small_top small_own c.requires.live (own_live c.requires.live) apart)
