@@ -8,7 +8,8 @@
 //! To read it: `specs/Scene.antt` (what there is), `specs/Outcomes.antt` (what a turn makes of it, row by row, which sends one on
 //! to a file for each group of rows), `specs/Ready.antt` (who may take a turn, listed); then `stage`, whose `turn` finds the row and
 //! calls `turn_of_row`, which calls the function of its group: `own_rows`, `data_rows`, `call_rows`, `phaser_rows`, `getter_rows`,
-//! `barrier_rows`. An exception takes its way through `unwinding`, waits and their ends are in `waits`.
+//! `barrier_rows`. An exception takes its way through `unwinding`, waits and their ends are in `waits`. The most usual turns go
+//! a shorter way, by `usual`.
 #![tactic(auto)]
 
 mod callers;
