@@ -7,6 +7,7 @@ ghost use Rattle.tier_tree.specs.Stored.{phasers_of};
 ghost use Rattle.thread_state.specs.Frame.{entry_of};
 ghost use Rattle.machine_scene.specs.Scene.{scene_of, first_scene, thread_at, barrier_at, starting};
 ghost use Rattle.machine_scene.specs.Outcomes.{is_ready};
+ghost use Rattle.machine_scene.specs.Usual.{is_usual};
 ghost use Rattle.machine_scene.specs.Undo as scene;
 ghost use Rattle.thread_machine.specs.World.{world_of, first_world};
 ghost use Rattle.thread_machine.specs.Ready.{can_expire, can_go_on, is_choice_ready, has_ended, is_stuck, some_ready};
@@ -158,6 +159,9 @@ impl Machine {
     /// for. `None` where `other_step` has to look, and nothing has changed.
     #[inline(always)]
     fn usual_step(&mut self, choice: Choice) -> Option<Event>
+        ensures usual { choice.expiry ≡ false → choice.thread < length self.old.scene.threads
+            → self.old.choices < 1000000000000 → self.old.steps < self.old.limit
+            → is_some result ≡ is_usual choice.thread self.old.program (scene_of self.old.scene) }
         ensures none { result ≡ None → self.new ≡ self.old }
         ensures played { IfSome result (λ event.
             record { world = world_of self.new; event = event } ≡ played (world_of self.old) choice) }

@@ -1,4 +1,4 @@
-ghost use Rattle.std.specs.Prelude.{◌≡◌, ℕ, ◌+◌, ◌<◌, length, [], Some, None, IfSome};
+ghost use Rattle.std.specs.Prelude.{◌≡◌, ℕ, ◌+◌, ◌<◌, length, [], Some, None, is_some, IfSome};
 ghost use Rattle.std.specs.Option.{OnSome};
 ghost use Rattle.tier_tree.specs.Stored.{ChangedAt};
 ghost use Rattle.loader.specs.Program.{IsNamed, row_at};
@@ -9,6 +9,7 @@ ghost use Rattle.machine_scene.specs.Waits.{outcome_of_phase_wait};
 ghost use Rattle.machine_scene.specs.Outcomes.{outcome_in, outcome_of, outcome_of_row};
 ghost use Rattle.machine_scene.specs.Sound.{IsSound, CanPlay, StandsAt, most_after, most_before};
 ghost use Rattle.machine_scene.specs.Asleep.{KeepsAsleep, MayFallAsleep, WakesNobody};
+ghost use Rattle.machine_scene.specs.Usual.{is_early, is_early_at, is_end, is_usual_in, is_usual};
 ghost use Rattle.machine_scene.specs.Undo.{PhasersWithin, CanUndo, reach_of_row, reach_in, note_of, undone};
 
 use super::asleep::set_at;
@@ -27,6 +28,7 @@ impl Stage {
         requires sound { IsSound program.now most_before (scene_of self.old) }
         requires asleep { KeepsAsleep program.now self.old }
         requires thread { t < length self.old.threads }
+        ensures usual { is_some result ≡ is_usual t program.now (scene_of self.old) }
         ensures none { result ≡ None → self.new ≡ self.old }
         ensures ok { IfSome result (λ event. outcome_of t program.now (scene_of self.old)
             ≡ Some (record { scene = scene_of self.new; event = event })) }
@@ -52,6 +54,8 @@ impl Stage {
     fn usual_at(&mut self, program: &Loaded, row: Row, t: usize) -> Option<Event>
         requires at { StandsAt program.now row t self.old }
         requires row { row ≡ row_at program.now.rows (thread_at (scene_of self.old) t).pc }
+        ensures usual { is_some result ≡ is_usual_in (thread_at (scene_of self.old) t).status row
+            (thread_at (scene_of self.old) t).stack (scene_of self.old) }
         ensures none { result ≡ None → self.new ≡ self.old }
         ensures ok { IfSome result (λ event. outcome_in (thread_at (scene_of self.old) t).status row t
             program.now (scene_of self.old)
@@ -79,6 +83,8 @@ impl Stage {
     fn early_row(&mut self, program: &Loaded, row: Row, t: usize) -> Option<Event>
         requires at { StandsAt program.now row t self.old }
         requires row { row ≡ row_at program.now.rows (thread_at (scene_of self.old) t).pc }
+        ensures early { is_some result
+            ≡ is_early row (thread_at (scene_of self.old) t).stack (scene_of self.old) }
         ensures none { result ≡ None → self.new ≡ self.old }
         ensures ok { IfSome result (λ event. outcome_of_row row t program.now (scene_of self.old)
             ≡ Some (record { scene = scene_of self.new; event = event })) }
@@ -103,6 +109,7 @@ impl Stage {
         requires phaser { phaser < length self.old.phasers }
         requires plays { CanPlay t self.old }
         requires free { (thread_at (scene_of self.old) t).stack ≡ [] }
+        ensures early { is_some result ≡ is_early_at phaser (scene_of self.old) }
         ensures none { result ≡ None → self.new ≡ self.old }
         ensures ok { IfSome result (λ event.
             outcome_of_phaser_row (Row.Parr into phaser) t program.now (scene_of self.old)
@@ -125,6 +132,7 @@ impl Stage {
         requires plays { CanPlay t self.old }
         requires free { (thread_at (scene_of self.old) t).stack ≡ [] }
         requires row { Row.Paaa into phaser ≡ row_at program.now.rows (thread_at (scene_of self.old) t).pc }
+        ensures early { is_some result ≡ is_early_at phaser (scene_of self.old) }
         ensures none { result ≡ None → self.new ≡ self.old }
         ensures ok { IfSome result (λ event.
             outcome_of_phaser_row (Row.Paaa into phaser) t program.now (scene_of self.old)
@@ -148,6 +156,7 @@ impl Stage {
     fn answer_after(&mut self, row: Row, phase: i32, t: usize) -> Option<Event>
         requires named { IsNamed (counts_in self.old) row }
         requires plays { CanPlay t self.old }
+        ensures end { is_some result ≡ is_end row phase (scene_of self.old) }
         ensures none { result ≡ None → self.new ≡ self.old }
         ensures ok { IfSome result (λ event. outcome_of_phase_wait row phase t (scene_of self.old)
             ≡ Some (record { scene = scene_of self.new; event = event })) }
