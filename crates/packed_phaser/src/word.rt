@@ -267,15 +267,13 @@ impl Word {
         if fields.ended {
             return Arrived::Dead(self.phase_view());
         }
+        if fields.unarrived > 1 {
+            return Arrived::Counted(self.without_one(leave));
+        }
         if fields.unarrived == 0 || fields.parties == 0 {
             return Arrived::NotThere;
         }
-        let after = self.without_one(leave);
-        if fields.unarrived == 1 {
-            Arrived::Turned(after)
-        } else {
-            Arrived::Counted(after)
-        }
+        Arrived::Turned(self.without_one(leave))
     }
 
     /// `arrive` of a party that stays, in the phase of another word and not in its own: all parties
