@@ -105,6 +105,15 @@ fn all_of(parties: u16) -> u16
     parties.max(1)
 }
 
+/// The parties once one has arrived, which is registered no more where it leaves.
+#[inline(always)]
+fn remaining(parties: u16, leave: bool) -> u16
+    requires { 0 < parties }
+    ensures { result ≡ if leave then parties - 1 else parties }
+{
+    if leave { parties - 1 } else { parties }
+}
+
 impl Word {
     /// A phaser at the start of a phase, like `new Phaser(parties)` where the phase is 0.
     pub fn fresh(phase: Phase, parties: u16) -> Word
@@ -267,27 +276,26 @@ impl Word {
         if fields.ended {
             return Arrived::Dead(self.phase_view());
         }
+        if fields.unarrived > 1 {
+            return Arrived::Counted(self.without_one(leave));
+        }
         if fields.unarrived == 0 || fields.parties == 0 {
             return Arrived::NotThere;
         }
-        let after = self.without_one(leave);
-        if fields.unarrived == 1 {
-            Arrived::Turned(after)
-        } else {
-            Arrived::Counted(after)
-        }
+        Arrived::Turned(self.without_one(leave))
     }
 
-    /// `arrive` of a party that stays, in the phase of another word and not in its own: all parties
-    /// are to arrive again before.
-    pub fn arrive_anew(self, other: Word) -> Arrived
+    /// `arrive` in the phase of another word, and not in that of this one: all parties are to arrive
+    /// again before.
+    #[inline(always)]
+    pub fn arrive_anew(self, other: Word, leave: bool) -> Arrived
         ensures { arrival_of result
-            ≡ arrive false (renew (record_of other).phase (record_of self)) }
+            ≡ arrive leave (renew (record_of other).phase (record_of self)) }
     {
         let parties = self.parties();
         let turned = Fields {
             unarrived: 0,
-            parties: 1,
+            parties: remaining(1, leave),
             phase: unpacked(other.bits).phase,
             ended: false,
         };
@@ -296,7 +304,7 @@ impl Word {
             0 => Arrived::NotThere,
             _ => Arrived::Counted(packed(Fields {
                 unarrived: parties - 1,
-                parties,
+                parties: remaining(parties, leave),
                 ..turned
             })),
         }

@@ -11,7 +11,7 @@ use crate::arrived::Arrived;
 use crate::id::PhaserId;
 use crate::line::MOST_LEVELS;
 use crate::node::Node;
-use crate::present::{line_at, set_word, top_at, word_at, word_below};
+use crate::present::{line_at, set_word, top_at, word_at};
 use packed_phaser::Word;
 
 /// How far an arrival comes.
@@ -56,6 +56,23 @@ fn count_child(nodes: &mut [Node], i: usize, word: Word, climb: Climb)
     }
 }
 
+/// What an arrival comes to at one phaser, by the word of its root, which isn't terminated.
+#[inline(always)]
+fn arrival_below(nodes: &[Node], i: usize, top: Word, leave: bool) -> packed_phaser::Arrived
+    requires stored { IsStored nodes.now }
+    requires there { i < length nodes.now }
+    requires top { top ≡ (stored_at nodes.now (root_at (phasers_of nodes.now) i)).word }
+    requires live { (record_of top).ended ≡ false }
+    ensures { arrival_of result ≡ arrive leave (flat_at (phasers_of nodes.now) i) }
+{
+    let own = nodes[i].word();
+    if own.raw() >> 32 == top.raw() >> 32 {
+        own.arrive(leave)
+    } else {
+        own.arrive_anew(top, leave)
+    }
+}
+
 /// Counts an arrival at the first phaser of the line, and, where all have arrived there, at the one above. The root
 /// of all has this word.
 pub fn arrive_along(nodes: &mut [Node], line: &[u8], top: Word, leave: bool) -> Climb
@@ -74,7 +91,7 @@ pub fn arrive_along(nodes: &mut [Node], line: &[u8], top: Word, leave: bool) -> 
         return Climb::Refused;
     };
     let i = *id as usize;
-    match word_below(nodes, i, top).arrive(leave) {
+    match arrival_below(nodes, i, top, leave) {
         packed_phaser::Arrived::Counted(word) => {
             set_word(nodes, i, word);
             Climb::Counted
@@ -138,24 +155,7 @@ fn arrival_at(nodes: &[Node], i: usize) -> packed_phaser::Arrived
     } else if top.is_terminated() {
         packed_phaser::Arrived::Dead(top.phase_view())
     } else {
-        own.arrive_anew(top)
-    }
-}
-
-/// `arrival_at` where the word of the phaser's root is at hand, and not terminated.
-#[inline(always)]
-fn arrival_below(nodes: &[Node], i: usize, top: Word) -> packed_phaser::Arrived
-    requires stored { IsStored nodes.now }
-    requires there { i < length nodes.now }
-    requires top { top ≡ (stored_at nodes.now (root_at (phasers_of nodes.now) i)).word }
-    requires live { (record_of top).ended ≡ false }
-    ensures { arrival_of result ≡ arrive false (flat_at (phasers_of nodes.now) i) }
-{
-    let own = nodes[i].word();
-    if own.raw() >> 32 == top.raw() >> 32 {
-        own.arrive(false)
-    } else {
-        own.arrive_anew(top)
+        own.arrive_anew(top, false)
     }
 }
 
@@ -178,7 +178,7 @@ fn count_along(nodes: &mut [Node], line: &[u8], top: Word) -> bool
 {
     let mut words = [top; MOST_LEVELS];
     for (k, id) in line.iter().enumerate() {
-        match arrival_below(nodes, *id as usize, top) {
+        match arrival_below(nodes, *id as usize, top, false) {
             packed_phaser::Arrived::Counted(word) => {
                 set_word(nodes, *id as usize, word);
                 let mut low = k;

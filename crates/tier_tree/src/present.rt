@@ -103,23 +103,6 @@ pub fn view_at(nodes: &[Node], i: usize) -> i32
     nodes[root as usize].word().phase_view()
 }
 
-/// `word_at` where the word of its root is at hand, and not terminated.
-#[inline(always)]
-pub fn word_below(nodes: &[Node], i: usize, top: Word) -> Word
-    requires stored { IsStored nodes.now }
-    requires there { i < length nodes.now }
-    requires top { top ≡ (stored_at nodes.now (root_at (phasers_of nodes.now) i)).word }
-    requires live { (record_of top).ended ≡ false }
-    ensures { record_of result ≡ flat_at (phasers_of nodes.now) i }
-{
-    let own = nodes[i].word();
-    if own.raw() >> 32 == top.raw() >> 32 {
-        own
-    } else {
-        own.renew(phase_of(top))
-    }
-}
-
 /// Another word of the present phase for one phaser.
 pub fn set_word(nodes: &mut [Node], i: usize, word: Word)
     requires stored { IsStored nodes.old }

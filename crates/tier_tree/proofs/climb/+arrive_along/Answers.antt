@@ -1,4 +1,6 @@
 use Rattle.packed_phaser.specs.Word.{record_of}
+use Rattle.std.proofs.Common.{refl}
+use Rattle.tier_tree.specs.Forest.{flat_at}
 use Rattle.tier_tree.specs.Stored.{phasers_of}
 use Rattle.tier_tree.proofs.Shown.{only_more, only_same}
 use Rattle.tier_tree.proofs.Times.{climb_ready}
@@ -7,14 +9,14 @@ use Rattle.tier_tree.proofs.climb.+arrive_along.Goals as goal
 pub count_child-requires-clause-phase : goal.count_child-requires-clause-phase
 count_child-requires-clause-phase t c =
     (climb_ready c.in-Some.above.now c.args.leave _ (phasers_of c.args.nodes.now) (phasers_of c.arrive_along-climb.new.nodes)
-    c.arrive_along-climb.result _ (record_of c.word_below.result) (record_of c.in-Turned.word) c.arrive_along-climb.ensures.climbed
-    c.word_below.ensures c.in-Turned.ensures).0
+    c.arrive_along-climb.result _ (flat_at (phasers_of c.args.nodes.now) c.in-Some.id.now) (record_of c.in-Turned.word) c.arrive_along-climb.ensures.climbed
+    refl c.in-Turned.ensures).0
 
 pub count_child-requires-clause-before : goal.count_child-requires-clause-before
 count_child-requires-clause-before t c =
     (climb_ready c.in-Some.above.now c.args.leave _ (phasers_of c.args.nodes.now) (phasers_of c.arrive_along-climb.new.nodes)
-    c.arrive_along-climb.result _ (record_of c.word_below.result) (record_of c.in-Turned.word) c.arrive_along-climb.ensures.climbed
-    c.word_below.ensures c.in-Turned.ensures).1
+    c.arrive_along-climb.result _ (flat_at (phasers_of c.args.nodes.now) c.in-Some.id.now) (record_of c.in-Turned.word) c.arrive_along-climb.ensures.climbed
+    refl c.in-Turned.ensures).1
 
 pub returns-else-is_empty-clause-only : goal.returns-else-is_empty-clause-only
 returns-else-is_empty-clause-only t c =
