@@ -25,3 +25,4 @@ pub mod Standings
 pub mod Asleep
 pub mod ThreadSets
 pub mod LocalTurns
+pub mod UsualTurns

@@ -1,6 +1,6 @@
 -- Turns of running threads at rows on registers alone: they wake nobody.
 use Rattle.std.proofs.Common.{inl, inr, ◌≡◌, ◌∙◌, ℕ, ◌<◌, true, false, ap, refl, sym, subst}
-use Rattle.std.specs.Prelude.{length, Some, is_some}
+use Rattle.std.specs.Prelude.{length, Some}
 use Rattle.std.proofs.lemmas.Bool.{cases_eq}
 use Rattle.std.proofs.lemmas.Option.{same_Some}
 use Rattle.instruction_table.specs.declared.row.Row.{Row}
@@ -17,8 +17,8 @@ use Rattle.machine_scene.specs.declared.group.Group.TheVariants.{Own}
 use Rattle.machine_scene.specs.Scene.{Scene, StoredScene, Outcome, scene_of, thread_at, outcome_of_turn}
 use Rattle.machine_scene.specs.Group.{group_of}
 use Rattle.machine_scene.specs.OwnRows.{outcome_of_own_row}
-use Rattle.machine_scene.specs.Outcomes.{outcome_in_group, outcome_in, is_ready}
-use Rattle.machine_scene.specs.Asleep.{is_asleep, is_asleep_in, KeepsAsleep, interrupts, may_wake, is_local_turn}
+use Rattle.machine_scene.specs.Outcomes.{outcome_in_group, outcome_in}
+use Rattle.machine_scene.specs.Asleep.{is_asleep, is_asleep_in, KeepsAsleep, WakesNobody, interrupts, may_wake, is_local_turn}
 use Rattle.machine_scene.proofs.Asleep.{others_asleep}
 
 -- what a row on registers alone comes to
@@ -64,14 +64,6 @@ local_turn of row t program scene is =
     ap (λ (s : Status). outcome_in s row t program scene) (runs of row is)
     ∙ ap (λ (group : Group). outcome_in_group group row t program scene) (is_own row (is_local of row is))
 
--- so the thread is ready
-pub local_turn_is_ready : (row : Row) (t : ℕ) (program : Program) (scene : Scene) → row ≡ row_at program.rows (thread_at scene t).pc
-    → is_local_turn (thread_at scene t).status row ≡ true → is_ready t program scene ≡ true
-local_turn_is_ready row t program scene is local =
-    let of = (thread_at scene t).status in
-    ap (λ (r : Row). is_some (outcome_in of r t program scene)) (sym is)
-    ∙ ap is_some (local_turn of row t program scene local ∙ own_outcome row t scene (is_local of row local))
-
 -- its event wakes nobody
 is_quiet : (row : Row) (t : ℕ) (scene : Scene) → is_local_row row ≡ true → may_wake row (local_outcome row t scene).event ≡ false
 is_quiet (Ldi into value) t scene is = refl
@@ -94,6 +86,13 @@ interrupts_nobody u (Beq left right target) is = refl
 interrupts_nobody u (Bne left right target) is = refl
 interrupts_nobody u (Blt left right target) is = refl
 interrupts_nobody u _ is = absurd (cc is)
+
+pub local_wakes_nobody : (row : Row) (t : ℕ) (scene after : Scene) (event : Event) → is_local_row row ≡ true
+    → outcome_of_own_row row t scene ≡ Some (record { scene = after; event = event }) → WakesNobody row event
+local_wakes_nobody row t scene after event is comes =
+    let same : local_outcome row t scene ≡ record { scene = after; event = event } =
+    same_Some _ _ (sym (own_outcome row t scene is) ∙ comes) in
+    (subst (λ (o : Outcome). may_wake row o.event ≡ false) same (is_quiet row t scene is), λ u. interrupts_nobody u row is)
 
 -- who runs isn't asleep
 not_asleep : (t : ℕ) (program : Program) (scene : Scene) → (thread_at scene t).status ≡ status.Runs → is_asleep t program scene ≡ false

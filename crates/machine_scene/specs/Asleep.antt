@@ -70,3 +70,12 @@ abbrev pub may_wake : Row → Event → Bool
 may_wake (Pforce p) event = true
 may_wake (Creset b) event = true
 may_wake _ event = is_loud_at event.mark event.what
+
+-- a step at this row, with this event, has woken no other thread
+abbrev pub WakesNobody : Row → Event → Type 0
+WakesNobody row event = (may_wake row event ≡ false) × ((u : ℕ) → interrupts u row ≡ false)
+
+-- whoever is in the set of after, and wasn't in that of before, is thread t, which is asleep
+abbrev pub MayFallAsleep : Program → ℕ → StoredScene → StoredScene → Type 0
+MayFallAsleep program t before after =
+    (u : ℕ) → has after.asleep u ≡ true → has before.asleep u ≡ false → (u ≡ t) × (is_asleep t program (scene_of after) ≡ true)

@@ -14,3 +14,4 @@ pub mod Ready
 pub mod Asleep
 pub mod Sound
 pub mod Undo
+pub mod Usual

@@ -33,6 +33,7 @@ mod ready;
 mod standing;
 mod undo;
 mod unwinding;
+mod usual;
 mod waits;
 
 /// What the rows act on: the shared cells, the threads, the phasers in their trees, and the barriers.
@@ -318,27 +319,9 @@ impl Stage {
         }
     }
 
-    /// The row that a thread stands at, where it runs and the row is one on registers alone. Nothing holds it up there.
-    #[inline(always)]
-    #[tactic(auto, using(crate::proofs::LocalTurns::local_turn_is_ready))]
-    pub fn row_of_local_turn(&self, program: &Loaded, t: usize) -> Option<Row>
-        requires sound { IsSound program.now most_before (scene_of self.now) }
-        requires thread { t < length self.now.threads }
-        ensures row { IfSome result (λ row. row ≡ row_at program.now.rows (thread_at (scene_of self.now) t).pc) }
-        ensures local { IfSome result (λ row. is_local_turn (thread_at (scene_of self.now) t).status row ≡ true) }
-        ensures ready { is_some result ≡ true → is_ready t program.now (scene_of self.now) ≡ true }
-    {
-        let row = self.row_of(program, t);
-        if self.is_local_turn(row, t) {
-            Some(row)
-        } else {
-            None
-        }
-    }
-
     /// `turn` at a row on registers alone: nobody is woken, so the set of those asleep stays as it is.
     #[inline(always)]
-    pub fn local_turn(&mut self, program: &Loaded, row: Row, t: usize) -> Event
+    fn local_turn(&mut self, program: &Loaded, row: Row, t: usize) -> Event
         requires sound { IsSound program.now most_before (scene_of self.old) }
         requires asleep { KeepsAsleep program.now self.old }
         requires thread { t < length self.old.threads }

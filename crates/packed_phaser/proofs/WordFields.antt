@@ -1,10 +1,10 @@
 -- The fields of a word by themselves.
-use Rattle.std.proofs.Common.{◌≡◌, ℕ, ◌+◌, ◌-◌, ◌*◌, ◌/◌, ◌%◌, ◌<◌, ◌≤◌, ◌∙◌, Bool, true, false, ap, arith, refl}
+use Rattle.std.proofs.Common.{◌≡◌, ℕ, ◌+◌, ◌-◌, ◌*◌, ◌/◌, ◌%◌, ◌<◌, ◌≤◌, ◌∙◌, Bool, true, false, ap, sym, subst, arith, refl}
 use Rattle.std.specs.Prelude.{◌==◌, ◌&&◌, not, max, if◌then◌else◌}
 use Rattle.std.proofs.lemmas.Bool.Decides.{nat_tests}
 use Rattle.packed_phaser.specs.declared.word.Fields.{Fields}
 use Rattle.packed_phaser.specs.Flat.{Flat, IsFlat}
-use Rattle.packed_phaser.specs.Word.{fields_of, record_of_fields}
+use Rattle.packed_phaser.specs.Word.{IsWord, fields_of, record_of_fields}
 
 -- the number of a test
 abbrev pub bit_of : Bool → ℕ
@@ -74,6 +74,42 @@ fields_of-word_of f fit =
     let phase = phase-word_of f fit in
     let ended : (word_of f / 9223372036854775808 == 1) ≡ f.ended = ap (λ n. n == 1) (bit-word_of f fit) ∙ test-bit_of f.ended in
     fields_by_parts (fields_of (word_of f)) f unarrived parties phase ended
+
+-- the fields with a party fewer to arrive, which is registered no more where it leaves
+abbrev pub fewer : Bool → Fields → Fields
+fewer leave f = record f { unarrived = f.unarrived - 1; parties = if leave then f.parties - 1 else f.parties }
+
+abbrev pub party_of : Bool → ℕ
+party_of leave = if leave then 65537 else 1
+
+pub party_there : (word : ℕ) (leave : Bool) → 0 < (fields_of word).unarrived → 0 < (fields_of word).parties → party_of leave ≤ word
+unfolding fields_of
+party_there word true some registered = omega (arith, some, registered)
+party_there word false some registered = omega (arith, some)
+
+pub fields_of-fewer : (word : ℕ) (leave : Bool) → 0 < (fields_of word).unarrived → 0 < (fields_of word).parties
+    → fields_of (word - party_of leave) ≡ fewer leave (fields_of word)
+unfolding fields_of
+fields_of-fewer word true some registered =
+    let high : (word - 65537) / 9223372036854775808 ≡ word / 9223372036854775808 = omega (arith, some, registered) in
+    fields_by_parts (fields_of (word - 65537)) (fewer true (fields_of word)) (omega (arith, some, registered)) (omega (arith, some, registered))
+    (omega (arith, some, registered)) (ap (λ n. n == 1) high)
+fields_of-fewer word false some registered =
+    let high : (word - 1) / 9223372036854775808 ≡ word / 9223372036854775808 = omega (arith, some) in
+    fields_by_parts (fields_of (word - 1)) (fewer false (fields_of word)) (omega (arith, some)) (omega (arith, some))
+    (omega (arith, some)) (ap (λ n. n == 1) high)
+
+fewer_few : (leave : Bool) (f : Fields) → 0 < f.parties → f.unarrived ≤ max f.parties 1 → (fewer leave f).unarrived ≤ max (fewer leave f).parties 1
+fewer_few true f registered few = omega (arith, registered, few)
+fewer_few false f registered few = omega (arith, registered, few)
+
+pub IsWord-fewer : (word : ℕ) (leave : Bool) → IsWord word → 0 < (fields_of word).unarrived → 0 < (fields_of word).parties
+    → IsWord (word - party_of leave)
+IsWord-fewer word leave is some registered = (
+  (let small = is.0 in omega (arith, small)),
+  subst (λ (f : Fields). f.unarrived ≤ max f.parties 1) (sym (fields_of-fewer word leave some registered))
+      (fewer_few leave (fields_of word) registered is.1),
+)
 
 -- the fields of any number fit
 pub Fit-fields_of : (word : ℕ) → Fit (fields_of word)

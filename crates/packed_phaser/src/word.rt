@@ -1,4 +1,4 @@
-ghost use Rattle.std.specs.Prelude.{◌≡◌, ℕ, ℤ, pos, ◌<◌, ◌≤◌, ◌^◌, max, true, false, IsTrue, ◌↔◌};
+ghost use Rattle.std.specs.Prelude.{◌≡◌, ℕ, ℤ, pos, ◌-◌, ◌<◌, ◌≤◌, ◌^◌, max, true, false, if◌then◌else◌, IsTrue, ◌↔◌};
 ghost use Rattle.std.specs.Option.{SomeIff};
 ghost use Rattle.packed_phaser.specs.Flat.{Flat, fresh, view_of, unarrived_of, is_empty, register};
 ghost use Rattle.packed_phaser.specs.Flat.{arrive, advance, vacate, renew, force};
@@ -103,6 +103,15 @@ fn all_of(parties: u16) -> u16
     ensures { result ≡ max parties 1 }
 {
     parties.max(1)
+}
+
+/// The parties once one has arrived, which is registered no more where it leaves.
+#[inline(always)]
+fn remaining(parties: u16, leave: bool) -> u16
+    requires { 0 < parties }
+    ensures { result ≡ if leave then parties - 1 else parties }
+{
+    if leave { parties - 1 } else { parties }
 }
 
 impl Word {
@@ -237,6 +246,27 @@ impl Word {
         Registered::At(packed(after), self.phase_view())
     }
 
+    /// With one party fewer to arrive, which is registered no more where it leaves.
+    #[inline(always)]
+    fn without_one(self, leave: bool) -> Word
+        requires awaited { 0 < (fields_of self).unarrived }
+        requires registered { 0 < (fields_of self).parties }
+        ensures { fields_of result ≡ record (fields_of self) {
+          unarrived = (fields_of self).unarrived - 1;
+          parties = if leave then (fields_of self).parties - 1 else (fields_of self).parties;
+        } }
+    {
+        if leave {
+            Word {
+                bits: self.bits - 0x1_0001,
+            }
+        } else {
+            Word {
+                bits: self.bits - 1,
+            }
+        }
+    }
+
     /// `arrive`, or `arriveAndDeregister` where the party leaves. The word of `Turned` waits for
     /// `advance`.
     pub fn arrive(self, leave: bool) -> Arrived
@@ -246,22 +276,37 @@ impl Word {
         if fields.ended {
             return Arrived::Dead(self.phase_view());
         }
+        if fields.unarrived > 1 {
+            return Arrived::Counted(self.without_one(leave));
+        }
         if fields.unarrived == 0 || fields.parties == 0 {
             return Arrived::NotThere;
         }
-        let after = Fields {
-            unarrived: fields.unarrived - 1,
-            parties: if leave {
-                fields.parties - 1
-            } else {
-                fields.parties
-            },
-            ..fields
+        Arrived::Turned(self.without_one(leave))
+    }
+
+    /// `arrive` in the phase of another word, and not in that of this one: all parties are to arrive
+    /// again before.
+    #[inline(always)]
+    pub fn arrive_anew(self, other: Word, leave: bool) -> Arrived
+        ensures { arrival_of result
+            ≡ arrive leave (renew (record_of other).phase (record_of self)) }
+    {
+        let parties = self.parties();
+        let turned = Fields {
+            unarrived: 0,
+            parties: remaining(1, leave),
+            phase: unpacked(other.bits).phase,
+            ended: false,
         };
-        if after.unarrived == 0 {
-            Arrived::Turned(packed(after))
-        } else {
-            Arrived::Counted(packed(after))
+        match parties {
+            1 => Arrived::Turned(packed(turned)),
+            0 => Arrived::NotThere,
+            _ => Arrived::Counted(packed(Fields {
+                unarrived: parties - 1,
+                parties: remaining(parties, leave),
+                ..turned
+            })),
         }
     }
 

@@ -1,5 +1,5 @@
 ghost use Rattle.std.specs.Prelude.{◌≡◌, ◌≢◌, ◌↔◌, ◌+◌, ◌<◌, ◌≤◌, length, map, is_some, IfSome, IfOk, IfErr, OnOk, OnErr, true, false, Some, None, slice_get};
-ghost use Rattle.std.specs.Option.{option_map};
+ghost use Rattle.std.specs.Option.{option_map, OnSome};
 ghost use Rattle.instruction_table.specs.Registers.{value_in};
 ghost use Rattle.loader.specs.Program.{row_at};
 ghost use Rattle.tier_tree.specs.Origin.{Origin, StandsFor};
@@ -7,7 +7,7 @@ ghost use Rattle.tier_tree.specs.Stored.{phasers_of};
 ghost use Rattle.thread_state.specs.Frame.{entry_of};
 ghost use Rattle.machine_scene.specs.Scene.{scene_of, first_scene, thread_at, barrier_at, starting};
 ghost use Rattle.machine_scene.specs.Outcomes.{is_ready};
-ghost use Rattle.machine_scene.specs.Asleep.{is_local_turn};
+ghost use Rattle.machine_scene.specs.Usual.{is_usual};
 ghost use Rattle.machine_scene.specs.Undo as scene;
 ghost use Rattle.thread_machine.specs.World.{world_of, first_world};
 ghost use Rattle.thread_machine.specs.Ready.{can_expire, can_go_on, is_choice_ready, has_ended, is_stuck, some_ready};
@@ -148,9 +148,6 @@ impl Machine {
         ensures err { OnErr result (self.new ≡ self.old) }
     {
         self.is_sound();
-        if let Some(row) = self.row_of_local_turn(choice) {
-            return Ok(self.local_turn(choice, row));
-        }
         // The answer goes on as it is: each arm names its case for the proof.
         match self.stepped(choice) {
             Ok(event) => Ok(event),
@@ -158,21 +155,25 @@ impl Machine {
         }
     }
 
-    /// The row of a choice that is the turn of a running thread at a row on registers alone, and isn't refused. Most steps of
-    /// most programs are such, and are played where they are asked for.
+    /// `step` where the choice is a turn of the kinds that most turns are of, and isn't refused. It is played where it is asked
+    /// for. `None` where `other_step` has to look, and nothing has changed.
     #[inline(always)]
-    fn row_of_local_turn(&self, choice: Choice) -> Option<Row>
-        ensures there { is_some result ≡ true → choice.thread < length self.now.scene.threads }
-        ensures row { IfSome result (λ row.
-            row ≡ row_at self.now.program.rows (thread_at (scene_of self.now.scene) choice.thread).pc) }
-        ensures local { IfSome result (λ row.
-            is_local_turn (thread_at (scene_of self.now.scene) choice.thread).status row ≡ true) }
-        ensures ready { is_some result ≡ true
-            → is_choice_ready self.now.program choice (scene_of self.now.scene) ≡ true }
-        ensures choices { is_some result ≡ true → self.now.choices < 1000000000000 }
-        ensures steps { is_some result ≡ true → self.now.steps < self.now.limit }
-        ensures accepted { is_some result ≡ true → refusal_of (world_of self.now) choice ≡ None }
-        ensures turn { is_some result ≡ true → choice.expiry ≡ false }
+    fn usual_step(&mut self, choice: Choice) -> Option<Event>
+        ensures usual { choice.expiry ≡ false → choice.thread < length self.old.scene.threads
+            → self.old.choices < 1000000000000 → self.old.steps < self.old.limit
+            → is_some result ≡ is_usual choice.thread self.old.program (scene_of self.old.scene) }
+        ensures none { result ≡ None → self.new ≡ self.old }
+        ensures played { IfSome result (λ event.
+            record { world = world_of self.new; event = event } ≡ played (world_of self.old) choice) }
+        ensures undo { OnSome result
+            (undone (Some (scene.note_of choice.thread self.old.program self.old.scene)) self.new ≡ self.old) }
+        ensures can { OnSome result
+            (scene.CanUndo (scene.note_of choice.thread self.old.program self.old.scene) self.new.scene) }
+        ensures counted { OnSome result (0 < self.new.choices) }
+        ensures steps { OnSome result (self.new.steps ≡ self.old.steps + 1) }
+        ensures there { OnSome result (choice.thread < length self.old.scene.threads) }
+        ensures accepted { OnSome result (refusal_of (world_of self.old) choice ≡ None) }
+        ensures threads { length self.new.scene.threads ≡ length self.old.scene.threads }
     {
         let t = choice.thread as usize;
         if choice.expiry
@@ -182,36 +183,47 @@ impl Machine {
         {
             return None;
         }
-        self.stage.row_of_local_turn(&self.program, t)
+        match self.stage.usual_turn(&self.program, t) {
+            Some(event) => {
+                self.choices += 1;
+                self.steps += 1;
+                Some(event)
+            }
+            None => None,
+        }
     }
 
-    /// The turn of a running thread at a row on registers alone.
+    /// `step`, and what undoes it where it is an effective step, as the count of these tells.
     #[inline(always)]
-    fn local_turn(&mut self, choice: Choice, row: Row) -> Event
-        requires there { choice.thread < length self.old.scene.threads }
-        requires row { row ≡ row_at self.old.program.rows (thread_at (scene_of self.old.scene) choice.thread).pc }
-        requires local { is_local_turn (thread_at (scene_of self.old.scene) choice.thread).status row ≡ true }
-        requires ready { is_choice_ready self.old.program choice (scene_of self.old.scene) ≡ true }
-        requires steps { self.old.steps < self.old.limit }
-        requires choices { self.old.choices < 1000000000000 }
-        requires turn { choice.expiry ≡ false }
-        ensures played { record { world = world_of self.new; event = result } ≡ played (world_of self.old) choice }
-        ensures undo { undone (Some (scene.note_of choice.thread self.old.program self.old.scene)) self.new ≡ self.old }
-        ensures can { scene.CanUndo (scene.note_of choice.thread self.old.program self.old.scene) self.new.scene }
-        ensures counted { 0 < self.new.choices }
+    fn stepped(&mut self, choice: Choice) -> Result<Event, StepFault>
+        ensures played { IfOk result (λ event.
+            record { world = world_of self.new; event = event } ≡ played (world_of self.old) choice) }
+        ensures idle { OnOk result (self.new.steps ≡ self.old.steps
+            → self.new ≡ record self.old { choices = self.old.choices + 1 }) }
+        ensures undo { OnOk result (self.new.steps ≢ self.old.steps
+            → undone (Some (scene.note_of choice.thread self.old.program self.old.scene)) self.new ≡ self.old) }
+        ensures can { OnOk result (self.new.steps ≢ self.old.steps
+            → scene.CanUndo (scene.note_of choice.thread self.old.program self.old.scene) self.new.scene) }
+        ensures counted { OnOk result (0 < self.new.choices) }
+        ensures no_thread { (result ≡ Err StepFault.NoSuchThread)
+            ↔ (refusal_of (world_of self.old) choice ≡ Some StepFault.NoSuchThread) }
+        ensures limit { (result ≡ Err StepFault.StepLimit)
+            ↔ (refusal_of (world_of self.old) choice ≡ Some StepFault.StepLimit) }
+        ensures there { OnOk result (choice.thread < length self.old.scene.threads) }
+        ensures accepted { OnOk result (refusal_of (world_of self.old) choice ≡ None) }
+        ensures memory { result ≡ Err StepFault.Memory → puts_out (world_of self.old) choice ≡ true }
         ensures threads { length self.new.scene.threads ≡ length self.old.scene.threads }
+        ensures err { OnErr result (self.new ≡ self.old) }
     {
-        let event = self
-            .stage
-            .local_turn(&self.program, row, choice.thread as usize);
-        self.choices += 1;
-        self.steps += 1;
-        event
+        match self.usual_step(choice) {
+            Some(event) => Ok(event),
+            None => self.other_step(choice),
+        }
     }
 
-    /// `step`, and what undoes it where it is an effective step, as the count of these tells. All other steps are played
-    /// here, so that such a step is one function when it runs.
-    fn stepped(&mut self, choice: Choice) -> Result<Event, StepFault>
+    /// `stepped` where the turn isn't a usual one, so that such a step is one function when it runs.
+    #[inline(never)]
+    fn other_step(&mut self, choice: Choice) -> Result<Event, StepFault>
         ensures played { IfOk result (λ event.
             record { world = world_of self.new; event = event } ≡ played (world_of self.old) choice) }
         ensures idle { OnOk result (self.new.steps ≡ self.old.steps
@@ -270,12 +282,7 @@ impl Machine {
             return Err(StepFault::NoSuchThread);
         }
         let before = self.steps;
-        let local = self.row_of_local_turn(choice);
         self.stage.note(&self.program, thread, &mut undo.note);
-        if let Some(row) = local {
-            undo.is_turn = true;
-            return Ok(self.local_turn(choice, row));
-        }
         let event = match self.stepped(choice) {
             Ok(event) => event,
             Err(fault) => return Err(fault),

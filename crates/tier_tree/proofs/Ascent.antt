@@ -1,7 +1,9 @@
--- A climb of one look at each phaser, and then of one write at each.
-use Rattle.std.proofs.Common.{inl, inr, ◌≡◌, ◌≢◌, ◌∙◌, ℕ, zero, suc, ◌+◌, ◌-◌, ◌<◌, ◌≤◌, ◌==◌, Bool, true, false, List, [], ◌∷◌, ◌++◌, length, take, drop, get_or, ap, refl, sym, subst, arith, if◌then◌else◌}
-use Rattle.std.specs.Prelude.{All, slice_set}
-use Rattle.std.proofs.lemmas.List.Elements.{All-cons, All-nil, All-take}
+-- A climb along a line.
+use Rattle.std.proofs.Common.{inl, inr, ◌≡◌, ◌≢◌, ◌∙◌, ℕ, zero, suc, ◌+◌, ◌-◌, ◌<◌, ◌≤◌, drop, ◌==◌, Bool, true, false, List, [], ◌∷◌, length, get_or, ap, refl, sym, subst, arith, if◌then◌else◌}
+use Rattle.std.specs.Prelude.{All, ℤ, slice_set}
+use Rattle.std.proofs.lemmas.Bool.{cases_eq}
+use Rattle.std.proofs.lemmas.Bool.Decides.{nat_tests}
+use Rattle.std.proofs.lemmas.List.Elements.{All-cons, All-nil}
 use Rattle.packed_phaser.specs.Flat.{Flat, Arrival, Counts, Turns, ComesLate, IsUnregistered, arrive, settled, view_of}
 use Rattle.packed_phaser.specs.Word.{record_of}
 use Rattle.tier_tree.specs.declared.climb.Climb.{Climb}
@@ -9,15 +11,15 @@ use Rattle.tier_tree.specs.declared.climb.Climb.TheVariants as climb
 use Rattle.tier_tree.specs.declared.arrived.Arrived.TheVariants as arrived
 use Rattle.tier_tree.specs.Forest.{PhaserState, phaser_at, flat_at, root_at, with_flat}
 use Rattle.tier_tree.specs.Sound.{IsForest}
-use Rattle.tier_tree.specs.Stored.{Stored, no_stored, IsStored, phasers_of, ChangedOnly}
-use Rattle.tier_tree.specs.Arrival.{Climbed, is_top, passed_on, with_child, climbed_by, climbed, arrival_by, arrival}
-use Rattle.tier_tree.specs.Ascent.{IsTurnedAt, AreTurned, with_children}
-use Rattle.std.proofs.lemmas.List.{get_or_read, get_or_push, length-set, length_push, drop_all}
-use Rattle.std.proofs.Math.Seq.{take-append_seam, take-suc, take-suc-set, drop-cons}
+use Rattle.tier_tree.specs.Stored.{Stored, no_stored, stored_at, IsStored, ChangedOnly, phasers_of}
+use Rattle.tier_tree.specs.Arrival.{Climbed, is_top, with_child, climbed_by, climbed, arrival_by, arrival}
+use Rattle.std.proofs.lemmas.List.{get_or_read, get_or-set_same, get_or-set_other, drop_all}
+use Rattle.std.proofs.Math.Seq.{drop-cons}
 use Rattle.tier_tree.proofs.Changed.{there_shown}
-use Rattle.tier_tree.proofs.Shown.{shown_at}
+use Rattle.tier_tree.proofs.Shown.{shown_at, only_same}
 use Rattle.tier_tree.proofs.Safe.{linked, line_own, rest_of, root-parent}
-use Rattle.tier_tree.proofs.Times.{IsAsLate, IsArrival, arrival_is, with_flat-late, passed_on-late}
+use Rattle.phase_number.specs.Phase.{phase_view}
+use Rattle.tier_tree.proofs.Times.{IsAsLate, IsArrival, arrival_is, climb_ready}
 
 -- all phasers of a line are in one tree
 pub line_tree : (phasers : List PhaserState) → IsForest phasers → (line : List ℕ) (id : ℕ) → id < length phasers → (phaser_at phasers id).line ≡ line
@@ -40,97 +42,6 @@ line_tree phasers sound (first ∷ above) id there is =
           (subst (λ (r : ℕ). All (λ (n : ℕ). root_at phasers n ≡ r) above) (sym same) up))
     ]
 
--- words of the same phases stand for other counts of it
-turned_late : (id word : ℕ) (phasers after : List PhaserState) → length after ≡ length phasers
-    → ((n : ℕ) → IsAsLate (flat_at after n) (flat_at phasers n)) → IsTurnedAt id word phasers → IsTurnedAt id word after
-turned_late id word phasers after many late is = record {
-  there = (let there = is.there in omega (arith, there, many));
-  turned = is.turned;
-  live = is.live;
-  phase = is.phase ∙ sym (late id).0;
-  before = (late id).1 ∙ is.before;
-}
-
-pub all_late : (line words : List ℕ) (phasers after : List PhaserState) → length after ≡ length phasers
-    → ((n : ℕ) → IsAsLate (flat_at after n) (flat_at phasers n)) → AreTurned line words phasers → AreTurned line words after
-all_late [] [] phasers after many late are = tt
-all_late [] (word ∷ words) phasers after many late are = are
-all_late (id ∷ line) [] phasers after many late are = are
-all_late (id ∷ line) (word ∷ words) phasers after many late are =
-    (turned_late id word phasers after many late are.0, all_late line words phasers after many late are.1)
-
--- the highest of the children
-pub turned_split : (line words : List ℕ) (id word : ℕ) (phasers : List PhaserState) → AreTurned (line ++ id ∷ []) (words ++ word ∷ []) phasers
-    → AreTurned line words phasers × IsTurnedAt id word phasers
-turned_split [] [] id word phasers are = (tt, are.0)
-turned_split [] (w ∷ []) id word phasers are = absurd are.1
-turned_split [] (w ∷ v ∷ words) id word phasers are = absurd are.1
-turned_split (i ∷ []) [] id word phasers are = absurd are.1
-turned_split (i ∷ j ∷ line) [] id word phasers are = absurd are.1
-turned_split (i ∷ line) (w ∷ words) id word phasers are =
-    let rest = turned_split line words id word phasers are.1 in ((are.0, rest.0), rest.1)
-
-pub turned_more : (line words : List ℕ) (id word : ℕ) (phasers : List PhaserState) → AreTurned line words phasers → IsTurnedAt id word phasers
-    → AreTurned (line ++ id ∷ []) (words ++ word ∷ []) phasers
-turned_more [] [] id word phasers are is = (is, tt)
-turned_more [] (w ∷ words) id word phasers are is = absurd are
-turned_more (i ∷ line) [] id word phasers are is = absurd are
-turned_more (i ∷ line) (w ∷ words) id word phasers are is = (are.0, turned_more line words id word phasers are.1 is)
-
--- the highest child counts first
-pub children_split : (line words : List ℕ) (id word : ℕ) (before phasers : List PhaserState) → AreTurned line words before
-    → with_children (line ++ id ∷ []) (words ++ word ∷ []) phasers ≡ with_children line words (with_flat phasers id (passed_on (record_of word)))
-children_split [] [] id word before phasers are = refl
-children_split [] (w ∷ words) id word before phasers are = absurd are
-children_split (i ∷ line) [] id word before phasers are = absurd are
-children_split (i ∷ line) (w ∷ words) id word before phasers are =
-    ap (λ (ps : List PhaserState). with_flat ps i (passed_on (record_of w))) (children_split line words id word before phasers are.1)
-
--- the children once it is known how far the climb above them comes
-abbrev pub over : List ℕ → List ℕ → Climbed → Climbed
-over [] words above = above
-over (id ∷ line) [] above = above
-over (id ∷ line) (word ∷ words) above = let rest = over line words above in with_child id (record_of word) rest.climb rest.phasers
-
-pub over_split : (line words : List ℕ) (id word : ℕ) (before : List PhaserState) (above : Climbed) → AreTurned line words before
-    → over (line ++ id ∷ []) (words ++ word ∷ []) above ≡ over line words (with_child id (record_of word) above.climb above.phasers)
-over_split [] [] id word before above are = refl
-over_split [] (w ∷ words) id word before above are = absurd are
-over_split (i ∷ line) [] id word before above are = absurd are
-over_split (i ∷ line) (w ∷ words) id word before above are =
-    ap (λ (r : Climbed). with_child i (record_of w) r.climb r.phasers) (over_split line words id word before above are.1)
-
-pub over_refused : (line words : List ℕ) (phasers : List PhaserState)
-    → over line words (record { phasers = phasers; climb = climb.Refused }) ≡ record { phasers = phasers; climb = climb.Refused }
-over_refused [] words phasers = refl
-over_refused (id ∷ line) [] phasers = refl
-over_refused (id ∷ line) (word ∷ words) phasers =
-    ap (λ (r : Climbed). with_child id (record_of word) r.climb r.phasers) (over_refused line words phasers)
-
-pub over_counted : (line words : List ℕ) (phasers : List PhaserState)
-    → over line words (record { phasers = phasers; climb = climb.Counted }) ≡ record { phasers = with_children line words phasers; climb = climb.Counted }
-over_counted [] words phasers = refl
-over_counted (id ∷ line) [] phasers = refl
-over_counted (id ∷ line) (word ∷ words) phasers =
-    ap (λ (r : Climbed). with_child id (record_of word) r.climb r.phasers) (over_counted line words phasers)
-
-pub over_turned : (line words : List ℕ) (phasers : List PhaserState)
-    → over line words (record { phasers = phasers; climb = climb.Turned }) ≡ record { phasers = with_children line words phasers; climb = climb.Turned }
-over_turned [] words phasers = refl
-over_turned (id ∷ line) [] phasers = refl
-over_turned (id ∷ line) (word ∷ words) phasers =
-    ap (λ (r : Climbed). with_child id (record_of word) r.climb r.phasers) (over_turned line words phasers)
-
--- two changes within one line
-pub only_both : (line one two : List ℕ) (before mid after : List Stored) → ((P : ℕ → Type 0) → All P line → All P one)
-    → ((P : ℕ → Type 0) → All P line → All P two) → ChangedOnly one before mid → ChangedOnly two mid after → ChangedOnly line before after
-only_both line one two before mid after in_one in_two first second = record {
-  many = second.many ∙ first.many;
-  places = λ id. second.places id ∙ first.places id;
-  others = λ id away.
-      second.others id (in_two (λ (n : ℕ). id ≢ n) away) ∙ first.others id (in_one (λ (n : ℕ). id ≢ n) away);
-}
-
 -- the line that is read is in one tree
 pub tree_read : (forest : List Stored) (id : ℕ) (s : Stored) (line : List ℕ) → line ≡ s.line → s ≡ get_or forest id s → IsStored forest
     → id < length forest → All (λ (n : ℕ). root_at (phasers_of forest) n ≡ root_at (phasers_of forest) id) line
@@ -139,184 +50,32 @@ tree_read forest id s line is read stored there =
     is ∙ ap (λ (x : Stored). x.line) (get_or_read forest id s there read no_stored) ∙ sym (ap (λ (p : PhaserState). p.line) (shown_at forest id there)) in
     line_tree (phasers_of forest) stored.places line id (there_shown forest id there) (sym same)
 
--- the climb so far: the children below are turned, and count once it is known how far it comes
-pub record IsAscent (line : List ℕ) (leave : Bool) (phasers : List PhaserState) (k : ℕ) (words : List ℕ) (leaves : Bool) : Type 0 where
-  pub rest : climbed line leave phasers ≡ over (take k line) (take k words) (climbed (drop k line) leaves phasers)
-  pub turned : AreTurned (take k line) (take k words) phasers
+-- and begins with the phaser
+pub own_read : (forest : List Stored) (id : ℕ) (s : Stored) (line : List ℕ) → line ≡ s.line → s ≡ get_or forest id s → IsStored forest
+    → id < length forest → get_or line 0 0 ≡ id
+own_read forest id s line is read stored there =
+    let same : line ≡ (phaser_at (phasers_of forest) id).line =
+    is ∙ ap (λ (x : Stored). x.line) (get_or_read forest id s there read no_stored) ∙ sym (ap (λ (p : PhaserState). p.line) (shown_at forest id there)) in
+    let own = line_own (phasers_of forest) id stored.places (there_shown forest id there) in
+    ap (λ (l : List ℕ). get_or l 0 0) (same ∙ own.1)
 
--- the highest child, and those below it
-pub highest : (line words below lower : List ℕ) (id word : ℕ) (phasers : List PhaserState) → line ≡ below ++ id ∷ [] → words ≡ lower ++ word ∷ []
-    → AreTurned line words phasers → AreTurned below lower phasers × IsTurnedAt id word phasers
-highest line words below lower id word phasers is_line is_words are =
-    turned_split below lower id word phasers (subst (λ (l : List ℕ). AreTurned l (lower ++ word ∷ []) phasers) is_line
-    (subst (λ (ws : List ℕ). AreTurned line ws phasers) is_words are))
+-- the line of a phaser begins with it
+pub own_line : (forest : List Stored) (i : ℕ) → IsStored forest → i < length forest
+    → (above : List ℕ) × ((stored_at forest i).line ≡ i ∷ above) × ((phaser_at (phasers_of forest) i).line ≡ i ∷ above)
+own_line forest i stored there =
+    let own = line_own (phasers_of forest) i stored.places (there_shown forest i there) in
+    (own.0, ap (λ (p : PhaserState). p.line) (sym (shown_at forest i there)) ∙ own.1, own.1)
 
--- those below stay turned where another word of the same phase is written
-pub put_late : (line words : List ℕ) (id : ℕ) (flat : Flat) (before after : List PhaserState) → after ≡ with_flat before id flat
-    → flat.phase ≡ (flat_at before id).phase → (flat_at before id).ended ≡ false → flat.ended ≡ false → AreTurned line words before
-    → AreTurned line words after
-put_late line words id flat before after is phase live still are =
-    subst (AreTurned line words) (sym is) (all_late line words before (with_flat before id flat) (length-set before id _)
-    (λ n. with_flat-late before id n flat (phase, still ∙ sym live)) are)
+pub first_is : (slice line above : List ℕ) (id i : ℕ) → slice ≡ line → slice ≡ id ∷ above → get_or line 0 0 ≡ i → line ≡ i ∷ above
+first_is slice line above id i read is own =
+    let split : line ≡ id ∷ above = sym read ∙ is in
+    split ∙ ap (λ (n : ℕ). n ∷ above) (sym (ap (λ (l : List ℕ). get_or l 0 0) split) ∙ own)
 
-pub highest_counts : (below lower : List ℕ) (id word : ℕ) (before after : List PhaserState)
-    → after ≡ with_flat before id (passed_on (record_of word)) → IsTurnedAt id word before → AreTurned below lower before
-    → AreTurned below lower after
-highest_counts below lower id word before after is at are =
-    let late = passed_on-late (record_of word) in
-    put_late below lower id (passed_on (record_of word)) before after is (late.0 ∙ at.phase) at.before (late.1 ∙ at.live) are
-
--- and so all have counted
-pub highest_first : (line words below lower : List ℕ) (id word : ℕ) (before mid after : List PhaserState) → line ≡ below ++ id ∷ []
-    → words ≡ lower ++ word ∷ [] → AreTurned line words before → mid ≡ with_flat before id (passed_on (record_of word))
-    → after ≡ with_children below lower mid → after ≡ with_children line words before
-highest_first line words below lower id word before mid after is_line is_words are counts rest =
-    rest ∙ ap (with_children below lower) counts
-    ∙ sym (children_split below lower id word before before (highest line words below lower id word before is_line is_words are).0)
-    ∙ sym (ap (λ (l : List ℕ). with_children l (lower ++ word ∷ []) before) is_line)
-    ∙ sym (ap (λ (ws : List ℕ). with_children line ws before) is_words)
-
--- no words, no line
-pub none_turned : (line words : List ℕ) (phasers : List PhaserState) → length words ≡ 0 → AreTurned line words phasers → phasers ≡ with_children line words phasers
-none_turned [] words phasers none are = refl
-none_turned (id ∷ line) [] phasers none are = refl
-none_turned (id ∷ line) (word ∷ words) phasers none are = absurd (omega (arith, none))
-
--- the parts of a line that ends here
-pub within_last : (line below : List ℕ) (id : ℕ) → line ≡ below ++ id ∷ [] → (P : ℕ → Type 0) → All P line → All P below × All P (id ∷ [])
-within_last line below id is P all =
-    let whole = subst (All P) is all in
-    let longer = length_push below id in (
-      subst (All P) (take-append_seam below (id ∷ [])) (All-take P (length below) (below ++ id ∷ []) whole),
-      All-cons P id [] (subst P (get_or_push below id 0 (length below) refl) (whole (length below) 0 (omega (arith, longer)))) (All-nil P),
-    )
-
-not_last : (line : List ℕ) (n : ℕ) → n < length line → is_top (drop n line) ≡ false
-not_last [] n here = absurd (omega (arith, here))
-not_last (id ∷ line) zero here = refl
-not_last (id ∷ line) (suc n) here = not_last line n (omega (arith, here))
-
--- where an arrival is the last, the phaser is turned
-abbrev pub IsTurning : Arrival → Type 0
-IsTurning (Counts g) = Unit {0}
-IsTurning (Turns g) = g.turned ≡ true
-IsTurning (ComesLate view) = Unit {0}
-IsTurning IsUnregistered = Unit {0}
-
-settled_turns : (g : Flat) (all : Bool) → IsTurning (if all then Turns (record g { turned = true }) else Counts g)
-settled_turns g true = refl
-settled_turns g false = tt
-
-arrival_turns : (leave : Bool) (f : Flat) → IsTurning (arrive leave f)
-arrival_turns leave f = by_case leave f.ended (f.arrived == f.parties)
-  where
-    by_case : (leave ended none : Bool)
-        → IsTurning (if ended then ComesLate (view_of f)
-        else (if none then IsUnregistered
-        else (if leave then settled (record f { parties = f.parties - 1 })
-        else settled (record f { arrived = f.arrived + 1 }))))
-    by_case leave true none = tt
-    by_case leave false true = tt
-    by_case true false false = settled_turns (record f { parties = f.parties - 1 }) (f.arrived == f.parties - 1)
-    by_case false false false = settled_turns (record f { arrived = f.arrived + 1 }) (f.arrived + 1 == f.parties)
-
--- one phaser further up: this child is turned
-pub ascent_more : (line : List ℕ) (leave : Bool) (phasers : List PhaserState) (k : ℕ) (words : List ℕ) (leaves : Bool) (id word : ℕ) (is_none : Bool)
-    → k < length line → k < length words → k + 1 ≢ length line → id ≡ get_or line k 0 → id < length phasers
-    → IsAscent line leave phasers k words leaves → Turns (record_of word) ≡ arrive leaves (flat_at phasers id)
-    → is_none ≡ ((record_of word).parties == 0)
-    → IsAscent line leave phasers (k + 1) (slice_set words k word) is_none
-ascent_more line leave phasers k words leaves id word is_none here room more is there so_far turns none =
-    let late : IsArrival (flat_at phasers id) (Turns (record_of word)) = subst (IsArrival (flat_at phasers id)) (sym turns) (arrival_is leaves (flat_at phasers id)) in
-    let at : IsTurnedAt id word phasers = record {
-      there = there;
-      turned = subst IsTurning (sym turns) (arrival_turns leaves (flat_at phasers id));
-      live = late.0.1 ∙ late.1;
-      phase = late.0.0;
-      before = late.1;
-    } in
-    let suc_is : k + 1 ≡ suc k = omega arith in
-    let line_is : take (k + 1) line ≡ take k line ++ id ∷ [] =
-    ap (λ (n : ℕ). take n line) suc_is ∙ take-suc line k 0 here ∙ ap (λ (n : ℕ). take k line ++ n ∷ []) (sym is) in
-    let words_is : take (k + 1) (slice_set words k word) ≡ take k words ++ word ∷ [] =
-    ap (λ (n : ℕ). take n (slice_set words k word)) suc_is ∙ take-suc-set words k word room in
-    let next = drop (k + 1) line in
-    let drop_is : drop k line ≡ id ∷ next =
-    drop-cons line k 0 here ∙ ap (λ (n : ℕ). n ∷ drop (suc k) line) (sym is) ∙ ap (λ (n : ℕ). id ∷ drop n line) (sym suc_is) in
-    let not_top : is_top next ≡ false = not_last line (k + 1) (omega (arith, here, more)) in
-    let step : climbed (drop k line) leaves phasers ≡ with_child id (record_of word) (climbed next is_none phasers).climb (climbed next is_none phasers).phasers =
-    ap (λ (l : List ℕ). climbed l leaves phasers) drop_is
-    ∙ ap (λ (a : Arrival). climbed_by a id (is_top next) (λ l. climbed next l phasers) phasers) (sym turns)
-    ∙ ap (λ (t : Bool). climbed_by (Turns (record_of word)) id t (λ l. climbed next l phasers) phasers) not_top
-    ∙ ap (λ (b : Bool). with_child id (record_of word) (climbed next b phasers).climb (climbed next b phasers).phasers) (sym none) in
-    record {
-      rest = so_far.rest ∙ ap (over (take k line) (take k words)) step
-          ∙ sym (over_split (take k line) (take k words) id word phasers (climbed next is_none phasers) so_far.turned)
-          ∙ sym (ap (λ (l : List ℕ). over l (take k words ++ word ∷ []) (climbed next is_none phasers)) line_is)
-          ∙ sym (ap (λ (ws : List ℕ). over (take (k + 1) line) ws (climbed next is_none phasers)) words_is);
-      turned = subst (λ (l : List ℕ). AreTurned l (take (k + 1) (slice_set words k word)) phasers) (sym line_is)
-          (subst (λ (ws : List ℕ). AreTurned (take k line ++ id ∷ []) ws phasers) (sym words_is)
-          (turned_more (take k line) (take k words) id word phasers so_far.turned at));
-    }
-
--- the climb ends at this phaser
-ascent_ends : (line : List ℕ) (leave : Bool) (phasers : List PhaserState) (k : ℕ) (words : List ℕ) (leaves : Bool) (id : ℕ) (a : Arrival)
-    → k < length line → id ≡ get_or line k 0 → IsAscent line leave phasers k words leaves → a ≡ arrive leaves (flat_at phasers id)
-    → climbed line leave phasers ≡ over (take k line) (take k words)
-    (climbed_by a id (is_top (drop (suc k) line)) (λ l. climbed (drop (suc k) line) l phasers) phasers)
-ascent_ends line leave phasers k words leaves id a here is so_far arrives =
-    so_far.rest ∙ ap (over (take k line) (take k words))
-    (ap (λ (l : List ℕ). climbed l leaves phasers) (drop-cons line k 0 here ∙ ap (λ (n : ℕ). n ∷ drop (suc k) line) (sym is))
-    ∙ ap (λ (b : Arrival). climbed_by b id (is_top (drop (suc k) line)) (λ l. climbed (drop (suc k) line) l phasers) phasers) (sym arrives))
-
-pub ends_counted : (line : List ℕ) (leave : Bool) (phasers after : List PhaserState) (k : ℕ) (words : List ℕ) (leaves : Bool) (id : ℕ) (flat : Flat)
-    → k < length line → id ≡ get_or line k 0 → IsAscent line leave phasers k words leaves → Counts flat ≡ arrive leaves (flat_at phasers id)
-    → after ≡ with_children (take k line) (take k words) (with_flat phasers id flat)
-    → record { phasers = after; climb = climb.Counted } ≡ climbed line leave phasers
-ends_counted line leave phasers after k words leaves id flat here is so_far arrives counted =
-    ap (λ (ps : List PhaserState). record { phasers = ps; climb = climb.Counted }) counted
-    ∙ sym (over_counted (take k line) (take k words) (with_flat phasers id flat))
-    ∙ sym (ascent_ends line leave phasers k words leaves id (Counts flat) here is so_far arrives)
-
-pub ends_turned : (line : List ℕ) (leave : Bool) (phasers after : List PhaserState) (k : ℕ) (words : List ℕ) (leaves : Bool) (id : ℕ) (flat : Flat)
-    → k + 1 ≡ length line → id ≡ get_or line k 0 → IsAscent line leave phasers k words leaves → Turns flat ≡ arrive leaves (flat_at phasers id)
-    → after ≡ with_children (take k line) (take k words) (with_flat phasers id flat)
-    → record { phasers = after; climb = climb.Turned } ≡ climbed line leave phasers
-ends_turned line leave phasers after k words leaves id flat last is so_far arrives counted =
-    let none : drop (suc k) line ≡ [] = drop_all (suc k) line (omega (arith, last)) in
-    ap (λ (ps : List PhaserState). record { phasers = ps; climb = climb.Turned }) counted
-    ∙ sym (over_turned (take k line) (take k words) (with_flat phasers id flat))
-    ∙ sym (ap (λ (l : List ℕ). over (take k line) (take k words) (climbed_by (Turns flat) id (is_top l) (λ b. climbed l b phasers) phasers)) none)
-    ∙ sym (ascent_ends line leave phasers k words leaves id (Turns flat) (omega (arith, last)) is so_far arrives)
-
--- the phaser waits for nobody, or is terminated
-abbrev pub IsRefusal : Arrival → Type 0
-IsRefusal (Counts flat) = ⊥
-IsRefusal (Turns flat) = ⊥
-IsRefusal (ComesLate view) = Unit {0}
-IsRefusal IsUnregistered = Unit {0}
-
-pub ends_refused : (line : List ℕ) (leave : Bool) (phasers : List PhaserState) (k : ℕ) (words : List ℕ) (leaves : Bool) (id : ℕ) (a : Arrival)
-    → k < length line → id ≡ get_or line k 0 → IsAscent line leave phasers k words leaves → a ≡ arrive leaves (flat_at phasers id) → IsRefusal a
-    → record { phasers = phasers; climb = climb.Refused } ≡ climbed line leave phasers
-ends_refused line leave phasers k words leaves id a here is so_far arrives refuses =
-    sym (over_refused (take k line) (take k words) phasers)
-    ∙ ap (over (take k line) (take k words)) (by_arrival a refuses)
-    ∙ sym (ascent_ends line leave phasers k words leaves id a here is so_far arrives)
-  where
-    by_arrival : (a : Arrival) → IsRefusal a → record { phasers = phasers; climb = climb.Refused }
-        ≡ climbed_by a id (is_top (drop (suc k) line)) (λ l. climbed (drop (suc k) line) l phasers) phasers
-    by_arrival (Counts flat) refuses = absurd refuses
-    by_arrival (Turns flat) refuses = absurd refuses
-    by_arrival (ComesLate view) refuses = refl
-    by_arrival IsUnregistered refuses = refl
-
--- the climb came to no end: there is none further up
-pub ends_nowhere : (line : List ℕ) (leave : Bool) (phasers : List PhaserState) (k : ℕ) (words : List ℕ) (leaves : Bool) → length line ≤ k
-    → IsAscent line leave phasers k words leaves → record { phasers = phasers; climb = climb.Refused } ≡ climbed line leave phasers
-ends_nowhere line leave phasers k words leaves past so_far =
-    sym (over_refused (take k line) (take k words) phasers)
-    ∙ sym (so_far.rest ∙ ap (λ (l : List ℕ). over (take k line) (take k words) (climbed l leaves phasers)) (drop_all k line past))
+-- the phasers of one tree have one word above them
+pub one_top : (forest : List Stored) (i top : ℕ) (line : List ℕ) → top ≡ (stored_at forest (root_at (phasers_of forest) i)).word
+    → All (λ (n : ℕ). root_at (phasers_of forest) n ≡ root_at (phasers_of forest) i) line
+    → All (λ (n : ℕ). top ≡ (stored_at forest (root_at (phasers_of forest) n)).word) line
+one_top forest i top line is tree k d there = is ∙ ap (λ (n : ℕ). (stored_at forest n).word) (sym (tree k d there))
 
 -- a climb that is refused is an arrival that is
 pub arrival_refused : (id : ℕ) (leave : Bool) (line : List ℕ) (phasers mid after : List PhaserState) → (flat_at phasers id).ended ≡ false
@@ -330,16 +89,235 @@ arrival_refused id leave line phasers mid after live is found same =
     ∙ sym (ap (λ (e : Bool). if e then record { phasers = phasers; answer = arrived.Dead (view_of (flat_at phasers id)) }
     else arrival_by all.climb id all.phasers phasers) live)
 
--- and begins with the phaser
-pub own_read : (forest : List Stored) (id : ℕ) (s : Stored) (line : List ℕ) → line ≡ s.line → s ≡ get_or forest id s → IsStored forest
-    → id < length forest → get_or line 0 0 ≡ id
-own_read forest id s line is read stored there =
-    let same : line ≡ (phaser_at (phasers_of forest) id).line =
-    is ∙ ap (λ (x : Stored). x.line) (get_or_read forest id s there read no_stored) ∙ sym (ap (λ (p : PhaserState). p.line) (shown_at forest id there)) in
-    let own = line_own (phasers_of forest) id stored.places (there_shown forest id there) in
-    ap (λ (l : List ℕ). get_or l 0 0) (same ∙ own.1)
+-- the last party that stays leaves parties
+abbrev pub Stays : Arrival → Type 0
+Stays (Counts g) = Unit {0}
+Stays (Turns g) = (g.parties == 0) ≡ false
+Stays (ComesLate view) = Unit {0}
+Stays IsUnregistered = Unit {0}
 
--- the word of a line's first phaser
-pub first_word : (line above : List ℕ) (id : ℕ) (phasers : List PhaserState) (flat : Flat) → line ≡ id ∷ above
-    → flat ≡ flat_at phasers (get_or line 0 0) → flat ≡ flat_at phasers id
-first_word line above id phasers flat is found = found ∙ ap (λ (l : List ℕ). flat_at phasers (get_or l 0 0)) is
+settled_stays : (f : Flat) (all : Bool) → (f.arrived + 1 == f.parties) ≡ all
+    → Stays (if all then Turns (record f { arrived = f.arrived + 1; turned = true }) else Counts (record f { arrived = f.arrived + 1 }))
+settled_stays f true is = grind (arith, nat_tests, is)
+settled_stays f false is = tt
+
+arrival_stays : (f : Flat) → Stays (arrive false f)
+arrival_stays f = by_case f.ended (f.arrived == f.parties)
+  where
+    by_case : (ended none : Bool)
+        → Stays (if ended then ComesLate (view_of f) else (if none then IsUnregistered else settled (record f { arrived = f.arrived + 1 })))
+    by_case true none = tt
+    by_case false true = tt
+    by_case false false = settled_stays f (f.arrived + 1 == f.parties) refl
+
+-- a child that is turned by a party that stays, where those above have counted
+child_counted : (id : ℕ) (phasers mid : List PhaserState) (g : Flat) → (g.parties == 0) ≡ false
+    → with_child id g climb.Counted mid ≡ record { phasers = with_flat mid id g; climb = climb.Counted }
+child_counted id phasers mid g some =
+    ap (λ (t : Bool). record { phasers = with_flat mid id (if t then record g { turned = false } else g); climb = climb.Counted }) some
+
+turned_child : (id : ℕ) (above : List ℕ) (phasers : List PhaserState) (g : Flat) → Turns g ≡ arrive false (flat_at phasers id) → is_top above ≡ false
+    → climbed (id ∷ above) false phasers ≡ with_child id g (climbed above false phasers).climb (climbed above false phasers).phasers
+turned_child id above phasers g turns under =
+    let some : (g.parties == 0) ≡ false = subst Stays (sym turns) (arrival_stays (flat_at phasers id)) in
+    ap (λ (a : Arrival). climbed_by a id (is_top above) (λ leaves. climbed above leaves phasers) phasers) (sym turns)
+    ∙ ap (λ (t : Bool). climbed_by (Turns g) id t (λ leaves. climbed above leaves phasers) phasers) under
+    ∙ ap (λ (t : Bool). with_child id g (climbed above t phasers).climb (climbed above t phasers).phasers) some
+
+under_counted : (above : List ℕ) (phasers mid : List PhaserState) → record { phasers = mid; climb = climb.Counted } ≡ climbed above false phasers
+    → is_top above ≡ false
+under_counted [] phasers mid is = absurd (cc (ap (λ (r : Climbed). r.climb) is))
+under_counted (id ∷ above) phasers mid is = refl
+
+pub counted_above : (line above : List ℕ) (id : ℕ) (phasers mid after : List PhaserState) (f g : Flat) → line ≡ id ∷ above → f ≡ flat_at phasers id
+    → Turns g ≡ arrive false f → record { phasers = mid; climb = climb.Counted } ≡ climbed above false phasers → after ≡ with_flat mid id g
+    → record { phasers = after; climb = climb.Counted } ≡ climbed line false phasers
+counted_above line above id phasers mid after f g is found arrives counted set =
+    let turns : Turns g ≡ arrive false (flat_at phasers id) = arrives ∙ ap (arrive false) found in
+    let some : (g.parties == 0) ≡ false = subst Stays (sym turns) (arrival_stays (flat_at phasers id)) in
+    ap (λ (ps : List PhaserState). record { phasers = ps; climb = climb.Counted }) set
+    ∙ sym (child_counted id phasers mid g some)
+    ∙ ap (λ (r : Climbed). with_child id g r.climb r.phasers) counted
+    ∙ sym (turned_child id above phasers g turns (under_counted above phasers mid counted))
+    ∙ ap (λ (l : List ℕ). climbed l false phasers) (sym is)
+
+-- nobody above counts it
+child_uncounted : (id : ℕ) (g : Flat) (c : Climb) (above : List PhaserState) → c ≢ climb.Counted → (with_child id g c above).climb ≢ climb.Counted
+child_uncounted id g climb.Counted above not is = not refl
+child_uncounted id g climb.Turned above not is = absurd (cc is)
+child_uncounted id g climb.Refused above not is = absurd (cc is)
+
+pub last_above : (line above : List ℕ) (id : ℕ) (phasers : List PhaserState) (f g : Flat) → line ≡ id ∷ above → f ≡ flat_at phasers id
+    → Turns g ≡ arrive false f → (climbed above false phasers).climb ≢ climb.Counted → (climbed line false phasers).climb ≢ climb.Counted
+last_above line [] id phasers f g is found arrives not counted =
+    let turns : Turns g ≡ arrive false (flat_at phasers id) = arrives ∙ ap (arrive false) found in
+    absurd (cc (sym (ap (λ (a : Arrival). (climbed_by a id true (λ leaves. climbed [] leaves phasers) phasers).climb) (sym turns))
+    ∙ ap (λ (l : List ℕ). (climbed l false phasers).climb) (sym is) ∙ counted))
+last_above line (next ∷ above) id phasers f g is found arrives not counted =
+    let turns : Turns g ≡ arrive false (flat_at phasers id) = arrives ∙ ap (arrive false) found in
+    let rest = climbed (next ∷ above) false phasers in
+    child_uncounted id g rest.climb rest.phasers not
+    (sym (ap (λ (r : Climbed). r.climb) (turned_child id (next ∷ above) phasers g turns refl))
+    ∙ ap (λ (l : List ℕ). (climbed l false phasers).climb) (sym is) ∙ counted)
+
+-- the phaser waits for nobody, or is terminated
+abbrev pub IsRefusal : Arrival → Type 0
+IsRefusal (Counts flat) = ⊥
+IsRefusal (Turns flat) = ⊥
+IsRefusal (ComesLate view) = Unit {0}
+IsRefusal IsUnregistered = Unit {0}
+
+refused_climb : (a : Arrival) (id : ℕ) (top : Bool) (above : Bool → Climbed) (phasers : List PhaserState) → IsRefusal a
+    → (climbed_by a id top above phasers).climb ≡ climb.Refused
+refused_climb (Counts flat) id top above phasers refuses = absurd refuses
+refused_climb (Turns flat) id top above phasers refuses = absurd refuses
+refused_climb (ComesLate view) id top above phasers refuses = refl
+refused_climb IsUnregistered id top above phasers refuses = refl
+
+pub none_counts : (line above : List ℕ) (id : ℕ) (phasers : List PhaserState) (f : Flat) (a : Arrival) → line ≡ id ∷ above → f ≡ flat_at phasers id
+    → a ≡ arrive false f → IsRefusal a → (climbed line false phasers).climb ≢ climb.Counted
+none_counts line above id phasers f a is found arrives refuses counted =
+    absurd (cc (sym (refused_climb a id (is_top above) (λ leaves. climbed above leaves phasers) phasers refuses)
+    ∙ ap (λ (b : Arrival). (climbed_by b id (is_top above) (λ leaves. climbed above leaves phasers) phasers).climb) (arrives ∙ ap (arrive false) found)
+    ∙ ap (λ (l : List ℕ). (climbed l false phasers).climb) (sym is) ∙ counted))
+
+-- an arrival that is counted
+pub counted_here : (i : ℕ) (line above : List ℕ) (phasers after : List PhaserState) (f g : Flat) → line ≡ i ∷ above → f ≡ flat_at phasers i
+    → Counts g ≡ arrive false f → after ≡ with_flat phasers i g → record { phasers = after; climb = climb.Counted } ≡ climbed line false phasers
+counted_here i line above phasers after f g is found arrives set =
+    ap (λ (ps : List PhaserState). record { phasers = ps; climb = climb.Counted }) set
+    ∙ ap (λ (a : Arrival). climbed_by a i (is_top above) (λ leaves. climbed above leaves phasers) phasers) (arrives ∙ ap (arrive false) found)
+    ∙ ap (λ (l : List ℕ). climbed l false phasers) (sym is)
+
+pub arrives_early : (i : ℕ) (line : List ℕ) (phasers after : List PhaserState) (f g : Flat) → f ≡ flat_at phasers i
+    → IsAsLate g f × (f.ended ≡ false)
+    → line ≡ (phaser_at phasers i).line → record { phasers = after; climb = climb.Counted } ≡ climbed line false phasers
+    → record { phasers = after; answer = arrived.At (view_of g) } ≡ arrival i false phasers
+arrives_early i line phasers after f g found late line_is counted =
+    let live : (flat_at phasers i).ended ≡ false = ap (λ (x : Flat). x.ended) (sym found) ∙ late.1 in
+    let all = climbed (phaser_at phasers i).line false phasers in
+    ap (λ (n : ℕ). record { phasers = after; answer = arrived.At (phase_view n g.ended) }) (late.0.0 ∙ ap (λ (x : Flat). x.phase) found)
+    ∙ ap (λ (e : Bool). record { phasers = after; answer = arrived.At (phase_view (flat_at phasers i).phase e) }) (late.0.1 ∙ late.1)
+    ∙ ap (λ (r : Climbed). arrival_by r.climb i r.phasers phasers) (counted ∙ ap (λ (l : List ℕ). climbed l false phasers) line_is)
+    ∙ sym (ap (λ (e : Bool). if e then record { phasers = phasers; answer = arrived.Dead (view_of (flat_at phasers i)) }
+    else arrival_by all.climb i all.phasers phasers) live)
+
+-- and one that isn't
+otherwise : (c : Climb) (i : ℕ) (after phasers : List PhaserState) (phase : ℤ) → c ≢ climb.Counted → (arrival_by c i after phasers).answer ≢ arrived.At phase
+otherwise climb.Counted i after phasers phase not is = not refl
+otherwise climb.Turned i after phasers phase not is = absurd (cc is)
+otherwise climb.Refused i after phasers phase not is = absurd (cc is)
+
+pub arrives_otherwise : (i : ℕ) (line : List ℕ) (phasers : List PhaserState) → line ≡ (phaser_at phasers i).line
+    → (climbed line false phasers).climb ≢ climb.Counted → (phase : ℤ) → (arrival i false phasers).answer ≢ arrived.At phase
+arrives_otherwise i line phasers line_is not phase = by_end (flat_at phasers i).ended
+  where
+    by_end : (ended : Bool) → (if ended then record { phasers = phasers; answer = arrived.Dead (view_of (flat_at phasers i)) }
+        else arrival_by (climbed (phaser_at phasers i).line false phasers).climb i (climbed (phaser_at phasers i).line false phasers).phasers phasers).answer
+        ≢ arrived.At phase
+    by_end true is = absurd (cc is)
+    by_end false is =
+        otherwise (climbed (phaser_at phasers i).line false phasers).climb i (climbed (phaser_at phasers i).line false phasers).phasers phasers phase
+        (subst (λ (l : List ℕ). (climbed l false phasers).climb ≢ climb.Counted) line_is not) is
+
+-- a climb of one look at each phaser, and then of one write at each: so far each is turned by a party that stays
+abbrev pub HaveTurned : List ℕ → List ℕ → ℕ → List PhaserState → Type 0
+HaveTurned line words k phasers =
+    (m d : ℕ) → m < k → Turns (record_of (get_or words m d)) ≡ arrive false (flat_at phasers (get_or line m 0))
+
+-- and from this place on up all are written
+pub record IsWritten (line : List ℕ) (before after : List Stored) (low : ℕ) : Type 0 where
+  pub counted : record { phasers = phasers_of after; climb = climb.Counted } ≡ climbed (drop low line) false (phasers_of before)
+  pub stored : IsStored after
+  pub only : ChangedOnly line before after
+
+pub one_more_turned : (line words : List ℕ) (k word : ℕ) (phasers : List PhaserState) → k < length words → HaveTurned line words k phasers
+    → Turns (record_of word) ≡ arrive false (flat_at phasers (get_or line k 0)) → HaveTurned line (slice_set words k word) (k + 1) phasers
+one_more_turned line words k word phasers room so_far turns m d below =
+    elim (cases_eq m k) as (λ _. Turns (record_of (get_or (slice_set words k word) m d)) ≡ arrive false (flat_at phasers (get_or line m 0))) [
+      | inl same ↦
+          subst (λ (n : ℕ). Turns (record_of (get_or (slice_set words k word) n d)) ≡ arrive false (flat_at phasers (get_or line n 0))) (sym same)
+          (ap (λ (w : ℕ). Turns (record_of w)) (get_or-set_same words k word d room) ∙ turns)
+      | inr other ↦
+          ap (λ (w : ℕ). Turns (record_of w)) (get_or-set_other words k m word d other)
+          ∙ so_far m d (omega (arith, below, other))
+    ]
+
+pub only_more_of : (line : List ℕ) (k : ℕ) (before mid after : List Stored) → k < length line → ChangedOnly line before mid
+    → ChangedOnly (get_or line k 0 ∷ []) mid after → ChangedOnly line before after
+only_more_of line k before mid after here first second = record {
+  many = second.many ∙ first.many;
+  places = λ id. second.places id ∙ first.places id;
+  others = λ id away.
+      second.others id (All-cons (λ (n : ℕ). id ≢ n) (get_or line k 0) [] (away k 0 here) (All-nil (λ (n : ℕ). id ≢ n))) ∙ first.others id away;
+}
+
+pub written_first : (line : List ℕ) (k : ℕ) (before nodes after : List Stored) (g : Flat) → nodes ≡ before → k < length line
+    → Counts g ≡ arrive false (flat_at (phasers_of nodes) (get_or line k 0))
+    → phasers_of after ≡ with_flat (phasers_of nodes) (get_or line k 0) g → IsStored after → ChangedOnly (get_or line k 0 ∷ []) nodes after
+    → IsWritten line before after k
+written_first line k before nodes after g same here counts set stored only =
+    let ps = phasers_of nodes in
+    subst (λ (b : List Stored). IsWritten line b after k) same (record {
+      counted = counted_here (get_or line k 0) (drop k line) (drop (suc k) line) ps (phasers_of after) (flat_at ps (get_or line k 0)) g
+          (drop-cons line k 0 here) refl counts set;
+      stored = stored;
+      only = only_more_of line k nodes nodes after here (only_same line nodes) only;
+    })
+
+-- the word of the next one below is of its phase
+pub record IsNext (id word : ℕ) (nodes : List Stored) : Type 0 where
+  pub phase : (record_of word).phase ≡ (flat_at (phasers_of nodes) id).phase
+  pub before : (flat_at (phasers_of nodes) id).ended ≡ false
+  pub live : (record_of word).ended ≡ false
+
+pub next_ready : (line words : List ℕ) (k high low d : ℕ) (before nodes : List Stored) → high ≤ k → 0 < high → low ≡ high - 1
+    → HaveTurned line words k (phasers_of before) → IsWritten line before nodes high → IsNext (get_or line low 0) (get_or words low d) nodes
+next_ready line words k high low d before nodes within some is turned written =
+    let below : low < k = omega (arith, within, some, is) in
+    let ps = phasers_of before in
+    let id = get_or line low 0 in
+    let g = record_of (get_or words low d) in
+    let late : IsArrival (flat_at ps id) (Turns g) = subst (IsArrival (flat_at ps id)) (sym (turned low d below)) (arrival_is false (flat_at ps id)) in
+    let ready = climb_ready (drop high line) false false ps (phasers_of nodes) climb.Counted id (flat_at ps id) g written.counted refl (turned low d below) in
+    record { phase = ready.0; before = ready.1; live = late.0.1 ∙ late.1 }
+
+pub written_next : (line words : List ℕ) (k high low d : ℕ) (before nodes after : List Stored) → high ≤ k → 0 < high → low ≡ high - 1 → k < length line
+    → HaveTurned line words k (phasers_of before) → IsWritten line before nodes high
+    → phasers_of after ≡ with_flat (phasers_of nodes) (get_or line low 0) (record_of (get_or words low d)) → IsStored after
+    → ChangedOnly (get_or line low 0 ∷ []) nodes after → IsWritten line before after low
+written_next line words k high low d before nodes after within some is here turned written set stored only =
+    let ps = phasers_of before in
+    let below : low < k = omega (arith, within, some, is) in
+    let there : low < length line = omega (arith, below, here) in
+    let suc_is : suc low ≡ high = omega (arith, some, is) in
+    let split : drop low line ≡ get_or line low 0 ∷ drop high line =
+    drop-cons line low 0 there ∙ ap (λ (n : ℕ). get_or line low 0 ∷ drop n line) suc_is in
+    record {
+      counted = counted_above (drop low line) (drop high line) (get_or line low 0) ps (phasers_of nodes) (phasers_of after)
+          (flat_at ps (get_or line low 0)) (record_of (get_or words low d)) split refl (turned low d below) written.counted set;
+      stored = stored;
+      only = only_more_of line low before nodes after there written.only only;
+    }
+
+-- a climb that isn't counted further up isn't counted
+pub last_along : (line words : List ℕ) (k : ℕ) (phasers : List PhaserState) → k ≤ length line → HaveTurned line words k phasers
+    → (climbed (drop k line) false phasers).climb ≢ climb.Counted → (climbed line false phasers).climb ≢ climb.Counted
+last_along line words zero phasers here turned not = not
+last_along line words (suc k) phasers here turned not =
+    let there : k < length line = omega (arith, here) in
+    last_along line words k phasers (omega (arith, here)) (λ m d below. turned m d (omega (arith, below)))
+    (last_above (drop k line) (drop (suc k) line) (get_or line k 0) phasers (flat_at phasers (get_or line k 0)) (record_of (get_or words k 0))
+    (drop-cons line k 0 there) refl (turned k 0 (omega arith)) not)
+
+pub last_here : (line words : List ℕ) (k : ℕ) (phasers : List PhaserState) (a : Arrival) → k < length line → HaveTurned line words k phasers
+    → a ≡ arrive false (flat_at phasers (get_or line k 0)) → IsRefusal a → (climbed line false phasers).climb ≢ climb.Counted
+last_here line words k phasers a here turned is refuses =
+    last_along line words k phasers (omega (arith, here)) turned
+    (none_counts (drop k line) (drop (suc k) line) (get_or line k 0) phasers (flat_at phasers (get_or line k 0)) a (drop-cons line k 0 here) refl is refuses)
+
+pub last_of_all : (line words : List ℕ) (k : ℕ) (phasers : List PhaserState) → k ≡ length line → HaveTurned line words k phasers
+    → (climbed line false phasers).climb ≢ climb.Counted
+last_of_all line words k phasers all turned =
+    last_along line words k phasers (omega (arith, all)) turned
+    (λ is. absurd (cc (sym (ap (λ (l : List ℕ). (climbed l false phasers).climb) (drop_all k line (omega (arith, all)))) ∙ is)))

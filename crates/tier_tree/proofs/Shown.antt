@@ -5,7 +5,7 @@ use Rattle.std.proofs.lemmas.Bool.{cases_eq}
 use Rattle.std.proofs.lemmas.Bool.Decides.{nat_tests}
 use Rattle.std.proofs.lemmas.List.{length-map, length-set, get_or-map, get_or_read, get_or_default, get_or-set_same, get_or-set_other, ext_get_or}
 use Rattle.std.proofs.lemmas.List.Elements.{All-head, All-tail, All-cons, All-nil}
-use Rattle.packed_phaser.specs.Flat.{Flat, advance, renew, force, fresh, view_of}
+use Rattle.packed_phaser.specs.Flat.{Flat, ComesLate, arrive, advance, renew, force, fresh, view_of}
 use Rattle.packed_phaser.specs.Word.{record_of}
 use Rattle.phase_number.specs.Phase.{next_phase, phase_view}
 use Rattle.tier_tree.specs.Forest.{PhaserState, no_phaser, phaser_at, flat_at, root_of, root_at, with_flat}
@@ -326,6 +326,45 @@ top_read forest i r own stored there read is =
     let same : r ≡ top_at forest i = is ∙ ap top_of (get_or_read forest i own there read no_stored) in
     let within = top_there forest i stored there in
     omega (arith, same, within)
+
+pub top_word_read : (forest : List Stored) (i r w : ℕ) (own top : Stored) → IsStored forest → i < length forest → own ≡ get_or forest i own → r ≡ top_of own
+    → top ≡ get_or forest r top → w ≡ top.word → w ≡ (stored_at forest (root_at (phasers_of forest) i)).word
+top_word_read forest i r w own top stored there read_own is_top read_top is_w =
+    let r_is : r ≡ root_at (phasers_of forest) i = is_top ∙ ap top_of (get_or_read forest i own there read_own no_stored) ∙ sym (root_shown forest i there) in
+    is_w ∙ ap (λ (s : Stored). s.word) (get_or_read forest r top (top_read forest i r own stored there read_own is_top) read_top no_stored ∙ ap (stored_at forest) r_is)
+
+-- the root of a phaser that isn't terminated isn't
+pub live_top : (forest : List Stored) (i top : ℕ) (f : Flat) → i < length forest → top ≡ (stored_at forest (root_at (phasers_of forest) i)).word
+    → f ≡ flat_at (phasers_of forest) i → f.ended ≡ false → (record_of top).ended ≡ false
+live_top forest i top f there is found live =
+    ap (λ (w : ℕ). (record_of w).ended) (is ∙ ap (λ (n : ℕ). (stored_at forest n).word) (root_shown forest i there))
+    ∙ present_live (kept_flat (stored_at forest (top_at forest i))) (kept_flat (stored_at forest i))
+    (ap (λ (x : Flat). x.ended) (sym (found ∙ flat_shown forest i there)) ∙ live)
+
+-- a word below its root's
+pub below_read : (forest : List Stored) (i top own_word : ℕ) (own : Stored) (f : Flat) → IsStored forest → i < length forest → own ≡ get_or forest i own
+    → own_word ≡ own.word → top ≡ (stored_at forest (root_at (phasers_of forest) i)).word
+    → (((record_of top).ended ≡ false → (record_of own_word).ended ≡ false) → f ≡ present (record_of top) (record_of own_word)) → f ≡ flat_at (phasers_of forest) i
+below_read forest i top own_word own f stored there read is_own is_top is =
+    let own_is : own_word ≡ (stored_at forest i).word = is_own ∙ ap (λ (s : Stored). s.word) (get_or_read forest i own there read no_stored) in
+    let top_is : top ≡ (stored_at forest (top_at forest i)).word = is_top ∙ ap (λ (n : ℕ). (stored_at forest n).word) (root_shown forest i there) in
+    is (λ live. ap (λ (n : ℕ). (record_of n).ended) own_is ∙ stored.live i there (ap (λ (n : ℕ). (record_of n).ended) (sym top_is) ∙ live))
+    ∙ ap (λ (n : ℕ). present (record_of n) (record_of own_word)) top_is
+    ∙ ap (λ (n : ℕ). present (kept_flat (stored_at forest (top_at forest i))) (record_of n)) own_is
+    ∙ sym (flat_shown forest i there)
+
+-- an arrival below a terminated root
+comes_late : (top own : Flat) → top.ended ≡ true → ComesLate (view_of top) ≡ arrive false (present top own)
+comes_late top own ended =
+    ap (λ (e : Bool). ComesLate (phase_view top.phase e)) ended
+    ∙ ap (λ (e : Bool). arrive false (if e then force (renew top.phase own) else (if own.phase == top.phase then own else renew top.phase own))) (sym ended)
+
+pub late_read : (forest : List Stored) (i top own_word : ℕ) (own : Stored) → IsStored forest → i < length forest → own ≡ get_or forest i own
+    → own_word ≡ own.word → top ≡ (stored_at forest (root_at (phasers_of forest) i)).word → (record_of top).ended ≡ true
+    → ComesLate (view_of (record_of top)) ≡ arrive false (flat_at (phasers_of forest) i)
+late_read forest i top own_word own stored there read is_own is_top ended =
+    comes_late (record_of top) (record_of own_word) ended
+    ∙ ap (arrive false) (below_read forest i top own_word own (present (record_of top) (record_of own_word)) stored there read is_own is_top (λ _. refl))
 
 pub word_read : (forest : List Stored) (i r w wt wo : ℕ) (own top : Stored) → IsStored forest → i < length forest → own ≡ get_or forest i own → r ≡ top_of own
     → top ≡ get_or forest r top → wt ≡ top.word → wo ≡ own.word → record_of w ≡ present (record_of wt) (record_of wo)

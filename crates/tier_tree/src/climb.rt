@@ -1,16 +1,17 @@
-ghost use Rattle.std.specs.Prelude.{◌≡◌, ◌<◌, ◌≤◌, [], ◌∷◌, length, take, slice_index_or, All, true, false};
+ghost use Rattle.std.specs.Prelude.{◌≡◌, ◌≢◌, ℤ, ◌<◌, ◌≤◌, [], ◌∷◌, length, All, true, false, None, IfSome};
+ghost use Rattle.packed_phaser.specs.Answer.{arrival_of};
+ghost use Rattle.packed_phaser.specs.Flat.{Turns, arrive};
 ghost use Rattle.packed_phaser.specs.Word.{record_of};
-ghost use Rattle.tier_tree.specs.Forest.{flat_at, root_at, with_flat};
+ghost use Rattle.tier_tree.specs.Forest.{flat_at, root_at};
 ghost use Rattle.tier_tree.specs.Arrival.{climbed, with_child, passed_on, arrival};
-ghost use Rattle.tier_tree.specs.Ascent.{IsTurnedAt, AreTurned, with_children};
 ghost use Rattle.tier_tree.specs.Answer.{DoesntArrive};
-ghost use Rattle.tier_tree.specs.Stored.{IsStored, ChangedOnly, ChangedAt, phasers_of};
+ghost use Rattle.tier_tree.specs.Stored.{IsStored, ChangedOnly, ChangedAt, stored_at, phasers_of};
 
 use crate::arrived::Arrived;
 use crate::id::PhaserId;
 use crate::line::MOST_LEVELS;
 use crate::node::Node;
-use crate::present::{line_at, set_word, word_at, word_below};
+use crate::present::{line_at, set_word, top_at, word_at};
 use packed_phaser::Word;
 
 /// How far an arrival comes.
@@ -36,19 +37,6 @@ fn pass_on(word: Word) -> Word
     }
 }
 
-/// A child all of whose parties have arrived counts them.
-#[inline(always)]
-fn count_turned(nodes: &mut [Node], i: usize, word: Word)
-    requires stored { IsStored nodes.old }
-    requires turned { IsTurnedAt i word (phasers_of nodes.old) }
-    ensures counted { phasers_of nodes.new
-        ≡ with_flat (phasers_of nodes.old) i (passed_on (record_of word)) }
-    ensures stored { IsStored nodes.new }
-    ensures only { ChangedOnly (i ∷ []) nodes.old nodes.new }
-{
-    set_word(nodes, i, pass_on(word));
-}
-
 /// Where no phaser above refuses, a child all of whose parties have arrived counts them.
 fn count_child(nodes: &mut [Node], i: usize, word: Word, climb: Climb)
     requires stored { IsStored nodes.old }
@@ -68,93 +56,31 @@ fn count_child(nodes: &mut [Node], i: usize, word: Word, climb: Climb)
     }
 }
 
-/// The children of the line count all their parties' arrivals, the highest of them first.
-fn count_children(nodes: &mut [Node], line: &[u8], words: &[Word])
-    requires stored { IsStored nodes.old }
-    requires turned { AreTurned line.now words.now (phasers_of nodes.old) }
-    ensures counted { phasers_of nodes.new
-        ≡ with_children line.now words.now (phasers_of nodes.old) }
-    ensures stored { IsStored nodes.new }
-    ensures only { ChangedOnly line.now nodes.old nodes.new }
+/// What an arrival comes to at one phaser, by the word of its root, which isn't terminated.
+#[inline(always)]
+fn arrival_below(nodes: &[Node], i: usize, top: Word, leave: bool) -> packed_phaser::Arrived
+    requires stored { IsStored nodes.now }
+    requires there { i < length nodes.now }
+    requires top { top ≡ (stored_at nodes.now (root_at (phasers_of nodes.now) i)).word }
+    requires live { (record_of top).ended ≡ false }
+    ensures { arrival_of result ≡ arrive leave (flat_at (phasers_of nodes.now) i) }
 {
-    let Some((id, below)) = line.split_last() else {
-        return;
-    };
-    let Some((word, lower)) = words.split_last() else {
-        return;
-    };
-    count_turned(nodes, *id as usize, *word);
-    count_children(nodes, below, lower);
-}
-
-/// A climb ends at phaser `k` of the line, whose word is this one then; those before it are turned.
-fn end_climb(nodes: &mut [Node], line: &[u8], k: usize, word: Word, words: &[Word])
-    requires stored { IsStored nodes.old }
-    requires there { k < length line.now }
-    requires within { All (λ id. id < length nodes.old) line.now }
-    requires turned { AreTurned (take k line.now) words.now (phasers_of nodes.old) }
-    requires phase { (record_of word).phase
-        ≡ (flat_at (phasers_of nodes.old) (slice_index_or line.now k 0)).phase }
-    requires before { (flat_at (phasers_of nodes.old) (slice_index_or line.now k 0)).ended ≡ false }
-    requires live { (record_of word).ended ≡ false }
-    ensures counted { phasers_of nodes.new ≡ with_children (take k line.now) words.now
-        (with_flat (phasers_of nodes.old) (slice_index_or line.now k 0) (record_of word)) }
-    ensures stored { IsStored nodes.new }
-    ensures only { ChangedOnly line.now nodes.old nodes.new }
-{
-    set_word(nodes, line[k] as usize, word);
-    count_children(nodes, &line[..k], words);
-}
-
-/// `arrive_along` for phasers below this root, whose word is read once. What the arrival makes of
-/// a child is kept until it is known that no phaser above refuses.
-#[inline(never)]
-fn climb_above(nodes: &mut [Node], line: &[u8], root: u8, leave: bool) -> Climb
-    requires stored { IsStored nodes.old }
-    requires there { All (λ id. id < length nodes.old) line.now }
-    requires few { length line.now ≤ 8 }
-    requires root { root < length nodes.old }
-    requires tree { All (λ id. root_at (phasers_of nodes.old) id ≡ root) line.now }
-    ensures climbed { record { phasers = phasers_of nodes.new; climb = result }
-        ≡ climbed line.now leave (phasers_of nodes.old) }
-    ensures stored { IsStored nodes.new }
-    ensures only { ChangedOnly line.now nodes.old nodes.new }
-    ensures refused { result ≡ Climb.Refused → nodes.new ≡ nodes.old }
-{
-    let top = nodes[root as usize].word();
-    let mut words = [top; MOST_LEVELS];
-    let mut leaves = leave;
-    for (k, id) in line.iter().enumerate() {
-        match word_below(nodes, *id as usize, top).arrive(leaves) {
-            packed_phaser::Arrived::Counted(last) => {
-                end_climb(nodes, line, k, last, &words[..k]);
-                return Climb::Counted;
-            }
-            packed_phaser::Arrived::Turned(word) => {
-                if k + 1 == line.len() {
-                    end_climb(nodes, line, k, word, &words[..k]);
-                    return Climb::Turned;
-                }
-                words[k] = word;
-                leaves = word.parties() == 0;
-            }
-            packed_phaser::Arrived::Dead(_) | packed_phaser::Arrived::NotThere => {
-                return Climb::Refused;
-            }
-        }
+    let own = nodes[i].word();
+    if own.raw() >> 32 == top.raw() >> 32 {
+        own.arrive(leave)
+    } else {
+        own.arrive_anew(top, leave)
     }
-    Climb::Refused
 }
 
-/// Counts an arrival at the first phaser of the line, which has this word and leads up to this root,
-/// and, where all have arrived there, at the one above.
-pub fn arrive_along(nodes: &mut [Node], line: &[u8], word: Word, root: u8, leave: bool) -> Climb
+/// Counts an arrival at the first phaser of the line, and, where all have arrived there, at the one above. The root
+/// of all has this word.
+pub fn arrive_along(nodes: &mut [Node], line: &[u8], top: Word, leave: bool) -> Climb
     requires stored { IsStored nodes.old }
-    requires word { record_of word ≡ flat_at (phasers_of nodes.old) (slice_index_or line.now 0 0) }
     requires there { All (λ id. id < length nodes.old) line.now }
-    requires few { length line.now ≤ 8 }
-    requires root { root < length nodes.old }
-    requires tree { All (λ id. root_at (phasers_of nodes.old) id ≡ root) line.now }
+    requires top { All (λ id. top ≡ (stored_at nodes.old (root_at (phasers_of nodes.old) id)).word)
+        line.now }
+    requires live { (record_of top).ended ≡ false }
     ensures climbed { record { phasers = phasers_of nodes.new; climb = result }
         ≡ climbed line.now leave (phasers_of nodes.old) }
     ensures stored { IsStored nodes.new }
@@ -165,7 +91,7 @@ pub fn arrive_along(nodes: &mut [Node], line: &[u8], word: Word, root: u8, leave
         return Climb::Refused;
     };
     let i = *id as usize;
-    match word.arrive(leave) {
+    match arrival_below(nodes, i, top, leave) {
         packed_phaser::Arrived::Counted(word) => {
             set_word(nodes, i, word);
             Climb::Counted
@@ -175,9 +101,9 @@ pub fn arrive_along(nodes: &mut [Node], line: &[u8], word: Word, root: u8, leave
                 set_word(nodes, i, word);
                 return Climb::Turned;
             }
-            let end = climb_above(nodes, above, root, word.parties() == 0);
-            count_child(nodes, i, word, end);
-            end
+            let climb = arrive_along(nodes, above, top, word.parties() == 0);
+            count_child(nodes, i, word, climb);
+            climb
         }
         packed_phaser::Arrived::Dead(_) | packed_phaser::Arrived::NotThere => Climb::Refused,
     }
@@ -200,7 +126,8 @@ pub fn arrive(nodes: &mut [Node], i: usize, leave: bool) -> Arrived
     }
     let line = line_at(nodes, i);
     let root = line.root();
-    match arrive_along(nodes, line.as_slice(), word, root, leave) {
+    let top = top_at(nodes, i);
+    match arrive_along(nodes, line.as_slice(), top, leave) {
         Climb::Counted => Arrived::At(phase),
         Climb::Turned => {
             let parties = word_at(nodes, root as usize).parties();
@@ -211,5 +138,111 @@ pub fn arrive(nodes: &mut [Node], i: usize, leave: bool) -> Arrived
             }
         }
         Climb::Refused => Arrived::NotThere,
+    }
+}
+
+/// What an arrival of a party that stays comes to at one phaser.
+#[inline(always)]
+fn arrival_at(nodes: &[Node], i: usize) -> packed_phaser::Arrived
+    requires stored { IsStored nodes.now }
+    requires there { i < length nodes.now }
+    ensures { arrival_of result ≡ arrive false (flat_at (phasers_of nodes.now) i) }
+{
+    let top = top_at(nodes, i);
+    let own = nodes[i].word();
+    if own.raw() >> 32 == top.raw() >> 32 {
+        own.arrive(false)
+    } else if top.is_terminated() {
+        packed_phaser::Arrived::Dead(top.phase_view())
+    } else {
+        own.arrive_anew(top, false)
+    }
+}
+
+/// `arrive_along` of a party that stays, where others are still to arrive. Whether it was counted; nothing has
+/// changed where it wasn't. What it makes of a child is kept until it is known how far it comes.
+fn count_along(nodes: &mut [Node], line: &[u8], top: Word) -> bool
+    requires stored { IsStored nodes.old }
+    requires there { All (λ id. id < length nodes.old) line.now }
+    requires few { length line.now ≤ 8 }
+    requires top { All (λ id. top ≡ (stored_at nodes.old (root_at (phasers_of nodes.old) id)).word)
+        line.now }
+    requires live { (record_of top).ended ≡ false }
+    ensures counted { result ≡ true → record { phasers = phasers_of nodes.new; climb = Climb.Counted }
+        ≡ climbed line.now false (phasers_of nodes.old) }
+    ensures last { result ≡ false
+        → (climbed line.now false (phasers_of nodes.old)).climb ≢ Climb.Counted }
+    ensures none { result ≡ false → nodes.new ≡ nodes.old }
+    ensures stored { IsStored nodes.new }
+    ensures only { ChangedOnly line.now nodes.old nodes.new }
+{
+    let mut words = [top; MOST_LEVELS];
+    for (k, id) in line.iter().enumerate() {
+        match arrival_below(nodes, *id as usize, top, false) {
+            packed_phaser::Arrived::Counted(word) => {
+                set_word(nodes, *id as usize, word);
+                let mut low = k;
+                while low > 0 {
+                    low -= 1;
+                    set_word(nodes, line[low] as usize, words[low]);
+                }
+                return true;
+            }
+            packed_phaser::Arrived::Turned(word) => words[k] = word,
+            packed_phaser::Arrived::Dead(_) | packed_phaser::Arrived::NotThere => return false,
+        }
+    }
+    false
+}
+
+/// `arrive_early` where the phaser's own parties have all arrived by it: its word after that is this one.
+#[inline(never)]
+fn climb_early(nodes: &mut [Node], i: usize, word: Word) -> Option<i32>
+    requires stored { IsStored nodes.old }
+    requires there { i < length nodes.old }
+    requires turned { Turns (record_of word) ≡ arrive false (flat_at (phasers_of nodes.old) i) }
+    ensures arrival { IfSome result (λ phase.
+        record { phasers = phasers_of nodes.new; answer = Arrived.At phase }
+        ≡ arrival i false (phasers_of nodes.old)) }
+    ensures none { result ≡ None → nodes.new ≡ nodes.old }
+    ensures last { result ≡ None → (phase : ℤ)
+        → (arrival i false (phasers_of nodes.old)).answer ≢ Arrived.At phase }
+    ensures stored { IsStored nodes.new }
+    ensures only { ChangedAt i nodes.old nodes.new }
+{
+    let line = line_at(nodes, i);
+    let top = top_at(nodes, i);
+    let Some((_, above)) = line.as_slice().split_first() else {
+        return None;
+    };
+    if count_along(nodes, above, top) {
+        set_word(nodes, i, word);
+        Some(word.phase_view())
+    } else {
+        None
+    }
+}
+
+/// An arrival of a party that stays, where others are still to arrive in the tree: the phase.
+#[inline(always)]
+pub fn arrive_early(nodes: &mut [Node], i: usize) -> Option<i32>
+    requires stored { IsStored nodes.old }
+    requires there { i < length nodes.old }
+    ensures arrival { IfSome result (λ phase.
+        record { phasers = phasers_of nodes.new; answer = Arrived.At phase }
+        ≡ arrival i false (phasers_of nodes.old)) }
+    ensures none { result ≡ None → nodes.new ≡ nodes.old }
+    ensures last { result ≡ None → (phase : ℤ)
+        → (arrival i false (phasers_of nodes.old)).answer ≢ Arrived.At phase }
+    ensures stored { IsStored nodes.new }
+    ensures only { ChangedAt i nodes.old nodes.new }
+{
+    match arrival_at(nodes, i) {
+        packed_phaser::Arrived::Counted(word) => {
+            set_word(nodes, i, word);
+            Some(word.phase_view())
+        }
+        packed_phaser::Arrived::Turned(word) => climb_early(nodes, i, word),
+        packed_phaser::Arrived::Dead(_) | packed_phaser::Arrived::NotThere => None,
     }
 }

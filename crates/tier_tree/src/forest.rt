@@ -1,4 +1,4 @@
-ghost use Rattle.std.specs.Prelude.{◌≡◌, ℕ, ◌<◌, List, [], length, true, false, IfOk};
+ghost use Rattle.std.specs.Prelude.{◌≡◌, ◌≢◌, ℕ, ℤ, ◌<◌, List, [], length, true, false, None, IfOk, IfSome};
 ghost use Rattle.tier_tree.specs.Answer.{DoesntJoin, DoesntArrive, IfTurning, MakesPending};
 ghost use Rattle.tier_tree.specs.Answer.{KeepsPlaces, KeepsEnds, HaveOnePhase};
 ghost use Rattle.tier_tree.specs.Arrival.{arrival};
@@ -123,6 +123,28 @@ impl Forest {
             (phasers_of self.old) (phasers_of self.new) }
     {
         climb::arrive(self.nodes.as_mut_slice(), id.0 as usize, leave)
+    }
+
+    /// `arrive` of a party that stays, where others are still to arrive in its tree: the phase that it
+    /// arrived at. `None` where none are, or where nobody could arrive; nothing has changed then.
+    #[inline(always)]
+    pub fn arrive_early(&mut self, id: PhaserId) -> Option<i32>
+        requires { id.0 < length self.old }
+        ensures arrival { IfSome result (λ phase.
+            record { phasers = phasers_of self.new; answer = Arrived.At phase }
+            ≡ arrival id.0 false (phasers_of self.old)) }
+        ensures none { result ≡ None → self.new ≡ self.old }
+        ensures last { result ≡ None → (phase : ℤ)
+            → (arrival id.0 false (phasers_of self.old)).answer ≢ Arrived.At phase }
+        ensures only { ChangedAt id.0 self.old self.new }
+        ensures many { length self.new ≡ length self.old }
+        ensures places { KeepsPlaces (phasers_of self.old) (phasers_of self.new) }
+        ensures ends { KeepsEnds (phasers_of self.old) (phasers_of self.new) }
+        ensures origin { IfSome result (λ phase. Carries
+            (origin_after_arrival (Arrived.At phase) id.0 (root_at (phasers_of self.old) id.0) false)
+            (phasers_of self.old) (phasers_of self.new)) }
+    {
+        climb::arrive_early(self.nodes.as_mut_slice(), id.0 as usize)
     }
 
     /// Ends the phase of a turned root, after `onAdvance` answered: `ends` is its answer. Where the

@@ -17,8 +17,9 @@ pub fn phase_of(word: Word) -> Phase
     Phase::prevailing(word.phase_view())
 }
 
-/// What a word says at present, beside that of its root.
-fn brought_up(root: Word, own: Word) -> Word
+/// `brought_up` of a word that may lag.
+#[inline(never)]
+fn renewed(root: Word, own: Word) -> Word
     ensures { record_of result ≡ present (record_of root) (record_of own) }
 {
     let phase = phase_of(root);
@@ -28,6 +29,19 @@ fn brought_up(root: Word, own: Word) -> Word
         own
     } else {
         own.renew(phase)
+    }
+}
+
+/// What a word says at present, beside that of its root.
+#[inline(always)]
+#[tactic(auto, using(crate::proofs::View::stands_as_it_is))]
+fn brought_up(root: Word, own: Word) -> Word
+    ensures { record_of result ≡ present (record_of root) (record_of own) }
+{
+    if own.raw() >> 32 == root.raw() >> 32 {
+        own
+    } else {
+        renewed(root, own)
     }
 }
 
@@ -56,6 +70,17 @@ pub fn root_of(nodes: &[Node], i: usize) -> u8
     nodes[i].root()
 }
 
+/// The word of one phaser's root.
+#[inline(always)]
+pub fn top_at(nodes: &[Node], i: usize) -> Word
+    requires stored { IsStored nodes.now }
+    requires there { i < length nodes.now }
+    ensures { result ≡ (stored_at nodes.now (root_at (phasers_of nodes.now) i)).word }
+{
+    let root = nodes[i].root();
+    nodes[root as usize].word()
+}
+
 /// The present word of one phaser.
 pub fn word_at(nodes: &[Node], i: usize) -> Word
     requires stored { IsStored nodes.now }
@@ -76,16 +101,6 @@ pub fn view_at(nodes: &[Node], i: usize) -> i32
 {
     let root = nodes[i].root();
     nodes[root as usize].word().phase_view()
-}
-
-/// `word_at` where the word of its root is at hand.
-#[inline(always)]
-pub fn word_below(nodes: &[Node], i: usize, top: Word) -> Word
-    requires there { i < length nodes.now }
-    requires top { top ≡ (stored_at nodes.now (root_at (phasers_of nodes.now) i)).word }
-    ensures { record_of result ≡ flat_at (phasers_of nodes.now) i }
-{
-    brought_up(top, nodes[i].word())
 }
 
 /// Another word of the present phase for one phaser.

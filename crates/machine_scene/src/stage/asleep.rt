@@ -23,7 +23,7 @@ pub(super) fn is_in(set: u64, thread: usize) -> bool
 /// The set with this thread, or without it.
 #[inline(always)]
 #[tactic(auto, using(crate::proofs::ThreadSets::set_at))]
-fn set_at(set: u64, thread: usize, asleep: bool) -> u64
+pub(super) fn set_at(set: u64, thread: usize, asleep: bool) -> u64
     requires { thread < 64 }
     ensures { IsSetAt thread asleep set result }
 {

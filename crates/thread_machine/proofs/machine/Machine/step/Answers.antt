@@ -1,4 +1,3 @@
-use Rattle.std.proofs.Common.{refl}
 use Rattle.std.specs.Prelude.{Ok}
 use Rattle.thread_machine.proofs.SafeEnds.{step_keeps, result_numbers}
 use Rattle.thread_machine.proofs.machine.Machine.step.Goals as goal
@@ -17,18 +16,3 @@ pub returns-in-Ok-clause-numbers : goal.returns-in-Ok-clause-numbers
 returns-in-Ok-clause-numbers c =
     result_numbers (Ok c.in-Ok.event) c.args.self.now c.stepped.new.self c.args.choice c.is_sound.ensures c.in-Ok.ensures.there
     c.in-Ok.ensures.played
-
-pub returns-in-Some-clause-counts : goal.returns-in-Some-clause-counts
-returns-in-Some-clause-counts c = λ counts stands.
-    (step_keeps c.args.self.now c.local_turn.new.self c.local_turn.result c.args.choice counts c.is_sound.ensures (c.in-Some.ensures.there refl)
-    c.local_turn.ensures.played stands).counts
-
-pub returns-in-Some-clause-safe : goal.returns-in-Some-clause-safe
-returns-in-Some-clause-safe c = λ counts stands.
-    (step_keeps c.args.self.now c.local_turn.new.self c.local_turn.result c.args.choice counts c.is_sound.ensures (c.in-Some.ensures.there refl)
-    c.local_turn.ensures.played stands).safe
-
-pub returns-in-Some-clause-numbers : goal.returns-in-Some-clause-numbers
-returns-in-Some-clause-numbers c =
-    result_numbers (Ok c.local_turn.result) c.args.self.now c.local_turn.new.self c.args.choice c.is_sound.ensures (c.in-Some.ensures.there refl)
-    c.local_turn.ensures.played

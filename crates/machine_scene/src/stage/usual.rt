@@ -1,0 +1,178 @@
+ghost use Rattle.std.specs.Prelude.{◌≡◌, ℕ, ◌+◌, ◌<◌, length, [], Some, None, is_some, IfSome};
+ghost use Rattle.std.specs.Option.{OnSome};
+ghost use Rattle.tier_tree.specs.Stored.{ChangedAt};
+ghost use Rattle.loader.specs.Program.{IsNamed, row_at};
+ghost use Rattle.thread_state.specs.Thread.{top_of};
+ghost use Rattle.machine_scene.specs.Scene.{scene_of, counts_in, thread_at};
+ghost use Rattle.machine_scene.specs.PhaserRows.{outcome_of_phaser_row};
+ghost use Rattle.machine_scene.specs.Waits.{outcome_of_phase_wait};
+ghost use Rattle.machine_scene.specs.Outcomes.{outcome_in, outcome_of, outcome_of_row};
+ghost use Rattle.machine_scene.specs.Sound.{IsSound, CanPlay, StandsAt, most_after, most_before};
+ghost use Rattle.machine_scene.specs.Asleep.{KeepsAsleep, MayFallAsleep, WakesNobody};
+ghost use Rattle.machine_scene.specs.Usual.{is_early, is_early_at, is_end, is_usual_in, is_usual};
+ghost use Rattle.machine_scene.specs.Undo.{PhasersWithin, CanUndo, reach_of_row, reach_in, note_of, undone};
+
+use super::asleep::set_at;
+use super::{Stage, alone};
+use instruction_table::{Reg, Row, is_local};
+use loader::Loaded;
+use thread_state::{Event, Status};
+
+/// Turns of the kinds that most turns of most programs are of. They wake nobody.
+impl Stage {
+    /// `turn`, where it is of such a kind: of a running thread at a row on registers alone, or at `parr` or `paaa` where
+    /// others are still to arrive, or the end of the wait at `paaa`. `None` where `turn` has to look, and nothing has
+    /// changed.
+    #[inline(always)]
+    pub fn usual_turn(&mut self, program: &Loaded, t: usize) -> Option<Event>
+        requires sound { IsSound program.now most_before (scene_of self.old) }
+        requires asleep { KeepsAsleep program.now self.old }
+        requires thread { t < length self.old.threads }
+        ensures usual { is_some result ≡ is_usual t program.now (scene_of self.old) }
+        ensures none { result ≡ None → self.new ≡ self.old }
+        ensures ok { IfSome result (λ event. outcome_of t program.now (scene_of self.old)
+            ≡ Some (record { scene = scene_of self.new; event = event })) }
+        ensures sound { OnSome result ((steps : ℕ) → steps < most_after
+            → IsSound program.now steps (scene_of self.old)
+            → IsSound program.now (steps + 1) (scene_of self.new)) }
+        ensures undo { OnSome result (undone (note_of t program.now self.old) self.new ≡ self.old) }
+        ensures can { OnSome result (CanUndo (note_of t program.now self.old) self.new) }
+        ensures threads { OnSome result (length self.new.threads ≡ length self.old.threads) }
+        ensures asleep { OnSome result (KeepsAsleep program.now self.new) }
+    {
+        let row = self.row_of(program, t);
+        self.phasers_are_stored();
+        // The answer goes on as it is: each arm names its case for the proof.
+        match self.usual_at(program, row, t) {
+            Some(event) => Some(event),
+            None => None,
+        }
+    }
+
+    /// What the thread is doing decides.
+    #[inline(always)]
+    fn usual_at(&mut self, program: &Loaded, row: Row, t: usize) -> Option<Event>
+        requires at { StandsAt program.now row t self.old }
+        requires row { row ≡ row_at program.now.rows (thread_at (scene_of self.old) t).pc }
+        ensures usual { is_some result ≡ is_usual_in (thread_at (scene_of self.old) t).status row
+            (thread_at (scene_of self.old) t).stack (scene_of self.old) }
+        ensures none { result ≡ None → self.new ≡ self.old }
+        ensures ok { IfSome result (λ event. outcome_in (thread_at (scene_of self.old) t).status row t
+            program.now (scene_of self.old)
+            ≡ Some (record { scene = scene_of self.new; event = event })) }
+        ensures phasers { OnSome result (PhasersWithin (reach_in (thread_at (scene_of self.old) t).status row
+            (top_of (thread_at (scene_of self.old) t).stack)) self.old.phasers self.new.phasers) }
+        ensures quiet { IfSome result (λ event. WakesNobody row event) }
+        ensures asleep { OnSome result (MayFallAsleep program.now t self.old self.new) }
+    {
+        match self.threads[t].status() {
+            Status::Runs => {
+                if is_local(row) {
+                    return Some(self.local_row(row, t));
+                }
+                self.early_row(program, row, t)
+            }
+            Status::AwaitsPhase(phase) => self.answer_after(row, phase, t),
+            _ => None,
+        }
+    }
+
+    /// An arrival at `parr` or `paaa` before the last. The thread's stack is empty, so that it runs no advance routine, and has
+    /// room for one.
+    #[inline(always)]
+    fn early_row(&mut self, program: &Loaded, row: Row, t: usize) -> Option<Event>
+        requires at { StandsAt program.now row t self.old }
+        requires row { row ≡ row_at program.now.rows (thread_at (scene_of self.old) t).pc }
+        ensures early { is_some result
+            ≡ is_early row (thread_at (scene_of self.old) t).stack (scene_of self.old) }
+        ensures none { result ≡ None → self.new ≡ self.old }
+        ensures ok { IfSome result (λ event. outcome_of_row row t program.now (scene_of self.old)
+            ≡ Some (record { scene = scene_of self.new; event = event })) }
+        ensures phasers { OnSome result (PhasersWithin (reach_of_row row
+            (top_of (thread_at (scene_of self.old) t).stack)) self.old.phasers self.new.phasers) }
+        ensures quiet { IfSome result (λ event. WakesNobody row event) }
+        ensures asleep { OnSome result (MayFallAsleep program.now t self.old self.new) }
+    {
+        if !self.threads[t].stack().is_empty() {
+            return None;
+        }
+        match row {
+            Row::Parr { into, phaser } => self.early_answer(program, into, phaser, t),
+            Row::Paaa { into, phaser } => self.early_wait(program, into, phaser, t),
+            _ => None,
+        }
+    }
+
+    /// `parr` before the last.
+    #[inline(always)]
+    fn early_answer(&mut self, program: &Loaded, into: Reg, phaser: u16, t: usize) -> Option<Event>
+        requires phaser { phaser < length self.old.phasers }
+        requires plays { CanPlay t self.old }
+        requires free { (thread_at (scene_of self.old) t).stack ≡ [] }
+        ensures early { is_some result ≡ is_early_at phaser (scene_of self.old) }
+        ensures none { result ≡ None → self.new ≡ self.old }
+        ensures ok { IfSome result (λ event.
+            outcome_of_phaser_row (Row.Parr into phaser) t program.now (scene_of self.old)
+            ≡ Some (record { scene = scene_of self.new; event = event })) }
+        ensures phasers { ChangedAt phaser self.old.phasers self.new.phasers }
+        ensures quiet { IfSome result (λ event. WakesNobody (Row.Parr into phaser) event) }
+        ensures asleep { self.new.asleep ≡ self.old.asleep }
+    {
+        let id = self.phaser_id(phaser);
+        match self.phasers.arrive_early(id) {
+            Some(phase) => Some(alone(self.threads[t].answer(into, phase))),
+            None => None,
+        }
+    }
+
+    /// `paaa` before the last: the thread falls asleep.
+    #[inline(always)]
+    fn early_wait(&mut self, program: &Loaded, into: Reg, phaser: u16, t: usize) -> Option<Event>
+        requires phaser { phaser < length self.old.phasers }
+        requires plays { CanPlay t self.old }
+        requires free { (thread_at (scene_of self.old) t).stack ≡ [] }
+        requires row { Row.Paaa into phaser ≡ row_at program.now.rows (thread_at (scene_of self.old) t).pc }
+        ensures early { is_some result ≡ is_early_at phaser (scene_of self.old) }
+        ensures none { result ≡ None → self.new ≡ self.old }
+        ensures ok { IfSome result (λ event.
+            outcome_of_phaser_row (Row.Paaa into phaser) t program.now (scene_of self.old)
+            ≡ Some (record { scene = scene_of self.new; event = event })) }
+        ensures phasers { ChangedAt phaser self.old.phasers self.new.phasers }
+        ensures quiet { IfSome result (λ event. WakesNobody (Row.Paaa into phaser) event) }
+        ensures asleep { OnSome result (MayFallAsleep program.now t self.old self.new) }
+    {
+        let id = self.phaser_id(phaser);
+        match self.phasers.arrive_early(id) {
+            Some(phase) => {
+                self.asleep = set_at(self.asleep, t, true);
+                Some(alone(self.threads[t].wait(phase)))
+            }
+            None => None,
+        }
+    }
+
+    /// The end of a wait at `paaa`, where the phase is another by now.
+    #[inline(always)]
+    fn answer_after(&mut self, row: Row, phase: i32, t: usize) -> Option<Event>
+        requires named { IsNamed (counts_in self.old) row }
+        requires plays { CanPlay t self.old }
+        ensures end { is_some result ≡ is_end row phase (scene_of self.old) }
+        ensures none { result ≡ None → self.new ≡ self.old }
+        ensures ok { IfSome result (λ event. outcome_of_phase_wait row phase t (scene_of self.old)
+            ≡ Some (record { scene = scene_of self.new; event = event })) }
+        ensures phasers { self.new.phasers ≡ self.old.phasers }
+        ensures quiet { IfSome result (λ event. WakesNobody row event) }
+        ensures asleep { self.new.asleep ≡ self.old.asleep }
+    {
+        match row {
+            Row::Paaa { into, phaser } => {
+                let view = self.phasers.phase(self.phaser_id(phaser));
+                if view == phase {
+                    return None;
+                }
+                Some(alone(self.threads[t].answer(into, view)))
+            }
+            _ => None,
+        }
+    }
+}
