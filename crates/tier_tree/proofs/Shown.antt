@@ -366,30 +366,16 @@ late_read forest i top own_word own stored there read is_own is_top ended =
     comes_late (record_of top) (record_of own_word) ended
     ∙ ap (arrive false) (below_read forest i top own_word own (present (record_of top) (record_of own_word)) stored there read is_own is_top (λ _. refl))
 
-pub word_read : (forest : List Stored) (i r w wt wo : ℕ) (own top : Stored) → IsStored forest → i < length forest → own ≡ get_or forest i own → r ≡ top_of own
-    → top ≡ get_or forest r top → wt ≡ top.word → wo ≡ own.word → record_of w ≡ present (record_of wt) (record_of wo)
-    → record_of w ≡ flat_at (phasers_of forest) i
-word_read forest i r w wt wo own top stored there read_own is_top read_top is_wt is_wo is =
-    let own_is : own ≡ stored_at forest i = get_or_read forest i own there read_own no_stored in
-    let r_is : r ≡ top_at forest i = is_top ∙ ap top_of own_is in
-    let top_is : top ≡ stored_at forest r = get_or_read forest r top (top_read forest i r own stored there read_own is_top) read_top no_stored in
-    is ∙ ap (λ (n : ℕ). present (record_of n) (record_of wo)) (is_wt ∙ ap (λ (s : Stored). s.word) (top_is ∙ ap (stored_at forest) r_is))
-    ∙ ap (λ (n : ℕ). present (kept_flat (stored_at forest (top_at forest i))) (record_of n)) (is_wo ∙ ap (λ (s : Stored). s.word) own_is)
-    ∙ sym (flat_shown forest i there)
-
 -- the phase that a phaser shows is that of its root
 view-present : (top own : Flat) → (top.ended ≡ false → own.ended ≡ false) → view_of (present top own) ≡ view_of top
 view-present top own live =
     ap (λ (p : ℕ). phase_view p (present top own).ended) (present-phase top own) ∙ ap (phase_view top.phase) (present-ended top own live)
 
-pub view_read : (forest : List Stored) (i r w : ℕ) (own top : Stored) → IsStored forest → i < length forest → own ≡ get_or forest i own → r ≡ top_of own
-    → top ≡ get_or forest r top → w ≡ top.word → view_of (record_of w) ≡ view_of (flat_at (phasers_of forest) i)
-view_read forest i r w own top stored there read_own is_top read_top is_w =
-    let r_is : r ≡ top_at forest i = is_top ∙ ap top_of (get_or_read forest i own there read_own no_stored) in
-    let top_is : top ≡ stored_at forest r = get_or_read forest r top (top_read forest i r own stored there read_own is_top) read_top no_stored in
-    let w_is : record_of w ≡ kept_flat (stored_at forest (top_at forest i)) =
-    ap record_of (is_w ∙ ap (λ (s : Stored). s.word) (top_is ∙ ap (stored_at forest) r_is)) in
-    ap view_of w_is ∙ sym (ap view_of (flat_shown forest i there)
+pub view_read : (forest : List Stored) (i top : ℕ) → IsStored forest → i < length forest → top ≡ (stored_at forest (root_at (phasers_of forest) i)).word
+    → view_of (record_of top) ≡ view_of (flat_at (phasers_of forest) i)
+view_read forest i top stored there is =
+    ap (λ (w : ℕ). view_of (record_of w)) (is ∙ ap (λ (n : ℕ). (stored_at forest n).word) (root_shown forest i there))
+    ∙ sym (ap view_of (flat_shown forest i there)
     ∙ view-present (kept_flat (stored_at forest (top_at forest i))) (kept_flat (stored_at forest i)) (stored.live i there))
 
 pub puts_read : (forest : List Stored) (i w : ℕ) (d x : Stored) → x ≡ record (get_or forest i d) { word = w }

@@ -87,9 +87,8 @@ pub fn word_at(nodes: &[Node], i: usize) -> Word
     requires there { i < length nodes.now }
     ensures { record_of result ≡ flat_at (phasers_of nodes.now) i }
 {
-    let node = &nodes[i];
-    let root = &nodes[node.root() as usize];
-    brought_up(root.word(), node.word())
+    let top = top_at(nodes, i);
+    brought_up(top, nodes[i].word())
 }
 
 /// What one phaser shows as its phase at present: that of its root, whatever its own word says.
@@ -99,8 +98,7 @@ pub fn view_at(nodes: &[Node], i: usize) -> i32
     requires there { i < length nodes.now }
     ensures { result ≡ view_of (flat_at (phasers_of nodes.now) i) }
 {
-    let root = nodes[i].root();
-    nodes[root as usize].word().phase_view()
+    top_at(nodes, i).phase_view()
 }
 
 /// Another word of the present phase for one phaser.

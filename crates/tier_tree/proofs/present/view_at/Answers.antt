@@ -1,13 +1,8 @@
 use Rattle.std.proofs.Common.{rules}
-use Rattle.tier_tree.proofs.Shown.{top_read, view_read}
+use Rattle.tier_tree.proofs.Shown.{view_read}
 use Rattle.tier_tree.proofs.present.view_at.Goals as goal
-
-pub bounds-nodes-root : goal.bounds-nodes-root
-bounds-nodes-root c =
-    top_read c.args.nodes.now c.args.i c.root-root.result c.index-nodes-i.result c.requires.stored c.requires.there c.index-nodes-i.is c.root-root.ensures
 
 pub returns : goal.returns
 returns c =
-    let shows = view_read c.args.nodes.now c.args.i c.root-root.result c.word.result c.index-nodes-i.result c.index-nodes-root.result
-    c.requires.stored c.requires.there c.index-nodes-i.is c.root-root.ensures c.index-nodes-root.is c.word.ensures in
+    let shows = view_read c.args.nodes.now c.args.i c.top_at.result c.requires.stored c.requires.there c.top_at.ensures in
     search (rules, shows)

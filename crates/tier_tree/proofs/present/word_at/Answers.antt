@@ -1,12 +1,8 @@
-use Rattle.tier_tree.proofs.Shown.{top_read, word_read}
+use Rattle.packed_phaser.specs.Word.{record_of}
+use Rattle.tier_tree.proofs.Shown.{below_read}
 use Rattle.tier_tree.proofs.present.word_at.Goals as goal
-
-pub bounds-nodes-root : goal.bounds-nodes-root
-bounds-nodes-root c =
-    top_read c.args.nodes.now c.args.i c.root.result c.index-nodes-i.result c.requires.stored c.requires.there c.index-nodes-i.is c.root.ensures
 
 pub returns : goal.returns
 returns c =
-    word_read c.args.nodes.now c.args.i c.root.result c.brought_up.result c.word.result c.word-2.result c.index-nodes-i.result
-    c.index-nodes-root.result c.requires.stored c.requires.there c.index-nodes-i.is c.root.ensures c.index-nodes-root.is c.word.ensures
-    c.word-2.ensures c.brought_up.ensures
+    below_read c.args.nodes.now c.args.i c.top_at-top.result c.word.result c.index-nodes-i.result (record_of c.brought_up.result)
+    c.requires.stored c.requires.there c.index-nodes-i.is c.word.ensures c.top_at-top.ensures (λ _. c.brought_up.ensures)
