@@ -20,7 +20,7 @@ from pathlib import Path
 LIST = Path(__file__).resolve().parent / "abstract.txt"
 WORD = r"[A-Za-z_][\w-]*"
 GIVEN, TAKEN, WITHIN = "given", "taken", "within"
-BEHIND = {"OnOk", "OnErr", "IfOk", "IfErr", "IfSome"}
+BEHIND = {"OnOk", "OnErr", "OnSome", "IfOk", "IfErr", "IfSome"}
 
 
 class Mark:
