@@ -2,4 +2,4 @@
 
 /// The version, the kit whose logic proves it, and the sum of the sources but for this file.
 pub const VERSION: &str =
-    "0.1.0\nkit rattle-kit-13f logic dac8208d650f15bf\nsources dc912d7462afabd5fa8c2f25fee0cd3c9171e5d8832e1b39ea936cf546a82724";
+    "0.1.0\nkit rattle-kit-13f logic dac8208d650f15bf\nsources c980a03b5b789ece5b13d18a37ebd37537d81ac02ec25b8f198566d496c66b4e";
