@@ -1,12 +1,12 @@
 -- The first scene of a loaded program is sound.
-use Rattle.std.proofs.Common.{inl, inr, ◌≡◌, ◌∙◌, ℕ, zero, suc, Bool, false, List, [], ◌∷◌, length, map, replicate, get_or, ap, refl, sym, subst, arith}
+use Rattle.std.proofs.Common.{inl, inr, ◌≡◌, ◌≤◌, ◌∙◌, ℕ, zero, suc, Bool, false, List, [], ◌∷◌, length, map, replicate, get_or, ap, refl, sym, subst, arith}
 use Rattle.std.specs.Prelude.{is_some, Option, None, All}
 use Rattle.std.proofs.lemmas.Bool.{cases_lt}
 use Rattle.std.proofs.lemmas.List.{length-map, length-replicate, get_or-replicate, get_or_past}
 use Rattle.std.proofs.lemmas.List.Elements.{All-map}
 use Rattle.tier_tree.specs.Forest.{PhaserState}
 use Rattle.tier_tree.specs.Sound.{IsForest}
-use Rattle.tier_tree.specs.Stored.{phasers_of}
+use Rattle.tier_tree.specs.Stored.{phasers_of, IsStored}
 use Rattle.tier_tree.proofs.Shown.{length-shown}
 use Rattle.cyclic_barrier.specs.declared.answer.WaitState.{WaitState}
 use Rattle.cyclic_barrier.specs.Waits.{wait_at}
@@ -83,3 +83,27 @@ sound_start program is forest =
     let heads : length (map starting program.threads) ≡ length program.threads = length-map program.threads starting in
     let same : counts_of program (first_scene program) ≡ program_counts program = cc (heads, length-shown program.phasers) in
     sound_with program (phasers_of program.phasers) (subst (IsCode program) (sym same) is.code) is.threads is.barriers is.phasers forest
+
+-- more steps may have been taken
+pub sound_with_more : (program : Program) (scene : Scene) (steps more : ℕ) → steps ≤ more → IsSound program steps scene
+    → IsSound program more scene
+sound_with_more program scene steps more most sound = record {
+  code = sound.code;
+  few_threads = sound.few_threads;
+  few_barriers = sound.few_barriers;
+  trees = record {
+    forest = sound.trees.forest;
+    stands = sound.trees.stands;
+    ends = λ id. let few = sound.trees.ends id in omega (arith, few, most);
+  };
+  placed = sound.placed;
+  advances = sound.advances;
+  actions = sound.actions;
+  room = sound.room;
+  waits = sound.waits;
+}
+
+pub first_scene_is_sound : (program : Program) → IsProgram program → IsStored program.phasers → (steps : ℕ)
+    → IsSound program steps (first_scene program)
+first_scene_is_sound program whole stored steps =
+    sound_with_more program (first_scene program) 0 steps (omega arith) (sound_start program whole stored.places)

@@ -10,7 +10,7 @@ use Rattle.cyclic_barrier.specs.Barrier.{Entry, enter_timed, reset, number_waiti
 use Rattle.loader.specs.Program.{Program}
 use Rattle.thread_state.specs.declared.event.Mark.TheVariants as mark
 use Rattle.thread_state.specs.Thread.{turn_of_throw, turn_of_interruption, turn_of_answer, turn_of_done, turn_of_barrier_wait, turn_of_action, is_full}
-use Rattle.machine_scene.specs.Scene.{Scene, Outcome, thread_at, barrier_at, action_at, with_barrier, outcome_of_turn, outcome_marked}
+use Rattle.machine_scene.specs.Scene.{Scene, Outcome, thread_at, barrier_at, action_at, with_barrier, outcome_of_turn, outcome_marked, alone}
 
 -- this thread runs the action
 abbrev pub is_run_by : ℕ → Option ℕ → Bool
@@ -34,20 +34,16 @@ unless_runner b t scene outcome =
 
 -- an entry, by its answer; one beside another's action isn't ready
 abbrev pub outcome_of_entered : Entered → Reg → ℕ → ℕ → Program → Scene → Option Outcome
-outcome_of_entered (entered.Wait index) into b t program scene =
-    Some (outcome_of_turn (turn_of_barrier_wait index (thread_at scene t)) t scene)
-outcome_of_entered entered.Run into b t program scene =
-    Some (outcome_of_turn (turn_of_action b (action_at program b) (thread_at scene t)) t scene)
+outcome_of_entered (entered.Wait index) into b t program scene = Some (alone (turn_of_barrier_wait index) t scene)
+outcome_of_entered entered.Run into b t program scene = Some (alone (turn_of_action b (action_at program b)) t scene)
 outcome_of_entered entered.Tripped into b t program scene =
     Some (outcome_marked (mark.Tripped b) (turn_of_answer into (pos 0) (thread_at scene t)) t scene)
-outcome_of_entered entered.Broken into b t program scene =
-    Some (outcome_of_turn (turn_of_throw (pos 4) (thread_at scene t)) t scene)
+outcome_of_entered entered.Broken into b t program scene = Some (alone (turn_of_throw (pos 4)) t scene)
 outcome_of_entered entered.Interrupted into b t program scene =
     Some (outcome_marked (mark.Broke b) (turn_of_interruption (thread_at scene t)) t scene)
 outcome_of_entered entered.TimedOut into b t program scene =
     Some (outcome_marked (mark.Broke b) (turn_of_throw (pos 5) (thread_at scene t)) t scene)
-outcome_of_entered entered.Own into b t program scene =
-    Some (outcome_of_turn (turn_of_throw (pos 1) (thread_at scene t)) t scene)
+outcome_of_entered entered.Own into b t program scene = Some (alone (turn_of_throw (pos 1)) t scene)
 outcome_of_entered entered.Busy into b t program scene = None
 
 -- thread t comes to barrier b
@@ -85,5 +81,5 @@ outcome_of_barrier_row (Cwaiting into b) t program scene =
     unless_busy b t scene (unless_runner b t scene
     (Some (outcome_of_turn (turn_of_answer into (pos (number_waiting (barrier_at scene b))) (thread_at scene t)) t scene)))
 outcome_of_barrier_row (Cparties into b) t program scene =
-    Some (outcome_of_turn (turn_of_answer into (pos (barrier_at scene b).parties) (thread_at scene t)) t scene)
+    Some (alone (turn_of_answer into (pos (barrier_at scene b).parties)) t scene)
 outcome_of_barrier_row _ t program scene = None

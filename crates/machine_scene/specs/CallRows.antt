@@ -15,7 +15,7 @@ use Rattle.thread_state.specs.declared.frame.Frame.TheVariants as frame
 use Rattle.thread_state.specs.Thread.{ThreadState, turn_of_throw, turn_of_answer, turn_of_call, turn_of_try, turn_of_endtry, turn_of_return, top_of, left_routine}
 use Rattle.machine_scene.specs.declared.manner.Manner.{Manner}
 use Rattle.machine_scene.specs.Manner.{manner_of}
-use Rattle.machine_scene.specs.Scene.{Scene, Outcome, thread_at, barrier_at, with_thread, with_barrier, outcome_of_turn, outcome_marked}
+use Rattle.machine_scene.specs.Scene.{Scene, Outcome, thread_at, barrier_at, with_thread, with_barrier, outcome_of_turn, outcome_marked, alone}
 use Rattle.machine_scene.specs.PhaserRows.{outcome_of_phase_end}
 
 -- an advance routine has answered, and its thread is back at the arrival: the phase ends, or the tree was terminated
@@ -37,10 +37,9 @@ outcome_of_action_end manner b t scene =
 -- `ret`, by the top entry; the first register is a routine's answer, and any number but 0 terminates. Where it isn't that
 -- of a call, a routine or an action, that is exception 7
 abbrev pub outcome_of_ret : Option Frame → ℕ → Program → Scene → Outcome
-outcome_of_ret None t program scene = outcome_of_turn (turn_of_throw (pos 7) (thread_at scene t)) t scene
-outcome_of_ret (Some (frame.Call row)) t program scene = outcome_of_turn (turn_of_return row (thread_at scene t)) t scene
-outcome_of_ret (Some (frame.Handler row)) t program scene =
-    outcome_of_turn (turn_of_throw (pos 7) (thread_at scene t)) t scene
+outcome_of_ret None t program scene = alone (turn_of_throw (pos 7)) t scene
+outcome_of_ret (Some (frame.Call row)) t program scene = alone (turn_of_return row) t scene
+outcome_of_ret (Some (frame.Handler row)) t program scene = alone (turn_of_throw (pos 7)) t scene
 outcome_of_ret (Some (frame.Advance root registers row)) t program scene =
     let thread : ThreadState = thread_at scene t in
     outcome_of_routine_end (flat_at scene.phasers root).ended (manner_of (row_at program.rows row)) root
@@ -51,9 +50,9 @@ outcome_of_ret (Some (frame.Action b registers row)) t program scene =
 
 -- what such a row does; a row of another group has no outcome here
 abbrev pub outcome_of_call_row : Row → ℕ → Program → Scene → Option Outcome
-outcome_of_call_row (Call target) t program scene = Some (outcome_of_turn (turn_of_call target (thread_at scene t)) t scene)
+outcome_of_call_row (Call target) t program scene = Some (alone (turn_of_call target) t scene)
 outcome_of_call_row Ret t program scene = Some (outcome_of_ret (top_of (thread_at scene t).stack) t program scene)
-outcome_of_call_row (Try handler) t program scene = Some (outcome_of_turn (turn_of_try handler (thread_at scene t)) t scene)
+outcome_of_call_row (Try handler) t program scene = Some (alone (turn_of_try handler) t scene)
 outcome_of_call_row Endtry t program scene =
     let thread : ThreadState = thread_at scene t in
     Some (outcome_of_turn (turn_of_endtry (top_of thread.stack) thread) t scene)

@@ -7,7 +7,7 @@ use Rattle.instruction_table.specs.Registers.{value_in}
 use Rattle.thread_state.specs.declared.status.Status.{Status}
 use Rattle.thread_state.specs.declared.status.Status.TheVariants as status
 use Rattle.thread_state.specs.Thread.{ThreadState, turn_of_out, turn_of_answer, turn_of_done, turn_of_intrd, interrupted}
-use Rattle.machine_scene.specs.Scene.{Scene, Outcome, thread_at, cell_at, with_thread, with_cell, outcome_of_turn}
+use Rattle.machine_scene.specs.Scene.{Scene, Outcome, thread_at, cell_at, with_thread, with_cell, outcome_of_turn, alone}
 
 -- `sts`: thread t stores a register into a cell
 abbrev pub outcome_of_store : Reg → ℕ → ℕ → Scene → Outcome
@@ -23,14 +23,12 @@ outcome_of_interrupt other t scene =
 
 -- what such a row does; a row of another group has no outcome here
 abbrev pub outcome_of_data_row : Row → ℕ → Scene → Option Outcome
-outcome_of_data_row (Out value) t scene = Some (outcome_of_turn (turn_of_out value (thread_at scene t)) t scene)
-outcome_of_data_row (Lds into cell) t scene =
-    Some (outcome_of_turn (turn_of_answer into (cell_at scene cell) (thread_at scene t)) t scene)
+outcome_of_data_row (Out value) t scene = Some (alone (turn_of_out value) t scene)
+outcome_of_data_row (Lds into cell) t scene = Some (alone (turn_of_answer into (cell_at scene cell)) t scene)
 outcome_of_data_row (Sts from cell) t scene = Some (outcome_of_store from cell t scene)
-outcome_of_data_row (SelfNumber into) t scene =
-    Some (outcome_of_turn (turn_of_answer into (pos t) (thread_at scene t)) t scene)
+outcome_of_data_row (SelfNumber into) t scene = Some (alone (turn_of_answer into (pos t)) t scene)
 outcome_of_data_row (Intr other) t scene = Some (outcome_of_interrupt other t scene)
-outcome_of_data_row (Intrd into) t scene = Some (outcome_of_turn (turn_of_intrd into (thread_at scene t)) t scene)
+outcome_of_data_row (Intrd into) t scene = Some (alone (turn_of_intrd into) t scene)
 outcome_of_data_row _ t scene = None
 
 -- whether a thread plays its rows

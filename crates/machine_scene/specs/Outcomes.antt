@@ -36,8 +36,7 @@ outcome_in status.Runs row t program scene = outcome_of_row row t program scene
 outcome_in (status.Throws code) row t program scene = Some (outcome_of_pop code t scene)
 outcome_in (status.AwaitsPhase phase) row t program scene = outcome_of_phase_wait row phase t scene
 outcome_in (status.AwaitsBarrier index) row t program scene = outcome_of_barrier_wait row index t scene
-outcome_in status.Ended row t program scene = None
-outcome_in (status.Died code) row t program scene = None
+outcome_in _ row t program scene = None
 
 -- the turn of thread t
 abbrev pub outcome_of : ℕ → Program → Scene → Option Outcome
@@ -50,12 +49,9 @@ is_ready t program scene = is_some (outcome_of t program scene)
 
 -- the time of a wait runs out, by the thread's status
 abbrev pub timeout_in : Status → Row → ℕ → Scene → Option Outcome
-timeout_in status.Runs row t scene = None
-timeout_in (status.Throws code) row t scene = None
 timeout_in (status.AwaitsPhase phase) row t scene = outcome_of_phase_timeout row t scene
 timeout_in (status.AwaitsBarrier index) row t scene = outcome_of_barrier_timeout row t scene
-timeout_in status.Ended row t scene = None
-timeout_in (status.Died code) row t scene = None
+timeout_in _ row t scene = None
 
 -- the expiry of thread t's wait, which has no outcome where the thread's turn has one
 abbrev pub outcome_of_expiry : ℕ → Program → Scene → Option Outcome

@@ -26,7 +26,7 @@ use Rattle.machine_scene.specs.declared.manner.Manner.{Manner}
 use Rattle.machine_scene.specs.declared.patience.Patience.{Patience}
 use Rattle.machine_scene.specs.declared.patience.Patience.TheVariants as patience
 use Rattle.machine_scene.specs.Manner.{manner_of}
-use Rattle.machine_scene.specs.Scene.{Scene, Outcome, thread_at, routine_at, with_phasers, outcome_of_turn, outcome_marked}
+use Rattle.machine_scene.specs.Scene.{Scene, Outcome, thread_at, routine_at, with_phasers, outcome_of_turn, outcome_marked, alone}
 
 -- the thread runs the advance routine of this phaser's tree
 abbrev pub is_own_tree : ℕ → ThreadState → Scene → Bool
@@ -34,10 +34,8 @@ is_own_tree p thread scene = list_any (is_advance (root_at scene.phasers p)) thr
 
 -- the policy is a routine of the program
 abbrev pub is_routine_policy : Policy → Bool
-is_routine_policy policy.Default = false
-is_routine_policy policy.Never = false
-is_routine_policy (policy.Until phase) = false
 is_routine_policy policy.Routine = true
+is_routine_policy _ = false
 
 -- this phaser's tree has an advance routine: its root's policy alone counts
 abbrev pub has_routine : ℕ → Scene → Bool
@@ -77,14 +75,11 @@ turn_of_arrival manner phase thread =
 
 -- by what the arrival came to
 abbrev pub outcome_of_arrived : Arrived → Manner → ℕ → Program → Scene → Outcome
-outcome_of_arrived (arrived.At phase) manner t program scene =
-    outcome_of_turn (turn_of_arrival manner phase (thread_at scene t)) t scene
+outcome_of_arrived (arrived.At phase) manner t program scene = alone (turn_of_arrival manner phase) t scene
 outcome_of_arrived (arrived.Turning root phase parties) manner t program scene =
     outcome_of_pending_end (answer_of_policy root.0 scene) manner root.0 phase t program scene
-outcome_of_arrived (arrived.Dead view) manner t program scene =
-    outcome_of_turn (turn_of_answer manner.into view (thread_at scene t)) t scene
-outcome_of_arrived arrived.NotThere manner t program scene =
-    outcome_of_turn (turn_of_throw (pos 1) (thread_at scene t)) t scene
+outcome_of_arrived (arrived.Dead view) manner t program scene = alone (turn_of_answer manner.into view) t scene
+outcome_of_arrived arrived.NotThere manner t program scene = alone (turn_of_throw (pos 1)) t scene
 
 -- thread t arrives at phaser p
 abbrev pub outcome_with_room : Manner → ℕ → ℕ → Program → Scene → Outcome
@@ -101,12 +96,9 @@ outcome_of_arrival manner p t program scene =
 
 -- a registration, by its answer; one that would have to wait isn't ready
 abbrev pub outcome_of_registered : Registered → Reg → ℕ → Scene → Option Outcome
-outcome_of_registered (registered.At phase) into t scene =
-    Some (outcome_of_turn (turn_of_answer into phase (thread_at scene t)) t scene)
-outcome_of_registered (registered.Dead view) into t scene =
-    Some (outcome_of_turn (turn_of_answer into view (thread_at scene t)) t scene)
-outcome_of_registered registered.TooMany into t scene =
-    Some (outcome_of_turn (turn_of_throw (pos 1) (thread_at scene t)) t scene)
+outcome_of_registered (registered.At phase) into t scene = Some (alone (turn_of_answer into phase) t scene)
+outcome_of_registered (registered.Dead view) into t scene = Some (alone (turn_of_answer into view) t scene)
+outcome_of_registered registered.TooMany into t scene = Some (alone (turn_of_throw (pos 1)) t scene)
 outcome_of_registered registered.Held into t scene = None
 
 -- thread t registers parties with phaser p
@@ -144,7 +136,7 @@ turn_of_await patience into phase view thread =
 -- thread t asks it of phaser p
 abbrev pub outcome_of_await : Patience → Reg → ℕ → ℤ → ℕ → Scene → Outcome
 outcome_of_await patience into p phase t scene =
-    outcome_of_turn (turn_of_await patience into phase (view_of (flat_at scene.phasers p)) (thread_at scene t)) t scene
+    alone (turn_of_await patience into phase (view_of (flat_at scene.phasers p))) t scene
 
 -- thread t terminates the tree of phaser p; where it was terminated, nothing changes
 abbrev pub outcome_of_force : ℕ → ℕ → Scene → Outcome

@@ -109,6 +109,10 @@ outcome_marked mark turn t scene =
 abbrev pub outcome_of_turn : Turn → ℕ → Scene → Outcome
 outcome_of_turn turn t scene = outcome_marked mark.Nothing turn t scene
 
+-- thread t takes this turn, and nothing else happens
+abbrev pub alone : (ThreadState → Turn) → ℕ → Scene → Outcome
+alone turn t scene = outcome_of_turn (turn (thread_at scene t)) t scene
+
 -- a thread at the row that it is declared with
 abbrev pub starting : DeclaredThread → ThreadState
 starting thread = new_thread thread.first_row

@@ -11,13 +11,12 @@ use Rattle.packed_phaser.specs.Flat.{view_of}
 use Rattle.tier_tree.specs.Forest.{flat_at}
 use Rattle.thread_state.specs.declared.event.Mark.TheVariants as mark
 use Rattle.thread_state.specs.Thread.{turn_of_answer, turn_of_throw, turn_of_interruption}
-use Rattle.machine_scene.specs.Scene.{Scene, Outcome, thread_at, barrier_at, with_barrier, outcome_of_turn, outcome_marked}
+use Rattle.machine_scene.specs.Scene.{Scene, Outcome, thread_at, barrier_at, with_barrier, outcome_of_turn, outcome_marked, alone}
 use Rattle.machine_scene.specs.PhaserRows.{is_past}
 
 -- the answer is the view that this step finds
 abbrev pub outcome_of_view : Reg → ℕ → ℕ → Scene → Outcome
-outcome_of_view into p t scene =
-    outcome_of_turn (turn_of_answer into (view_of (flat_at scene.phasers p)) (thread_at scene t)) t scene
+outcome_of_view into p t scene = alone (turn_of_answer into (view_of (flat_at scene.phasers p))) t scene
 
 -- the wait of thread t for the end of this phase: its end is looked at before an interruption, which ends a wait that
 -- looks for it
@@ -60,8 +59,7 @@ outcome_of_barrier_wait _ index t scene = None
 
 -- the time of thread t's wait for a phase runs out: exception 5
 abbrev pub outcome_of_phase_timeout : Row → ℕ → Scene → Option Outcome
-outcome_of_phase_timeout (Pawaitt into p number time) t scene =
-    Some (outcome_of_turn (turn_of_throw (pos 5) (thread_at scene t)) t scene)
+outcome_of_phase_timeout (Pawaitt into p number time) t scene = Some (alone (turn_of_throw (pos 5)) t scene)
 outcome_of_phase_timeout _ t scene = None
 
 -- the time of thread t's wait at a barrier runs out: exception 5, and the barrier breaks; not while a thread runs the

@@ -1,8 +1,11 @@
 ghost use Rattle.std.specs.Prelude.{◌≡◌, ℕ, ◌&&◌, not, is_some};
 ghost use Rattle.loader.specs.Program.{Program, row_at};
-ghost use Rattle.machine_scene.specs.Scene.{Scene, thread_at};
+ghost use Rattle.machine_scene.specs.Scene.{Scene, thread_at, first_scene};
 ghost use Rattle.machine_scene.specs.Outcomes.{is_ready, outcome_of_expiry};
 ghost use Rattle.machine_scene.specs.Ready.{is_listed, can_run_out};
+ghost use Rattle.machine_scene.specs.Sound.{IsSound};
+
+use loader::Loaded;
 
 /// A turn is ready just where the list of statuses and rows names it, and a wait can run out just where the thread's turn isn't
 /// ready and the list of timed waits names it. Nothing runs.
@@ -14,3 +17,12 @@ pub fn who_is_ready()
         ≡ (not (is_ready t program scene)
         && can_run_out (thread_at scene t).status (row_at program.rows (thread_at scene t).pc) scene) }
 {}
+
+/// The first scene of a loaded program is sound, however many steps are granted from there.
+#[tactic(auto, using(crate::proofs::Start::first_scene_is_sound))]
+pub fn a_first_scene_is_sound(program: &Loaded)
+    ensures { (steps : ℕ) → IsSound program.now steps (first_scene program.now) }
+{
+    program.each_program_is_whole();
+    program.phasers().is_forest();
+}

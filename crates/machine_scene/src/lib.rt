@@ -15,6 +15,6 @@ mod patience;
 mod reach;
 mod stage;
 
-pub use law::who_is_ready;
+pub use law::{a_first_scene_is_sound, who_is_ready};
 pub use note::SceneNote;
 pub use stage::Stage;

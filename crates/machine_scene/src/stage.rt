@@ -1,7 +1,7 @@
 ghost use Rattle.std.specs.Prelude.{◌≡◌, ℕ, ◌+◌, ◌<◌, ◌≤◌, length, replicate, pos, true, false, Some, is_some, IfSome, IsErr, IfOk, OnErr, OnOk};
 ghost use Rattle.std.specs.List.{list_all};
 ghost use Rattle.instruction_table.specs.LocalRows.{is_local_row};
-ghost use Rattle.loader.specs.Program.{row_at};
+ghost use Rattle.loader.specs.Program.{Program, row_at};
 ghost use Rattle.thread_state.specs.Thread.{ThreadState, is_finished, top_of};
 ghost use Rattle.machine_scene.specs.Scene.{scene_of, thread_at, barrier_at};
 ghost use Rattle.machine_scene.specs.DataRows.{runs, may_grow};
@@ -87,16 +87,18 @@ fn copies(alloc: Global, threads: &[Thread]) -> Result<Vec<Thread>, AllocError>
 
 impl Stage {
     /// These threads, phasers and barriers, and cells of 0.
+    #[tactic(auto, using(crate::proofs::Asleep::nobody_kept))]
     pub fn new(threads: Vec<Thread>, phasers: Forest, barriers: Vec<Barrier>) -> Stage
         requires threads { length threads.items ≤ 64 }
         requires barriers { length barriers.items ≤ 64 }
-        ensures { result ≡ record {
+        ensures stage { result ≡ record {
           cells = replicate 32 (pos 0);
           threads = threads.items;
           phasers = phasers;
           barriers = barriers.items;
           asleep = 0;
         } }
+        ensures asleep { (program : Program) → KeepsAsleep program result }
     {
         Stage {
             cells: [0; 32],

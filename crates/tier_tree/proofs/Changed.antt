@@ -147,6 +147,9 @@ pub restored_call : (id : ℕ) (before after now : List Stored) (saved : List Ke
 restored_call id before after now saved is kept changed =
     is ∙ ap (λ (ks : List Kept). restored ks after) kept ∙ restored_line (stored_at before id).line before after changed
 
+pub saved_restored : (id : ℕ) (before after : List Stored) → ChangedAt id before after → restored (saved_of id before) after ≡ before
+saved_restored id before after changed = restored_line (stored_at before id).line before after changed
+
 pub place_is : (node : Stored) (p : PhaserState) → node.line ≡ p.line → node.policy ≡ p.policy → place_in node ≡ place_of p
 place_is node p line policy =
     let by_line : List ℕ → Place = λ l. record { line = l; policy = node.policy } in

@@ -25,4 +25,4 @@ pub use fault::DeclareFault;
 pub use forest::Forest;
 pub use id::PhaserId;
 pub use registered::Registered;
-pub use saved::Saved;
+pub use saved::{Saved, what_was_saved_is_restored};

@@ -1,5 +1,5 @@
-ghost use Rattle.std.specs.Prelude.{◌≡◌, ◌<◌, ◌≤◌, map, take, length, All};
-ghost use Rattle.tier_tree.specs.Stored.{IsStored, stored_at};
+ghost use Rattle.std.specs.Prelude.{◌≡◌, ◌<◌, ◌≤◌, ℕ, List, map, take, length, All};
+ghost use Rattle.tier_tree.specs.Stored.{Stored, IsStored, ChangedAt, stored_at};
 ghost use Rattle.tier_tree.specs.Undo.{kept_by, kept_at, saved_of, with_kept, restored};
 
 use crate::node::Node;
@@ -102,3 +102,10 @@ pub fn put_back_all(nodes: &mut [Node], saved: &Saved)
 {
     put_back_each(nodes, &saved.kept[..saved.len as usize]);
 }
+
+/// What was saved of a forest gives it back, where no word changed but those from that phaser up to its root.
+#[tactic(auto, using(crate::proofs::Changed::saved_restored))]
+pub fn what_was_saved_is_restored()
+    ensures { (id : ℕ) (before after : List Stored) → ChangedAt id before after
+        → restored (saved_of id before) after ≡ before }
+{}
