@@ -2,7 +2,11 @@ package kit.wrong.burst;
 
 import java.util.concurrent.BrokenBarrierException;
 
-/** The action runs without the lock: nobody else comes in, but whose time is over meanwhile leaves. */
+/**
+ * The action runs without the lock: nobody else comes in, but whose time is over meanwhile leaves.
+ *
+ * <p>Found by time-during-the-action; in lock-step where others come in too.
+ */
 public final class ActionRunsWithoutTheLock extends LockedFactory {
     @Override
     LockedBarrier lockedBarrier(int parties, Runnable action) {

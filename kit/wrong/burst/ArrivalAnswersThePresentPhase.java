@@ -1,6 +1,10 @@
 package kit.wrong.burst;
 
-/** An arrival that doesn't end its phase answers the phase that it reads when it has given the lock back. */
+/**
+ * An arrival that doesn't end its phase answers the phase that it reads when it has given the lock back.
+ *
+ * <p>Found by meetings.
+ */
 public final class ArrivalAnswersThePresentPhase extends LockedFactory {
     @Override
     LockedPhaser phaser(int parties, OnAdvance asked) {

@@ -1,6 +1,10 @@
 package kit.wrong.burst;
 
-/** Arrivals are counted by reading and writing, without the lock: one of two at once may be lost. */
+/**
+ * Arrivals are counted by reading and writing, without the lock: one of two at once may be lost.
+ *
+ * <p>Found by meetings.
+ */
 public final class ArrivalsAreCountedWithoutTheLock extends LockedFactory {
     @Override
     LockedPhaser phaser(int parties, OnAdvance asked) {

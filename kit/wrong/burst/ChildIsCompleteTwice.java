@@ -2,7 +2,11 @@ package kit.wrong.burst;
 
 import kit.player.PhaserUnderTest;
 
-/** Who arrives at a child looks only behind the lock whether it is complete: two see it, and it arrives at its parent twice. */
+/**
+ * Who arrives at a child looks only behind the lock whether it is complete: two see it, and it arrives at its parent twice.
+ *
+ * <p>Found by tree-meetings.
+ */
 public final class ChildIsCompleteTwice extends LockedFactory {
     @Override
     TieredChild child(PhaserUnderTest parent, int parties) {

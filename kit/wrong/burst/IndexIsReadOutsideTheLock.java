@@ -3,7 +3,11 @@ package kit.wrong.burst;
 import java.util.concurrent.BrokenBarrierException;
 import java.util.concurrent.TimeoutException;
 
-/** The arrival index is read before the lock is taken: two who come at once get the same. */
+/**
+ * The arrival index is read before the lock is taken: two who come at once get the same.
+ *
+ * <p>Found by trips.
+ */
 public final class IndexIsReadOutsideTheLock extends LockedFactory {
     @Override
     LockedBarrier lockedBarrier(int parties, Runnable action) {

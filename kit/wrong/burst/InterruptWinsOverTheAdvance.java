@@ -1,6 +1,10 @@
 package kit.wrong.burst;
 
-/** Who wakes up looks at its interrupted status first, though its phase has ended before the interrupt. */
+/**
+ * Who wakes up looks at its interrupted status first, though its phase has ended before the interrupt.
+ *
+ * <p>Found by interrupt-behind-the-advance.
+ */
 public final class InterruptWinsOverTheAdvance extends LockedFactory {
     @Override
     LockedPhaser phaser(int parties, OnAdvance asked) {

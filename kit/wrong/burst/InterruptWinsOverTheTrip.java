@@ -1,6 +1,10 @@
 package kit.wrong.burst;
 
-/** Who wakes up looks at its interrupted status first, though its generation has tripped before the interrupt. */
+/**
+ * Who wakes up looks at its interrupted status first, though its generation has tripped before the interrupt.
+ *
+ * <p>Found by interrupt-behind-the-trip; in lock-step where an action runs.
+ */
 public final class InterruptWinsOverTheTrip extends LockedFactory {
     @Override
     LockedBarrier lockedBarrier(int parties, Runnable action) {

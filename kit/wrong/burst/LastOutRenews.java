@@ -2,7 +2,11 @@ package kit.wrong.burst;
 
 import java.util.concurrent.BrokenBarrierException;
 
-/** A generation is renewed when the last of its waiters has left: who is back sooner trips it once more, alone. */
+/**
+ * A generation is renewed when the last of its waiters has left: who is back sooner trips it once more, alone.
+ *
+ * <p>Found by barging; in lock-step where an action runs.
+ */
 public final class LastOutRenews extends LockedFactory {
     @Override
     LockedBarrier lockedBarrier(int parties, Runnable action) {

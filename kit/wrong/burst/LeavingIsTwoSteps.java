@@ -1,6 +1,10 @@
 package kit.wrong.burst;
 
-/** arriveAndDeregister arrives, and takes the party away under the lock once more: a phase may have ended between. */
+/**
+ * arriveAndDeregister arrives, and takes the party away under the lock once more: a phase may have ended between.
+ *
+ * <p>Found by meetings-and-departures.
+ */
 public final class LeavingIsTwoSteps extends LockedFactory {
     @Override
     LockedPhaser phaser(int parties, OnAdvance asked) {

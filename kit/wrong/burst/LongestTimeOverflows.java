@@ -2,7 +2,11 @@ package kit.wrong.burst;
 
 import java.util.concurrent.TimeoutException;
 
-/** The end of a time is now and the time, which overflows where that is the longest. */
+/**
+ * The end of a time is now and the time, which overflows where that is the longest.
+ *
+ * <p>Found by the-longest-time.
+ */
 public final class LongestTimeOverflows extends LockedFactory {
     @Override
     LockedPhaser phaser(int parties, OnAdvance asked) {

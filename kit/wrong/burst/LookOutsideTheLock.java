@@ -1,6 +1,10 @@
 package kit.wrong.burst;
 
-/** awaitAdvance looks at the phase before it takes the lock to sleep: the wake-up between is lost. */
+/**
+ * awaitAdvance looks at the phase before it takes the lock to sleep: the wake-up between is lost.
+ *
+ * <p>Found by wait-against-the-end.
+ */
 public final class LookOutsideTheLock extends LockedFactory {
     @Override
     LockedPhaser phaser(int parties, OnAdvance asked) {

@@ -4,7 +4,11 @@ import java.util.concurrent.BrokenBarrierException;
 import java.util.concurrent.TimeUnit;
 import java.util.concurrent.TimeoutException;
 
-/** The time of a wait at a barrier is cut to whole milliseconds. */
+/**
+ * The time of a wait at a barrier is cut to whole milliseconds.
+ *
+ * <p>Found by time-that-breaks.
+ */
 public final class MillisecondsAtABarrier extends LockedFactory {
     @Override
     LockedBarrier lockedBarrier(int parties, Runnable action) {

@@ -3,7 +3,11 @@ package kit.wrong.burst;
 import java.util.concurrent.TimeUnit;
 import java.util.concurrent.TimeoutException;
 
-/** The time of a wait for a phase is cut to whole milliseconds. */
+/**
+ * The time of a wait for a phase is cut to whole milliseconds.
+ *
+ * <p>Found by time-that-runs-out.
+ */
 public final class MillisecondsOfAPhase extends LockedFactory {
     @Override
     LockedPhaser phaser(int parties, OnAdvance asked) {

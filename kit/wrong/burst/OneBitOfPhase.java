@@ -2,7 +2,11 @@ package kit.wrong.burst;
 
 import java.util.concurrent.locks.ReentrantLock;
 
-/** Waiters keep one bit of the phase: who sleeps while two phases end sleeps on. */
+/**
+ * Waiters keep one bit of the phase: who sleeps while two phases end sleeps on.
+ *
+ * <p>Found by phases-that-end-at-once.
+ */
 public final class OneBitOfPhase extends LockedFactory {
     @Override
     LockedPhaser phaser(int parties, OnAdvance asked) {

@@ -1,6 +1,10 @@
 package kit.wrong.burst;
 
-/** arriveAndAwaitAdvance awaits the phase that it reads behind its arrival, where that didn't end the phase: maybe the next. */
+/**
+ * arriveAndAwaitAdvance awaits the phase that it reads behind its arrival, where that didn't end the phase: maybe the next.
+ *
+ * <p>Found by meetings.
+ */
 public final class PhaseIsReadAnew extends LockedFactory {
     @Override
     LockedPhaser phaser(int parties, OnAdvance asked) {

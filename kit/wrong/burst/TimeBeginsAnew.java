@@ -2,7 +2,11 @@ package kit.wrong.burst;
 
 import java.util.concurrent.TimeoutException;
 
-/** Every arrival wakes the waiters, and the time of each begins anew as it sleeps on. */
+/**
+ * Every arrival wakes the waiters, and the time of each begins anew as it sleeps on.
+ *
+ * <p>Found by time-among-pokes.
+ */
 public final class TimeBeginsAnew extends LockedFactory {
     @Override
     LockedPhaser phaser(int parties, OnAdvance asked) {

@@ -2,7 +2,11 @@ package kit.wrong.burst;
 
 import java.util.concurrent.TimeoutException;
 
-/** Who wakes up looks at the clock first, though its phase has ended before its time was over. */
+/**
+ * Who wakes up looks at the clock first, though its phase has ended before its time was over.
+ *
+ * <p>Found by time-at-the-advance.
+ */
 public final class TimeWinsOverTheAdvance extends LockedFactory {
     @Override
     LockedPhaser phaser(int parties, OnAdvance asked) {
