@@ -43,6 +43,14 @@ fn usage_line(help: &str) -> &str {
         .unwrap_or("")
 }
 
+/// The text of a help, which words that ask for one bring as an error. Without memory another error comes in its place.
+fn text_of(rt: &HostRuntime, help: &WordsError) -> Result<String, AllocError> {
+    if help.kind() == ErrorKind::OutOfMemory {
+        return Err(AllocError);
+    }
+    format!(in rt.alloc(); "{help}")
+}
+
 /// Why the words ask for nothing, the usage of the command that was meant, and where more is told.
 pub fn with_usage(rt: &HostRuntime, why: &str) -> Result<String, AllocError> {
     let words = match meant(rt)? {
@@ -52,8 +60,7 @@ pub fn with_usage(rt: &HostRuntime, why: &str) -> Result<String, AllocError> {
     let mut program = program(rt.alloc(), VERSION)?;
     let help = match program.try_get_matches_from_mut(&words) {
         Ok(_) => String::new(rt.alloc()),
-        Err(help) if help.kind() == ErrorKind::OutOfMemory => return Err(AllocError),
-        Err(help) => format!(in rt.alloc(); "{help}")?,
+        Err(help) => text_of(rt, &help)?,
     };
     let usage = usage_line(help.as_str());
     format!(in rt.alloc(); "{why}\n\n{usage}\n\nFor more information, try '--help'.\n")
