@@ -1,3 +1,3 @@
-pub mod Commands
-pub mod PhaseEnds
 pub mod Backs
+pub mod PhaseEnds
+pub mod Scenes

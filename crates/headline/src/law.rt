@@ -1,11 +1,5 @@
-// What holds of every accepted program, and of every other: laws, each the contract of a function that does nothing.
-ghost use Rattle.std.specs.Prelude.{◌≡◌, ℕ, List, Option, Some};
-ghost use Rattle.row_code.specs.declared.image.Image.{Image};
-ghost use Rattle.assembler.specs.Meaning.{StandsFor};
-ghost use Rattle.loader.specs.Fault.{first_fault};
-ghost use Rattle.loader.specs.declared.load_fault.LoadFault.{LoadFault};
-ghost use Rattle.workbench.specs.RunLine.{program_part};
-ghost use Rattle.headline.specs.Headline.{BackRestores, EndsNoPhaseEarly, HasShownText};
+// What holds of every accepted program and every session: laws, each the contract of a function that does nothing.
+ghost use Rattle.headline.specs.Headline.{BackRestores, EndsNoPhaseEarly};
 
 /// No phase of an accepted program ends early, whatever is chosen.
 pub fn no_phase_ends_early()
@@ -15,11 +9,4 @@ pub fn no_phase_ends_early()
 /// As many steps back as steps restore the machine word for word.
 pub fn back_restores()
     ensures { BackRestores }
-{}
-
-/// A text whose program the loader refuses is never shown, as an empty thread's that runs past its last row.
-pub fn what_is_refused_is_never_shown()
-    ensures { (text : List ℕ) (image : Image) (why : LoadFault) (left : List ℕ) (before after : Option (List ℕ))
-        → StandsFor (program_part text) image → first_fault image ≡ Some why
-        → HasShownText (Some text) (Some left) before after → ⊥ }
 {}

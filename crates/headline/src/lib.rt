@@ -1,12 +1,12 @@
-//! What the whole project promises, on one page (`specs/Headline.antt`), and the functions that keep it.
+//! What the whole project promises of a program's machine and of the shared phaser, on one page (`specs/Headline.antt`), and
+//! the functions that keep it.
 //!
-//! The program's commands go through `shown` and `lived`; `law` says what holds of every accepted program. `beneath` is for a
-//! tree whose words lag and for the word that threads share.
+//! `play` leaves what the rows give; `law` says what holds whatever is chosen; `beneath` is for a tree whose words lag and for
+//! the word that threads share.
 #![tactic(auto)]
 
-// What is shown.
-pub mod lived;
-pub mod shown;
+// What a program's choices leave.
+pub mod machine;
 
 // What holds whatever is chosen.
 pub mod law;
@@ -14,5 +14,7 @@ pub mod law;
 // What lies below.
 pub mod beneath;
 
-pub use lived::live;
-pub use shown::{both, debug, run};
+pub use machine::play;
+
+#[cfg(test)]
+mod tests;

@@ -56,7 +56,7 @@ left-by phasers (Some fault) world choice rest same = refl
 left-by phasers None world choice rest same =
     ap (λ after. (rest after).world) (after-same phasers world choice) ∙ same (played world choice).world
 
-left-same : (choices : List Choice) (phasers : List Stored) (world : World)
+pub left-same : (choices : List Choice) (phasers : List Stored) (world : World)
     → (execution (stored phasers world) choices).world ≡ stored phasers (execution world choices).world
 left-same [] phasers world = refl
 left-same (choice ∷ choices) phasers world =

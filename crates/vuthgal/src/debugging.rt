@@ -29,7 +29,7 @@ fn session<'a, F: Source, S: Source>(
     let mut output = WritePort::new(rt.stdout());
     let answer = match runs {
         Some(runs) => debug_behind(rt.alloc(), program, runs, commands, &mut output),
-        None => headline::debug(rt.alloc(), program, commands, &mut output),
+        None => end_to_end::debug(rt.alloc(), program, commands, &mut output),
     };
     Ok(as_asked(flushed(answer, &mut output))?)
 }

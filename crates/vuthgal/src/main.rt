@@ -98,7 +98,7 @@ fn play_both<'a>(rt: &HostRuntime, expected: &[&str]) -> Answer<'a> {
     let (program, _) = split_at_run(text);
     let expected = expectations(rt.alloc(), program, expected)?;
     let mut output = trace_port(rt)?;
-    let answer = headline::both(rt.alloc(), &mut SliceSource::new(text), &mut output);
+    let answer = end_to_end::both(rt.alloc(), &mut SliceSource::new(text), &mut output);
     if answer.is_ok() && program.len() == text.len() {
         notes::push_no_schedule(rt);
     }
@@ -138,7 +138,7 @@ fn play<'a, S: Source>(
 ) -> Answer<'a> {
     let expected = expectations(rt.alloc(), program, expected)?;
     let mut output = trace_port(rt)?;
-    let answer = headline::run(
+    let answer = end_to_end::run(
         rt.alloc(),
         &mut SliceSource::new(program),
         schedule,
@@ -253,7 +253,7 @@ fn live<'a, R: Threads + Wait + Sync>(
     let mut output = trace_port(rt)?;
     let shown = ShownGate::of_trace(rt);
     let gate = pauses.of_run(0, &shown);
-    let answer = headline::live(
+    let answer = end_to_end::live(
         threads,
         rt.alloc(),
         limit,

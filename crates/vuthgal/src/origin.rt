@@ -2,4 +2,4 @@
 
 /// The version, the kit whose logic proves it, and the sum of the sources but for this file.
 pub const VERSION: &str =
-    "0.1.0\nkit rattle-kit-13f logic dac8208d650f15bf\nsources 0d6b066b7587949fb3b36cc5e43c3dc073a6ff22ded9300b7fbc6cb6bfaf5e1d";
+    "1.0.0\nkit rattle-kit-13f logic dac8208d650f15bf\nsources 60e61ca0dd162c8fb289f61910a73c8933f2e6cf54e33e708a1acf8f564ed66b";

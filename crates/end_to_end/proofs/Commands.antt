@@ -1,9 +1,12 @@
--- What the commands have written, in the headline's words.
+-- What the commands have written, in the words of their promise.
 use Rattle.std.proofs.Common.{◌≡◌, ◌∙◌, ◌++◌, ℕ, List, [], None, Some, refl, ap, sym, subst, append-nil, inl, inr}
 use Rattle.std.specs.Prelude.{Option, Result, Ok, Err, IfOk, OnOk}
 use Rattle.std.specs.Io.KnownBytes.{Appends}
 use Rattle.row_code.specs.declared.image.Image.{Image}
+use Rattle.row_code.specs.Image.{IsImage}
+use Rattle.line_reader.specs.Words.{lines_of}
 use Rattle.assembler.specs.Meaning.{StandsFor}
+use Rattle.assembler.proofs.ImageRanges.{said_image}
 use Rattle.assembler.proofs.ReadLines.{one_image}
 use Rattle.loader.specs.Fault.{first_fault}
 use Rattle.loader.specs.declared.load_fault.LoadFault.{LoadFault}
@@ -14,14 +17,24 @@ use Rattle.trace_compare.proofs.OneTrace.{trace-first}
 use Rattle.workbench.specs.Both.{HasTraced}
 use Rattle.workbench.specs.Debug.{Finished, HasDebugged}
 use Rattle.workbench.specs.Live.{HasLived}
+use Rattle.workbench.specs.ProgramFile.{IsProgramFile}
 use Rattle.workbench.specs.Run.{HasRunFile}
 use Rattle.workbench.specs.RunLine.{program_part, schedule_part}
-use Rattle.headline.specs.Headline.{HasDebuggedFile, HasShownFile, HasShownLive, HasShownText, ShowsTheRows}
+use Rattle.end_to_end.specs.EndToEnd.{HasDebuggedFile, HasShownFile, HasShownLive, HasShownText, ShowsTheRows}
 
 -- what follows where the result is Ok
 pub where_ok : {A E P Q : Type 0} (result : Result A E) → (P → Q) → OnOk result P → OnOk result Q
 where_ok (Ok x) then p = then p
 where_ok (Err e) then p = p
+
+-- what a text stands for is within the limits of an image
+text_image : (text : List ℕ) (image : Image) → StandsFor text image → IsImage image
+text_image text image (lines, said, follows, known, is) = subst IsImage (sym is) (said_image 1 (lines_of text) lines said follows)
+
+-- so is what a file holds
+file_image : (file : List ℕ) (image : Image) → IsProgramFile file image → IsImage image
+file_image file image (inl (is, read, fits)) = fits
+file_image file image (inr (is, stands)) = text_image file image stands
 
 -- a trace of an image's program is that from the image's first world on
 rows : (image : Image) (schedule shown : List ℕ) → IsTraceOf image schedule shown
@@ -34,7 +47,7 @@ pub text-shown : (input_before input_after output_before output_after : Option (
     → HasShownText input_before input_after output_before output_after
 text-shown input_before input_after output_before output_after (text, (shown, (gives, (image, (stands, traced)), appends))) =
     let all = rows image (schedule_part text) shown traced in
-    (text, (image, (shown, (gives, (stands, all.0), all.1, appends))))
+    (text, (image, (shown, (gives, (stands, (text_image (program_part text) image stands, all.0)), all.1, appends))))
 
 pub file-shown : (file_before file_after schedule_before schedule_after output_before output_after : Option (List ℕ))
     → HasRunFile file_before file_after schedule_before schedule_after output_before output_after
@@ -42,7 +55,7 @@ pub file-shown : (file_before file_after schedule_before schedule_after output_b
 file-shown file_before file_after schedule_before schedule_after output_before output_after
     (image, ((file, (gives, is)), (schedule, (shown, (consumed, end, traced, appends))))) =
     let all = rows image schedule shown traced in
-    (file, (image, (schedule, (shown, (gives, (is, all.0), consumed, end, all.1, appends)))))
+    (file, (image, (schedule, (shown, (gives, (is, (file_image file image is, all.0)), consumed, end, all.1, appends)))))
 
 pub file-debugged : (file_before file_after commands_before commands_after output_before output_after : Option (List ℕ))
     → HasDebugged Finished file_before file_after commands_before commands_after output_before output_after
@@ -51,7 +64,7 @@ file-debugged file_before file_after commands_before commands_after output_befor
     absurd (other refl)
 file-debugged file_before file_after commands_before commands_after output_before output_after
     (inr (image, (world, ((file, (gives, is)), (loads, first), held)))) =
-    (file, (image, (world, (gives, (is, loads), first, held))))
+    (file, (image, (world, (gives, (is, (file_image file image is, loads)), first, held))))
 
 pub live-shown : (limit : ℕ) (end : RunEnd) (file_before file_after output_before output_after : Option (List ℕ))
     → HasLived limit end file_before file_after output_before output_after
@@ -85,7 +98,7 @@ live-shown limit end file_before file_after output_before output_after (
       choices,
       (
         gives,
-        (is, loads),
+        (is, (file_image file image is, loads)),
         (first, (last, (begun, replay))),
         subst (Appends output_before output_after) (trace-first image 1000000000 world choices begins) appends,
       ),
@@ -104,7 +117,7 @@ live_ok (Err e) limit file_before file_after output_before output_after lived = 
 pub never-shown : (text : List ℕ) (image : Image) (why : LoadFault) (left : List ℕ) (before after : Option (List ℕ))
     → StandsFor (program_part text) image → first_fault image ≡ Some why → HasShownText (Some text) (Some left) before after → ⊥
 never-shown text image why left before after stands fault
-    (all, (other, (shown, ((consumed, end, few), (spells, loads), traced, appends)))) =
+    (all, (other, (shown, ((consumed, end, few), (spells, (within, loads)), traced, appends)))) =
     let whole : all ≡ text = sym (append-nil all) ∙ ap (λ rest. all ++ rest) (sym end) ∙ sym consumed in
     let same : other ≡ image =
     one_image (program_part text) other image (subst (λ bytes. StandsFor (program_part bytes) other) whole spells) stands in

@@ -3,7 +3,7 @@
 ghost use Rattle.std.specs.Prelude.{IfOk, OnOk};
 ghost use Rattle.workbench.specs.Both.{HasEndedAs};
 ghost use Rattle.workbench.specs.Run.{HasRunFileTo};
-ghost use Rattle.headline.specs.Headline.{HasDebuggedFile, HasShownFile, HasShownText};
+ghost use Rattle.end_to_end.specs.EndToEnd.{HasDebuggedFile, HasShownFile, HasShownText};
 
 use byte_ports::{Sink, Source};
 use std::alloc::Global;

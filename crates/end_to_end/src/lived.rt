@@ -1,6 +1,6 @@
 //! The command that plays a program on real threads.
 ghost use Rattle.std.specs.Prelude.{◌≤◌, OnOk};
-ghost use Rattle.headline.specs.Headline.{HasShownLive};
+ghost use Rattle.end_to_end.specs.EndToEnd.{HasShownLive};
 
 use byte_ports::{Sink, Source};
 use std::alloc::Global;

@@ -1,0 +1,70 @@
+-- FROM END TO END. What a command shows of an accepted program is the headline's machine (headline/specs/Headline.antt), from
+-- the bytes that it reads to the bytes that it writes: without arguments, and in `run`, `debug` and `live`, wherever it doesn't
+-- refuse its input. Behind each name of a `use` line stands the file that defines it.
+--
+-- An input or an output is the bytes that a port still gives or has got. Ports over memory tell them. Ports over files, pipes
+-- and terminals tell none (`None`): there these lines say that some bytes were read and some written for which they hold, and
+-- not which.
+use Rattle.std.specs.Prelude.{◌≡◌, ℕ, List, Option, None}
+use Rattle.std.specs.Io.KnownBytes.{Appends, Consumes, IsAtEnd}
+use Rattle.row_code.specs.declared.image.Image.{Image}
+use Rattle.assembler.specs.Meaning.{StandsFor}
+use Rattle.thread_machine.specs.declared.choice.Choice.{Choice}
+use Rattle.thread_machine.specs.World.{World, StoredWorld, IsFirstOf, world_of}
+use Rattle.schedule_reader.specs.declared.run.Run.{Run}
+use Rattle.schedule_reader.specs.Schedule.{finished_schedule, choices_of}
+use Rattle.trace_compare.specs.Trace.{trace_of}
+use Rattle.thread_runner.specs.Replay.{IsReplay}
+use Rattle.headline.specs.Headline.{Accepted, start}
+use Rattle.workbench.specs.Debug.{Finished, HasConversed, first_session}
+use Rattle.workbench.specs.Input.{GivesAll}
+use Rattle.workbench.specs.ProgramFile.{IsProgramFile}
+use Rattle.workbench.specs.RunLine.{program_part, schedule_part}
+
+-- the text spells this accepted program
+abbrev pub AcceptedText : List ℕ → Image → Type 0
+AcceptedText text image = StandsFor text image × Accepted image
+
+-- the same of a file, which is such a text or the bytes of an image
+abbrev pub AcceptedFile : List ℕ → Image → Type 0
+AcceptedFile file image = IsProgramFile file image × Accepted image
+
+-- The schedule has no fault, and what is shown is the trace of its choices, each as often as it says: for each choice what the
+-- row of its thread gives in the world that the choices before it leave, up to the first that is refused, and then the state
+-- that is left.
+abbrev pub ShowsTheRows : Image → List ℕ → List ℕ → Type 0
+ShowsTheRows image schedule shown =
+    (runs : List Run) × ((finished_schedule schedule ≡ record { runs = runs; fault = None })
+    × (shown ≡ trace_of (start image) (choices_of runs)))
+
+-- Without arguments: one input holds a program text, a line `.run`, and the schedule. It was read to its end (an input has at
+-- most 16,777,216 bytes), and the trace was written.
+abbrev pub HasShownText : (input_before input_after output_before output_after : Option (List ℕ)) → Type 0
+HasShownText input_before input_after output_before output_after =
+    (text : List ℕ) × ((image : Image) × ((shown : List ℕ) × (GivesAll input_before input_after text
+    × AcceptedText (program_part text) image × ShowsTheRows image (schedule_part text) shown
+    × Appends output_before output_after shown)))
+
+-- `run`: a file, of at most so many bytes, and a schedule of any length were read to their ends, and the trace was written.
+abbrev pub HasShownFile : (file_before file_after schedule_before schedule_after output_before output_after : Option (List ℕ)) → Type 0
+HasShownFile file_before file_after schedule_before schedule_after output_before output_after =
+    (file : List ℕ) × ((image : Image) × ((schedule : List ℕ) × ((shown : List ℕ) × (GivesAll file_before file_after file
+    × AcceptedFile file image × Consumes schedule_before schedule_after schedule × IsAtEnd schedule_after
+    × ShowsTheRows image schedule shown × Appends output_before output_after shown))))
+
+-- `debug`: a session that keeps 4096 steps was held on a file's program, from its first world on: each line of commands was
+-- answered as it asks, up to `q` or the end.
+abbrev pub HasDebuggedFile : (file_before file_after commands_before commands_after output_before output_after : Option (List ℕ)) → Type 0
+HasDebuggedFile file_before file_after commands_before commands_after output_before output_after =
+    (file : List ℕ) × ((image : Image) × ((world : StoredWorld) × (GivesAll file_before file_after file × AcceptedFile file image
+    × IsFirstOf image 1000000000 (world_of world)
+    × HasConversed Finished (first_session world) commands_before commands_after output_before output_after)))
+
+-- `live`: a file's program was played on real threads, for at most so many steps. There is a record of their choices, of which
+-- none was refused and each did something, and what was written is the trace of this record.
+abbrev pub HasShownLive : ℕ → (file_before file_after output_before output_after : Option (List ℕ)) → Type 0
+HasShownLive limit file_before file_after output_before output_after =
+    (file : List ℕ) × ((image : Image) × ((choices : List Choice) × (GivesAll file_before file_after file
+    × AcceptedFile file image × ((first : World) × ((last : World) × (IsFirstOf image limit first
+    × IsReplay (record { first = first; choices = choices }) last)))
+    × Appends output_before output_after (trace_of (start image) choices))))

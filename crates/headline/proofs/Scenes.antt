@@ -1,0 +1,58 @@
+-- What choices leave of the world, one after another and however the program's phasers are stored.
+use Rattle.std.proofs.Common.{◌≡◌, ◌∙◌, ℕ, ◌+◌, ◌<◌, Bool, true, false, List, ◌∷◌, drop, get_or, length, ap, refl, sym, subst, Option, Some, None}
+use Rattle.std.specs.Prelude.{is_some}
+use Rattle.std.proofs.lemmas.List.{drop_more}
+use Rattle.row_code.specs.declared.image.Image.{Image}
+use Rattle.thread_state.specs.declared.event.Event.{Event}
+use Rattle.thread_machine.specs.declared.choice.Choice.{Choice}
+use Rattle.thread_machine.specs.declared.fault.StepFault.{StepFault}
+use Rattle.thread_machine.specs.World.{World, StoredWorld, IsFirstOf, first_of, world_of}
+use Rattle.thread_machine.specs.Step.{Played, played, refusal_of}
+use Rattle.thread_machine.specs.Execution.{execution, execution_by}
+use Rattle.headline.specs.Playing.{Leaves}
+use Rattle.trace_compare.proofs.OneTrace.{left-same}
+use Rattle.trace_compare.proofs.OneVerdict.{as-stored}
+
+-- the program of an image leaves what the image's first world leaves
+pub scene_left : (image : Image) (limit : ℕ) (first left : World) (choices : List Choice) → IsFirstOf image limit first
+    → left ≡ (execution first choices).world → left.scene ≡ (execution (first_of image limit) choices).world.scene
+scene_left image limit first left choices is played =
+    ap (λ (w : World). w.scene) played
+    ∙ ap (λ w. (execution w choices).world.scene) (as-stored image limit first is)
+    ∙ ap (λ (w : World). w.scene) (left-same choices first.program.phasers (first_of image limit))
+
+-- an accepted choice, and a refused one, as a machine's step tells them
+pub led_on : (before after : World) (choice : Choice) (event : Event) → record { world = after; event = event } ≡ played before choice
+    → refusal_of before choice ≡ None → Leaves before choice true after
+led_on before after choice event is accepted = (accepted, ap (λ (play : Played). play.world) is)
+
+pub led_nowhere : (before after : StoredWorld) (choice : Choice) (why : StepFault) → refusal_of (world_of before) choice ≡ Some why
+    → after ≡ before → Leaves (world_of before) choice false (world_of after)
+led_nowhere before after choice why refused same = (ap (λ why. is_some why) refused, ap world_of same)
+
+-- an accepted choice, and those behind it
+pub left_next : (now after : World) (choice : Choice) (rest more : List Choice) (accepted : Bool) → rest ≡ choice ∷ more
+    → Leaves now choice accepted after → accepted ≡ true → (execution after more).world ≡ (execution now rest).world
+left_next now after choice rest more accepted is led is_accepted =
+    let left : Leaves now choice true after = subst (λ b. Leaves now choice b after) is_accepted led in
+    ap (λ world. (execution world more).world) left.1
+    ∙ ap (λ why. (execution_by why now choice (λ world. execution world more)).world) (sym left.0)
+    ∙ ap (λ choices. (execution now choices).world) (sym is)
+
+refused_last : (now : World) (choice : Choice) (more : List Choice) (why : Option StepFault) → is_some why ≡ true
+    → now ≡ (execution_by why now choice (λ world. execution world more)).world
+refused_last now choice more (Some fault) some = refl
+refused_last now choice more None some = absurd (cc some)
+
+-- a choice that is refused is the last
+pub left_last : (now after : World) (choice : Choice) (rest more : List Choice) (accepted : Bool) → rest ≡ choice ∷ more
+    → Leaves now choice accepted after → accepted ≡ false → after ≡ (execution now rest).world
+left_last now after choice rest more accepted is led is_refused =
+    let left : Leaves now choice false after = subst (λ b. Leaves now choice b after) is_refused led in
+    left.1 ∙ refused_last now choice more (refusal_of now choice) left.0
+    ∙ ap (λ choices. (execution now choices).world) (sym is)
+
+-- from one choice on
+pub choices-drop : (choices : List Choice) (i : ℕ) (d : Choice) → i < length choices
+    → drop i choices ≡ get_or choices i d ∷ drop (i + 1) choices
+choices-drop choices i d there = drop_more choices i d there

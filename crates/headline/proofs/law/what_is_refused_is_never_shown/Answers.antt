@@ -1,5 +1,0 @@
-use Rattle.headline.proofs.Commands.{never-shown}
-use Rattle.headline.proofs.law.what_is_refused_is_never_shown.Goals as goal
-
-pub returns : goal.returns
-returns c = never-shown

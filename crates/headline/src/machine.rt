@@ -1,0 +1,61 @@
+//! What the machine of an accepted program is after its choices.
+ghost use Rattle.std.specs.Prelude.{◌≡◌, ◌≢◌, Some, Err, IfOk, OnOk};
+ghost use Rattle.row_code.specs.Image.{IsImage};
+ghost use Rattle.loader.specs.Fault.{first_fault};
+ghost use Rattle.thread_machine.specs.World.{world_of};
+ghost use Rattle.thread_machine.specs.Execution.{execution};
+ghost use Rattle.headline.specs.Headline.{Accepted, GivesTheRows};
+ghost use Rattle.headline.specs.Playing.{Leaves};
+
+use loader::LoadFault;
+use row_code::Image;
+use std::alloc::Global;
+use thread_machine::{Choice, Machine, StepFault};
+use trace_compare::start::{StartFault, first_machine};
+
+/// A law: the lists of an image are within their limits. Nothing runs.
+fn is_within_limits(image: &Image)
+    ensures { IsImage image.now }
+{
+    let _ = (&image.phasers, &image.barriers, &image.threads, &image.rows);
+}
+
+/// Plays one choice. Whether it was accepted.
+#[tactic(auto, using(crate::proofs::Scenes::led_on, crate::proofs::Scenes::led_nowhere))]
+fn play_one(machine: &mut Machine, choice: Choice) -> Result<bool, StartFault>
+    ensures led { IfOk result (λ accepted. Leaves (world_of machine.old) choice accepted (world_of machine.new)) }
+    ensures memory { (fault : LoadFault) → result ≢ Err (StartFault.Load fault) }
+{
+    match machine.step(choice) {
+        Ok(_) => Ok(true),
+        Err(StepFault::NoSuchThread | StepFault::StepLimit) => Ok(false),
+        Err(StepFault::Memory) => Err(StartFault::Memory),
+    }
+}
+
+/// Plays these choices in order, up to the first that is refused.
+fn play_all(machine: &mut Machine, choices: &[Choice]) -> Result<(), StartFault>
+    ensures left { OnOk result (world_of machine.new ≡ (execution (world_of machine.old) choices.now).world) }
+    ensures memory { (fault : LoadFault) → result ≢ Err (StartFault.Load fault) }
+{
+    for choice in choices {
+        if !play_one(machine, *choice)? {
+            return Ok(());
+        }
+    }
+    Ok(())
+}
+
+/// Loads a program and plays these choices in order, up to the first that is refused: the machine that is left. An accepted
+/// program is refused for want of memory alone.
+#[tactic(auto, using(crate::proofs::Scenes::scene_left))]
+pub fn play(alloc: Global, image: Image, choices: &[Choice]) -> Result<Machine, StartFault>
+    ensures accepted { OnOk result (Accepted image) }
+    ensures played { IfOk result (λ machine. GivesTheRows image choices.now (world_of machine)) }
+    ensures load { (fault : LoadFault) → result ≡ Err (StartFault.Load fault) → first_fault image ≡ Some fault }
+{
+    is_within_limits(&image);
+    let mut machine = first_machine(alloc, image)?;
+    play_all(&mut machine, choices)?;
+    Ok(machine)
+}
