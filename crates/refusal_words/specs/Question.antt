@@ -2,26 +2,20 @@
 use Rattle.std.specs.Prelude.{◌≡◌, ℕ, ◌<◌, ◌^◌, ◌&&◌, Bool, if◌then◌else◌, List, [], ◌∷◌, Option, Some, None, IsSomeAnd, codes, bytes_eq}
 use Rattle.std.specs.Bool.{MatchBool}
 use Rattle.std.specs.Str.Parse.{IsNumeral, digits_value}
-use Rattle.line_reader.specs.declared.asm_fault.AsmFaultKind.{AsmFaultKind}
 use Rattle.line_reader.specs.FaultNumber.{asm_number}
-use Rattle.row_code.specs.declared.image_fault.ImageFault.{ImageFault}
 use Rattle.row_code.specs.FaultNumber.{image_number}
-use Rattle.loader.specs.declared.load_fault.LoadFault.{LoadFault}
 use Rattle.loader.specs.declared.load_fault.LoadFault.TheVariants as load
 use Rattle.loader.specs.declared.load_fault.Place.{Place}
 use Rattle.loader.specs.declared.load_fault.Place.TheVariants as place
 use Rattle.loader.specs.FaultNumber.{load_number}
 use Rattle.plan_reader.specs.FaultNumber.{plan_number}
-use Rattle.schedule_reader.specs.declared.fault.ScheduleFault.{ScheduleFault}
 use Rattle.schedule_reader.specs.FaultNumber.{schedule_number}
 use Rattle.tier_tree.specs.declared.fault.DeclareFault.{DeclareFault}
 use Rattle.tier_tree.specs.declared.fault.DeclareFault.TheVariants as declare
 use Rattle.tier_tree.specs.Declaration.{fault_number}
 use Rattle.refusal_words.specs.declared.question.Question.{Question}
-use Rattle.refusal_words.specs.declared.subject.Exception.{Exception}
 use Rattle.refusal_words.specs.declared.subject.Line.{Line}
 use Rattle.refusal_words.specs.declared.subject.Line.TheVariants as line
-use Rattle.refusal_words.specs.declared.subject.Status.{Status}
 use Rattle.refusal_words.specs.declared.subject.Subject.{Subject}
 use Rattle.refusal_words.specs.declared.subject.Subject.TheVariants as subject
 use Rattle.refusal_words.specs.Numbers.{exception_number, status_number}
