@@ -55,7 +55,8 @@ impl From<AllocError> for Unshown {
 
 /// What helps where a text has a schedule and the command reads none.
 const AT_RUN: &str =
-    "this file is a text with its schedule: `run FILE` plays it, `show FILE` shows it";
+    "this file is a text with its schedule: `run FILE` plays it, `show FILE` shows it; \
+    `debug` and `live` take what stands above `.run`";
 
 /// What helps where a text begins with a byte order mark.
 const AT_MARK: &str =
