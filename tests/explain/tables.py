@@ -91,13 +91,13 @@ def statuses():
             yield f"status {number}", entry
 
 
-LINES = ["show", "draw", "memory", "spawn", "read", "write", "not a trace", "differs", "none", "limit", "?", "no history"]
+LINES = ["show", "draw", "memory", "spawn", "read", "write", "not a trace", "differs", "expected", "stopped", "none", "limit", "?", "no history"]
 
 
 def pattern(entry):
     """What the example has to write: the told words, each in capitals a number, LINE, PLACE and so on."""
     words = re.escape(entry["told"]).replace(r"\ ", " ")
-    words = words.replace("PLACE", r"(row|thread|phaser|barrier) \d+").replace("FAULT", r"\d+")
+    words = words.replace("STATE: LINE", r"\w+: .+").replace("PLACE", r"(row|thread|phaser|barrier) \d+").replace("FAULT", r"\d+")
     return re.sub(r"\b[A-Z]{3,}\b", r"\\d+", words)
 
 

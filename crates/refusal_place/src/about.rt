@@ -84,6 +84,8 @@ pub fn question_about(fault: Fault) -> Question {
         Fault::Spawn => about_line(Line::Spawn),
         Fault::Read => about_line(Line::Read),
         Fault::Write => about_line(Line::Write),
-        _ => about_line(Line::Memory),
+        Fault::Asm(_) | Fault::Image(_) | Fault::Load(_) | Fault::Schedule(_) | Fault::Memory => {
+            about_line(Line::Memory)
+        }
     }
 }

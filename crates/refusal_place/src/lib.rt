@@ -11,6 +11,9 @@ mod about;
 mod kinds;
 mod names;
 
+// What a file may be in place of what it should be.
+mod mistaken;
+
 // What is written.
 pub mod place;
 pub mod plan;

@@ -2,6 +2,7 @@
 
 use crate::about::question_about;
 use crate::kinds::called;
+use crate::mistaken::is_plan;
 use crate::names::{first_line, nearest_name, nearest_word};
 use crate::shown::{push_file, push_line, push_marked, push_shown};
 use assembler::made::line_that_makes;
@@ -54,11 +55,15 @@ impl From<AllocError> for Unshown {
 
 /// What helps where a text has a schedule and the command reads none.
 const AT_RUN: &str =
-    "this file is a text with its schedule: `run FILE` plays it, `show FILE` shows it";
+    "this file is a text with its schedule: `run FILE` plays it, `show FILE` shows it; \
+    `debug` and `live` take what stands above `.run`";
 
 /// What helps where a text begins with a byte order mark.
 const AT_MARK: &str =
     "the file begins with a UTF-8 byte order mark (EF BB BF): saved without one it can be read";
+
+/// What helps where a schedule is a plan.
+const AT_PLAN: &str = "this looks like a plan: `vuthgal plan FILE PLAN` writes its schedule";
 
 /// What a name is, and what should stand in its place; or the name that may have been meant.
 fn push_name<E: Sink>(
@@ -320,6 +325,23 @@ fn push_schedule_place<E: Sink>(
     }
 }
 
+/// What helps where a schedule is refused, where that is more than its entry says.
+fn helps_at_schedule(
+    alloc: Global,
+    program: ProgramFile<'_>,
+    schedule: Option<Named<'_>>,
+) -> Option<&'static str> {
+    let bytes = match schedule {
+        Some(schedule) => schedule.bytes,
+        None => program.file.bytes.get(program.schedule_at..).unwrap_or(&[]),
+    };
+    if !bytes.is_empty() && is_plan(alloc, program.text, bytes) {
+        Some(AT_PLAN)
+    } else {
+        None
+    }
+}
+
 /// Where a question's place is in the files, and what helps there, where that is more than its entry says.
 fn push_found<E: Sink>(
     alloc: Global,
@@ -348,7 +370,10 @@ fn push_found<E: Sink>(
             OperandKind::Phaser,
             place,
         )?,
-        Subject::Schedule(_) => push_schedule_place(errors, program, schedule, place)?,
+        Subject::Schedule(_) => {
+            push_schedule_place(errors, program, schedule, place)?;
+            return Ok(helps_at_schedule(alloc, program, schedule));
+        }
         _ => {}
     }
     Ok(None)

@@ -1,8 +1,8 @@
 -- The entries of words, beside the instruction table.
-use Rattle.std.proofs.Common.{◌≡◌, ◌≤◌, ◌<◌, ◌∙◌, ℕ, List, Option, Some, None, IfSome, option_map, slice_index_or, length, ap, sym, subst, refl, arith, zero-add, inl, inr}
+use Rattle.std.proofs.Common.{◌≡◌, ◌≤◌, ◌<◌, ◌∙◌, ℕ, List, Option, Some, None, IfSome, slice_index_or, ap, sym, subst, arith, zero-add, inl, inr}
 use Rattle.std.specs.Prelude.{MatchOption, ◌≢◌, true}
 use Rattle.instruction_table.specs.declared.shape.Shape.{Shape}
-use Rattle.instruction_table.specs.Table.{Entry, entry_named, entry_of, no_entry, table}
+use Rattle.instruction_table.specs.Table.{entry_named, entry_of, no_entry, table}
 use Rattle.instruction_table.proofs.TableLemmas.{found_is_entry, opcode-at, table_placed}
 use Rattle.line_reader.specs.Reading.{is_directive}
 use Rattle.refusal_words.specs.declared.word.WordEntry.{WordEntry}

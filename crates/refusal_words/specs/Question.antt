@@ -2,26 +2,20 @@
 use Rattle.std.specs.Prelude.{◌≡◌, ℕ, ◌<◌, ◌^◌, ◌&&◌, Bool, if◌then◌else◌, List, [], ◌∷◌, Option, Some, None, IsSomeAnd, codes, bytes_eq}
 use Rattle.std.specs.Bool.{MatchBool}
 use Rattle.std.specs.Str.Parse.{IsNumeral, digits_value}
-use Rattle.line_reader.specs.declared.asm_fault.AsmFaultKind.{AsmFaultKind}
 use Rattle.line_reader.specs.FaultNumber.{asm_number}
-use Rattle.row_code.specs.declared.image_fault.ImageFault.{ImageFault}
 use Rattle.row_code.specs.FaultNumber.{image_number}
-use Rattle.loader.specs.declared.load_fault.LoadFault.{LoadFault}
 use Rattle.loader.specs.declared.load_fault.LoadFault.TheVariants as load
 use Rattle.loader.specs.declared.load_fault.Place.{Place}
 use Rattle.loader.specs.declared.load_fault.Place.TheVariants as place
 use Rattle.loader.specs.FaultNumber.{load_number}
 use Rattle.plan_reader.specs.FaultNumber.{plan_number}
-use Rattle.schedule_reader.specs.declared.fault.ScheduleFault.{ScheduleFault}
 use Rattle.schedule_reader.specs.FaultNumber.{schedule_number}
 use Rattle.tier_tree.specs.declared.fault.DeclareFault.{DeclareFault}
 use Rattle.tier_tree.specs.declared.fault.DeclareFault.TheVariants as declare
 use Rattle.tier_tree.specs.Declaration.{fault_number}
 use Rattle.refusal_words.specs.declared.question.Question.{Question}
-use Rattle.refusal_words.specs.declared.subject.Exception.{Exception}
 use Rattle.refusal_words.specs.declared.subject.Line.{Line}
 use Rattle.refusal_words.specs.declared.subject.Line.TheVariants as line
-use Rattle.refusal_words.specs.declared.subject.Status.{Status}
 use Rattle.refusal_words.specs.declared.subject.Subject.{Subject}
 use Rattle.refusal_words.specs.declared.subject.Subject.TheVariants as subject
 use Rattle.refusal_words.specs.Numbers.{exception_number, status_number}
@@ -116,10 +110,11 @@ line_named word =
     else (if bytes_eq word (codes "read") then Some line.Read
     else (if bytes_eq word (codes "write") then Some line.Write
     else (if bytes_eq word (codes "differs") then Some line.Differs
+    else (if bytes_eq word (codes "stopped") then Some line.Stopped
     else (if bytes_eq word (codes "none") then Some line.NoThread
     else (if bytes_eq word (codes "limit") then Some line.StepLimit
     else (if bytes_eq word (codes "?") then Some line.Unknown
-    else None)))))))))
+    else None))))))))))
 
 -- it is the subject, if there is one
 abbrev pub IsLine : Option Line → Subject → Type 0
@@ -144,6 +139,16 @@ EndsSession _ _ = ⊥
 abbrev pub is_no_trace : List ℕ → List ℕ → List ℕ → Bool
 is_no_trace a b c = bytes_eq a (codes "not") && (bytes_eq b (codes "a") && bytes_eq c (codes "trace"))
 
+-- `stopped at 1000000 choices`
+abbrev pub is_stop : List ℕ → List ℕ → List ℕ → List ℕ → Bool
+is_stop a b c d =
+    bytes_eq a (codes "stopped") && (bytes_eq b (codes "at") && (bytes_eq c (codes "1000000") && bytes_eq d (codes "choices")))
+
+-- what stands behind `not a trace`: the number of a line
+abbrev pub EndsNoTrace : List ℕ → Subject → Option ℕ → Type 0
+EndsNoTrace text s (Some place) = (s ≡ subject.Line line.NotATrace) × Spells text place
+EndsNoTrace _ _ None = ⊥
+
 -- `no history`
 abbrev pub is_no_history : List ℕ → List ℕ → Bool
 is_no_history a b = bytes_eq a (codes "no") && bytes_eq b (codes "history")
@@ -157,11 +162,13 @@ AsksLine (a ∷ b ∷ []) s place =
 AsksLine (a ∷ b ∷ c ∷ []) s place =
     MatchBool (bytes_eq a (codes "fault")) (EndsSession (line_named c) s × (place ≡ None))
     (MatchBool (is_no_trace a b c) ((s ≡ subject.Line line.NotATrace) × (place ≡ None)) ⊥)
-AsksLine (a ∷ b ∷ c ∷ d ∷ []) s (Some place) =
-    MatchBool (is_no_trace a b c) ((s ≡ subject.Line line.NotATrace) × Spells d place) ⊥
+AsksLine (a ∷ b ∷ c ∷ d ∷ []) s place =
+    MatchBool (is_no_trace a b c) (EndsNoTrace d s place)
+    (MatchBool (is_stop a b c d) ((s ≡ subject.Line line.Stopped) × (place ≡ None)) ⊥)
 AsksLine _ _ _ = ⊥
 
--- words without `refused` ask for a subject and a place by the word of its group, and else by a whole line
+-- words without `refused` ask for a subject and a place by the word of its group, and else by a whole line; of a line that
+-- begins with `expected` any words may follow
 abbrev pub Asks : List (List ℕ) → Subject → Option ℕ → Type 0
 Asks [] s place = ⊥
 Asks (word ∷ words) s place =
@@ -173,7 +180,8 @@ Asks (word ∷ words) s place =
     (MatchBool (bytes_eq word (codes "plan")) (AsksPlan words s place)
     (MatchBool (bytes_eq word (codes "status")) (AsksStatus words s place)
     (MatchBool (bytes_eq word (codes "exception")) (AsksException words s place)
-    (AsksLine (word ∷ words) s place))))))))
+    (MatchBool (bytes_eq word (codes "expected")) ((s ≡ subject.Line line.Expected) × (place ≡ None))
+    (AsksLine (word ∷ words) s place)))))))))
 
 -- the word `refused` may be left out
 abbrev pub without_refused : List (List ℕ) → List (List ℕ)

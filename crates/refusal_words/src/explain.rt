@@ -21,6 +21,7 @@ explain plan 1 .. plan 8            a plan that is refused
 explain show, draw                  more choices than a picture shows
 explain memory, spawn, read, write  what else ends the program
 explain not a trace, differs        what `compare` finds
+explain expected, stopped           what `--expect` and `plan` say with status 1
 explain none, limit                 a choice that is refused, in a trace
 explain ?, no history               answers of `debug`
 explain status 0 .. status 5        an exit status

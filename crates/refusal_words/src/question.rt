@@ -4,7 +4,7 @@ ghost use Rattle.loader.specs.declared.load_fault.Place.{Place};
 ghost use Rattle.refusal_words.specs.declared.question.Question.{Question};
 ghost use Rattle.refusal_words.specs.declared.subject.Subject.{Subject};
 ghost use Rattle.refusal_words.specs.declared.subject.Subject.TheVariants as subject;
-ghost use Rattle.refusal_words.specs.Question.{Asks, AsksException, AsksFor, AsksImage, AsksKind, AsksLine, AsksLoad, AsksPlan, AsksReason, AsksSchedule, AsksStatus, AsksTarget, AsksText, EndsLine, EndsSession, IsKindThenPlace, IsPlaceThenKind, Spells, is_no_history, is_no_trace, line_named, target_word, without_refused};
+ghost use Rattle.refusal_words.specs.Question.{Asks, AsksException, AsksFor, AsksImage, AsksKind, AsksLine, AsksLoad, AsksPlan, AsksReason, AsksSchedule, AsksStatus, AsksTarget, AsksText, EndsLine, EndsSession, IsKindThenPlace, IsPlaceThenKind, Spells, is_no_history, is_no_trace, is_stop, line_named, target_word, without_refused};
 
 use crate::kinds::{
     asm_of, declare_of, exception_of, image_of, load_of, plan_of, schedule_of, status_of,
@@ -222,6 +222,8 @@ fn line_named(word: &str) -> Option<Line>
         Some(Line::Write)
     } else if is_word(word, "differs") {
         Some(Line::Differs)
+    } else if is_word(word, "stopped") {
+        Some(Line::Stopped)
     } else if is_word(word, "none") {
         Some(Line::NoThread)
     } else if is_word(word, "limit") {
@@ -238,6 +240,13 @@ fn is_no_trace(a: &str, b: &str, c: &str) -> bool
     ensures { result ≡ is_no_trace a.now b.now c.now }
 {
     is_word(a, "not") && is_word(b, "a") && is_word(c, "trace")
+}
+
+/// Whether the words are `stopped at 1000000 choices`.
+fn is_stop(a: &str, b: &str, c: &str, d: &str) -> bool
+    ensures { result ≡ is_stop a.now b.now c.now d.now }
+{
+    is_word(a, "stopped") && is_word(b, "at") && is_word(c, "1000000") && is_word(d, "choices")
 }
 
 /// Whether the words are `no history`.
@@ -307,6 +316,8 @@ fn four_words(a: &str, b: &str, c: &str, d: &str) -> Option<Question>
 {
     if is_no_trace(a, b, c) {
         Some(about(Line::NotATrace, Some(number(d)?)))
+    } else if is_stop(a, b, c, d) {
+        Some(about(Line::Stopped, None))
     } else {
         None
     }
@@ -376,6 +387,8 @@ fn told_question(words: &[&str]) -> Option<Question>
                 status_question(rest)
             } else if is_word(word, "exception") {
                 exception_question(rest)
+            } else if is_word(word, "expected") {
+                Some(about(Line::Expected, None))
             } else {
                 line_question(words)
             }

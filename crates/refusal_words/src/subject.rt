@@ -39,6 +39,10 @@ pub enum Line {
     NotATrace,
     /// `differs LINE`
     Differs,
+    /// `expected STATE: LINE`
+    Expected,
+    /// `stopped at 1000000 choices`
+    Stopped,
     /// `none`, in a trace or a session.
     NoThread,
     /// `limit`, the same.

@@ -1,5 +1,5 @@
 -- What is made of one number after another.
-use Rattle.std.proofs.Common.{◌≡◌, ℕ, suc, ◌+◌, ◌-◌, ◌*◌, ◌<◌, ◌≤◌, ◌∙◌, List, [], ◌++◌, ap, refl, arith, append_assoc}
+use Rattle.std.proofs.Common.{◌≡◌, ℕ, suc, ◌+◌, ◌-◌, ◌*◌, ◌<◌, ◌∙◌, List, ◌++◌, ap, refl, arith, append_assoc}
 use Rattle.std.proofs.lemmas.Grind.{flat_map-append}
 use Rattle.run_drawing.specs.Picture.{each_from, lines_text, with_cells, written_line}
 use Rattle.run_drawing.specs.Sheet.{put_at}
@@ -26,17 +26,6 @@ pub each_text-next : (width : ℕ) (made : ℕ → List (List ℕ)) (n count : �
 each_text-next width made n count there =
     ap (lines_text width) (each_from-next made n count there)
     ∙ flat_map-append (written_line width) (made n) (each_from made (n + 1) (count - (n + 1)))
-
--- the texts of two lists of lines
-pub lines_text-append : (width : ℕ) (lines more : List (List ℕ))
-    → lines_text width (lines ++ more) ≡ lines_text width lines ++ lines_text width more
-lines_text-append width lines more = flat_map-append (written_line width) lines more
-
--- nothing is left
-pub each_from-end : {A : Type 0} (made : ℕ → List A) (n count : ℕ) → count ≤ n → each_from made n (count - n) ≡ []
-each_from-end made n count past =
-    let none : count - n ≡ 0 = omega (arith, past) in
-    ap (λ left. each_from made n left) none
 
 pub ruleset cell_steps = (with_cells-next)
 

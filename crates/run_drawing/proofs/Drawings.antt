@@ -60,12 +60,6 @@ answer_by : (refusal : Option StepFault) (world : World) (choice : Choice)
 answer_by None world choice = refl
 answer_by (Some fault) world choice = refl
 
--- nothing is drawn yet
-pub IsDrawing-begin : (sheet : Sheet) (symbols : SymbolTable) (first : ℕ) (world : World) (choices : List Choice) (old : List ℕ)
-    → IsDrawing sheet symbols first world world choices choices old old
-IsDrawing-begin sheet symbols first world choices old =
-    record { drawn = []; lines = refl; text = sym (append-nil old); world = refl }
-
 -- an accepted choice
 pub IsDrawing-next : (sheet : Sheet) (symbols : SymbolTable) (first : ℕ) (begin now after : World) (choices rest more : List Choice)
     (choice : Choice) (accepted : Bool) (old mid new : List ℕ) → rest ≡ choice ∷ more
@@ -108,18 +102,6 @@ IsDrawing-refused sheet symbols first begin now after choices rest more choice a
       text = subst (λ (ls : List (List ℕ)). new ≡ old ++ lines_text sheet.width ls) (sym lines)
           (both_lines sheet.width old mid new so_far.drawn line so_far.text one.draws.text);
       world = one.draws.world ∙ sym both.1 ∙ ap (λ cs. (execution now cs).world) (sym is) ∙ sym so_far.world;
-    }
-
--- all choices are drawn
-pub IsDrawing-end : (sheet : Sheet) (symbols : SymbolTable) (first : ℕ) (begin now : World) (choices rest : List Choice)
-    (old new : List ℕ) → rest ≡ [] → IsDrawing sheet symbols first begin now choices rest old new
-    → Draws sheet symbols first begin now choices old new
-IsDrawing-end sheet symbols first begin now choices rest old new none so_far =
-    let lines : choice_lines sheet symbols first begin choices ≡ so_far.drawn =
-    so_far.lines ∙ ap (λ cs. so_far.drawn ++ choice_lines sheet symbols first now cs) none ∙ append-nil so_far.drawn in
-    record {
-      text = subst (λ (ls : List (List ℕ)). new ≡ old ++ lines_text sheet.width ls) (sym lines) so_far.text;
-      world = ap (λ cs. (execution now cs).world) (sym none) ∙ sym so_far.world;
     }
 
 -- one line that was written

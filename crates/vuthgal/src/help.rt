@@ -1,8 +1,10 @@
 //! The words that follow what is told, where standard error is a terminal: a person's help alone.
 
+use crate::missing::missing;
 use crate::printable;
 use byte_ports::{Sink, WritePort};
 use command_line::request::Request;
+use commands::pictures::parts_of;
 use plan_reader::fault::PlanFault;
 use refusal_place::place::{Named, ProgramFile, push_place};
 use refusal_place::push_plan_place;
@@ -10,6 +12,7 @@ use std::alloc::AllocError;
 use std::fmt::Display;
 use std::fs;
 use std::io::IsTerminal;
+use thread_machine::Choice;
 use workbench::fault::Fault;
 use workbench::run_line::split_at_run;
 
@@ -116,6 +119,33 @@ pub fn push_plan_help(rt: &HostRuntime, fault: PlanFault, files: Files<'_>) {
         },
         &mut errors,
     );
+}
+
+/// Tells of a choice of a thread that isn't there, which ended the run that was shown.
+pub fn push_missing(rt: &HostRuntime, file: &str, schedule: Option<&str>) {
+    if !rt.stderr().is_terminal() {
+        return;
+    }
+    let file = contents(rt, file);
+    let found = match schedule {
+        None => {
+            let (program, behind) = parts_of(file.as_slice());
+            missing(rt.alloc(), program, behind)
+        }
+        Some(word) => {
+            let schedule = contents(rt, named(word));
+            missing(rt.alloc(), file.as_slice(), schedule.as_slice())
+        }
+    };
+    if let Some((step, Choice { thread, expiry })) = found {
+        let letter = if expiry { "x" } else { "t" };
+        push_text(
+            rt,
+            format!(in rt.alloc();
+                "{step} {letter}{thread} - none: there is no such thread, and what follows wasn't played\n"
+            ),
+        );
+    }
 }
 
 /// Writes a text to standard error, if there was memory for it.

@@ -14,6 +14,7 @@ mod expectation;
 mod files;
 mod help;
 mod input;
+mod missing;
 mod no_command;
 mod notes;
 mod origin;
@@ -221,22 +222,20 @@ fn draw<'a, P: Picture>(
     schedule: Option<&'a str>,
 ) -> Answer<'a> {
     let mut program = ReadPort::new(files::read(rt, file)?);
-    let schedule = match schedule {
+    let choices = match schedule {
         Some(word) => Some(ShortSchedule::new(rt.alloc(), ReadPort::new(Input::named(rt, word)?))?),
         None => None,
     };
     let mut output = WritePort::new(rt.stdout());
-    let answer = match schedule {
-        Some(mut schedule) => make(
-            rt.alloc(),
-            picture,
-            &mut program,
-            &mut schedule,
-            &mut output,
-        ),
+    let answer = match choices {
+        Some(mut choices) => make(rt.alloc(), picture, &mut program, &mut choices, &mut output),
         None => draw_both(rt, picture, &mut program, &mut output),
     };
-    Ok(as_asked(flushed(answer, &mut output))?)
+    let answer = flushed(answer, &mut output);
+    if answer.is_ok() {
+        help::push_missing(rt, file, schedule);
+    }
+    Ok(as_asked(answer)?)
 }
 
 /// Plays a program on real threads, which pause a little where there is a seed.

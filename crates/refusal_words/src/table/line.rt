@@ -73,6 +73,22 @@ pub(crate) fn line_entry(line: Line) -> Entry
             example: "printf '.thread t #0\\nhalt\\n' > a.txt; echo 1 t0 0 ok | vuthgal compare a.txt -",
             more: "docs/FORMATS.md, \"Comparing\"",
         },
+        Line::Expected => Entry {
+            subject: Subject::Line(Line::Expected),
+            told: "expected STATE: LINE",
+            means: "the run ended otherwise than `--expect STATE` says: LINE is the state's that shows it, or a refused choice's",
+            helps: "another schedule, or the STATE that the run comes to",
+            example: "printf '.thread t #0\\nhalt\\n' | vuthgal --expect all",
+            more: "docs/FORMATS.md, \"Expected ends\"",
+        },
+        Line::Stopped => Entry {
+            subject: Subject::Line(Line::Stopped),
+            told: "stopped at 1000000 choices",
+            means: "the plan wants one more choice: the schedule so far was written",
+            helps: "a count behind `..`, `?` or `)`, such as `..*50`, or a smaller one",
+            example: "printf '.thread t #0\\njmp #0\\n' > a.txt; echo .. | vuthgal plan a.txt",
+            more: "docs/FORMATS.md, \"Plan text\"",
+        },
         Line::NoThread => Entry {
             subject: Subject::Line(Line::NoThread),
             told: "none",
