@@ -132,6 +132,7 @@ fn with_operand<'a>(
 }
 
 /// The operands of a row; nothing where a name is not known.
+#[inline(always)]
 fn operands_of<'a>(names: &mut Names<'_, 'a>, row: &KeptRow<'a>) -> Option<Operands>
     ensures found { result
         ≡ (if list_all (is_operand_known names.old) (operands_in (row_kept row.now))
