@@ -30,7 +30,7 @@ runs : (of : Status) (row : Row) → is_local_turn of row ≡ true → of ≡ st
 runs status.Runs row is = refl
 runs _ row is = absurd (cc is)
 
-is_local : (of : Status) (row : Row) → is_local_turn of row ≡ true → is_local_row row ≡ true
+pub is_local : (of : Status) (row : Row) → is_local_turn of row ≡ true → is_local_row row ≡ true
 is_local status.Runs row is = is
 is_local _ row is = absurd (cc is)
 

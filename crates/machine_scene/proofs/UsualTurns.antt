@@ -1,5 +1,5 @@
 -- Turns of the usual kinds: what an arrival before the last comes to, and who is asleep after such a turn.
-use Rattle.std.proofs.Common.{inl, inr, ◌≡◌, ◌∙◌, ℕ, ℤ, pos, ◌<◌, ◌==◌, ◌&&◌, not, Bool, true, false, List, [], ap, refl, sym, if◌then◌else◌}
+use Rattle.std.proofs.Common.{inl, inr, ◌≡◌, ◌∙◌, ℕ, ℤ, pos, ◌<◌, ◌==◌, ◌&&◌, ◌||◌, not, Bool, true, false, List, [], ap, refl, sym, if◌then◌else◌}
 use Rattle.std.specs.Prelude.{length, is_some, Some, None}
 use Rattle.std.specs.List.{list_any}
 use Rattle.std.specs.Ordering.{int_eq}
@@ -21,6 +21,7 @@ use Rattle.cyclic_barrier.specs.ThreadSet.{has}
 use Rattle.loader.specs.Program.{Program, row_at}
 use Rattle.thread_state.specs.declared.event.Event.{Event}
 use Rattle.thread_state.specs.declared.frame.Frame.{Frame}
+use Rattle.thread_state.specs.declared.status.Status.{Status}
 use Rattle.thread_state.specs.declared.status.Status.TheVariants as status
 use Rattle.thread_state.specs.Frame.{is_advance}
 use Rattle.thread_state.specs.Thread.{ThreadState, Turn, turn_of_throw, turn_of_wait}
@@ -29,10 +30,16 @@ use Rattle.machine_scene.specs.Scene.{Scene, StoredScene, Outcome, scene_of, no_
 use Rattle.machine_scene.specs.PhaserRows.{is_past, has_routine, turn_of_arrival, unless_own, outcome_of_arrived, outcome_with_room, outcome_of_arrival}
 use Rattle.machine_scene.specs.Waits.{outcome_of_view}
 use Rattle.machine_scene.specs.Outcomes.{outcome_in, is_ready}
-use Rattle.machine_scene.specs.Asleep.{is_asleep, is_asleep_in, KeepsAsleep, IsSetAt, WakesNobody, MayFallAsleep}
+use Rattle.machine_scene.specs.Asleep.{is_asleep, is_asleep_in, is_local_turn, KeepsAsleep, IsSetAt, WakesNobody, MayFallAsleep}
+use Rattle.machine_scene.specs.Usual.{is_early, is_usual_in}
 use Rattle.machine_scene.proofs.Standings.{Standing, arrival-standings}
 use Rattle.machine_scene.proofs.Asleep.{others_asleep, no_turn}
 use Rattle.tier_tree.proofs.Stands.{other-is}
+
+-- a row on registers alone
+pub local_is_usual : (of : Status) (row : Row) (stack : List Frame) (scene : Scene) → is_local_turn of row ≡ true → is_usual_in of row stack scene ≡ true
+local_is_usual status.Runs row stack scene is = ap (λ (test : Bool). test || is_early row stack scene) is
+local_is_usual _ row stack scene is = absurd (cc is)
 
 and_false : (test : Bool) → (test && false) ≡ false
 and_false true = refl

@@ -5,7 +5,7 @@ use Rattle.instruction_table.specs.declared.row.Row.TheVariants.{Pphase, Ppartie
 use Rattle.packed_phaser.specs.Flat.{view_of, unarrived_of}
 use Rattle.tier_tree.specs.Forest.{phaser_at, flat_at, root_at}
 use Rattle.thread_state.specs.Thread.{turn_of_answer}
-use Rattle.machine_scene.specs.Scene.{Scene, Outcome, thread_at, alone}
+use Rattle.machine_scene.specs.Scene.{Scene, Outcome, alone}
 
 -- a phaser's number, or -1 for none
 abbrev pub number_or_none : Option ℕ → ℤ

@@ -1,5 +1,5 @@
 -- A thread that throws.
-use Rattle.std.specs.Prelude.{ℕ, ℤ, false, Option, Some, None}
+use Rattle.std.specs.Prelude.{ℕ, ℤ, false, Option, Some}
 use Rattle.cyclic_barrier.specs.Barrier.{end_action}
 use Rattle.thread_state.specs.declared.event.Mark.TheVariants as mark
 use Rattle.thread_state.specs.declared.frame.Frame.{Frame}

@@ -1,4 +1,4 @@
--- Turns of the kinds that most turns of most programs are of, which a machine plays by a shorter way. Nobody has to believe it.
+-- Turns of the kinds that most turns of most programs are of, which a machine plays by a shorter way.
 use Rattle.std.specs.Prelude.{ℕ, ℤ, ◌==◌, ◌&&◌, ◌||◌, Bool, true, false, List, length}
 use Rattle.instruction_table.specs.declared.row.Row.{Row}
 use Rattle.instruction_table.specs.declared.row.Row.TheVariants.{Parr, Paaa}

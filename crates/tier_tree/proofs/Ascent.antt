@@ -160,6 +160,19 @@ last_above line (next ∷ above) id phasers f g is found arrives not counted =
     (sym (ap (λ (r : Climbed). r.climb) (turned_child id (next ∷ above) phasers g turns refl))
     ∙ ap (λ (l : List ℕ). (climbed l false phasers).climb) (sym is) ∙ counted)
 
+-- the line of a root
+alone : (line above : List ℕ) (id : ℕ) → line ≡ id ∷ above → (length line == 1) ≡ true → above ≡ []
+alone line [] id is one = refl
+alone line (next ∷ above) id is one =
+    let long : length line ≡ suc (suc (length above)) = ap (λ (l : List ℕ). length l) is in absurd (grind (arith, nat_tests, long, one))
+
+-- the last party of a root
+pub last_of_root : (line above : List ℕ) (id : ℕ) (phasers : List PhaserState) (f g : Flat) → line ≡ id ∷ above → (length line == 1) ≡ true
+    → f ≡ flat_at phasers id → Turns g ≡ arrive false f → (climbed line false phasers).climb ≢ climb.Counted
+last_of_root line above id phasers f g is one found arrives =
+    last_above line above id phasers f g is found arrives
+    (subst (λ (l : List ℕ). (climbed l false phasers).climb ≢ climb.Counted) (sym (alone line above id is one)) (λ counted. absurd (cc counted)))
+
 -- the phaser waits for nobody, or is terminated
 abbrev pub IsRefusal : Arrival → Type 0
 IsRefusal (Counts flat) = ⊥

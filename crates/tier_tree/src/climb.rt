@@ -11,7 +11,7 @@ use crate::arrived::Arrived;
 use crate::id::PhaserId;
 use crate::line::MOST_LEVELS;
 use crate::node::Node;
-use crate::present::{line_at, set_word, top_at, word_at};
+use crate::present::{is_root, line_at, set_word, top_at, word_at};
 use packed_phaser::Word;
 
 /// How far an arrival comes.
@@ -109,6 +109,40 @@ pub fn arrive_along(nodes: &mut [Node], line: &[u8], top: Word, leave: bool) -> 
     }
 }
 
+/// `arrive_along`, where a phaser that has none above is looked at without a call.
+#[inline(always)]
+fn arrive_from(nodes: &mut [Node], line: &[u8], top: Word, leave: bool) -> Climb
+    requires stored { IsStored nodes.old }
+    requires there { All (λ id. id < length nodes.old) line.now }
+    requires top { All (λ id. top ≡ (stored_at nodes.old (root_at (phasers_of nodes.old) id)).word)
+        line.now }
+    requires live { (record_of top).ended ≡ false }
+    ensures climbed { record { phasers = phasers_of nodes.new; climb = result }
+        ≡ climbed line.now leave (phasers_of nodes.old) }
+    ensures stored { IsStored nodes.new }
+    ensures only { ChangedOnly line.now nodes.old nodes.new }
+    ensures refused { result ≡ Climb.Refused → nodes.new ≡ nodes.old }
+{
+    let Some((id, above)) = line.split_first() else {
+        return Climb::Refused;
+    };
+    if !above.is_empty() {
+        return arrive_along(nodes, line, top, leave);
+    }
+    let root = *id as usize;
+    match arrival_below(nodes, root, top, leave) {
+        packed_phaser::Arrived::Counted(word) => {
+            set_word(nodes, root, word);
+            Climb::Counted
+        }
+        packed_phaser::Arrived::Turned(word) => {
+            set_word(nodes, root, word);
+            Climb::Turned
+        }
+        packed_phaser::Arrived::Dead(_) | packed_phaser::Arrived::NotThere => Climb::Refused,
+    }
+}
+
 /// An arrival at one phaser, with what it makes of those above.
 pub fn arrive(nodes: &mut [Node], i: usize, leave: bool) -> Arrived
     requires stored { IsStored nodes.old }
@@ -127,7 +161,7 @@ pub fn arrive(nodes: &mut [Node], i: usize, leave: bool) -> Arrived
     let line = line_at(nodes, i);
     let root = line.root();
     let top = top_at(nodes, i);
-    match arrive_along(nodes, line.as_slice(), top, leave) {
+    match arrive_from(nodes, line.as_slice(), top, leave) {
         Climb::Counted => Arrived::At(phase),
         Climb::Turned => {
             let parties = word_at(nodes, root as usize).parties();
@@ -242,7 +276,12 @@ pub fn arrive_early(nodes: &mut [Node], i: usize) -> Option<i32>
             set_word(nodes, i, word);
             Some(word.phase_view())
         }
-        packed_phaser::Arrived::Turned(word) => climb_early(nodes, i, word),
+        packed_phaser::Arrived::Turned(word) => {
+            if is_root(nodes, i) {
+                return None;
+            }
+            climb_early(nodes, i, word)
+        }
         packed_phaser::Arrived::Dead(_) | packed_phaser::Arrived::NotThere => None,
     }
 }

@@ -64,10 +64,7 @@ impl Stage {
         requires { t < length self.now.threads }
         ensures { result ≡ is_local_turn (thread_at (scene_of self.now) t).status row }
     {
-        match self.threads[t].status() {
-            Status::Runs => is_local(row),
-            _ => false,
-        }
+        is_local(row) && matches!(self.threads[t].status(), Status::Runs)
     }
 
     /// The row at which a thread waits.
@@ -114,8 +111,8 @@ impl Stage {
         set_at(set, t, sleeps)
     }
 
-    /// The threads of the set that are asleep still, by a look at each of them.
-    #[inline(never)]
+    /// The threads of the set that are asleep still.
+    #[inline(always)]
     #[tactic(auto, using(crate::proofs::ThreadSets::nobody))]
     fn still_asleep(&self, program: &Loaded, before: u64) -> u64
         requires sound { IsSound program.now most_after (scene_of self.now) }
@@ -124,6 +121,15 @@ impl Stage {
         if before == 0 {
             return 0;
         }
+        self.all_looked_at(program, before)
+    }
+
+    /// `still_asleep`, by a look at each thread.
+    #[inline(never)]
+    fn all_looked_at(&self, program: &Loaded, before: u64) -> u64
+        requires sound { IsSound program.now most_after (scene_of self.now) }
+        ensures { AreAsleep program.now result self.now }
+    {
         let mut set = 0;
         for t in 0..self.threads.len() {
             set = self.looked_at(program, before, set, t);

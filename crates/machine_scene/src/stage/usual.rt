@@ -14,7 +14,7 @@ ghost use Rattle.machine_scene.specs.Undo.{PhasersWithin, CanUndo, reach_of_row,
 
 use super::asleep::set_at;
 use super::{Stage, alone};
-use instruction_table::{Reg, Row, is_local};
+use instruction_table::{Reg, Row};
 use loader::Loaded;
 use thread_state::{Event, Status};
 
@@ -65,13 +65,11 @@ impl Stage {
         ensures quiet { IfSome result (λ event. WakesNobody row event) }
         ensures asleep { OnSome result (MayFallAsleep program.now t self.old self.new) }
     {
+        if self.is_local_turn(row, t) {
+            return Some(self.local_row(row, t));
+        }
         match self.threads[t].status() {
-            Status::Runs => {
-                if is_local(row) {
-                    return Some(self.local_row(row, t));
-                }
-                self.early_row(program, row, t)
-            }
+            Status::Runs => self.early_row(program, row, t),
             Status::AwaitsPhase(phase) => self.answer_after(row, phase, t),
             _ => None,
         }

@@ -1,9 +1,29 @@
 use Rattle.std.proofs.Common.{◌∙◌, sym}
-use Rattle.machine_scene.specs.Scene.{scene_of}
-use Rattle.machine_scene.proofs.LocalTurns.{local_wakes_nobody}
+use Rattle.machine_scene.specs.Scene.{scene_of, thread_at}
+use Rattle.machine_scene.proofs.LocalTurns.{is_local, local_turn, local_wakes_nobody}
+use Rattle.machine_scene.proofs.UsualTurns.{local_is_usual}
+use Rattle.machine_scene.proofs.Reaches.{within_same}
 use Rattle.machine_scene.proofs.stage.Stage.usual_at.Goals as goal
 
-pub returns-then-is_local-clause-quiet : goal.returns-then-is_local-clause-quiet
-returns-then-is_local-clause-quiet c =
+pub local_row-requires-clause-local : goal.local_row-requires-clause-local
+local_row-requires-clause-local c =
+    is_local (thread_at (scene_of c.args.self.now) c.args.t).status c.args.row (sym c.is_local_turn.ensures ∙ c.if-is_local_turn.true)
+
+pub returns-then-is_local_turn-clause-usual : goal.returns-then-is_local_turn-clause-usual
+returns-then-is_local_turn-clause-usual c =
+    let thread = thread_at (scene_of c.args.self.now) c.args.t in
+    sym (local_is_usual thread.status c.args.row thread.stack (scene_of c.args.self.now) (sym c.is_local_turn.ensures ∙ c.if-is_local_turn.true))
+
+pub returns-then-is_local_turn-clause-ok : goal.returns-then-is_local_turn-clause-ok
+returns-then-is_local_turn-clause-ok c =
+    local_turn (thread_at (scene_of c.args.self.now) c.args.t).status c.args.row c.args.t c.args.program.now (scene_of c.args.self.now)
+    (sym c.is_local_turn.ensures ∙ c.if-is_local_turn.true) ∙ c.local_row.ensures.outcome
+
+pub returns-then-is_local_turn-clause-phasers : goal.returns-then-is_local_turn-clause-phasers
+returns-then-is_local_turn-clause-phasers c = within_same _ _ _ c.local_row.ensures.phasers
+
+pub returns-then-is_local_turn-clause-quiet : goal.returns-then-is_local_turn-clause-quiet
+returns-then-is_local_turn-clause-quiet c =
     local_wakes_nobody c.args.row c.args.t (scene_of c.args.self.now) (scene_of c.local_row.new.self) c.local_row.result
-    (sym c.is_local.ensures ∙ c.if-is_local.true) c.local_row.ensures.outcome
+    (is_local (thread_at (scene_of c.args.self.now) c.args.t).status c.args.row (sym c.is_local_turn.ensures ∙ c.if-is_local_turn.true))
+    c.local_row.ensures.outcome

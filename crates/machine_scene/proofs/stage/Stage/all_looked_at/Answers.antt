@@ -3,7 +3,7 @@ use Rattle.cyclic_barrier.specs.ThreadSet.{has}
 use Rattle.machine_scene.specs.Scene.{scene_of}
 use Rattle.machine_scene.specs.Asleep.{is_asleep}
 use Rattle.machine_scene.proofs.ThreadSets.{one_more}
-use Rattle.machine_scene.proofs.stage.Stage.still_asleep.Goals as goal
+use Rattle.machine_scene.proofs.stage.Stage.all_looked_at.Goals as goal
 
 pub loop-t-preserved : goal.loop-t-preserved
 loop-t-preserved c =
