@@ -1,5 +1,5 @@
 -- The line of a plan's fault, piece by piece.
-use Rattle.std.proofs.Common.{◌≡◌, ◌++◌, ℕ, List, sym, subst}
+use Rattle.std.proofs.Common.{◌≡◌, ℕ, List, sym, subst}
 use Rattle.std.proofs.KnownBytes.{Appends-trans}
 use Rattle.std.specs.Prelude.{Option, Some, Result, Ok, Err, OnOk, codes}
 use Rattle.std.specs.Fmt.{decimal}
