@@ -185,6 +185,7 @@ fn other_fields(row: Row) -> Fields
 }
 
 /// Puts a row's operands into their fields.
+#[inline(always)]
 pub fn fields_of(row: Row) -> Fields
     ensures fields { result ≡ fields_of row }
 

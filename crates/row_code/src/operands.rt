@@ -217,6 +217,7 @@ fn timed_row(opcode: u8, operands: Operands) -> Row
 }
 
 /// The row with this opcode and these operands; `halt` where there is no such opcode.
+#[inline(always)]
 pub fn row_with(opcode: u8, operands: Operands) -> Row
     ensures row { result ≡ row_with opcode operands }
     ensures fits { IsRow result }
