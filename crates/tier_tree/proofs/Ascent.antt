@@ -1,18 +1,22 @@
 -- A climb along a line.
 use Rattle.std.proofs.Common.{inl, inr, ◌≡◌, ◌≢◌, ◌∙◌, ℕ, zero, suc, ◌+◌, ◌-◌, ◌<◌, ◌≤◌, drop, ◌==◌, Bool, true, false, List, [], ◌∷◌, length, get_or, ap, refl, sym, subst, arith, if◌then◌else◌}
-use Rattle.std.specs.Prelude.{All, ℤ, slice_set}
+use Rattle.std.specs.Prelude.{All, ℤ, pos, slice_set, Some}
 use Rattle.std.proofs.lemmas.Bool.{cases_eq}
 use Rattle.std.proofs.lemmas.Bool.Decides.{nat_tests}
 use Rattle.std.proofs.lemmas.List.Elements.{All-cons, All-nil}
 use Rattle.packed_phaser.specs.Flat.{Flat, Arrival, Counts, Turns, ComesLate, IsUnregistered, arrive, settled, view_of}
+use Rattle.packed_phaser.specs.declared.policy.Policy.{Policy}
+use Rattle.packed_phaser.specs.declared.policy.Policy.TheVariants as policy
+use Rattle.packed_phaser.specs.Policy.{ends}
 use Rattle.packed_phaser.specs.Word.{record_of}
 use Rattle.tier_tree.specs.declared.climb.Climb.{Climb}
 use Rattle.tier_tree.specs.declared.climb.Climb.TheVariants as climb
 use Rattle.tier_tree.specs.declared.arrived.Arrived.TheVariants as arrived
-use Rattle.tier_tree.specs.Forest.{PhaserState, phaser_at, flat_at, root_at, with_flat}
+use Rattle.tier_tree.specs.Forest.{PhaserState, no_phaser, phaser_at, flat_at, root_at, with_flat}
 use Rattle.tier_tree.specs.Sound.{IsForest}
 use Rattle.tier_tree.specs.Stored.{Stored, no_stored, stored_at, IsStored, ChangedOnly, phasers_of}
-use Rattle.tier_tree.specs.Arrival.{Climbed, is_top, with_child, climbed_by, climbed, arrival_by, arrival}
+use Rattle.tier_tree.specs.Arrival.{Climbed, is_top, with_child, climbed_by, climbed, Arrives, arrival_by, arrival}
+use Rattle.tier_tree.specs.PhaseEnd.{after_phase_end, EndsAtRoot}
 use Rattle.std.proofs.lemmas.List.{get_or_read, get_or-set_same, get_or-set_other, drop_all}
 use Rattle.std.proofs.Math.Seq.{drop-cons}
 use Rattle.tier_tree.proofs.Changed.{there_shown}
@@ -172,6 +176,61 @@ pub last_of_root : (line above : List ℕ) (id : ℕ) (phasers : List PhaserStat
 last_of_root line above id phasers f g is one found arrives =
     last_above line above id phasers f g is found arrives
     (subst (λ (l : List ℕ). (climbed l false phasers).climb ≢ climb.Counted) (sym (alone line above id is one)) (λ counted. absurd (cc counted)))
+
+-- the root of such a line
+pub alone_top : (line above : List ℕ) (id : ℕ) → line ≡ id ∷ above → (length line == 1) ≡ true → get_or line (length line - 1) 0 ≡ id
+alone_top line above id is one =
+    ap (λ (l : List ℕ). get_or l (length l - 1) 0) (is ∙ ap (λ (rest : List ℕ). id ∷ rest) (alone line above id is one))
+
+-- the last arrival at a root turns it
+pub turned_here : (i : ℕ) (line above : List ℕ) (phasers after : List PhaserState) (f g : Flat) → line ≡ i ∷ above → (length line == 1) ≡ true
+    → line ≡ (phaser_at phasers i).line → f ≡ flat_at phasers i → f.ended ≡ false → Turns g ≡ arrive false f → after ≡ with_flat phasers i g
+    → arrival i false phasers ≡ record { phasers = after; answer = arrived.Turning (record { 0 = i }) (pos f.phase) (flat_at after i).parties }
+turned_here i line above phasers after f g is one line_is found live arrives set =
+    let full = climbed (phaser_at phasers i).line false phasers in
+    let top : root_at phasers i ≡ i = ap (λ (l : List ℕ). get_or l (length l - 1) 0) (sym line_is) ∙ alone_top line above i is one in
+    let comes : full ≡ record { phasers = with_flat phasers i g; climb = climb.Turned } =
+    ap (λ (l : List ℕ). climbed l false phasers) (sym line_is ∙ is ∙ ap (λ (rest : List ℕ). i ∷ rest) (alone line above i is one))
+    ∙ ap (λ (a : Arrival). climbed_by a i true (λ leaves. climbed [] leaves phasers) phasers) (sym (arrives ∙ ap (arrive false) found)) in
+    ap (λ (e : Bool). if e then record { phasers = phasers; answer = arrived.Dead (view_of (flat_at phasers i)) }
+    else arrival_by full.climb i full.phasers phasers) (ap (λ (x : Flat). x.ended) (sym found) ∙ live)
+    ∙ ap (λ (r : Climbed). arrival_by r.climb i r.phasers phasers) comes
+    ∙ ap (λ (n : ℕ). record { phasers = with_flat phasers i g; answer = arrived.Turning (record { 0 = n }) (pos (flat_at phasers i).phase) (flat_at (with_flat phasers i g) n).parties }) top
+    ∙ ap (λ (x : Flat). record { phasers = with_flat phasers i g; answer = arrived.Turning (record { 0 = i }) (pos x.phase) (flat_at (with_flat phasers i g) i).parties }) (sym found)
+    ∙ ap (λ (ps : List PhaserState). record { phasers = ps; answer = arrived.Turning (record { 0 = i }) (pos f.phase) (flat_at ps i).parties }) (sym set)
+
+-- the phaser that has another word now
+pub put_here : (i : ℕ) (phasers after : List PhaserState) (g : Flat) → i < length phasers → after ≡ with_flat phasers i g
+    → phaser_at after i ≡ record (phaser_at phasers i) { flat = g }
+put_here i phasers after g there set =
+    ap (λ (ps : List PhaserState). phaser_at ps i) set ∙ get_or-set_same phasers i (record (phaser_at phasers i) { flat = g }) no_phaser there
+
+-- and the end of its phase, where the policy is the default one: parties are left
+pub ends_at_root : (i : ℕ) (line above : List ℕ) (phasers mid now : List PhaserState) (f g : Flat) → line ≡ i ∷ above → (length line == 1) ≡ true
+    → line ≡ (phaser_at phasers i).line → f ≡ flat_at phasers i → IsAsLate g f × (f.ended ≡ false) → Turns g ≡ arrive false f → i < length phasers
+    → mid ≡ with_flat phasers i g → (phaser_at phasers i).policy ≡ policy.Default → now ≡ after_phase_end i false mid
+    → EndsAtRoot i (view_of g) phasers now
+ends_at_root i line above phasers mid now f g is one line_is found late arrives there set default ended = record {
+  last = ap (λ (a : Arrives). a.answer) comes
+      ∙ ap (λ (z : ℤ). arrived.Turning (record { 0 = i }) z (flat_at mid i).parties) (sym view)
+      ∙ ap (λ (ps : List PhaserState). arrived.Turning (record { 0 = i }) (view_of g) (flat_at ps i).parties) (sym phasers_are);
+  goes_on = ap (λ (ps : List PhaserState). ends (phaser_at ps i).policy (flat_at ps i).phase (flat_at ps i).parties) phasers_are
+      ∙ ap (λ (p : PhaserState). ends p.policy p.flat.phase p.flat.parties) (put_here i phasers mid g there set)
+      ∙ ap (λ (q : Policy). ends q g.phase g.parties) default ∙ ap Some some;
+  after = ended ∙ ap (after_phase_end i false) (sym phasers_are);
+}
+  where
+    comes : arrival i false phasers ≡ record { phasers = mid; answer = arrived.Turning (record { 0 = i }) (pos f.phase) (flat_at mid i).parties }
+    comes = turned_here i line above phasers mid f g is one line_is found late.1 arrives set
+
+    phasers_are : (arrival i false phasers).phasers ≡ mid
+    phasers_are = ap (λ (a : Arrives). a.phasers) comes
+
+    view : view_of g ≡ pos f.phase
+    view = ap (λ (n : ℕ). phase_view n g.ended) late.0.0 ∙ ap (phase_view f.phase) (late.0.1 ∙ late.1)
+
+    some : (g.parties == 0) ≡ false
+    some = subst Stays (sym (arrives ∙ ap (arrive false) found)) (arrival_stays (flat_at phasers i))
 
 -- the phaser waits for nobody, or is terminated
 abbrev pub IsRefusal : Arrival → Type 0

@@ -2,17 +2,19 @@ ghost use Rattle.std.specs.Prelude.{◌≡◌, ◌≢◌, ℤ, ◌<◌, ◌≤�
 ghost use Rattle.packed_phaser.specs.Answer.{arrival_of};
 ghost use Rattle.packed_phaser.specs.Flat.{Turns, arrive};
 ghost use Rattle.packed_phaser.specs.Word.{record_of};
-ghost use Rattle.tier_tree.specs.Forest.{flat_at, root_at};
+ghost use Rattle.tier_tree.specs.Forest.{phaser_at, flat_at, root_at};
 ghost use Rattle.tier_tree.specs.Arrival.{climbed, with_child, passed_on, arrival};
 ghost use Rattle.tier_tree.specs.Answer.{DoesntArrive};
+ghost use Rattle.tier_tree.specs.PhaseEnd.{most_ends, EndsAtRoot};
 ghost use Rattle.tier_tree.specs.Stored.{IsStored, ChangedOnly, ChangedAt, stored_at, phasers_of};
 
 use crate::arrived::Arrived;
 use crate::id::PhaserId;
 use crate::line::MOST_LEVELS;
 use crate::node::Node;
+use crate::phase_end::end_phase;
 use crate::present::{is_root, line_at, set_word, top_at, word_at};
-use packed_phaser::Word;
+use packed_phaser::{Policy, Word};
 
 /// How far an arrival comes.
 #[derive(Clone, Copy)]
@@ -283,5 +285,39 @@ pub fn arrive_early(nodes: &mut [Node], i: usize) -> Option<i32>
             climb_early(nodes, i, word)
         }
         packed_phaser::Arrived::Dead(_) | packed_phaser::Arrived::NotThere => None,
+    }
+}
+
+/// Whether the policy of one phaser is the default one.
+fn has_default_policy(nodes: &[Node], i: usize) -> bool
+    requires { i < length nodes.now }
+    ensures { result ≡ true → (phaser_at (phasers_of nodes.now) i).policy ≡ Policy.Default }
+{
+    matches!(nodes[i].policy(), Policy::Default)
+}
+
+/// The last arrival at a root, of a party that stays, and the end of its phase: the number of that phase. `None` where others
+/// are still to arrive, nobody could arrive, there is a phaser above, or the policy isn't the default one; nothing has
+/// changed then.
+pub fn end_at_root(nodes: &mut [Node], i: usize) -> Option<i32>
+    requires stored { IsStored nodes.old }
+    requires there { i < length nodes.old }
+    requires ends { (phaser_at (phasers_of nodes.old) i).ends < most_ends }
+    ensures ends { IfSome result (λ phase.
+        EndsAtRoot i phase (phasers_of nodes.old) (phasers_of nodes.new)) }
+    ensures none { result ≡ None → nodes.new ≡ nodes.old }
+    ensures stored { IsStored nodes.new }
+    ensures only { ChangedAt i nodes.old nodes.new }
+{
+    if !is_root(nodes, i) || !has_default_policy(nodes, i) {
+        return None;
+    }
+    match arrival_at(nodes, i) {
+        packed_phaser::Arrived::Turned(word) => {
+            set_word(nodes, i, word);
+            end_phase(nodes, i, false);
+            Some(word.phase_view())
+        }
+        _ => None,
     }
 }

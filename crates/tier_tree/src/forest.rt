@@ -7,7 +7,7 @@ ghost use Rattle.tier_tree.specs.Forest.{phaser_at, flat_at, root_at};
 ghost use Rattle.tier_tree.specs.Law.{NobodyComesBetween};
 ghost use Rattle.tier_tree.specs.Origin.{Origin, StandsFor, Carries, HaveAllArrived};
 ghost use Rattle.tier_tree.specs.Origin.{origin_after_registration, origin_after_arrival, origin_after_phase_end};
-ghost use Rattle.tier_tree.specs.PhaseEnd.{most_ends, after_phase_end, after_force};
+ghost use Rattle.tier_tree.specs.PhaseEnd.{most_ends, after_phase_end, after_force, EndsAtRoot};
 ghost use Rattle.tier_tree.specs.Registration.{registration, after_registration};
 ghost use Rattle.tier_tree.specs.Stored.{Stored, IsStored, ChangedAt, phasers_of};
 ghost use Rattle.tier_tree.specs.Undo.{saved_of, IsSavedOf, restored};
@@ -145,6 +145,21 @@ impl Forest {
             (phasers_of self.old) (phasers_of self.new)) }
     {
         climb::arrive_early(self.nodes.as_mut_slice(), id.0 as usize)
+    }
+
+    /// `arrive` of a party that stays, and `finish_turn`, where it is the last at a root whose policy is the default
+    /// one: the number of the phase that ended. `None` anywhere else; nothing has changed then.
+    #[inline(always)]
+    pub fn end_at_root(&mut self, id: PhaserId) -> Option<i32>
+        requires there { id.0 < length self.old }
+        requires ends { (phaser_at (phasers_of self.old) id.0).ends < most_ends }
+        ensures ends { IfSome result (λ phase.
+            EndsAtRoot id.0 phase (phasers_of self.old) (phasers_of self.new)) }
+        ensures none { result ≡ None → self.new ≡ self.old }
+        ensures only { ChangedAt id.0 self.old self.new }
+        ensures many { length self.new ≡ length self.old }
+    {
+        climb::end_at_root(self.nodes.as_mut_slice(), id.0 as usize)
     }
 
     /// Ends the phase of a turned root, after `onAdvance` answered: `ends` is its answer. Where the

@@ -4,7 +4,7 @@ ghost use Rattle.tier_tree.specs.Forest.{phaser_at, flat_at, root_at};
 ghost use Rattle.tier_tree.specs.Stored.{IsStored, ChangedOnly, ChangedAt, phasers_of};
 
 use crate::node::Node;
-use crate::present::{root_of, word_at};
+use crate::present::{root_of, root_word_at};
 
 /// Ends the phase of a turned root, with termination where `ends` says so. Only the root's word is
 /// written: the others of its tree lag behind it from then on.
@@ -19,7 +19,7 @@ pub fn end_phase(nodes: &mut [Node], root: usize, ends: bool)
     ensures stored { IsStored nodes.new }
     ensures only { ChangedOnly (root ∷ []) nodes.old nodes.new }
 {
-    let word = word_at(nodes, root).advance(ends);
+    let word = root_word_at(nodes, root).advance(ends);
     nodes[root].end_phase(word);
 }
 

@@ -101,6 +101,17 @@ pub fn word_at(nodes: &[Node], i: usize) -> Word
     brought_up(top, nodes[i].word())
 }
 
+/// The word of a root.
+#[inline(always)]
+pub fn root_word_at(nodes: &[Node], root: usize) -> Word
+    requires stored { IsStored nodes.now }
+    requires there { root < length nodes.now }
+    requires root { root_at (phasers_of nodes.now) root ≡ root }
+    ensures { record_of result ≡ flat_at (phasers_of nodes.now) root }
+{
+    nodes[root].word()
+}
+
 /// What one phaser shows as its phase at present: that of its root, whatever its own word says.
 #[inline(always)]
 pub fn view_at(nodes: &[Node], i: usize) -> i32

@@ -240,7 +240,7 @@ impl Stage {
         matches!(self.phasers.policy(root), Policy::Routine)
     }
 
-    /// The arrival itself.
+    /// The last arrival at a root and the end of its phase are one call.
     fn arrival_with_room(
         &mut self,
         program: &Loaded,
@@ -248,6 +248,26 @@ impl Stage {
         phaser: u16,
         t: usize,
     ) -> Event
+        requires phaser { phaser < length self.old.phasers }
+        requires room { (has_routine phaser (scene_of self.old) && is_full (thread_at (scene_of self.old) t)) ≡ false }
+        requires routines { length program.now.routines ≡ length self.old.phasers }
+        requires ends { (p : ℕ) → (phaser_at (phasers_of self.old.phasers) p).ends < most_after }
+        requires plays { CanPlay t self.old }
+        ensures outcome { record { scene = scene_of self.new; event = result }
+            ≡ outcome_with_room manner phaser t program.now (scene_of self.old) }
+        ensures phasers { ChangedAt phaser self.old.phasers self.new.phasers }
+    {
+        let id = self.phaser_id(phaser);
+        if !manner.leaves {
+            if let Some(phase) = self.phasers.end_at_root(id) {
+                return self.phase_ended(manner, id, phase, t);
+            }
+        }
+        self.arrival_in_tree(program, manner, phaser, t)
+    }
+
+    /// The arrival itself, wherever the phase's end that it may bring doesn't come by a root alone.
+    fn arrival_in_tree(&mut self, program: &Loaded, manner: Manner, phaser: u16, t: usize) -> Event
         requires phaser { phaser < length self.old.phasers }
         requires room { (has_routine phaser (scene_of self.old) && is_full (thread_at (scene_of self.old) t)) ≡ false }
         requires routines { length program.now.routines ≡ length self.old.phasers }

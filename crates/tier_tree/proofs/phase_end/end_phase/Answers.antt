@@ -7,10 +7,10 @@ pub returns-clause-present : goal.returns-clause-present
 returns-clause-present c =
     (turns c.args.nodes.now c.args.root c.advance-word.result c.args.ends c.index-nodes-root.result c.end_phase.new.self c.end_phase.ensures
     c.requires.stored c.requires.there c.requires.root c.requires.live c.requires.ends
-    (c.advance-word.ensures.record ∙ ap (advance c.args.ends) c.word_at.ensures)).shows
+    (c.advance-word.ensures.record ∙ ap (advance c.args.ends) c.root_word_at.ensures)).shows
 
 pub returns-clause-stored : goal.returns-clause-stored
 returns-clause-stored c =
     (turns c.args.nodes.now c.args.root c.advance-word.result c.args.ends c.index-nodes-root.result c.end_phase.new.self c.end_phase.ensures
     c.requires.stored c.requires.there c.requires.root c.requires.live c.requires.ends
-    (c.advance-word.ensures.record ∙ ap (advance c.args.ends) c.word_at.ensures)).stored
+    (c.advance-word.ensures.record ∙ ap (advance c.args.ends) c.root_word_at.ensures)).stored

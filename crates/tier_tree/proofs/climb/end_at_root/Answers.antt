@@ -1,0 +1,38 @@
+use Rattle.std.proofs.Common.{rules, ◌∙◌, ◌<◌, ℕ, ◌∷◌, false, refl, sym, ap, subst}
+use Rattle.packed_phaser.specs.Flat.{Turns}
+use Rattle.packed_phaser.specs.Word.{record_of}
+use Rattle.tier_tree.specs.Forest.{phaser_at, flat_at, root_of}
+use Rattle.tier_tree.specs.Stored.{ChangedOnly, phasers_of}
+use Rattle.tier_tree.proofs.Shown.{length-shown, only_more, only_same}
+use Rattle.tier_tree.proofs.Times.{IsArrival, arrival_is}
+use Rattle.tier_tree.proofs.Ascent.{own_line, alone_top, put_here, ends_at_root, only_more_of}
+use Rattle.tier_tree.proofs.climb.end_at_root.Goals as goal
+
+pub end_phase-requires-clause-root : goal.end_phase-requires-clause-root
+end_phase-requires-clause-root c =
+    let ps = phasers_of c.args.nodes.now in
+    let own = own_line c.args.nodes.now c.args.i c.requires.stored c.requires.there in
+    ap root_of (put_here c.args.i ps (phasers_of c.set_word.new.nodes) (record_of c.in-Turned.word)
+    (subst (λ (n : ℕ). c.args.i < n) (sym (length-shown c.args.nodes.now)) c.requires.there) c.set_word.ensures.present)
+    ∙ alone_top (phaser_at ps c.args.i).line own.0 c.args.i own.2 (sym c.is_root.ensures ∙ c.if-not-is_root.false)
+
+pub returns-in-Turned-clause-ends : goal.returns-in-Turned-clause-ends
+returns-in-Turned-clause-ends c =
+    let ps = phasers_of c.args.nodes.now in
+    let own = own_line c.args.nodes.now c.args.i c.requires.stored c.requires.there in
+    let f = flat_at ps c.args.i in
+    let g = record_of c.in-Turned.word in
+    let late : IsArrival f (Turns g) = subst (IsArrival f) (sym c.in-Turned.ensures) (arrival_is false f) in
+    let is = ends_at_root c.args.i (phaser_at ps c.args.i).line own.0 ps (phasers_of c.set_word.new.nodes) (phasers_of c.end_phase.new.nodes) f g own.2
+    (sym c.is_root.ensures ∙ c.if-not-is_root.false) refl refl late c.in-Turned.ensures
+    (subst (λ (n : ℕ). c.args.i < n) (sym (length-shown c.args.nodes.now)) c.requires.there) c.set_word.ensures.present
+    (c.has_default_policy.ensures c.if-not-has_default_policy.false) c.end_phase.ensures.present in
+    search (rules, is)
+
+pub returns-in-Turned-clause-only : goal.returns-in-Turned-clause-only
+returns-in-Turned-clause-only c =
+    let own = own_line c.args.nodes.now c.args.i c.requires.stored c.requires.there in
+    subst (λ (line : _). ChangedOnly line c.args.nodes.now c.end_phase.new.nodes) (sym own.1)
+    (only_more_of (c.args.i ∷ own.0) 0 c.args.nodes.now c.set_word.new.nodes c.end_phase.new.nodes (search rules)
+    (only_more _ own.0 c.args.i c.args.nodes.now c.args.nodes.now c.set_word.new.nodes refl (only_same own.0 c.args.nodes.now) c.set_word.ensures.only)
+    c.end_phase.ensures.only)
