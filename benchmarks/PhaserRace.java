@@ -1,20 +1,21 @@
 import java.util.concurrent.Phaser;
 
 /**
- * The race that {@code race_benchmark} plays, on the JDK's own Phaser: PARTIES threads call arriveAndAwaitAdvance
- * ROUNDS times each. Prints the phaser's last phase and the seconds.
+ * The race that {@code race_benchmark} plays, on the JDK's own Phaser: {@code PhaserRace PARTIES ROUNDS [WARM_UP]}. PARTIES
+ * threads call arriveAndAwaitAdvance ROUNDS times each, after as many threads have done so WARM_UP times, on another
+ * phaser, for the compiler's sake. Prints the phaser's last phase and the seconds.
  */
 public class PhaserRace {
     public static void main(String[] words) throws InterruptedException {
         int parties = Integer.parseInt(words[0]);
         int rounds = Integer.parseInt(words[1]);
-        int runs = words.length > 2 ? Integer.parseInt(words[2]) : 1;
-        for (int run = 0; run < runs; run++) {
-            race(parties, rounds);
+        if (words.length > 2) {
+            race(parties, Integer.parseInt(words[2]));
         }
+        System.out.println(race(parties, rounds));
     }
 
-    static void race(int parties, int rounds) throws InterruptedException {
+    static String race(int parties, int rounds) throws InterruptedException {
         Phaser phaser = new Phaser(parties);
         Thread[] threads = new Thread[parties];
         long begin = System.nanoTime();
@@ -30,6 +31,6 @@ public class PhaserRace {
             thread.join();
         }
         double seconds = (System.nanoTime() - begin) / 1e9;
-        System.out.printf("phase %d, %.3f s, %.0f rounds a second%n", phaser.getPhase(), seconds, rounds / seconds);
+        return "phase %d, %.6f s".formatted(phaser.getPhase(), seconds);
     }
 }

@@ -21,6 +21,7 @@ pub enum Attempt {
 
 impl SharedPhaser {
     /// One try: a load, and an exchange where the call changes the phaser.
+    #[inline(always)]
     pub(crate) fn attempt<C: Asked>(&self, party: &mut Party, call: Call) -> Attempt
         requires call { C.call ≡ call }
         requires tried { IsTried call }

@@ -54,6 +54,7 @@ fn registration(word: Word, count: u32) -> Outcome
     }
 }
 
+#[inline(always)]
 fn arrival(word: Word, leave: bool, policy: Policy) -> Outcome
     requires { (record_of word).turned ≡ false }
     ensures effect { effect_of result ≡ effect policy (Arrive leave) (record_of word) }
@@ -79,6 +80,7 @@ fn termination(word: Word) -> Outcome
     Outcome::Change(after, Answer::Replied(Reply::Dead(after.phase_view())))
 }
 
+#[inline(always)]
 fn wait(word: Word, phase: i32) -> Outcome
     ensures effect { effect_of result ≡ awaiting phase (record_of word) }
     ensures suits { SuitsOutcome (Await phase) result }
@@ -92,6 +94,7 @@ fn wait(word: Word, phase: i32) -> Outcome
 }
 
 /// What the call makes of the word.
+#[inline(always)]
 pub fn outcome_at(word: Word, call: Call, policy: Policy) -> Outcome
     requires unturned { (record_of word).turned ≡ false }
     requires tried { IsTried call }

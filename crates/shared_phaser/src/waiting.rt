@@ -20,34 +20,77 @@ use std::sync::Wait;
 #[derive(Clone, Copy, Debug, PartialEq, Eq)]
 pub struct NotThere;
 
-/// How many rounds of a wait spin, as many as the JDK's. Each one after those sleeps until a phase
-/// ends. None yields: a thread that yields gives whatever else the machine has to do a whole slice
-/// of time, some milliseconds.
-const SPINS: u32 = 256;
+/// How often a wait looks at the word before it sleeps until a phase ends, where few parties meet,
+/// who may all have a processor, and where more do: then one who spins may keep a processor from
+/// one who has yet to arrive. No wait yields: a thread that yields gives whatever else the machine
+/// has to do a whole slice of time, some milliseconds.
+const LOOKS_AMONG_FEW: u32 = 96;
 
-/// One round of a wait, after so many. A wait that was announced before the last try sleeps,
-/// unless a phase has ended since.
-fn rest<R: Wait>(rt: &R, key: Option<Key<'_>>, rounds: u32) -> u32 {
-    if let Some(key) = key {
-        key.wait(rt);
-        return rounds;
+const LOOKS_AMONG_MANY: u32 = 24;
+
+/// The most parties that are few.
+const FEW: u64 = 4;
+
+/// How many pauses go before each further look: one that comes too early takes the word's cache
+/// line from the thread that is about to end the phase.
+const PAUSES: u32 = 12;
+
+/// How often a wait at a phaser with this word looks at it.
+#[inline(always)]
+fn looks_at(bits: u64) -> u32 {
+    if bits >> 16 & 0xffff <= FEW {
+        LOOKS_AMONG_FEW
+    } else {
+        LOOKS_AMONG_MANY
     }
-    spin_loop();
-    rounds.saturating_add(1)
 }
 
 impl SharedPhaser {
     /// Announces a wait that will sleep, before the try that decides on it: an end of a phase
     /// between that try and the sleep wakes it, so none is missed.
-    fn announced(&self, rounds: u32) -> Option<Key<'_>> {
-        if rounds < SPINS {
-            None
-        } else {
+    #[inline(always)]
+    fn announced(&self, sleeps: bool) -> Option<Key<'_>> {
+        if sleeps {
             Some(self.ended.prepare_wait())
+        } else {
+            None
         }
     }
 
-    /// Tries of a call until it has an answer.
+    /// Looks at the phase in the word alone until it isn't this one, or for the last time; whether
+    /// it still is.
+    #[inline(always)]
+    fn lingers(&self, phase: i32) -> bool {
+        let phase = u64::from(phase.unsigned_abs());
+        let table = &*self.table;
+        for _ in 0..looks_at(table.shared.peek(0)) {
+            for _ in 0..PAUSES {
+                spin_loop();
+            }
+            if table.shared.peek(0) >> 32 != phase {
+                return false;
+            }
+        }
+        true
+    }
+
+    /// What goes between two tries of a wait. One that was announced before the last try sleeps,
+    /// unless a phase has ended since, and another one spins. Whether the next one is announced.
+    #[inline(always)]
+    fn rests<R: Wait>(&self, rt: &R, key: Option<Key<'_>>, call: Call) -> bool {
+        if let Some(key) = key {
+            key.wait(rt);
+            return false;
+        }
+        match call {
+            Call::Await(phase) => self.lingers(phase),
+            _ => false,
+        }
+    }
+
+    /// Tries of a call until it has an answer. Inlined with all that it calls: the more lies between
+    /// the end of a phase and the next arrival, the likelier is another thread's look in between.
+    #[inline(always)]
     fn insist<C: Asked, R: Wait>(&self, rt: &R, party: &mut Party, call: Call) -> Answer
         requires call { C.call ≡ call }
         requires tried { IsTried call }
@@ -56,20 +99,21 @@ impl SharedPhaser {
         ensures made { MakesCall party.old.known call result party.new.known }
         ensures suits { Suits call result }
     {
-        let mut rounds = 0;
+        let mut sleeps = false;
         for _ in rt.forever() {
-            let key = self.announced(rounds);
+            let key = self.announced(sleeps);
             let tried = self.attempt::<C>(party, call);
             match tried {
                 Attempt::Made(answer) => return answer,
                 Attempt::Lost(_) => {}
-                Attempt::Waiting => rounds = rest(rt, key, rounds),
+                Attempt::Waiting => sleeps = self.rests(rt, key, call),
             }
         }
         unreachable!()
     }
 
     /// The same of a call that waits for nobody.
+    #[inline(always)]
     fn insist_promptly<C: Asked, R: Wait>(&self, rt: &R, party: &mut Party, call: Call) -> Reply
         requires call { C.call ≡ call }
         requires tried { IsTried call }
@@ -120,6 +164,7 @@ impl SharedPhaser {
     }
 
     /// A wait until the phaser isn't in this phase, or is terminated; its view then.
+    #[inline(always)]
     fn pass<R: Wait>(&self, rt: &R, party: &mut Party, phase: i32) -> i32
         requires { phaser_of party.old ≡ self.now }
         ensures phaser { phaser_of party.new ≡ self.now }
