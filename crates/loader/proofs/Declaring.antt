@@ -6,7 +6,7 @@ use Rattle.tier_tree.specs.Forest.{PhaserState, flat_at, root_at}
 use Rattle.tier_tree.specs.Answer.{KeepsEnds}
 use Rattle.tier_tree.specs.Declaration.{AreAllFresh, is_root}
 use Rattle.packed_phaser.specs.Flat.{unarrived_of}
-use Rattle.tier_tree.specs.Origin.{StandsFor, Carries, declared_at, children, has_joined, is_awaited}
+use Rattle.tier_tree.specs.Origin.{AreTallied, Carries, declared_at, children, has_joined, is_awaited}
 use Rattle.tier_tree.specs.Stored.{Stored, phasers_of}
 use Rattle.row_code.specs.declared.phasers.DeclaredPhaser.{DeclaredPhaser}
 use Rattle.loader.specs.Declarations.{parent_of, with_phaser, no_phaser, declared_origin, AreDeclared}
@@ -21,8 +21,8 @@ no_stray false = refl
 
 -- to declare a phaser is to count those whom its declaration names
 pub origin_stays : (phasers : List PhaserState) (all : List DeclaredPhaser) (n count : ℕ) (top : Bool)
-    → count ≡ (get_or all n no_phaser).parties → StandsFor phasers (declared_at n count top (declared_origin all))
-    → StandsFor phasers (declared_origin all)
+    → count ≡ (get_or all n no_phaser).parties → AreTallied phasers (declared_at n count top (declared_origin all))
+    → AreTallied phasers (declared_origin all)
 origin_stays phasers all n count top is stands = record {
   steady = stands.steady;
   tallied = λ id there stray live.
@@ -50,6 +50,6 @@ declared_more n all before after lt so_far shown many fresh keeps carries =
       fresh = fresh;
       ends = λ id. keeps id ∙ so_far.ends id;
       origin = origin_stays (phasers_of after) all n phaser.parties top refl
-          (subst (λ k. StandsFor (phasers_of after) (declared_at k phaser.parties top (declared_origin all)))
+          (subst (λ k. AreTallied (phasers_of after) (declared_at k phaser.parties top (declared_origin all)))
           so_far.many (carries (declared_origin all) so_far.origin));
     }

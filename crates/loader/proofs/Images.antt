@@ -14,7 +14,7 @@ use Rattle.tier_tree.specs.declared.fault.DeclareFault.TheVariants as declare
 use Rattle.tier_tree.specs.Forest.{PhaserState, phaser_at}
 use Rattle.tier_tree.specs.Sound.{IsForest, IsForestOf}
 use Rattle.tier_tree.specs.Declaration.{IsFresh, AreAllFresh, IsFreshAbove, has_parent, is_count, is_first_phase, is_root, line_above, fault_of, joins_above, declared, after_declaration}
-use Rattle.tier_tree.specs.Origin.{StandsFor, declared_at}
+use Rattle.tier_tree.specs.Origin.{AreTallied, declared_at}
 use Rattle.tier_tree.specs.Registration.{is_overfull}
 use Rattle.tier_tree.proofs.Added.{stands_declared}
 use Rattle.tier_tree.proofs.Lines.{length-places, forest_declared, joined-places}
@@ -37,7 +37,7 @@ pub record IsMade (all : List DeclaredPhaser) (n : ℕ) (phasers : List PhaserSt
   pub forest : IsForest phasers
   pub fresh : AreAllFresh phasers
   pub ends : (id : ℕ) → (phaser_at phasers id).ends ≡ 0
-  pub origin : StandsFor phasers (declared_origin all)
+  pub origin : AreTallied phasers (declared_origin all)
 
 none_at : (id : ℕ) → (phaser_at [] id).ends ≡ 0
 none_at zero = refl
@@ -94,7 +94,7 @@ one_made all n parent parties policy phase phasers own none made =
       fresh = fresh_declared joins phasers more after new refl refl refl made.fresh;
       ends = λ id. declared_ends parent parties policy phase phasers after refl id ∙ made.ends id;
       origin = origin_stays after all n parties (is_root parent) own
-          (subst (λ k. StandsFor after (declared_at k parties (is_root parent) (declared_origin all))) made.many
+          (subst (λ k. AreTallied after (declared_at k parties (is_root parent) (declared_origin all))) made.many
           (stands_declared parent parties policy phase phasers after (declared_origin all) few can.1.0 made.forest above room.0 refl made.origin));
     }
 

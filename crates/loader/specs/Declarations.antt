@@ -7,7 +7,7 @@ use Rattle.tier_tree.specs.declared.id.PhaserId.{PhaserId}
 use Rattle.tier_tree.specs.declared.fault.DeclareFault.{DeclareFault}
 use Rattle.tier_tree.specs.Forest.{PhaserState, phaser_at}
 use Rattle.tier_tree.specs.Declaration.{AreAllFresh, fault_of, after_declaration}
-use Rattle.tier_tree.specs.Origin.{Origin, StandsFor}
+use Rattle.tier_tree.specs.Origin.{Origin, AreTallied}
 use Rattle.tier_tree.specs.Stored.{Stored, phasers_of}
 use Rattle.cyclic_barrier.specs.Barrier.{BarrierState, fresh}
 use Rattle.row_code.specs.declared.phasers.DeclaredPolicy.{DeclaredPolicy}
@@ -78,4 +78,4 @@ pub record AreDeclared (n : ℕ) (phasers : List DeclaredPhaser) (forest : List 
   pub many : length forest ≡ n
   pub fresh : AreAllFresh (phasers_of forest)
   pub ends : (id : ℕ) → (phaser_at (phasers_of forest) id).ends ≡ 0
-  pub origin : StandsFor (phasers_of forest) (declared_origin phasers)
+  pub origin : AreTallied (phasers_of forest) (declared_origin phasers)

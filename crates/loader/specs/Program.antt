@@ -4,7 +4,7 @@ use Rattle.instruction_table.specs.declared.row.Row.{Row}
 use Rattle.instruction_table.specs.declared.row.Row.TheVariants.{Halt}
 use Rattle.tier_tree.specs.Declaration.{AreAllFresh}
 use Rattle.tier_tree.specs.Forest.{PhaserState, phaser_at}
-use Rattle.tier_tree.specs.Origin.{Origin, StandsFor}
+use Rattle.tier_tree.specs.Origin.{Origin, AreTallied}
 use Rattle.tier_tree.specs.Stored.{Stored, phasers_of}
 use Rattle.cyclic_barrier.specs.Barrier.{BarrierState, fresh}
 use Rattle.row_code.specs.declared.image.Image.{Image}
@@ -88,7 +88,7 @@ pub record CanStart (rows : ℕ) (threads : List DeclaredThread) : Type 0 where
 pub record AreNewTrees (phasers : List PhaserState) : Type 0 where
   pub fresh : AreAllFresh phasers
   pub ends : (id : ℕ) → (phaser_at phasers id).ends ≡ 0
-  pub stands : (origin : Origin) × ((root : ℕ) → origin.stray root ≡ false) × StandsFor phasers origin
+  pub stands : (origin : Origin) × ((root : ℕ) → origin.stray root ≡ false) × AreTallied phasers origin
 
 -- a barrier at which nothing has happened yet
 abbrev pub IsNewBarrier : BarrierState → Type 0
@@ -111,7 +111,7 @@ pub record IsProgramOf (image : Image) (program : Program) : Type 0 where
   pub rows : program.rows ≡ image.rows
   pub threads : program.threads ≡ image.threads
   pub phasers : phasers_of program.phasers ≡ forest_of image.phasers
-  pub origin : StandsFor (phasers_of program.phasers) (declared_origin image.phasers)
+  pub origin : AreTallied (phasers_of program.phasers) (declared_origin image.phasers)
   pub routines : program.routines ≡ map routine_row image.phasers
   pub barriers : program.barriers ≡ map new_barrier image.barriers
   pub actions : program.actions ≡ map action_row image.barriers

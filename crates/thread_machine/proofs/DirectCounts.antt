@@ -16,7 +16,7 @@ use Rattle.tier_tree.specs.Forest.{PhaserState, flat_at, root_at}
 use Rattle.tier_tree.specs.Registration.{registration, after_registration}
 use Rattle.tier_tree.specs.Arrival.{Arrives, arrival}
 use Rattle.tier_tree.specs.PhaseEnd.{after_phase_end, after_force}
-use Rattle.tier_tree.specs.Origin.{Origin, StandsFor, origin_after_arrival, origin_after_registration}
+use Rattle.tier_tree.specs.Origin.{Origin, AreTallied, origin_after_arrival, origin_after_registration}
 use Rattle.tier_tree.specs.Trees.{AreTrees}
 use Rattle.tier_tree.proofs.Kept.{registration-ends, arrival-ends, force-ends}
 use Rattle.tier_tree.proofs.Joined.{stands_registered}
@@ -72,7 +72,7 @@ FaresTo scene counted outcome = Fares scene.phasers (phasers_after outcome scene
 abbrev pub IsAside : Scene → Option Outcome → Type 0
 IsAside scene outcome = phasers_after outcome scene ≡ scene.phasers
 
-pub aside_fares : (outcome : Option Outcome) (scene : Scene) (origin : Origin) → IsAside scene outcome → StandsFor scene.phasers origin
+pub aside_fares : (outcome : Option Outcome) (scene : Scene) (origin : Origin) → IsAside scene outcome → AreTallied scene.phasers origin
     → FaresTo scene origin outcome
 aside_fares outcome scene origin aside stands =
     subst (λ (phasers : List PhaserState). Fares scene.phasers phasers origin) (sym aside) (fares_same scene.phasers origin stands)
@@ -205,7 +205,7 @@ timeout_aside (status.Died code) row t scene = refl
 
 -- a registration, by its answer
 registered_fares : (answer : Registered) (p count t : ℕ) (scene : Scene) (into : Reg) (origin : Origin) (phasers : List PhaserState)
-    → Fares scene.phasers phasers (origin_after_registration answer p count origin) → StandsFor scene.phasers origin
+    → Fares scene.phasers phasers (origin_after_registration answer p count origin) → AreTallied scene.phasers origin
     → FaresTo scene (origin_after_registration answer p count origin) (outcome_of_registered answer into t (with_phasers phasers scene))
 registered_fares (registered.At phase) p count t scene into origin phasers fares stands = fares
 registered_fares (registered.Dead view) p count t scene into origin phasers fares stands = fares
@@ -213,7 +213,7 @@ registered_fares registered.TooMany p count t scene into origin phasers fares st
 registered_fares registered.Held p count t scene into origin phasers fares stands = fares_same scene.phasers origin stands
 
 registration_fares : (steps p count t : ℕ) (scene : Scene) (into : Reg) (origin : Origin) → AreTrees steps scene.phasers
-    → p < length scene.phasers → StandsFor scene.phasers origin
+    → p < length scene.phasers → AreTallied scene.phasers origin
     → FaresTo scene (origin_after_registration (registration p count scene.phasers) p count origin) (outcome_of_registration into p count t scene)
 registration_fares steps p count t scene into origin trees there stands =
     let phasers = scene.phasers in
@@ -228,7 +228,7 @@ turning_fares : (answer : Option Bool) (program : Program) (steps t p : ℕ) (ma
     (root : PhaserId) (phase : ℤ) (parties : ℕ)
     → AreTrees steps scene.phasers → steps < 2147483647 → p < length scene.phasers
     → (arrival p manner.leaves scene.phasers).answer ≡ arrived.Turning root phase parties
-    → StandsFor (arrival p manner.leaves scene.phasers).phasers counted
+    → AreTallied (arrival p manner.leaves scene.phasers).phasers counted
     → FaresTo scene counted
     (Some (outcome_of_pending_end answer manner root.0 phase t program (with_phasers (arrival p manner.leaves scene.phasers).phasers scene)))
 turning_fares (Some ends) program steps t p manner scene counted root phase parties trees few there is stands =
@@ -244,7 +244,7 @@ turning_fares None program steps t p manner scene counted root phase parties tre
 -- by what the arrival came to
 arrived_fares : (answer : Arrived) (program : Program) (steps t p : ℕ) (manner : Manner) (scene : Scene) (counted : Origin)
     → AreTrees steps scene.phasers → steps < 2147483647 → p < length scene.phasers
-    → (arrival p manner.leaves scene.phasers).answer ≡ answer → StandsFor (arrival p manner.leaves scene.phasers).phasers counted
+    → (arrival p manner.leaves scene.phasers).answer ≡ answer → AreTallied (arrival p manner.leaves scene.phasers).phasers counted
     → FaresTo scene counted (Some (outcome_of_arrived answer manner t program (with_phasers (arrival p manner.leaves scene.phasers).phasers scene)))
 arrived_fares (arrived.At phase) program steps t p manner scene counted trees few there is stands =
     fares_on scene.phasers (arrival p manner.leaves scene.phasers).phasers counted (arrival-ends p manner.leaves scene.phasers) (arrival-numbers p manner.leaves scene.phasers) stands
@@ -257,7 +257,7 @@ arrived_fares arrived.NotThere program steps t p manner scene counted trees few 
     fares_on scene.phasers (arrival p manner.leaves scene.phasers).phasers counted (arrival-ends p manner.leaves scene.phasers) (arrival-numbers p manner.leaves scene.phasers) stands
 
 room_fares : (program : Program) (steps t p : ℕ) (manner : Manner) (scene : Scene) (origin : Origin) → AreTrees steps scene.phasers
-    → steps < 2147483647 → p < length scene.phasers → StandsFor scene.phasers origin
+    → steps < 2147483647 → p < length scene.phasers → AreTallied scene.phasers origin
     → FaresTo scene (origin_after_arrival (arrival p manner.leaves scene.phasers).answer p (root_at scene.phasers p) manner.leaves origin)
     (Some (outcome_with_room manner p t program scene))
 room_fares program steps t p manner scene origin trees few there stands =
@@ -282,7 +282,7 @@ full_or false true scene origin counted first second call a b c = b
 full_or false false scene origin counted first second call a b c = c
 
 arrival_fares : (program : Program) (steps t p : ℕ) (manner : Manner) (scene : Scene) (origin : Origin) → AreTrees steps scene.phasers
-    → steps < 2147483647 → p < length scene.phasers → StandsFor scene.phasers origin
+    → steps < 2147483647 → p < length scene.phasers → AreTallied scene.phasers origin
     → FaresTo scene (with_arrival p manner.leaves t scene origin)
     (unless_own p t scene (Some (outcome_of_arrival manner p t program scene)))
 arrival_fares program steps t p manner scene origin trees few there stands =
@@ -295,7 +295,7 @@ arrival_fares program steps t p manner scene origin trees few there stands =
     (room_fares program steps t p manner scene origin trees few there stands)
 
 bulk_fares : (steps t p : ℕ) (count : ℤ) (into : Reg) (scene : Scene) (origin : Origin) → AreTrees steps scene.phasers
-    → p < length scene.phasers → StandsFor scene.phasers origin
+    → p < length scene.phasers → AreTallied scene.phasers origin
     → FaresTo scene (with_registration p count t scene origin) (unless_own p t scene (outcome_of_bulk into p count t scene))
 bulk_fares steps t p count into scene origin trees there stands =
     let thread = thread_at scene t in
@@ -311,7 +311,7 @@ unless_own_aside p t scene outcome aside =
     either (IsAside scene) (is_own_tree p (thread_at scene t) scene) {b = Some outcome} refl aside
 
 phaser_row_fares : (row : Row) (program : Program) (steps t : ℕ) (scene : Scene) (origin : Origin)
-    → StandsAt program steps t scene status.Runs row → StandsFor scene.phasers origin
+    → StandsAt program steps t scene status.Runs row → AreTallied scene.phasers origin
     → FaresTo scene (with_row row t scene origin) (outcome_of_phaser_row row t program scene)
 phaser_row_fares (Preg into p) program steps t scene origin stands counts =
     bulk_fares steps t p (pos 1) into scene origin stands.sound.trees stands.named counts
@@ -343,7 +343,7 @@ phaser_row_fares _ program steps t scene origin stands counts = fares_same scene
 routine_end_fares : (ended : Bool) (program : Program) (steps t root row : ℕ) (registers : List ℤ) (manner : Manner) (ends : Bool)
     (scene after : Scene) (origin : Origin) → after.phasers ≡ scene.phasers → (flat_at scene.phasers root).ended ≡ ended
     → StandsAt program steps t scene status.Runs Ret → top_of (thread_at scene t).stack ≡ Some (frame.Advance root registers row)
-    → StandsFor scene.phasers origin → FaresTo scene origin (Some (outcome_of_routine_end ended manner root ends t after))
+    → AreTallied scene.phasers origin → FaresTo scene origin (Some (outcome_of_routine_end ended manner root ends t after))
 routine_end_fares true program steps t root row registers manner ends scene after origin same end stands is counts =
     aside_fares (Some (outcome_of_routine_end true manner root ends t after)) scene origin same counts
 routine_end_fares false program steps t root row registers manner ends scene after origin same end stands is counts =
@@ -354,7 +354,7 @@ routine_end_fares false program steps t root row registers manner ends scene aft
     (λ id. refl) (λ id. refl) counts)
 
 ret_fares : (top : Option Frame) (program : Program) (steps t : ℕ) (scene : Scene) (origin : Origin)
-    → StandsAt program steps t scene status.Runs Ret → top_of (thread_at scene t).stack ≡ top → StandsFor scene.phasers origin
+    → StandsAt program steps t scene status.Runs Ret → top_of (thread_at scene t).stack ≡ top → AreTallied scene.phasers origin
     → FaresTo scene origin (Some (outcome_of_ret top t program scene))
 ret_fares None program steps t scene origin stands is counts = fares_same scene.phasers origin counts
 ret_fares (Some (frame.Call row)) program steps t scene origin stands is counts = fares_same scene.phasers origin counts
@@ -366,7 +366,7 @@ ret_fares (Some (frame.Advance root registers row)) program steps t scene origin
 ret_fares (Some (frame.Action b registers row)) program steps t scene origin stands is counts = fares_same scene.phasers origin counts
 
 call_row_fares : (row : Row) (program : Program) (steps t : ℕ) (scene : Scene) (origin : Origin)
-    → StandsAt program steps t scene status.Runs row → StandsFor scene.phasers origin
+    → StandsAt program steps t scene status.Runs row → AreTallied scene.phasers origin
     → FaresTo scene origin (outcome_of_call_row row t program scene)
 call_row_fares (Call target) program steps t scene origin stands counts = fares_same scene.phasers origin counts
 call_row_fares Ret program steps t scene origin stands counts =
@@ -391,7 +391,7 @@ uncounted row t scene origin outcome other fares =
     subst (λ (counted : Origin). FaresTo scene counted outcome) (sym (counts_nothing row t scene origin other)) fares
 
 row_fares : (group : Group) (row : Row) (program : Program) (steps t : ℕ) (scene : Scene) (origin : Origin) → group_of row ≡ group
-    → StandsAt program steps t scene status.Runs row → StandsFor scene.phasers origin
+    → StandsAt program steps t scene status.Runs row → AreTallied scene.phasers origin
     → FaresTo scene (with_row row t scene origin) (outcome_in_group group row t program scene)
 row_fares Own row program steps t scene origin is stands counts =
     uncounted row t scene origin (outcome_of_own_row row t scene) (λ other. cc (is, other))
@@ -412,7 +412,7 @@ row_fares Barriers row program steps t scene origin is stands counts =
 
 -- a thread's turn, by its status
 pub turn_fares : (state : Status) (row : Row) (program : Program) (steps t : ℕ) (scene : Scene) (origin : Origin)
-    → StandsAt program steps t scene state row → StandsFor scene.phasers origin
+    → StandsAt program steps t scene state row → AreTallied scene.phasers origin
     → FaresTo scene (with_turn state row t scene origin) (outcome_in state row t program scene)
 turn_fares status.Runs row program steps t scene origin stands counts =
     row_fares (group_of row) row program steps t scene origin refl stands counts

@@ -9,7 +9,7 @@ use Rattle.tier_tree.specs.PhaseEnd.{follow, in_step, after_phase_end}
 use Rattle.tier_tree.specs.Sound.{IsForest}
 use Rattle.tier_tree.specs.Answer.{KeepsPlaces, KeepsEnds}
 use Rattle.tier_tree.proofs.Trees.{CanEnd}
-use Rattle.tier_tree.specs.Origin.{Origin, StandsFor, HaveAllArrived, origin_after_phase_end}
+use Rattle.tier_tree.specs.Origin.{Origin, AreTallied, HaveAllArrived, origin_after_phase_end}
 use Rattle.tier_tree.proofs.Stands.{same-is, other-is}
 use Rattle.tier_tree.proofs.Safe.{all_arrived}
 use Rattle.tier_tree.proofs.Turned.{stands_after_phase_end}
@@ -22,8 +22,8 @@ record AreSame (origin other : Origin) : Type 0 where
   pub unarrived : (n : ℕ) → other.unarrived n ≡ origin.unarrived n
   pub stray : (n : ℕ) → other.stray n ≡ origin.stray n
 
-stands_same : (phasers : List PhaserState) (origin other : Origin) → AreSame origin other → StandsFor phasers origin
-    → StandsFor phasers other
+stands_same : (phasers : List PhaserState) (origin other : Origin) → AreSame origin other → AreTallied phasers origin
+    → AreTallied phasers other
 stands_same phasers origin other same stands = record {
   steady = stands.steady;
   tallied = λ id there clean live.
@@ -42,7 +42,7 @@ stands_same phasers origin other same stands = record {
 
 -- with these counts as they are where a phase ends, what follows stands for them, and no phase ends early
 pub record Fares (before after : List PhaserState) (counted : Origin) : Type 0 where
-  pub stands : StandsFor after (set_back before after counted)
+  pub stands : AreTallied after (set_back before after counted)
   pub safe : (root : ℕ) → has_ended_phase root before after ≡ true → counted.stray root ≡ false
       → HaveAllArrived counted root before
   pub numbers : NumbersStay before after
@@ -53,7 +53,7 @@ none_ended before after kept root =
 
 -- no phase ends
 pub fares_on : (before after : List PhaserState) (counted : Origin) → KeepsEnds before after → KeepsNumbers before after
-    → StandsFor after counted → Fares before after counted
+    → AreTallied after counted → Fares before after counted
 fares_on before after counted kept numbers stands = record {
   stands = stands_same after counted (set_back before after counted) (record {
     registered = λ n. refl;
@@ -66,7 +66,7 @@ fares_on before after counted kept numbers stands = record {
 }
 
 -- nothing happens
-pub fares_same : (phasers : List PhaserState) (origin : Origin) → StandsFor phasers origin → Fares phasers phasers origin
+pub fares_same : (phasers : List PhaserState) (origin : Origin) → AreTallied phasers origin → Fares phasers phasers origin
 fares_same phasers origin stands = fares_on phasers phasers origin (λ id. refl) (λ id. refl) stands
 
 if-ends : (here : Bool) (x : PhaserState) (flat : Flat) → (if here then record x { flat = flat } else x).ends ≡ x.ends
@@ -113,7 +113,7 @@ equal_of m n is = elim (cases_eq m n) as (λ _. m ≡ n) [
 
 -- the phase of a turned root ends
 pub fares_ended : (root : ℕ) (ends : Bool) (before mid : List PhaserState) (counted : Origin) → IsForest mid → CanEnd root mid
-    → KeepsPlaces before mid → length mid ≡ length before → KeepsEnds before mid → KeepsNumbers before mid → StandsFor mid counted
+    → KeepsPlaces before mid → length mid ≡ length before → KeepsEnds before mid → KeepsNumbers before mid → AreTallied mid counted
     → Fares before (after_phase_end root ends mid) counted
 fares_ended root ends before mid counted forest can places many kept numbers stands =
     let after = after_phase_end root ends mid in

@@ -4,7 +4,7 @@ use Rattle.std.specs.Prelude.{◌||◌, ◌&&◌, ◌==◌, nat_le, is_some, Opt
 use Rattle.std.proofs.lemmas.Bool.Decides.{nat_tests}
 use Rattle.std.proofs.lemmas.List.{length-map}
 use Rattle.tier_tree.specs.Forest.{PhaserState}
-use Rattle.tier_tree.specs.Origin.{Origin, StandsFor}
+use Rattle.tier_tree.specs.Origin.{Origin, AreTallied}
 use Rattle.tier_tree.specs.Sound.{IsForest}
 use Rattle.tier_tree.specs.Stored.{phasers_of}
 use Rattle.row_code.specs.declared.image.Image.{Image}
@@ -51,7 +51,7 @@ expiry_aside t program scene =
 
 -- a choice of a thread that is there
 pub choice_fares : (world : World) (choice : Choice) (origin : Origin) → IsSound world.program world.steps world.scene
-    → world.steps < 2147483647 → choice.thread < length world.scene.threads → StandsFor world.scene.phasers origin
+    → world.steps < 2147483647 → choice.thread < length world.scene.threads → AreTallied world.scene.phasers origin
     → Fares world.scene.phasers (played world choice).world.scene.phasers (counts_at_end world choice origin)
 choice_fares world choice origin sound few there stands =
     let program = world.program in
@@ -68,12 +68,12 @@ choice_fares world choice origin sound few there stands =
 
 -- what a step of the machine may say of the counts
 pub record Keeps (before : World) (choice : Choice) (after : World) (origin : Origin) : Type 0 where
-  pub counts : StandsFor after.scene.phasers (counts_after before choice after origin)
+  pub counts : AreTallied after.scene.phasers (counts_after before choice after origin)
   pub safe : EndsNoPhaseEarly before choice after origin
   pub numbers : NumbersStay before.scene.phasers after.scene.phasers
 
 choice_keeps : (world : World) (choice : Choice) (origin : Origin) → IsSound world.program world.steps world.scene
-    → world.steps < 2147483647 → choice.thread < length world.scene.threads → StandsFor world.scene.phasers origin
+    → world.steps < 2147483647 → choice.thread < length world.scene.threads → AreTallied world.scene.phasers origin
     → Keeps world choice (played world choice).world origin
 choice_keeps world choice origin sound few there stands =
     let fares = choice_fares world choice origin sound few there stands in
@@ -83,7 +83,7 @@ choice_keeps world choice origin sound few there stands =
 pub step_keeps : (before after : StoredWorld) (event : Event) (choice : Choice) (origin : Origin) → IsMachine before
     → choice.thread < length before.scene.threads
     → record { world = world_of after; event = event } ≡ played (world_of before) choice
-    → StandsFor (phasers_of before.scene.phasers) origin → Keeps (world_of before) choice (world_of after) origin
+    → AreTallied (phasers_of before.scene.phasers) origin → Keeps (world_of before) choice (world_of after) origin
 step_keeps before after event choice origin machine there is stands =
     let most = machine.limit in
     let done = machine.steps in
@@ -104,7 +104,7 @@ pub record Goes (world : World) (origin : Origin) : Type 0 where
   pub sound : IsSound world.program world.steps world.scene
   pub steps : world.steps ≤ world.limit
   pub limit : world.limit ≤ 1000000000
-  pub stands : StandsFor world.scene.phasers origin
+  pub stands : AreTallied world.scene.phasers origin
 
 -- an accepted choice is one of a thread that is there, and while steps are left if it takes one
 accepted_by : (absent over all ready : Bool)
@@ -138,7 +138,7 @@ sound_choice false program steps t scene outcome sound few there is = sound_outc
 goes_by : (outcome : Option Outcome) (world : World) (choice : Choice) (origin other : Origin) → Goes world origin
     → outcome_of_choice world.program choice world.scene ≡ outcome → choice.thread < length world.scene.threads
     → (is_choice_ready world.program choice world.scene ≡ true → world.steps < world.limit)
-    → StandsFor (played_by outcome world).world.scene.phasers other → Goes (played_by outcome world).world other
+    → AreTallied (played_by outcome world).world.scene.phasers other → Goes (played_by outcome world).world other
 goes_by (Some outcome) world choice origin other goes is there left stands =
     let most = goes.limit in
     let done = goes.steps in
@@ -192,7 +192,7 @@ no_early_end_from first counts goes choices choice is =
     (goes_through choices first counts goes) is).safe
 
 pub no_early_end : (program : Program) (counts : Origin) → IsProgram program → IsForest (phasers_of program.phasers)
-    → StandsFor (phasers_of program.phasers) counts → NoPhaseEndsEarly program counts
+    → AreTallied (phasers_of program.phasers) counts → NoPhaseEndsEarly program counts
 no_early_end program counts whole forest stands limit most =
     no_early_end_from (first_world program limit) counts
     (record { sound = sound_start program whole forest; steps = omega arith; limit = most; stands = stands })

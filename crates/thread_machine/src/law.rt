@@ -1,5 +1,5 @@
 ghost use Rattle.std.specs.Prelude.{◌≡◌, ◌≤◌, ℕ, List, [], ◌∷◌, ◌++◌, None};
-ghost use Rattle.tier_tree.specs.Origin.{Origin, StandsFor};
+ghost use Rattle.tier_tree.specs.Origin.{Origin, AreTallied};
 ghost use Rattle.tier_tree.specs.Stored.{phasers_of};
 ghost use Rattle.row_code.specs.Image.{IsImage};
 ghost use Rattle.row_code.specs.declared.image.Image.{Image};
@@ -35,7 +35,7 @@ pub fn a_higher_limit_changes_nothing_that_was_accepted()
 pub fn no_phase_ends_early(program: &Loaded)
     ensures declared { (image : Image) → IsProgramOf image program.now
         → NoPhaseEndsEarly program.now (declared_origin image.phasers) }
-    ensures any { (counts : Origin) → StandsFor (phasers_of program.now.phasers) counts
+    ensures any { (counts : Origin) → AreTallied (phasers_of program.now.phasers) counts
         → NoPhaseEndsEarly program.now counts }
 {
     program.each_program_is_whole();

@@ -2,7 +2,7 @@ ghost use Rattle.std.specs.Prelude.{◌≡◌, ◌≢◌, ◌↔◌, ◌+◌, �
 ghost use Rattle.std.specs.Option.{option_map, OnSome};
 ghost use Rattle.instruction_table.specs.Registers.{value_in};
 ghost use Rattle.loader.specs.Program.{row_at};
-ghost use Rattle.tier_tree.specs.Origin.{Origin, StandsFor};
+ghost use Rattle.tier_tree.specs.Origin.{Origin, AreTallied};
 ghost use Rattle.tier_tree.specs.Stored.{phasers_of};
 ghost use Rattle.thread_state.specs.Frame.{entry_of};
 ghost use Rattle.machine_scene.specs.Scene.{scene_of, first_scene, thread_at, barrier_at, starting};
@@ -138,10 +138,10 @@ impl Machine {
         ensures accepted { OnOk result (refusal_of (world_of self.old) choice ≡ None) }
         ensures memory { result ≡ Err StepFault.Memory → puts_out (world_of self.old) choice ≡ true }
         ensures threads { length self.new.scene.threads ≡ length self.old.scene.threads }
-        ensures counts { OnOk result ((counts : Origin) → StandsFor (phasers_of self.old.scene.phasers) counts
-            → StandsFor (phasers_of self.new.scene.phasers)
+        ensures counts { OnOk result ((counts : Origin) → AreTallied (phasers_of self.old.scene.phasers) counts
+            → AreTallied (phasers_of self.new.scene.phasers)
             (counts_after (world_of self.old) choice (world_of self.new) counts)) }
-        ensures safe { OnOk result ((counts : Origin) → StandsFor (phasers_of self.old.scene.phasers) counts
+        ensures safe { OnOk result ((counts : Origin) → AreTallied (phasers_of self.old.scene.phasers) counts
             → EndsNoPhaseEarly (world_of self.old) choice (world_of self.new) counts) }
         ensures numbers { OnOk result (NumbersStay (phasers_of self.old.scene.phasers)
             (phasers_of self.new.scene.phasers)) }
@@ -267,10 +267,10 @@ impl Machine {
         ensures accepted { OnOk result (refusal_of (world_of self.old) choice ≡ None) }
         ensures memory { result ≡ Err StepFault.Memory → puts_out (world_of self.old) choice ≡ true }
         ensures threads { length self.new.scene.threads ≡ length self.old.scene.threads }
-        ensures counts { OnOk result ((counts : Origin) → StandsFor (phasers_of self.old.scene.phasers) counts
-            → StandsFor (phasers_of self.new.scene.phasers)
+        ensures counts { OnOk result ((counts : Origin) → AreTallied (phasers_of self.old.scene.phasers) counts
+            → AreTallied (phasers_of self.new.scene.phasers)
             (counts_after (world_of self.old) choice (world_of self.new) counts)) }
-        ensures safe { OnOk result ((counts : Origin) → StandsFor (phasers_of self.old.scene.phasers) counts
+        ensures safe { OnOk result ((counts : Origin) → AreTallied (phasers_of self.old.scene.phasers) counts
             → EndsNoPhaseEarly (world_of self.old) choice (world_of self.new) counts) }
         ensures numbers { OnOk result (NumbersStay (phasers_of self.old.scene.phasers)
             (phasers_of self.new.scene.phasers)) }
@@ -308,10 +308,10 @@ impl Machine {
         ensures accepted { OnOk result (refusal_of (world_of self.old) choice ≡ None) }
         ensures memory { result ≡ Err StepFault.Memory → puts_out (world_of self.old) choice ≡ true }
         ensures threads { length self.new.scene.threads ≡ length self.old.scene.threads }
-        ensures counts { OnOk result ((counts : Origin) → StandsFor (phasers_of self.old.scene.phasers) counts
-            → StandsFor (phasers_of self.new.scene.phasers)
+        ensures counts { OnOk result ((counts : Origin) → AreTallied (phasers_of self.old.scene.phasers) counts
+            → AreTallied (phasers_of self.new.scene.phasers)
             (counts_after (world_of self.old) choice (world_of self.new) counts)) }
-        ensures safe { OnOk result ((counts : Origin) → StandsFor (phasers_of self.old.scene.phasers) counts
+        ensures safe { OnOk result ((counts : Origin) → AreTallied (phasers_of self.old.scene.phasers) counts
             → EndsNoPhaseEarly (world_of self.old) choice (world_of self.new) counts) }
         ensures numbers { OnOk result (NumbersStay (phasers_of self.old.scene.phasers)
             (phasers_of self.new.scene.phasers)) }

@@ -13,7 +13,7 @@ use Rattle.tier_tree.specs.Forest.{PhaserState, no_phaser, phaser_at, flat_at, r
 use Rattle.tier_tree.specs.Registration.{Join, joins_along, joined, is_overfull, is_turned}
 use Rattle.tier_tree.specs.Declaration.{declared, joins_above, has_parent, is_root, IsFreshAbove, IsFreshTree, IsFresh}
 use Rattle.tier_tree.specs.Sound.{places_of, IsForest}
-use Rattle.tier_tree.specs.Origin.{Origin, is_under, children, has_joined, is_awaited, IsTallied, IsSteady, StandsFor, declared_at}
+use Rattle.tier_tree.specs.Origin.{Origin, is_under, children, has_joined, is_awaited, IsTallied, IsSteady, AreTallied, declared_at}
 use Rattle.tier_tree.proofs.Lines.{length-places, line_within, forest_declared, joined-places, root_within}
 use Rattle.tier_tree.proofs.Safe.{line_own, root-parent}
 use Rattle.tier_tree.proofs.Balance.{bit, IsOff, IsGood, Changes, AllGood, next-parent}
@@ -114,8 +114,8 @@ no_child phasers id k sound there before = by_test (is_under id (phaser_at phase
     by_test false is = refl
 
 stands_added : (phasers : List PhaserState) (new : PhaserState) (parties : ℕ) (top : Bool) (gain : ℕ → ℕ) (after : List PhaserState) (origin : Origin)
-    → IsForest phasers → IsForest (phasers ++ new ∷ []) → StandsFor phasers origin → IsAdded phasers new parties gain after
-    → StandsFor after (declared_at (length phasers) parties top origin)
+    → IsForest phasers → IsForest (phasers ++ new ∷ []) → AreTallied phasers origin → IsAdded phasers new parties gain after
+    → AreTallied after (declared_at (length phasers) parties top origin)
 stands_added phasers new parties top gain after origin sound sound_more stands added =
     let n = length phasers in
     let more = phasers ++ new ∷ [] in
@@ -291,7 +291,7 @@ fresh_more phasers new root tree first k here inside =
           subst IsFresh (sym (get_or_push phasers new no_phaser k is)) first
     ]
 
-good_more : (phasers : List PhaserState) (new : PhaserState) (origin : Origin) → StandsFor phasers origin → IsFresh new → AllGood (phasers ++ new ∷ [])
+good_more : (phasers : List PhaserState) (new : PhaserState) (origin : Origin) → AreTallied phasers origin → IsFresh new → AllGood (phasers ++ new ∷ [])
 good_more phasers new origin stands first k here =
     let longer : length (phasers ++ new ∷ []) ≡ length phasers + 1 = length_push phasers new in
     elim (cases_lt k (length phasers)) as (λ _. IsGood (root_at (phasers ++ new ∷ []) k) k (flat_at (phasers ++ new ∷ []) k)) [
@@ -332,16 +332,16 @@ live_root phasers new q sound sound_more below line tree =
 -- a child, with parties or without
 stands_child : (none : Bool) (phasers after : List PhaserState) (new : PhaserState) (phase parties q : ℕ) (origin : Origin)
     → IsForest phasers → IsForest (phasers ++ new ∷ []) → q < length phasers → new.flat ≡ fresh phase parties
-    → new.line ≡ length phasers ∷ (phaser_at phasers q).line → IsFreshTree (root_at phasers q) phasers → StandsFor phasers origin
+    → new.line ≡ length phasers ∷ (phaser_at phasers q).line → IsFreshTree (root_at phasers q) phasers → AreTallied phasers origin
     → (parties == 0) ≡ none
     → list_any (is_overfull phasers) (if none then [] else joins_along (phaser_at phasers q).line 1 phasers) ≡ false
     → after ≡ joined (if none then [] else joins_along (phaser_at (phasers ++ new ∷ []) q).line 1 (phasers ++ new ∷ [])) (phasers ++ new ∷ [])
-    → StandsFor after (declared_at (length phasers) parties false origin)
+    → AreTallied after (declared_at (length phasers) parties false origin)
 stands_child true phasers after new phase parties q origin sound sound_more below first line tree stands none room is =
     let more = phasers ++ new ∷ [] in
     let empty : has_joined new.flat ≡ false = ap has_joined first ∙ ap not none in
     let waits : is_awaited new.flat ≡ false = ap is_awaited first ∙ ap (λ (z : Bool). not z && true) none in
-    subst (λ (ps : List PhaserState). StandsFor ps (declared_at (length phasers) parties false origin)) (sym is)
+    subst (λ (ps : List PhaserState). AreTallied ps (declared_at (length phasers) parties false origin)) (sym is)
     (stands_added phasers new parties false (λ (id : ℕ). 0) more origin sound sound_more stands
     (added_alone phasers new phase parties first
     (λ id. ap (λ (t : Bool). bit (is_under id new.line && t)) empty ∙ no_bit (is_under id new.line))
@@ -370,7 +370,7 @@ stands_child false phasers after new phase parties q origin sound sound_more bel
     (λ k here inside. ap (λ (f : Flat). f.ended) (fresh_tree k here inside)) root_q (omega arith) room_more_is idle in
     let after_is : after ≡ joined (joins_along (q ∷ own.0) 1 more) more =
     is ∙ ap (λ (l : List ℕ). joined (joins_along l 1 more) more) own.1 in
-    subst (λ (ps : List PhaserState). StandsFor ps (declared_at (length phasers) parties false origin)) (sym after_is)
+    subst (λ (ps : List PhaserState). AreTallied ps (declared_at (length phasers) parties false origin)) (sym after_is)
     (stands_added phasers new parties false (λ (id : ℕ). bit (q == id)) (joined (joins_along (q ∷ own.0) 1 more) more) origin sound sound_more stands
     (added_below phasers (joined (joins_along (q ∷ own.0) 1 more) more) new phase parties q own.0 first some below
     (line ∙ ap (λ (l : List ℕ). length phasers ∷ l) own_old)
@@ -383,12 +383,12 @@ pub stands_declared : (parent : Option PhaserId) (parties : ℕ) (policy : Polic
     → list_any (is_overfull phasers) (joins_above parent parties phasers) ≡ false
     → after ≡ joined (joins_above parent parties (phasers ++ declared parent parties policy phase phasers ∷ []))
     (phasers ++ declared parent parties policy phase phasers ∷ [])
-    → StandsFor phasers origin → StandsFor after (declared_at (length phasers) parties (is_root parent) origin)
+    → AreTallied phasers origin → AreTallied after (declared_at (length phasers) parties (is_root parent) origin)
 stands_declared None parties policy phase phasers after origin few there sound fresh_above room is stands =
     let new = declared None parties policy phase phasers in
     let newest : phaser_at (phasers ++ new ∷ []) (length phasers) ≡ new = get_or_push phasers new no_phaser (length phasers) refl in
     let root : root_at (phasers ++ new ∷ []) (length phasers) ≡ length phasers = ap root_of newest in
-    subst (λ (ps : List PhaserState). StandsFor ps (declared_at (length phasers) parties true origin)) (sym is)
+    subst (λ (ps : List PhaserState). AreTallied ps (declared_at (length phasers) parties true origin)) (sym is)
     (stands_added phasers new parties true (λ (id : ℕ). 0) (phasers ++ new ∷ []) origin sound
     (forest_declared None parties policy phase phasers few there sound) stands
     (added_alone phasers new phase parties refl (λ id. refl) (λ id. refl)

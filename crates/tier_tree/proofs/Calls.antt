@@ -17,7 +17,7 @@ use Rattle.tier_tree.specs.PhaseEnd.{after_phase_end, after_force}
 use Rattle.tier_tree.specs.Sound.{places_of}
 use Rattle.tier_tree.specs.Stored.{Stored, stored_at, kept_flat, present, shown, phasers_of, place_in, IsStored}
 use Rattle.tier_tree.specs.Answer.{IfTurning, MakesPending, KeepsPlaces, KeepsEnds, HaveOnePhase}
-use Rattle.tier_tree.specs.Origin.{Origin, StandsFor, Carries, origin_after_registration, origin_after_arrival, origin_after_phase_end}
+use Rattle.tier_tree.specs.Origin.{Origin, AreTallied, Carries, origin_after_registration, origin_after_arrival, origin_after_phase_end}
 use Rattle.tier_tree.specs.declared.id.PhaserId.{PhaserId}
 use Rattle.packed_phaser.specs.declared.policy.Policy.{Policy}
 use Rattle.std.specs.Prelude.{Option, Some, None, IfSome}
@@ -203,7 +203,7 @@ declared_places parent parties policy phase before after is id there =
     ∙ sym (place_at-places more id) ∙ ap place_of (get_or_append_left before (new ∷ []) no_phaser id there)
 
 -- an empty forest stands for any counts
-pub stands_empty : (origin : Origin) → StandsFor [] origin
+pub stands_empty : (origin : Origin) → AreTallied [] origin
 stands_empty origin = record {
   steady = λ id there. absurd (omega (arith, there));
   tallied = λ id there. absurd (omega (arith, there));

@@ -10,7 +10,7 @@ use Rattle.tier_tree.specs.declared.registered.Registered.TheVariants as registe
 use Rattle.tier_tree.specs.Forest.{PhaserState, no_phaser, phaser_at, flat_at, root_at, with_flat}
 use Rattle.tier_tree.specs.Registration.{Join, joins, joins_along, joined, flat_by, is_overfull, is_turned, registration, registered_by}
 use Rattle.tier_tree.specs.Sound.{Place, place_of, places_of, IsForest}
-use Rattle.tier_tree.specs.Origin.{Origin, is_under, children, has_joined, is_awaited, IsTallied, StandsFor, registered_at, origin_after_registration}
+use Rattle.tier_tree.specs.Origin.{Origin, is_under, children, has_joined, is_awaited, IsTallied, AreTallied, registered_at, origin_after_registration}
 use Rattle.tier_tree.proofs.Lines.{place_at-places, length-places, joined-places}
 use Rattle.tier_tree.proofs.Safe.{line_own, root-parent}
 use Rattle.tier_tree.proofs.Balance.{bit, IsOff, IsGood, Changes, AllGood, next-parent, put_same, put_apart, put_under, flat-put, flat-other, waiting, apart}
@@ -214,8 +214,8 @@ join-changes (q ∷ more) i count root phasers sound there line good live tree s
     (join-changes more q 1 root phasers sound within parent.1 good live above_tree (omega arith))
 
 -- parties who came to one phaser
-stands_joined : (phasers after : List PhaserState) (origin : Origin) (id count : ℕ) → IsForest phasers → StandsFor phasers origin
-    → places_of after ≡ places_of phasers → Changes id count 0 count 0 phasers after → StandsFor after (registered_at id count origin)
+stands_joined : (phasers after : List PhaserState) (origin : Origin) (id count : ℕ) → IsForest phasers → AreTallied phasers origin
+    → places_of after ≡ places_of phasers → Changes id count 0 count 0 phasers after → AreTallied after (registered_at id count origin)
 stands_joined phasers after origin id count sound stands same changes =
     let many : length after ≡ length phasers = sym (length-places after) ∙ ap length same ∙ length-places phasers in
     let other : Origin = registered_at id count origin in
@@ -255,7 +255,7 @@ none_changes phasers id count none = record {
 
 -- a registration's joins, whether there are parties or none
 joins_changes : (none : Bool) (id count : ℕ) (phasers : List PhaserState) (origin : Origin) → IsForest phasers → id < length phasers
-    → StandsFor phasers origin → (flat_at phasers id).ended ≡ false → (count == 0) ≡ none
+    → AreTallied phasers origin → (flat_at phasers id).ended ≡ false → (count == 0) ≡ none
     → let all : List Join = if none then [] else joins_along (phaser_at phasers id).line count phasers in
     list_any (is_overfull phasers) all ≡ false → list_any (is_turned phasers) all ≡ false
     → Changes id count 0 count 0 phasers (joined all phasers)
@@ -270,15 +270,15 @@ joins_changes false id count phasers origin sound there stands live is =
     λ n here tree. (stands.steady n here).tree ∙ ap (λ (m : ℕ). (flat_at phasers m).ended) tree ∙ sym (stands.steady id there).tree ∙ live in
     subst P (sym own.1) (join-changes own.0 id count (root_at phasers id) phasers sound there own.1 (good_of phasers origin stands) live_tree refl some)
 
-by_answer : (ended over turned : Bool) (id count : ℕ) (phasers : List PhaserState) (origin : Origin) (view phase : ℤ) → StandsFor phasers origin
+by_answer : (ended over turned : Bool) (id count : ℕ) (phasers : List PhaserState) (origin : Origin) (view phase : ℤ) → AreTallied phasers origin
     → (flat_at phasers id).ended ≡ ended → list_any (is_overfull phasers) (joins id count phasers) ≡ over
     → list_any (is_turned phasers) (joins id count phasers) ≡ turned
     → ((flat_at phasers id).ended ≡ false → list_any (is_overfull phasers) (joins id count phasers) ≡ false
     → list_any (is_turned phasers) (joins id count phasers) ≡ false
-    → StandsFor (joined (joins id count phasers) phasers) (registered_at id count origin))
+    → AreTallied (joined (joins id count phasers) phasers) (registered_at id count origin))
     → let answer : Registered = if ended then registered.Dead view else (if over then registered.TooMany
     else (if turned then registered.Held else registered.At phase)) in
-    StandsFor (registered_by answer (joins id count phasers) phasers) (origin_after_registration answer id count origin)
+    AreTallied (registered_by answer (joins id count phasers) phasers) (origin_after_registration answer id count origin)
 by_answer true over turned id count phasers origin view phase stands is_ended is_over is_held through = stands
 by_answer false true turned id count phasers origin view phase stands is_ended is_over is_held through = stands
 by_answer false false true id count phasers origin view phase stands is_ended is_over is_held through = stands
@@ -287,13 +287,13 @@ by_answer false false false id count phasers origin view phase stands is_ended i
 -- a registration
 pub stands_registered : (id count : ℕ) (phasers after : List PhaserState) (origin : Origin) (answer : Registered) → IsForest phasers → id < length phasers
     → answer ≡ registration id count phasers → after ≡ registered_by (registration id count phasers) (joins id count phasers) phasers
-    → StandsFor phasers origin → StandsFor after (origin_after_registration answer id count origin)
+    → AreTallied phasers origin → AreTallied after (origin_after_registration answer id count origin)
 stands_registered id count phasers after origin answer sound there answer_is is stands =
-    let all : StandsFor (registered_by (registration id count phasers) (joins id count phasers) phasers)
+    let all : AreTallied (registered_by (registration id count phasers) (joins id count phasers) phasers)
     (origin_after_registration (registration id count phasers) id count origin) =
     by_answer (flat_at phasers id).ended _ _ id count phasers origin _ _ stands refl refl refl
     (λ live room idle. stands_joined phasers (joined (joins id count phasers) phasers) origin id count sound stands
     (joined-places (joins id count phasers) phasers)
     (joins_changes (count == 0) id count phasers origin sound there stands live refl room idle)) in
-    subst (λ (a : Registered). StandsFor after (origin_after_registration a id count origin)) (sym answer_is)
-    (subst (λ (ps : List PhaserState). StandsFor ps (origin_after_registration (registration id count phasers) id count origin)) (sym is) all)
+    subst (λ (a : Registered). AreTallied after (origin_after_registration a id count origin)) (sym answer_is)
+    (subst (λ (ps : List PhaserState). AreTallied ps (origin_after_registration (registration id count phasers) id count origin)) (sym is) all)

@@ -5,7 +5,7 @@ use Rattle.std.proofs.lemmas.Bool.Decides.{nat_tests}
 use Rattle.packed_phaser.specs.Flat.{Flat, is_empty, unarrived_of}
 use Rattle.tier_tree.specs.Forest.{PhaserState, phaser_at, flat_at, root_at}
 use Rattle.tier_tree.specs.Sound.{Place, places_of, line_at, IsForest}
-use Rattle.tier_tree.specs.Origin.{Origin, is_under, children, is_awaited, IsSteady, StandsFor, HaveAllArrived}
+use Rattle.tier_tree.specs.Origin.{Origin, is_under, children, is_awaited, IsSteady, AreTallied, HaveAllArrived}
 use Rattle.tier_tree.proofs.Lines.{place_at-places, length-places}
 
 -- the line of a phaser is its own number, or that and the line of its parent
@@ -110,7 +110,7 @@ root-parent phasers id parent sound within is =
     ap last_of is ∙ ap (λ (l : List ℕ). last_of (id ∷ l)) own.1 ∙ last-more id parent own.0 ∙ ap last_of (sym own.1)
 
 -- below a turned root without strays each phaser is turned or empty
-pub all_turned : (phasers : List PhaserState) (origin : Origin) (root : ℕ) → IsForest phasers → StandsFor phasers origin
+pub all_turned : (phasers : List PhaserState) (origin : Origin) (root : ℕ) → IsForest phasers → AreTallied phasers origin
     → origin.stray root ≡ false → (flat_at phasers root).turned ≡ true → (line : List ℕ) (id : ℕ) → id < length phasers
     → (phaser_at phasers id).line ≡ line → root_at phasers id ≡ root → HasAll (flat_at phasers id)
 all_turned phasers origin root sound stands clean turned [] id there is tree =
@@ -138,7 +138,7 @@ all_turned phasers origin root sound stands clean turned (first ∷ above) id th
     ]
 
 -- so everybody who registered directly has arrived
-pub all_arrived : (phasers : List PhaserState) (origin : Origin) (root : ℕ) → IsForest phasers → StandsFor phasers origin
+pub all_arrived : (phasers : List PhaserState) (origin : Origin) (root : ℕ) → IsForest phasers → AreTallied phasers origin
     → origin.stray root ≡ false → (flat_at phasers root).turned ≡ true → HaveAllArrived origin root phasers
 all_arrived phasers origin root sound stands clean turned id there tree =
     let all = all_turned phasers origin root sound stands clean turned (phaser_at phasers id).line id there refl tree in

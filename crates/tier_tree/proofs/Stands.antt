@@ -9,7 +9,7 @@ use Rattle.tier_tree.specs.declared.arrived.Arrived.TheVariants as arrived
 use Rattle.tier_tree.specs.Forest.{PhaserState, no_phaser, phaser_at, flat_at, root_at}
 use Rattle.tier_tree.specs.Arrival.{climbed, Arrives, arrival_by, arrival}
 use Rattle.tier_tree.specs.Sound.{Place, place_of, places_of, IsForest}
-use Rattle.tier_tree.specs.Origin.{Origin, IsTallied, IsSteady, StandsFor, arrived_at, origin_after_arrival}
+use Rattle.tier_tree.specs.Origin.{Origin, IsTallied, IsSteady, AreTallied, arrived_at, origin_after_arrival}
 use Rattle.tier_tree.proofs.Lines.{place_at-places, length-places, climbed-places}
 use Rattle.tier_tree.proofs.Safe.{line_own, last_of}
 use Rattle.tier_tree.proofs.Balance.{bit, IsOff, IsGood, Changes, AllGood, Succeeds, climb-changes}
@@ -20,13 +20,13 @@ root-same phasers after id same =
     ap (λ (p : Place). last_of p.line) (place_at-places after id
     ∙ ap (λ (ps : List Place). slice_index_or ps id (place_of no_phaser)) same ∙ sym (place_at-places phasers id))
 
-pub good_of : (phasers : List PhaserState) (origin : Origin) → StandsFor phasers origin → AllGood phasers
+pub good_of : (phasers : List PhaserState) (origin : Origin) → AreTallied phasers origin → AllGood phasers
 good_of phasers origin stands id there =
     let steady = stands.steady id there in
     record { arrived = steady.arrived; turned = steady.turned; child = steady.child }
 
 -- a change keeps each phaser steady
-pub steady_after : (phasers after : List PhaserState) (origin : Origin) → IsForest phasers → StandsFor phasers origin
+pub steady_after : (phasers after : List PhaserState) (origin : Origin) → IsForest phasers → AreTallied phasers origin
     → places_of after ≡ places_of phasers
     → ((id : ℕ) → (flat_at after id).ended ≡ (flat_at phasers id).ended)
     → ((id : ℕ) → IsGood (root_at phasers id) id (flat_at phasers id) → IsGood (root_at phasers id) id (flat_at after id))
@@ -95,8 +95,8 @@ others_tallied leave phasers after origin id n changes other tally =
 
 -- a counted arrival
 stands_by : (stray : Bool) (phasers after : List PhaserState) (origin : Origin) (id : ℕ) (leave : Bool) → IsForest phasers → id < length phasers
-    → StandsFor phasers origin → places_of after ≡ places_of phasers → Changes id 0 (bit leave) 0 1 phasers after
-    → (origin.unarrived id == 0) ≡ stray → StandsFor after (if stray
+    → AreTallied phasers origin → places_of after ≡ places_of phasers → Changes id 0 (bit leave) 0 1 phasers after
+    → (origin.unarrived id == 0) ≡ stray → AreTallied after (if stray
     then record origin { stray = λ n. if n == root_at phasers id then true else origin.stray n }
     else record origin {
       unarrived = λ n. if n == id then origin.unarrived n - 1 else origin.unarrived n;
@@ -139,24 +139,24 @@ stands_by false phasers after origin id leave sound there stands same changes is
           ];
     }
 
-by_climb : (c : Climb) (id : ℕ) (after phasers : List PhaserState) (origin : Origin) (leave : Bool) → StandsFor phasers origin
-    → (Succeeds c → StandsFor after (arrived_at id (root_at phasers id) leave origin))
-    → StandsFor (arrival_by c id after phasers).phasers
+by_climb : (c : Climb) (id : ℕ) (after phasers : List PhaserState) (origin : Origin) (leave : Bool) → AreTallied phasers origin
+    → (Succeeds c → AreTallied after (arrived_at id (root_at phasers id) leave origin))
+    → AreTallied (arrival_by c id after phasers).phasers
     (origin_after_arrival (arrival_by c id after phasers).answer id (root_at phasers id) leave origin)
 by_climb climb.Counted id after phasers origin leave stands through = through tt
 by_climb climb.Turned id after phasers origin leave stands through = through tt
 by_climb climb.Refused id after phasers origin leave stands through = stands
 
 arrival_stands : (ended : Bool) (phasers : List PhaserState) (origin : Origin) (id : ℕ) (leave : Bool) (view : ℤ) → IsForest phasers → id < length phasers
-    → StandsFor phasers origin
+    → AreTallied phasers origin
     → let all = climbed (phaser_at phasers id).line leave phasers in
     let r : Arrives = if ended then record { phasers = phasers; answer = arrived.Dead view } else arrival_by all.climb id all.phasers phasers in
-    StandsFor r.phasers (origin_after_arrival r.answer id (root_at phasers id) leave origin)
+    AreTallied r.phasers (origin_after_arrival r.answer id (root_at phasers id) leave origin)
 arrival_stands true phasers origin id leave view sound there stands = stands
 arrival_stands false phasers origin id leave view sound there stands =
     let own = line_own phasers id sound there in
     let good = good_of phasers origin stands in
-    let Fits : List ℕ → Type 0 = λ (l : List ℕ). StandsFor (arrival_by (climbed l leave phasers).climb id (climbed l leave phasers).phasers phasers).phasers
+    let Fits : List ℕ → Type 0 = λ (l : List ℕ). AreTallied (arrival_by (climbed l leave phasers).climb id (climbed l leave phasers).phasers phasers).phasers
     (origin_after_arrival (arrival_by (climbed l leave phasers).climb id (climbed l leave phasers).phasers phasers).answer id (root_at phasers id) leave origin) in
     subst Fits (sym own.1)
     (by_climb (climbed (id ∷ own.0) leave phasers).climb id (climbed (id ∷ own.0) leave phasers).phasers phasers origin leave stands
@@ -165,8 +165,8 @@ arrival_stands false phasers origin id leave view sound there stands =
 
 -- an arrival
 pub stands_after_arrival : (phasers : List PhaserState) (origin : Origin) (id : ℕ) (leave : Bool) (r : Arrives) → IsForest phasers
-    → id < length phasers → r ≡ arrival id leave phasers → StandsFor phasers origin
-    → StandsFor r.phasers (origin_after_arrival r.answer id (root_at phasers id) leave origin)
+    → id < length phasers → r ≡ arrival id leave phasers → AreTallied phasers origin
+    → AreTallied r.phasers (origin_after_arrival r.answer id (root_at phasers id) leave origin)
 stands_after_arrival phasers origin id leave r sound there is stands =
-    let Fits : Arrives → Type 0 = λ (a : Arrives). StandsFor a.phasers (origin_after_arrival a.answer id (root_at phasers id) leave origin) in
+    let Fits : Arrives → Type 0 = λ (a : Arrives). AreTallied a.phasers (origin_after_arrival a.answer id (root_at phasers id) leave origin) in
     subst Fits (sym is) (arrival_stands (flat_at phasers id).ended phasers origin id leave _ sound there stands)

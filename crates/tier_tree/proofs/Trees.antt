@@ -19,7 +19,7 @@ use Rattle.tier_tree.specs.Sound.{Place, place_of, places_of}
 use Rattle.tier_tree.specs.Stored.{Stored, phasers_of, IsStored}
 use Rattle.tier_tree.specs.Answer.{IfTurning, KeepsPlaces}
 use Rattle.tier_tree.specs.Answer.{MakesPending}
-use Rattle.tier_tree.specs.Origin.{Origin, StandsFor, origin_after_registration, origin_after_arrival, origin_after_phase_end}
+use Rattle.tier_tree.specs.Origin.{Origin, AreTallied, origin_after_registration, origin_after_arrival, origin_after_phase_end}
 use Rattle.tier_tree.specs.Trees.{is_pending, AreTrees}
 use Rattle.tier_tree.proofs.Lines.{root_within, registration-places, arrival-places, turn-places, force-places, forest_kept, length-places, place_at-places}
 use Rattle.tier_tree.proofs.Balance.{flat-other}
@@ -73,7 +73,7 @@ pending_there phasers id is = elim (cases_lt id (length phasers)) as (λ _. id <
   | inr past ↦ (let none = absent phasers id past in absurd (cc (none, is)))
 ]
 
-pub full_of : (phasers : List PhaserState) (origin : Origin) → StandsFor phasers origin → AreFull phasers
+pub full_of : (phasers : List PhaserState) (origin : Origin) → AreTallied phasers origin → AreFull phasers
 full_of phasers origin stands id turned = elim (cases_lt id (length phasers)) as (λ _. (flat_at phasers id).arrived ≡ (flat_at phasers id).parties) [
   | inl there ↦ ((stands.steady id there).turned turned).1
   | inr past ↦ (let none = unturned phasers id past in absurd (cc (none, turned)))
@@ -381,7 +381,7 @@ trees_turned_at_once most id leave ends phasers root phase parties trees few the
     }
 
 -- a forest in which no phase has ended
-pub trees_begin : (forest : List Stored) (origin : Origin) → IsStored forest → StandsFor (phasers_of forest) origin
+pub trees_begin : (forest : List Stored) (origin : Origin) → IsStored forest → AreTallied (phasers_of forest) origin
     → ((id : ℕ) → (phaser_at (phasers_of forest) id).ends ≡ 0) → AreTrees 0 (phasers_of forest)
 trees_begin forest origin stored stands none =
     record { forest = stored.places; stands = (origin, stands); ends = λ id. (let e = none id in omega (arith, e)) }

@@ -8,7 +8,7 @@ use Rattle.packed_phaser.specs.Flat.{Flat, unarrived_of, advance, force}
 use Rattle.tier_tree.specs.Forest.{PhaserState, no_phaser, phaser_at, flat_at, root_at}
 use Rattle.tier_tree.specs.PhaseEnd.{follow, in_step, terminated, after_phase_end, after_force}
 use Rattle.tier_tree.specs.Sound.{Place, place_of, places_of, IsForest}
-use Rattle.tier_tree.specs.Origin.{Origin, is_under, children, has_joined, is_awaited, IsTallied, IsSteady, StandsFor, origin_after_phase_end}
+use Rattle.tier_tree.specs.Origin.{Origin, is_under, children, has_joined, is_awaited, IsTallied, IsSteady, AreTallied, origin_after_phase_end}
 use Rattle.tier_tree.proofs.Lines.{length-places, turn-places, force-places}
 use Rattle.tier_tree.proofs.Safe.{linked, line_own, last_of, rest_of, root-parent}
 use Rattle.tier_tree.proofs.Balance.{IsGood, next-parent}
@@ -121,7 +121,7 @@ pub record Resets (root : ℕ) (ends : Bool) (phasers : List PhaserState) (origi
       → (other.registered id ≡ origin.registered id) × (other.unarrived id ≡ origin.registered id)
 
 going_tallied : (phasers after : List PhaserState) (origin other : Origin) (root id : ℕ) → IsForest phasers → root < length phasers → id < length phasers
-    → StandsFor phasers origin → origin.stray root ≡ false → (flat_at phasers root).ended ≡ false
+    → AreTallied phasers origin → origin.stray root ≡ false → (flat_at phasers root).ended ≡ false
     → TreeChange root false phasers after → root_at phasers id ≡ root
     → other.registered id ≡ origin.registered id → other.unarrived id ≡ origin.registered id → IsTallied other id after
 going_tallied phasers after origin other root id sound within there stands clean live change tree registered unarrived =
@@ -152,8 +152,8 @@ going_tallied phasers after origin other root id sound within there stands clean
 
 -- a change of one tree
 pub stands_reset : (phasers after : List PhaserState) (origin other : Origin) (root : ℕ) (ends : Bool) → IsForest phasers → root < length phasers
-    → root_at phasers root ≡ root → (ends ≡ false → (flat_at phasers root).ended ≡ false) → StandsFor phasers origin
-    → TreeChange root ends phasers after → Resets root ends phasers origin other → StandsFor after other
+    → root_at phasers root ≡ root → (ends ≡ false → (flat_at phasers root).ended ≡ false) → AreTallied phasers origin
+    → TreeChange root ends phasers after → Resets root ends phasers origin other → AreTallied after other
 stands_reset phasers after origin other root ends sound within top live stands change resets =
     let many : length after ≡ length phasers = sym (length-places after) ∙ ap length change.same ∙ length-places phasers in
     let ended_in : (n : ℕ) → n < length phasers → root_at phasers n ≡ root → (flat_at after n).ended ≡ ends = λ n here inside.
@@ -252,11 +252,11 @@ force_change id phasers = record {
 }
 
 pub stands_after_force : (id : ℕ) (phasers after : List PhaserState) (origin : Origin) → IsForest phasers → id < length phasers
-    → after ≡ after_force id phasers → StandsFor phasers origin → StandsFor after origin
+    → after ≡ after_force id phasers → AreTallied phasers origin → AreTallied after origin
 stands_after_force id phasers after origin sound there is stands =
     let up = root-root phasers (phaser_at phasers id).line id sound there refl in
     let least : root_at phasers id ≤ id = up.1 in
-    subst (λ (ps : List PhaserState). StandsFor ps origin) (sym is)
+    subst (λ (ps : List PhaserState). AreTallied ps origin) (sym is)
     (stands_reset phasers (after_force id phasers) origin origin (root_at phasers id) true sound (omega (arith, least, there)) up.0
     (λ no_end. absurd (cc (no_end))) stands (force_change id phasers)
     (record { stray = λ r. refl; apart = λ n outside. (refl, refl); inside = λ no_end. absurd (cc (no_end)) }))
@@ -300,10 +300,10 @@ turn_change root ends phasers within top =
     }
 
 pub stands_after_phase_end : (root : ℕ) (ends : Bool) (phasers after : List PhaserState) (origin : Origin) → IsForest phasers → root < length phasers
-    → root_at phasers root ≡ root → (flat_at phasers root).ended ≡ false → after ≡ after_phase_end root ends phasers → StandsFor phasers origin
-    → StandsFor after (origin_after_phase_end root phasers origin)
+    → root_at phasers root ≡ root → (flat_at phasers root).ended ≡ false → after ≡ after_phase_end root ends phasers → AreTallied phasers origin
+    → AreTallied after (origin_after_phase_end root phasers origin)
 stands_after_phase_end root ends phasers after origin sound within top live is stands =
-    subst (λ (ps : List PhaserState). StandsFor ps (origin_after_phase_end root phasers origin)) (sym is)
+    subst (λ (ps : List PhaserState). AreTallied ps (origin_after_phase_end root phasers origin)) (sym is)
     (stands_reset phasers (after_phase_end root ends phasers) origin (origin_after_phase_end root phasers origin) root ends sound within top (λ _. live) stands
     (turn_change root ends phasers within top)
     (record {

@@ -5,13 +5,13 @@ use Rattle.tier_tree.specs.declared.arrived.Arrived.TheVariants as arrived
 use Rattle.tier_tree.specs.Forest.{PhaserState, flat_at, root_at}
 use Rattle.tier_tree.specs.Registration.{registration}
 use Rattle.tier_tree.specs.Arrival.{arrival}
-use Rattle.tier_tree.specs.Origin.{Origin, StandsFor}
+use Rattle.tier_tree.specs.Origin.{Origin, AreTallied}
 
 -- in a tree whose root is turned and that had no stray, every registration of somebody is held or too many, and every
 -- arrival is refused
 abbrev pub NobodyComesBetween : List PhaserState → Type 0
 NobodyComesBetween phasers =
-    (origin : Origin) (id : ℕ) → StandsFor phasers origin → id < length phasers → origin.stray (root_at phasers id) ≡ false
+    (origin : Origin) (id : ℕ) → AreTallied phasers origin → id < length phasers → origin.stray (root_at phasers id) ≡ false
     → (flat_at phasers (root_at phasers id)).turned ≡ true
     → ((count : ℕ) → 0 < count → (registration id count phasers ≡ registered.Held) ⊎ (registration id count phasers ≡ registered.TooMany))
     × ((leave : Bool) → (arrival id leave phasers).answer ≡ arrived.NotThere)

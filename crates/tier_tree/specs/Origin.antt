@@ -50,7 +50,7 @@ pub record IsSteady (id : ℕ) (phasers : List PhaserState) : Type 0 where
 
 -- a forest whose registrations and arrivals so far these are: in each tree that isn't terminated, and where no
 -- unregistered party has arrived, each phaser counts those who registered with it directly, and its children
-pub record StandsFor (phasers : List PhaserState) (origin : Origin) : Type 0 where
+pub record AreTallied (phasers : List PhaserState) (origin : Origin) : Type 0 where
   pub steady : (id : ℕ) → id < length phasers → IsSteady id phasers
   pub tallied : (id : ℕ) → id < length phasers → origin.stray (root_at phasers id) ≡ false
       → (flat_at phasers id).ended ≡ false → IsTallied origin id phasers
@@ -107,4 +107,4 @@ declared_at id count top origin = record {
 
 -- whatever counts the one forest stands for, the other stands for what is made of them here
 abbrev pub Carries : (Origin → Origin) → List PhaserState → List PhaserState → Type 0
-Carries next before after = (origin : Origin) → StandsFor before origin → StandsFor after (next origin)
+Carries next before after = (origin : Origin) → AreTallied before origin → AreTallied after (next origin)

@@ -2,7 +2,7 @@
 use Rattle.std.specs.Prelude.{ℕ, ◌≤◌, ◌||◌, Bool, List}
 use Rattle.packed_phaser.specs.Flat.{Flat}
 use Rattle.tier_tree.specs.Forest.{PhaserState, phaser_at}
-use Rattle.tier_tree.specs.Origin.{Origin, StandsFor}
+use Rattle.tier_tree.specs.Origin.{Origin, AreTallied}
 use Rattle.tier_tree.specs.Sound.{IsForest}
 
 -- a phaser whose phase is about to end, or that is terminated: no arrival is its last
@@ -12,5 +12,5 @@ is_pending flat = flat.turned || flat.ended
 -- trees that stand for some registrations and arrivals, none of which has ended more phases than this
 pub record AreTrees (most : ℕ) (phasers : List PhaserState) : Type 0 where
   pub forest : IsForest phasers
-  pub stands : (origin : Origin) × StandsFor phasers origin
+  pub stands : (origin : Origin) × AreTallied phasers origin
   pub ends : (id : ℕ) → (phaser_at phasers id).ends ≤ most

@@ -3,7 +3,7 @@ ghost use Rattle.std.specs.Prelude.{◌≡◌, ◌<◌, length, true, false};
 ghost use Rattle.tier_tree.specs.Answer.{IfTurning};
 ghost use Rattle.tier_tree.specs.Arrival.{arrival};
 ghost use Rattle.tier_tree.specs.Forest.{phaser_at, root_at};
-ghost use Rattle.tier_tree.specs.Origin.{Origin, StandsFor, HaveAllArrived, origin_after_arrival};
+ghost use Rattle.tier_tree.specs.Origin.{Origin, AreTallied, HaveAllArrived, origin_after_arrival};
 ghost use Rattle.tier_tree.specs.PhaseEnd.{most_ends, after_phase_end};
 ghost use Rattle.tier_tree.specs.Stored.{ChangedAt, phasers_of};
 
@@ -23,7 +23,7 @@ pub fn arrive_through(forest: &mut Forest, id: PhaserId, ends: bool) -> Arrived
     requires few { (phaser_at (phasers_of forest.old) (root_at (phasers_of forest.old) id.0)).ends
         < most_ends }
     ensures answer { result ≡ (arrival id.0 false (phasers_of forest.old)).answer }
-    ensures safe { (origin : Origin) → StandsFor (phasers_of forest.old) origin
+    ensures safe { (origin : Origin) → AreTallied (phasers_of forest.old) origin
         → IfTurning result (λ root.
         (origin_after_arrival result id.0 (root_at (phasers_of forest.old) id.0) false origin).stray root.0
         ≡ false

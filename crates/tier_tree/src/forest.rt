@@ -5,7 +5,7 @@ ghost use Rattle.tier_tree.specs.Arrival.{arrival};
 ghost use Rattle.tier_tree.specs.Declaration.{AreAllFresh};
 ghost use Rattle.tier_tree.specs.Forest.{phaser_at, flat_at, root_at};
 ghost use Rattle.tier_tree.specs.Law.{NobodyComesBetween};
-ghost use Rattle.tier_tree.specs.Origin.{Origin, StandsFor, Carries, HaveAllArrived};
+ghost use Rattle.tier_tree.specs.Origin.{Origin, AreTallied, Carries, HaveAllArrived};
 ghost use Rattle.tier_tree.specs.Origin.{origin_after_registration, origin_after_arrival, origin_after_phase_end};
 ghost use Rattle.tier_tree.specs.PhaseEnd.{most_ends, after_phase_end, after_force, EndsAtRoot};
 ghost use Rattle.tier_tree.specs.Registration.{registration, after_registration};
@@ -63,7 +63,7 @@ impl Forest {
         ensures empty { IfOk result (λ forest. forest ≡ []) }
         ensures fresh { IfOk result (λ forest. AreAllFresh (phasers_of forest)) }
         ensures origin { IfOk result
-            (λ forest. (origin : Origin) → StandsFor (phasers_of forest) origin) }
+            (λ forest. (origin : Origin) → AreTallied (phasers_of forest) origin) }
     {
         Ok(Forest {
             nodes: Vec::with_capacity(alloc, 0)?,
@@ -177,7 +177,7 @@ impl Forest {
         ensures only { ChangedAt root.0 self.old self.new }
         ensures many { length self.new ≡ length self.old }
         ensures places { KeepsPlaces (phasers_of self.old) (phasers_of self.new) }
-        ensures safe { (origin : Origin) → StandsFor (phasers_of self.old) origin
+        ensures safe { (origin : Origin) → AreTallied (phasers_of self.old) origin
             → origin.stray root.0 ≡ false
             → HaveAllArrived origin root.0 (phasers_of self.old) }
         ensures origin { Carries (origin_after_phase_end root.0 (phasers_of self.old))

@@ -1,7 +1,7 @@
 use Rattle.std.proofs.Common.{refl, ap, subst, ◌∙◌, List}
 use Rattle.tier_tree.specs.Forest.{PhaserState}
 use Rattle.tier_tree.specs.Registration.{joined}
-use Rattle.tier_tree.specs.Origin.{StandsFor, declared_at}
+use Rattle.tier_tree.specs.Origin.{AreTallied, declared_at}
 use Rattle.tier_tree.specs.Declaration.{declared, joins_above, is_root}
 use Rattle.tier_tree.specs.Stored.{phasers_of}
 use Rattle.tier_tree.proofs.Added.{stands_declared}
@@ -19,7 +19,7 @@ returns-clause-fresh c fresh =
 
 pub returns-clause-origin : goal.returns-clause-origin
 returns-clause-origin c origin stands =
-    subst (λ n. StandsFor (phasers_of c.join_above.new.self) (declared_at n c.args.parties (is_root c.args.parent) origin)) (length-shown c.args.self.now)
+    subst (λ n. AreTallied (phasers_of c.join_above.new.self) (declared_at n c.args.parties (is_root c.args.parent) origin)) (length-shown c.args.self.now)
     (stands_declared c.args.parent c.args.parties c.args.policy c.args.phase (phasers_of c.args.self.now) (phasers_of c.join_above.new.self) origin
     (there_few c.args.self.now c.requires.few) c.requires.parent c.is_forest.ensures.places c.requires.tree c.requires.room
     (c.join_above.ensures.joined ∙ ap (λ (ps : List PhaserState). joined (joins_above c.args.parent c.args.parties ps) ps) c.in_ok-push.ensures.ok) stands)
