@@ -1,10 +1,9 @@
 //! What the machine of an accepted program is after its choices.
-ghost use Rattle.std.specs.Prelude.{◌≡◌, ◌≢◌, Some, Err, IfOk, OnOk};
-ghost use Rattle.row_code.specs.Image.{IsImage};
+ghost use Rattle.std.specs.Prelude.{◌≡◌, ◌≢◌, None, Some, Err, IfOk, OnOk};
 ghost use Rattle.loader.specs.Fault.{first_fault};
 ghost use Rattle.thread_machine.specs.World.{world_of};
 ghost use Rattle.thread_machine.specs.Execution.{execution};
-ghost use Rattle.headline.specs.Headline.{Accepted, GivesTheRows};
+ghost use Rattle.headline.specs.Headline.{GivesTheRows};
 ghost use Rattle.headline.specs.Playing.{Leaves};
 
 use loader::LoadFault;
@@ -12,13 +11,6 @@ use row_code::Image;
 use std::alloc::Global;
 use thread_machine::{Choice, Machine, StepFault};
 use trace_compare::start::{StartFault, first_machine};
-
-/// A law: the lists of an image are within their limits. Nothing runs.
-fn is_within_limits(image: &Image)
-    ensures { IsImage image.now }
-{
-    let _ = (&image.phasers, &image.barriers, &image.threads, &image.rows);
-}
 
 /// Plays one choice. Whether it was accepted.
 #[tactic(auto, using(crate::proofs::Scenes::led_on, crate::proofs::Scenes::led_nowhere))]
@@ -50,11 +42,10 @@ fn play_all(machine: &mut Machine, choices: &[Choice]) -> Result<(), StartFault>
 /// program is refused for want of memory alone.
 #[tactic(auto, using(crate::proofs::Scenes::scene_left))]
 pub fn play(alloc: Global, image: Image, choices: &[Choice]) -> Result<Machine, StartFault>
-    ensures accepted { OnOk result (Accepted image) }
+    ensures accepted { OnOk result (first_fault image ≡ None) }
     ensures played { IfOk result (λ machine. GivesTheRows image choices.now (world_of machine)) }
     ensures load { (fault : LoadFault) → result ≡ Err (StartFault.Load fault) → first_fault image ≡ Some fault }
 {
-    is_within_limits(&image);
     let mut machine = first_machine(alloc, image)?;
     play_all(&mut machine, choices)?;
     Ok(machine)

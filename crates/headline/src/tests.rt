@@ -39,6 +39,7 @@ fn both_threads_end(rt: HostRuntime) -> Result<(), Fail> {
         state.as_slice()
             == b"state 7 7 all\nt0 2 ended 0 regs 1 0 0 0 0 0 0 0 stack out 1\n\
 t1 2 ended 0 regs 1 0 0 0 0 0 0 0 stack out 1\np0 1 2 0 2\n"
+                .as_slice()
     );
     Ok(())
 }

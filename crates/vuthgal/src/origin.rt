@@ -2,4 +2,4 @@
 
 /// The version, the kit whose logic proves it, and the sum of the sources but for this file.
 pub const VERSION: &str =
-    "1.0.0\nkit rattle-kit-13f logic dac8208d650f15bf\nsources 2429f494c399902825d642f797426baf20c41056c1817108cb03cf4bbd24ff4b";
+    "1.0.0\nkit rattle-kit-13f logic dac8208d650f15bf\nsources 7e6bd5785f79db49db6618f65aa03671fee65d903b9609baad483ac9d797c334";

@@ -2,8 +2,8 @@ use Rattle.std.proofs.Common.{◌∙◌, sym}
 use Rattle.headline.proofs.Scenes.{choices-drop, left_last, left_next}
 use Rattle.headline.proofs.machine.play_all.Goals as goal
 
-pub returns-then-not-branch : goal.returns-then-not-branch
-returns-then-not-branch c =
+pub returns-then-not-branch-clause-left : goal.returns-then-not-branch-clause-left
+returns-then-not-branch-clause-left c =
     left_last _ _ _ _ _ _ (choices-drop c.args.choices.now c.loop-choice.choice-index _ c.loop-choice-test.true)
     c.in_ok-play_one.ensures.led c.if-not-branch.true ∙ c.loop-choice.invariant
 
