@@ -52,12 +52,16 @@ use Rattle.machine_scene.proofs.ReadyThreads.{phase_wait_ready, barrier_wait_rea
 use Rattle.machine_scene.proofs.ThreadSets.{nobody}
 use Rattle.machine_scene.proofs.Standings.{Standing, KeepsStandings, registration-standings, arrival-standings}
 
--- what the wait of thread u may be over by is the same
+-- who runs an action may run it anew, and nobody has ended it
+abbrev GoesOn : BarrierState → BarrierState → Type 0
+GoesOn before after = is_some after.runner ≡ false → is_some before.runner ≡ false
+
+-- what the wait of thread u may be over by is the same, or there is less of it
 record Alike (u : ℕ) (scene after : Scene) : Type 0 where
   pub thread : thread_at after u ≡ thread_at scene u
   pub standings : KeepsStandings scene.phasers after.phasers
   pub waits : (b : ℕ) → wait_at (barrier_at after b).waits u ≡ wait_at (barrier_at scene b).waits u
-  pub runners : (b : ℕ) → (barrier_at after b).runner ≡ (barrier_at scene b).runner
+  pub runners : (b : ℕ) → GoesOn (barrier_at scene b) (barrier_at after b)
 
 past_same : (p : ℕ) (phase : ℤ) (u : ℕ) (scene after : Scene) → Alike u scene after → is_past p phase after ≡ is_past p phase scene
 past_same p phase u scene after alike = ap (λ (s : Standing). not (int_eq (phase_view s.phase s.ended) phase)) (alike.standings p)
@@ -76,52 +80,65 @@ awaited_same (Pawaiti into p number) phase u scene after alike = looked_same p p
 awaited_same (Pawaitt into p number time) phase u scene after alike = looked_same p phase u scene after alike
 awaited_same _ phase u scene after alike = refl
 
-over_same_at : (b u : ℕ) (scene after : Scene) → Alike u scene after → is_over_at b u after ≡ is_over_at b u scene
-over_same_at b u scene after alike =
+later : (released waiting interrupted running_now running_before : Bool) → (running_now ≡ false → running_before ≡ false)
+    → (released || (waiting && (interrupted && not running_before))) ≡ false → (released || (waiting && (interrupted && not running_now))) ≡ false
+later true waiting interrupted now before goes_on none = none
+later false false interrupted now before goes_on none = refl
+later false true false now before goes_on none = refl
+later false true true true before goes_on none = refl
+later false true true false before goes_on none = absurd (let free = ap not (goes_on refl) in cc (free, none))
+
+not_over_at : (b u : ℕ) (scene after : Scene) → Alike u scene after → is_over_at b u scene ≡ false → is_over_at b u after ≡ false
+not_over_at b u scene after alike none =
     let now = wait_at (barrier_at scene b).waits u in
     ap (λ (w : Option WaitState). is_released w
     || (is_waiting w && ((thread_at after u).interrupted && not (is_some (barrier_at after b).runner)))) (alike.waits b)
     ∙ ap (λ (thread : ThreadState). is_released now || (is_waiting now && (thread.interrupted && not (is_some (barrier_at after b).runner))))
     alike.thread
-    ∙ ap (λ (runner : Option ℕ). is_released now || (is_waiting now && ((thread_at scene u).interrupted && not (is_some runner))))
-    (alike.runners b)
+    ∙ later (is_released now) (is_waiting now) (thread_at scene u).interrupted _ _ (alike.runners b) none
 
-over_same : (row : Row) (u : ℕ) (scene after : Scene) → Alike u scene after → is_over row u after ≡ is_over row u scene
-over_same (Cawait into b) u scene after alike = over_same_at b u scene after alike
-over_same (Cawaitt into b time) u scene after alike = over_same_at b u scene after alike
-over_same _ u scene after alike = refl
+not_over : (row : Row) (u : ℕ) (scene after : Scene) → Alike u scene after → is_over row u scene ≡ false → is_over row u after ≡ false
+not_over (Cawait into b) u scene after alike none = not_over_at b u scene after alike none
+not_over (Cawaitt into b time) u scene after alike none = not_over_at b u scene after alike none
+not_over _ u scene after alike none = none
 
-asleep_in_same : (of : Status) (row : Row) (u : ℕ) (scene after : Scene) → Alike u scene after
-    → is_asleep_in of row u after ≡ is_asleep_in of row u scene
-asleep_in_same (status.AwaitsPhase phase) row u scene after alike =
-    ap not (phase_wait_ready row phase u after ∙ awaited_same row phase u scene after alike ∙ sym (phase_wait_ready row phase u scene))
-asleep_in_same (status.AwaitsBarrier index) row u scene after alike =
-    ap not (barrier_wait_ready row index u after ∙ over_same row u scene after alike ∙ sym (barrier_wait_ready row index u scene))
-asleep_in_same _ row u scene after alike = refl
+isnt : (b : Bool) → not b ≡ true → b ≡ false
+isnt false is = refl
+isnt true is = absurd (cc is)
 
-asleep_same : (u : ℕ) (program : Program) (scene after : Scene) → Alike u scene after → is_asleep u program after ≡ is_asleep u program scene
-asleep_same u program scene after alike =
+asleep_in_still : (of : Status) (row : Row) (u : ℕ) (scene after : Scene) → Alike u scene after → is_asleep_in of row u scene ≡ true
+    → is_asleep_in of row u after ≡ true
+asleep_in_still (status.AwaitsPhase phase) row u scene after alike is =
+    ap not (phase_wait_ready row phase u after ∙ awaited_same row phase u scene after alike ∙ sym (phase_wait_ready row phase u scene)) ∙ is
+asleep_in_still (status.AwaitsBarrier index) row u scene after alike is =
+    ap not (barrier_wait_ready row index u after ∙ not_over row u scene after alike
+    (sym (barrier_wait_ready row index u scene) ∙ isnt (is_some (outcome_of_barrier_wait row index u scene)) is))
+asleep_in_still _ row u scene after alike is = is
+
+asleep_still : (u : ℕ) (program : Program) (scene after : Scene) → Alike u scene after → is_asleep u program scene ≡ true
+    → is_asleep u program after ≡ true
+asleep_still u program scene after alike is =
     ap (λ (thread : ThreadState). is_asleep_in thread.status (row_at program.rows thread.pc) u after) alike.thread
-    ∙ asleep_in_same (thread_at scene u).status (row_at program.rows (thread_at scene u).pc) u scene after alike
+    ∙ asleep_in_still (thread_at scene u).status (row_at program.rows (thread_at scene u).pc) u scene after alike is
 
 -- a step of thread t at this row that leaves to all others but those it interrupts what their waits may be over by
 record Leaves (t : ℕ) (row : Row) (scene after : Scene) : Type 0 where
   pub threads : (u : ℕ) → u ≢ t → interrupts u row ≡ false → thread_at after u ≡ thread_at scene u
   pub standings : KeepsStandings scene.phasers after.phasers
   pub waits : (b u : ℕ) → u ≢ t → wait_at (barrier_at after b).waits u ≡ wait_at (barrier_at scene b).waits u
-  pub runners : (b : ℕ) → (barrier_at after b).runner ≡ (barrier_at scene b).runner
+  pub runners : (b : ℕ) → GoesOn (barrier_at scene b) (barrier_at after b)
 
 -- where there is an outcome whose event isn't loud
 abbrev CalmIf : ℕ → Row → Scene → Option Outcome → Type 0
 CalmIf t row scene None = Unit {0}
-CalmIf t row scene (Some outcome) = is_loud_at outcome.event.mark outcome.event.what ≡ false → Leaves t row scene outcome.scene
+CalmIf t row scene (Some outcome) = is_loud_at outcome.event.mark ≡ false → Leaves t row scene outcome.scene
 
 -- where there is one that wakes nobody
 abbrev QuietIf : ℕ → Row → Scene → Option Outcome → Type 0
 QuietIf t row scene None = Unit {0}
 QuietIf t row scene (Some outcome) = may_wake row outcome.event ≡ false → Leaves t row scene outcome.scene
 
-not_loud : (row : Row) (event : Event) → may_wake row event ≡ false → is_loud_at event.mark event.what ≡ false
+not_loud : (row : Row) (event : Event) → may_wake row event ≡ false → is_loud_at event.mark ≡ false
 not_loud (Pforce p) event quiet = absurd (cc quiet)
 not_loud (Creset b) event quiet = absurd (cc quiet)
 not_loud _ event quiet = quiet
@@ -134,7 +151,7 @@ quiet_if t row scene (Some outcome) calm = λ quiet. calm (not_loud row outcome.
 turned : (t : ℕ) (row : Row) (scene mid : Scene) (after : ThreadState)
     → ((u : ℕ) → u ≢ t → interrupts u row ≡ false → thread_at mid u ≡ thread_at scene u) → KeepsStandings scene.phasers mid.phasers
     → ((b u : ℕ) → u ≢ t → wait_at (barrier_at mid b).waits u ≡ wait_at (barrier_at scene b).waits u)
-    → ((b : ℕ) → (barrier_at mid b).runner ≡ (barrier_at scene b).runner) → Leaves t row scene (with_thread after t mid)
+    → ((b : ℕ) → GoesOn (barrier_at scene b) (barrier_at mid b)) → Leaves t row scene (with_thread after t mid)
 turned t row scene mid after threads standings waits runners = record {
   threads = λ u apart free. get_or-set_other mid.threads t u after no_thread apart ∙ threads u apart free;
   standings = standings;
@@ -143,18 +160,18 @@ turned t row scene mid after threads standings waits runners = record {
 }
 
 still : (t : ℕ) (row : Row) (scene : Scene) (after : ThreadState) → Leaves t row scene (with_thread after t scene)
-still t row scene after = turned t row scene scene after (λ u apart free. refl) (λ id. refl) (λ b u apart. refl) (λ b. refl)
+still t row scene after = turned t row scene scene after (λ u apart free. refl) (λ id. refl) (λ b u apart. refl) (λ b none. none)
 
 -- with phasers in the same standings
 at_tree : (t : ℕ) (row : Row) (scene : Scene) (phasers : List PhaserState) (after : ThreadState) → KeepsStandings scene.phasers phasers
     → Leaves t row scene (with_thread after t (with_phasers phasers scene))
 at_tree t row scene phasers after same =
-    turned t row scene (with_phasers phasers scene) after (λ u apart free. refl) same (λ b u apart. refl) (λ b. refl)
+    turned t row scene (with_phasers phasers scene) after (λ u apart free. refl) same (λ b u apart. refl) (λ b none. none)
 
--- a barrier at which the others' waits, and who runs the action, are the same
+-- a barrier at which the others' waits are the same, and nobody has ended an action
 abbrev KeepsOthers : ℕ → BarrierState → BarrierState → Type 0
 KeepsOthers t before after =
-    ((u : ℕ) → u ≢ t → wait_at after.waits u ≡ wait_at before.waits u) × (after.runner ≡ before.runner)
+    ((u : ℕ) → u ≢ t → wait_at after.waits u ≡ wait_at before.waits u) × GoesOn before after
 
 put : (P : BarrierState → BarrierState → Type 0) → ((x : BarrierState) → P x x) → (barriers : List BarrierState) (b : ℕ) (new : BarrierState)
     → P (slice_index_or barriers b (fresh 1 false)) new → (c : ℕ)
@@ -168,7 +185,7 @@ put P same (x ∷ barriers) (suc b) new is (suc c) = put P same barriers b new i
 at_gate : (b t : ℕ) (row : Row) (scene : Scene) (gate : BarrierState) (after : ThreadState) → KeepsOthers t (barrier_at scene b) gate
     → Leaves t row scene (with_thread after t (with_barrier gate b scene))
 at_gate b t row scene gate after keeps =
-    let each = put (KeepsOthers t) (λ x. (λ u apart. refl, refl)) scene.barriers b gate keeps in
+    let each = put (KeepsOthers t) (λ x. (λ u apart. refl, λ none. none)) scene.barriers b gate keeps in
     turned t row scene (with_barrier gate b scene) after (λ u apart free. refl) (λ id. refl) (λ c. (each c).0) (λ c. (each c).1)
 
 -- rows
@@ -188,7 +205,7 @@ quiet_own_row _ t scene = tt
 calm_routine_end : (ended : Bool) (manner : Manner) (root : ℕ) (ends : Bool) (t : ℕ) (row : Row) (scene : Scene) (left : ThreadState)
     → CalmIf t row scene (Some (outcome_of_routine_end ended manner root ends t (with_thread left t scene)))
 calm_routine_end true manner root ends t row scene left = λ calm.
-    turned t row scene (with_thread left t scene) _ (still t row scene left).threads (λ id. refl) (λ b u apart. refl) (λ b. refl)
+    turned t row scene (with_thread left t scene) _ (still t row scene left).threads (λ id. refl) (λ b u apart. refl) (λ b none. none)
 calm_routine_end false manner root ends t row scene left = λ calm. absurd (cc calm)
 
 calm_ret : (top : Option Frame) (t : ℕ) (row : Row) (program : Program) (scene : Scene)
@@ -213,14 +230,14 @@ quiet_interrupt other t scene = λ quiet.
     let mid = with_thread (interrupted (thread_at scene other)) other scene in
     turned t (Intr other) scene mid _ (λ u apart free.
     get_or-set_other scene.threads other u (interrupted (thread_at scene other)) no_thread
-    (λ is. (let yes = ap (λ (n : ℕ). other == n) is ∙ same-is other in cc (yes, free)))) (λ id. refl) (λ b u apart. refl) (λ b. refl)
+    (λ is. (let yes = ap (λ (n : ℕ). other == n) is ∙ same-is other in cc (yes, free)))) (λ id. refl) (λ b u apart. refl) (λ b none. none)
 
 quiet_data_row : (row : Row) (t : ℕ) (scene : Scene) → QuietIf t row scene (outcome_of_data_row row t scene)
 quiet_data_row (Out value) t scene = λ quiet. still t (Out value) scene _
 quiet_data_row (Lds into cell) t scene = λ quiet. still t (Lds into cell) scene _
 quiet_data_row (Sts from cell) t scene = λ quiet.
     turned t (Sts from cell) scene (with_cell (value_in (thread_at scene t).registers from) cell scene) _ (λ u apart free. refl)
-    (λ id. refl) (λ b u apart. refl) (λ b. refl)
+    (λ id. refl) (λ b u apart. refl) (λ b none. none)
 quiet_data_row (SelfNumber into) t scene = λ quiet. still t (SelfNumber into) scene _
 quiet_data_row (Intr other) t scene = quiet_interrupt other t scene
 quiet_data_row (Intrd into) t scene = λ quiet. still t (Intrd into) scene _
@@ -257,17 +274,18 @@ calm_bulk : (into : Reg) (p : ℕ) (count : ℤ) (t : ℕ) (row : Row) (scene : 
 calm_bulk into p count t row scene =
     either (CalmIf t row scene) (int_lt count (pos 0)) (λ calm. still t row scene _) (calm_registration into p (nat_abs count) t row scene)
 
-calm_turning : (answer : Option Bool) (manner : Manner) (root : ℕ) (phase : ℤ) (t : ℕ) (row : Row) (program : Program) (scene mid : Scene)
-    → CalmIf t row scene (Some (outcome_of_pending_end answer manner root phase t program mid))
-calm_turning (Some ends) manner root phase t row program scene mid = λ calm. absurd (cc calm)
-calm_turning None manner root phase t row program scene mid = λ calm. absurd (cc calm)
+calm_turning : (answer : Option Bool) (manner : Manner) (root : ℕ) (phase : ℤ) (t : ℕ) (row : Row) (program : Program) (scene : Scene)
+    (phasers : List PhaserState) → KeepsStandings scene.phasers phasers
+    → CalmIf t row scene (Some (outcome_of_pending_end answer manner root phase t program (with_phasers phasers scene)))
+calm_turning (Some ends) manner root phase t row program scene phasers same = λ calm. absurd (cc calm)
+calm_turning None manner root phase t row program scene phasers same = λ calm. at_tree t row scene phasers _ same
 
 calm_arrived : (answer : Arrived) (manner : Manner) (t : ℕ) (row : Row) (program : Program) (scene : Scene) (phasers : List PhaserState)
     → KeepsStandings scene.phasers phasers
     → CalmIf t row scene (Some (outcome_of_arrived answer manner t program (with_phasers phasers scene)))
 calm_arrived (arrived.At phase) manner t row program scene phasers same = λ calm. at_tree t row scene phasers _ same
 calm_arrived (arrived.Turning root phase parties) manner t row program scene phasers same =
-    calm_turning (answer_of_policy root.0 (with_phasers phasers scene)) manner root.0 phase t row program scene (with_phasers phasers scene)
+    calm_turning (answer_of_policy root.0 (with_phasers phasers scene)) manner root.0 phase t row program scene phasers same
 calm_arrived (arrived.Dead view) manner t row program scene phasers same = λ calm. at_tree t row scene phasers _ same
 calm_arrived arrived.NotThere manner t row program scene phasers same = λ calm. at_tree t row scene phasers _ same
 
@@ -308,18 +326,19 @@ quiet_phaser_row _ t program scene = tt
 
 -- rows at barriers
 
--- an entry that wakes nobody keeps the others' waits, and who runs the action
+-- an entry that wakes nobody keeps the others' waits, and ends no action
 abbrev KeepsIf : Entered → ℕ → BarrierState → BarrierState → Type 0
 KeepsIf (entered.Wait index) t before after = KeepsOthers t before after
+KeepsIf entered.Run t before after = KeepsOthers t before after
 KeepsIf entered.Broken t before after = KeepsOthers t before after
 KeepsIf entered.Own t before after = KeepsOthers t before after
 KeepsIf _ t before after = Unit {0}
 
 none_else : (t : ℕ) (gate : BarrierState) → KeepsOthers t gate gate
-none_else t gate = (λ u apart. refl, refl)
+none_else t gate = (λ u apart. refl, λ none. none)
 
 set_else : (t : ℕ) (gate : BarrierState) (wait : Option WaitState) → KeepsOthers t gate (record gate { waits = slice_set gate.waits t wait })
-set_else t gate wait = (λ u apart. get_or-set_other gate.waits t u wait None apart, refl)
+set_else t gate wait = (λ u apart. get_or-set_other gate.waits t u wait None apart, λ none. none)
 
 arrive_keeps : (t : ℕ) (interrupted no_wait : Bool) (gate : BarrierState)
     → KeepsIf (arrive t interrupted no_wait gate).answer t gate (arrive t interrupted no_wait gate).barrier
@@ -330,7 +349,8 @@ arrive_keeps t interrupted no_wait gate =
     let late : Entry = record { barrier = break gate; answer = entered.TimedOut } in
     either P gate.broken {a = told} (none_else t gate)
     (either P interrupted {a = stopped} tt
-    (either P (number_waiting gate + 1 == gate.parties) {a = arrive_last t gate} (either P gate.action tt tt)
+    (either P (number_waiting gate + 1 == gate.parties) {a = arrive_last t gate}
+    (either P gate.action {a = record { barrier = record gate { runner = Some t }; answer = entered.Run }} (λ u apart. refl, λ none. absurd (cc none)) tt)
     (either P no_wait {a = late} {b = add_wait t gate} tt (set_else t gate (Some state.Waiting)))))
 
 beside_keeps : (runner : Option ℕ) (t : ℕ) (interrupted no_wait : Bool) (gate : BarrierState)
@@ -343,7 +363,7 @@ calm_entered : (answer : Entered) (into : Reg) (b t : ℕ) (row : Row) (program 
     → KeepsIf answer t (barrier_at scene b) gate
     → CalmIf t row scene (outcome_of_entered answer into b t program (with_barrier gate b scene))
 calm_entered (entered.Wait index) into b t row program scene gate keeps = λ calm. at_gate b t row scene gate _ keeps
-calm_entered entered.Run into b t row program scene gate keeps = λ calm. absurd (cc calm)
+calm_entered entered.Run into b t row program scene gate keeps = λ calm. at_gate b t row scene gate _ keeps
 calm_entered entered.Tripped into b t row program scene gate keeps = λ calm. absurd (cc calm)
 calm_entered entered.Broken into b t row program scene gate keeps = λ calm. at_gate b t row scene gate _ keeps
 calm_entered entered.Interrupted into b t row program scene gate keeps = λ calm. absurd (cc calm)
@@ -477,7 +497,7 @@ others_by program t row old new leaves many keeps u there apart free is =
       waits = λ b. leaves.waits b u apart;
       runners = leaves.runners;
     } in
-    asleep_same u program (scene_of old) (scene_of new) alike ∙ keeps u (subst (λ (n : ℕ). u < n) many there) is
+    asleep_still u program (scene_of old) (scene_of new) alike (keeps u (subst (λ (n : ℕ). u < n) many there) is)
 
 -- after a turn that wakes nobody, of a thread that stands at this row
 pub others_asleep : (program : Program) (t : ℕ) (row : Row) (old new : StoredScene) (event : Event) → KeepsAsleep program old

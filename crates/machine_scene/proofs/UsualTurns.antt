@@ -24,7 +24,7 @@ use Rattle.thread_state.specs.declared.frame.Frame.{Frame}
 use Rattle.thread_state.specs.declared.status.Status.{Status}
 use Rattle.thread_state.specs.declared.status.Status.TheVariants as status
 use Rattle.thread_state.specs.Frame.{is_advance}
-use Rattle.thread_state.specs.Thread.{ThreadState, Turn, turn_of_throw, turn_of_wait}
+use Rattle.thread_state.specs.Thread.{ThreadState, Turn, is_full, turn_of_throw, turn_of_wait}
 use Rattle.machine_scene.specs.declared.manner.Manner.{Manner}
 use Rattle.machine_scene.specs.Scene.{Scene, StoredScene, Outcome, scene_of, no_thread, thread_at, with_thread, with_phasers, outcome_of_turn}
 use Rattle.machine_scene.specs.PhaserRows.{is_past, has_routine, turn_of_arrival, unless_own, outcome_of_arrived, outcome_with_room, outcome_of_arrival}
@@ -45,18 +45,28 @@ and_false : (test : Bool) → (test && false) ≡ false
 and_false true = refl
 and_false false = refl
 
--- what an arrival before the last comes to: a thread with an empty stack runs no routine, and has room for one
-pub early : (manner : Manner) (p t : ℕ) (program : Program) (scene : Scene) (phasers : List PhaserState) (phase : ℤ) (turn : Turn)
-    → (thread_at scene t).stack ≡ [] → record { phasers = phasers; answer = arrived.At phase } ≡ arrival p manner.leaves scene.phasers
-    → turn ≡ turn_of_arrival manner phase (thread_at scene t)
-    → unless_own p t scene (Some (outcome_of_arrival manner p t program scene)) ≡ Some (outcome_of_turn turn t (with_phasers phasers scene))
-early manner p t program scene phasers phase turn empty is turned =
+-- an arrival of a thread with an empty stack, which runs no routine, and has room for one
+pub free_arrival : (manner : Manner) (p t : ℕ) (program : Program) (scene : Scene) → (thread_at scene t).stack ≡ []
+    → unless_own p t scene (Some (outcome_of_arrival manner p t program scene)) ≡ Some (outcome_with_room manner p t program scene)
+free_arrival manner p t program scene empty =
     let thrown : ℤ → Outcome = λ code. outcome_of_turn (turn_of_throw code (thread_at scene t)) t scene in
     let full : Outcome = outcome_with_room manner p t program scene in
     ap (λ (stack : List Frame). if list_any (is_advance (root_at scene.phasers p)) stack then Some (thrown (pos 1))
     else Some (outcome_of_arrival manner p t program scene)) empty
     ∙ ap (λ (stack : List Frame). Some (if has_routine p scene && (length stack == 64) then thrown (pos 6) else full)) empty
     ∙ ap (λ (test : Bool). Some (if test then thrown (pos 6) else full)) (and_false (has_routine p scene))
+
+pub free_room : (p t : ℕ) (scene : Scene) → (thread_at scene t).stack ≡ [] → (has_routine p scene && is_full (thread_at scene t)) ≡ false
+free_room p t scene empty =
+    ap (λ (stack : List Frame). has_routine p scene && (length stack == 64)) empty ∙ and_false (has_routine p scene)
+
+-- what an arrival before the last comes to
+pub early : (manner : Manner) (p t : ℕ) (program : Program) (scene : Scene) (phasers : List PhaserState) (phase : ℤ) (turn : Turn)
+    → (thread_at scene t).stack ≡ [] → record { phasers = phasers; answer = arrived.At phase } ≡ arrival p manner.leaves scene.phasers
+    → turn ≡ turn_of_arrival manner phase (thread_at scene t)
+    → unless_own p t scene (Some (outcome_of_arrival manner p t program scene)) ≡ Some (outcome_of_turn turn t (with_phasers phasers scene))
+early manner p t program scene phasers phase turn empty is turned =
+    free_arrival manner p t program scene empty
     ∙ ap (λ (all : Arrives). Some (outcome_of_arrived all.answer manner t program (with_phasers all.phasers scene))) (sym is)
     ∙ ap (λ (x : Turn). Some (outcome_of_turn x t (with_phasers phasers scene))) (sym turned)
 

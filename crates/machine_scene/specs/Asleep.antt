@@ -7,8 +7,6 @@ use Rattle.instruction_table.specs.LocalRows.{is_local_row}
 use Rattle.cyclic_barrier.specs.ThreadSet.{has}
 use Rattle.loader.specs.Program.{Program, row_at}
 use Rattle.thread_state.specs.declared.event.Event.{Event}
-use Rattle.thread_state.specs.declared.event.What.{What}
-use Rattle.thread_state.specs.declared.event.What.TheVariants as what
 use Rattle.thread_state.specs.declared.event.Mark.{Mark}
 use Rattle.thread_state.specs.declared.event.Mark.TheVariants as mark
 use Rattle.thread_state.specs.declared.status.Status.{Status}
@@ -55,21 +53,16 @@ abbrev pub is_local_turn : Status → Row → Bool
 is_local_turn status.Runs row = is_local_row row
 is_local_turn _ row = false
 
--- an event that shows more than a turn of its own thread: a phase or a generation has ended, or a routine or an action
--- begins
-abbrev pub begins : What → Bool
-begins what.Enters = true
-begins _ = false
-
-abbrev pub is_loud_at : Mark → What → Bool
-is_loud_at mark.Nothing what = begins what
-is_loud_at _ what = true
+-- an event that shows more than a turn of its own thread: a phase or a generation has ended
+abbrev pub is_loud_at : Mark → Bool
+is_loud_at mark.Nothing = false
+is_loud_at _ = true
 
 -- a step at this row, with this event, may have woken other threads, beside one that it interrupts
 abbrev pub may_wake : Row → Event → Bool
 may_wake (Pforce p) event = true
 may_wake (Creset b) event = true
-may_wake _ event = is_loud_at event.mark event.what
+may_wake _ event = is_loud_at event.mark
 
 -- a step at this row, with this event, has woken no other thread
 abbrev pub WakesNobody : Row → Event → Type 0

@@ -1,5 +1,5 @@
 // Callers, each with its proof: what a crate above can say of a turn that is taken back.
-ghost use Rattle.std.specs.Prelude.{◌≡◌, ◌<◌, length, true, is_some};
+ghost use Rattle.std.specs.Prelude.{◌≡◌, ◌<◌, length, true, is_some, IfOk};
 ghost use Rattle.machine_scene.specs.Scene.{scene_of};
 ghost use Rattle.machine_scene.specs.Outcomes.{is_ready, outcome_of_expiry};
 ghost use Rattle.machine_scene.specs.Sound.{IsSound, most_before};
@@ -12,21 +12,25 @@ use std::alloc::AllocError;
 use thread_state::Event;
 
 // A turn is played, and taken back.
-pub fn turn_and_back(stage: &mut Stage, program: &Loaded, t: usize) -> Result<Event, AllocError>
+pub fn turn_and_back(
+    stage: &mut Stage,
+    program: &Loaded,
+    t: usize,
+) -> Result<Option<Event>, AllocError>
     requires sound { IsSound program.now most_before (scene_of stage.old) }
     requires asleep { KeepsAsleep program.now stage.old }
     requires thread { t < length stage.old.threads }
-    requires ready { is_ready t program.now (scene_of stage.old) ≡ true }
-    ensures { stage.new ≡ stage.old }
+    ensures back { stage.new ≡ stage.old }
+    ensures ready { IfOk result (λ event. is_some event ≡ is_ready t program.now (scene_of stage.old)) }
 {
     let mut note = SceneNote::new();
     stage.note(program, t, &mut note);
-    let row = stage.row_of(program, t);
-    match stage.turn(program, row, t) {
-        Ok(event) => {
+    match stage.turn(program, t) {
+        Ok(Some(event)) => {
             stage.undo(&note);
-            Ok(event)
+            Ok(Some(event))
         }
+        Ok(None) => Ok(None),
         Err(refused) => Err(refused),
     }
 }

@@ -13,6 +13,7 @@ pub struct Manner {
 }
 
 /// How the arrival at this row is made; nobody arrives at another row, and no routine and no action begins there.
+#[inline(always)]
 pub fn manner_of(row: Row) -> Manner
     ensures { result ≡ manner_of row }
 {

@@ -1,4 +1,5 @@
-ghost use Rattle.std.specs.Prelude.{◌≡◌, ℕ, ◌+◌, ◌<◌, ◌≤◌, length, replicate, pos, true, false, Some, is_some, IfSome, IsErr, IfOk, OnErr, OnOk};
+ghost use Rattle.std.specs.Prelude.{◌≡◌, ℕ, ◌+◌, ◌<◌, ◌≤◌, length, replicate, pos, true, false, Ok, Some, None, is_some, IfSome, IsErr, IfOk, OnErr, OnOk};
+ghost use Rattle.std.specs.Option.{OnSome};
 ghost use Rattle.std.specs.List.{list_all};
 ghost use Rattle.instruction_table.specs.LocalRows.{is_local_row};
 ghost use Rattle.loader.specs.Program.{Program, row_at};
@@ -27,6 +28,7 @@ mod barrier_rows;
 mod call_rows;
 mod data_rows;
 mod getter_rows;
+mod last;
 mod own_rows;
 mod phaser_rows;
 mod ready;
@@ -208,6 +210,17 @@ impl Stage {
         !asleep::is_in(self.asleep, t) && self.goes_on(program, t)
     }
 
+    /// Whether a thread is known to be asleep, so that it can take no step. False says nothing.
+    #[inline(always)]
+    #[tactic(auto, using(crate::proofs::Asleep::no_turn))]
+    pub fn is_known_asleep(&self, program: &Loaded, t: usize) -> bool
+        requires asleep { KeepsAsleep program.now self.now }
+        requires thread { t < length self.now.threads }
+        ensures { result ≡ true → is_ready t program.now (scene_of self.now) ≡ false }
+    {
+        asleep::is_in(self.asleep, t)
+    }
+
     /// `is_ready` without the set of those that are known to be asleep: a look at what the thread does.
     #[inline(always)]
     #[tactic(auto, using(crate::proofs::Readiness::row_is_ready))]
@@ -223,36 +236,6 @@ impl Stage {
             Status::AwaitsPhase(phase) => self.is_phase_wait_over(row, phase, t),
             Status::AwaitsBarrier(_) => self.is_barrier_wait_over(row, t),
             Status::Ended | Status::Died(_) => false,
-        }
-    }
-
-    /// The row that a thread stands at, where it may take a step. A step asks this once, and is handed the row.
-    #[inline(always)]
-    #[tactic(auto, using(crate::proofs::Asleep::no_turn, crate::proofs::Readiness::row_is_ready, crate::proofs::Readiness::seldom_blocked))]
-    pub fn ready_row(&self, program: &Loaded, t: usize) -> Option<Row>
-        requires sound { IsSound program.now most_before (scene_of self.now) }
-        requires asleep { KeepsAsleep program.now self.now }
-        requires thread { t < length self.now.threads }
-        ensures ready { is_some result ≡ is_ready t program.now (scene_of self.now) }
-        ensures row { IfSome result (λ row. row ≡ row_at program.now.rows (thread_at (scene_of self.now) t).pc) }
-    {
-        if asleep::is_in(self.asleep, t) {
-            return None;
-        }
-        let row = self.row_of(program, t);
-        match self.threads[t].status() {
-            Status::Runs => {
-                if may_be_blocked(row) && self.is_blocked(row, t) {
-                    return None;
-                }
-                Some(row)
-            }
-            _ => {
-                if !self.goes_on(program, t) {
-                    return None;
-                }
-                Some(row)
-            }
         }
     }
 
@@ -285,12 +268,65 @@ impl Stage {
         }
     }
 
-    /// The turn of a ready thread that stands at this row. `Err` is want of memory for a value put out, and nothing has
-    /// changed.
-    pub fn turn(&mut self, program: &Loaded, row: Row, t: usize) -> Result<Event, AllocError>
+    /// The turn of a thread, if it may take a step: else it is `Ok(None)`. `Err` is want of memory for a value put out. Nothing
+    /// has changed then.
+    #[inline(always)]
+    #[tactic(auto, using(crate::proofs::Readiness::row_is_ready, crate::proofs::Readiness::seldom_blocked))]
+    pub fn turn(&mut self, program: &Loaded, t: usize) -> Result<Option<Event>, AllocError>
         requires sound { IsSound program.now most_before (scene_of self.old) }
         requires asleep { KeepsAsleep program.now self.old }
         requires thread { t < length self.old.threads }
+        ensures ready { IfOk result (λ event. is_some event ≡ is_ready t program.now (scene_of self.old)) }
+        ensures none { result ≡ Ok None → self.new ≡ self.old }
+        ensures ok { IfOk result (λ event. IfSome event (λ event. outcome_of t program.now (scene_of self.old)
+            ≡ Some (record { scene = scene_of self.new; event = event }))) }
+        ensures err { OnErr result (self.new ≡ self.old) }
+        ensures wants { OnErr result (is_ready t program.now (scene_of self.old) ≡ true) }
+        ensures memory { IsErr result → may_grow
+            (row_at program.now.rows (thread_at (scene_of self.old) t).pc)
+            (thread_at (scene_of self.old) t) ≡ true }
+        ensures sound { IfOk result (λ event. OnSome event ((steps : ℕ) → steps < most_before
+            → IsSound program.now steps (scene_of self.old)
+            → IsSound program.now (steps + 1) (scene_of self.new))) }
+        ensures undo { IfOk result (λ event. OnSome event
+            (undone (note_of t program.now self.old) self.new ≡ self.old)) }
+        ensures can { IfOk result (λ event. OnSome event (CanUndo (note_of t program.now self.old) self.new)) }
+        ensures threads { IfOk result (λ event. OnSome event (length self.new.threads ≡ length self.old.threads)) }
+        ensures asleep { IfOk result (λ event. OnSome event (KeepsAsleep program.now self.new)) }
+    {
+        let row = self.row_of(program, t);
+        let of = self.threads[t].status();
+        match of {
+            Status::Runs => {
+                if may_be_blocked(row) && self.is_blocked(row, t) {
+                    return Ok(None);
+                }
+            }
+            _ => {
+                if !self.goes_on(program, t) {
+                    return Ok(None);
+                }
+            }
+        }
+        match self.ready_turn(program, of, row, t) {
+            Ok(event) => Ok(Some(event)),
+            Err(refused) => Err(refused),
+        }
+    }
+
+    /// The turn of a ready thread that does this and stands at this row.
+    #[inline(always)]
+    fn ready_turn(
+        &mut self,
+        program: &Loaded,
+        of: Status,
+        row: Row,
+        t: usize,
+    ) -> Result<Event, AllocError>
+        requires sound { IsSound program.now most_before (scene_of self.old) }
+        requires asleep { KeepsAsleep program.now self.old }
+        requires thread { t < length self.old.threads }
+        requires of { (thread_at (scene_of self.old) t).status ≡ of }
         requires row { row ≡ row_at program.now.rows (thread_at (scene_of self.old) t).pc }
         requires ready { is_ready t program.now (scene_of self.old) ≡ true }
         ensures ok { IfOk result (λ event. outcome_of t program.now (scene_of self.old)
@@ -312,7 +348,7 @@ impl Stage {
         }
         self.turn_is_placed(program, row, t);
         let before = self.asleep;
-        match self.turn_of_row(program, row, t) {
+        match self.turn_of_row(program, of, row, t) {
             Ok(event) => {
                 self.asleep = self.asleep_after(program, before, row, event, t);
                 Ok(event)
@@ -321,7 +357,7 @@ impl Stage {
         }
     }
 
-    /// `turn` at a row on registers alone: nobody is woken, so the set of those asleep stays as it is.
+    /// `ready_turn` at a row on registers alone: nobody is woken, so the set of those asleep stays as it is.
     #[inline(always)]
     fn local_turn(&mut self, program: &Loaded, row: Row, t: usize) -> Event
         requires sound { IsSound program.now most_before (scene_of self.old) }
@@ -344,11 +380,19 @@ impl Stage {
         self.local_row(row, t)
     }
 
-    /// `turn` at any other row, but for the set of those asleep: the turn may have woken some, which its caller finds out.
-    /// That the scene stays sound and can be given back is shown here.
-    fn turn_of_row(&mut self, program: &Loaded, row: Row, t: usize) -> Result<Event, AllocError>
+    /// `ready_turn` at any other row, but for the set of those asleep: the turn may have woken some, which its caller finds
+    /// out. That the scene stays sound and can be given back is shown here.
+    #[inline(always)]
+    fn turn_of_row(
+        &mut self,
+        program: &Loaded,
+        of: Status,
+        row: Row,
+        t: usize,
+    ) -> Result<Event, AllocError>
         requires sound { IsSound program.now most_before (scene_of self.old) }
         requires thread { t < length self.old.threads }
+        requires of { (thread_at (scene_of self.old) t).status ≡ of }
         requires row { row ≡ row_at program.now.rows (thread_at (scene_of self.old) t).pc }
         requires at { StandsAt program.now row t self.old }
         requires ready { is_ready t program.now (scene_of self.old) ≡ true }
@@ -368,17 +412,25 @@ impl Stage {
     {
         self.phasers_are_stored();
         // The answer goes on as it is: each arm names its case for the proof.
-        match self.turn_at(program, row, t) {
+        match self.turn_at(program, of, row, t) {
             Ok(event) => Ok(event),
             Err(refused) => Err(refused),
         }
     }
 
     /// What the thread is doing decides: it plays its row, pops a stack entry, or finishes its wait.
+    #[inline(always)]
     #[tactic(auto, using(crate::proofs::Reaches::within_same))]
-    fn turn_at(&mut self, program: &Loaded, row: Row, t: usize) -> Result<Event, AllocError>
+    fn turn_at(
+        &mut self,
+        program: &Loaded,
+        of: Status,
+        row: Row,
+        t: usize,
+    ) -> Result<Event, AllocError>
         requires sound { IsSound program.now most_before (scene_of self.old) }
         requires thread { t < length self.old.threads }
+        requires of { (thread_at (scene_of self.old) t).status ≡ of }
         requires at { StandsAt program.now row t self.old }
         requires ready { is_some (outcome_in (thread_at (scene_of self.old) t).status row t program.now
             (scene_of self.old)) ≡ true }
@@ -450,7 +502,7 @@ impl Stage {
         event
     }
 
-    /// `expire`, but for the set of those asleep, as `turn_of_row` is `turn`.
+    /// `expire`, but for the set of those asleep, as `turn_of_row` is `ready_turn`.
     fn expiry_of_row(&mut self, program: &Loaded, row: Row, t: usize) -> Event
         requires sound { IsSound program.now most_before (scene_of self.old) }
         requires thread { t < length self.old.threads }

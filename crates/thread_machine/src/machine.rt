@@ -24,7 +24,7 @@ use crate::fault::StepFault;
 use crate::standing::Standing;
 use crate::undo::Undo;
 use cyclic_barrier::Barrier;
-use instruction_table::{Reg, Row};
+use instruction_table::Reg;
 use loader::Loaded;
 use machine_scene::Stage;
 use row_code::DeclaredThread;
@@ -244,11 +244,103 @@ impl Machine {
         ensures err { OnErr result (self.new ≡ self.old) }
     {
         self.is_sound();
-        match self.accept(choice) {
-            Ok(Some(row)) => self.go_on(choice, row),
-            Ok(None) => Ok(self.stay(choice)),
-            Err(fault) => Err(fault),
+        let t = choice.thread as usize;
+        if t >= self.stage.thread_count() {
+            return Err(StepFault::NoSuchThread);
         }
+        if self.choices == MOST_CHOICES {
+            return Err(StepFault::StepLimit);
+        }
+        if choice.expiry || self.steps == self.limit {
+            return self.seldom_step(choice);
+        }
+        if self.stage.is_known_asleep(&self.program, t) {
+            return Ok(self.stay(choice));
+        }
+        match self.stage.last_turn(&self.program, t) {
+            Some(event) => {
+                self.choices += 1;
+                self.steps += 1;
+                Ok(event)
+            }
+            None => self.awake_step(choice),
+        }
+    }
+
+    /// `other_step` of a thread that may be awake, where a step is left.
+    #[inline(never)]
+    fn awake_step(&mut self, choice: Choice) -> Result<Event, StepFault>
+        requires there { choice.thread < length self.old.scene.threads }
+        requires choices { self.old.choices < 1000000000000 }
+        requires turn { choice.expiry ≡ false }
+        requires steps { self.old.steps < self.old.limit }
+        ensures played { IfOk result (λ event.
+            record { world = world_of self.new; event = event } ≡ played (world_of self.old) choice) }
+        ensures idle { OnOk result (self.new.steps ≡ self.old.steps
+            → self.new ≡ record self.old { choices = self.old.choices + 1 }) }
+        ensures undo { OnOk result (self.new.steps ≢ self.old.steps
+            → undone (Some (scene.note_of choice.thread self.old.program self.old.scene)) self.new ≡ self.old) }
+        ensures can { OnOk result (self.new.steps ≢ self.old.steps
+            → scene.CanUndo (scene.note_of choice.thread self.old.program self.old.scene) self.new.scene) }
+        ensures counted { OnOk result (0 < self.new.choices) }
+        ensures memory { IfErr result (λ fault. (fault ≡ StepFault.Memory)
+            × (puts_out (world_of self.old) choice ≡ true)) }
+        ensures threads { length self.new.scene.threads ≡ length self.old.scene.threads }
+        ensures err { OnErr result (self.new ≡ self.old) }
+    {
+        match self.stage.turn(&self.program, choice.thread as usize) {
+            Ok(Some(event)) => {
+                self.choices += 1;
+                self.steps += 1;
+                Ok(event)
+            }
+            Ok(None) => Ok(self.stay(choice)),
+            Err(_) => Err(StepFault::Memory),
+        }
+    }
+
+    /// `other_step` of a choice that isn't idle only where a wait runs out, or where no step is left.
+    #[inline(never)]
+    fn seldom_step(&mut self, choice: Choice) -> Result<Event, StepFault>
+        requires there { choice.thread < length self.old.scene.threads }
+        requires choices { self.old.choices < 1000000000000 }
+        requires seldom { choice.expiry ≡ false → self.old.steps ≡ self.old.limit }
+        ensures played { IfOk result (λ event.
+            record { world = world_of self.new; event = event } ≡ played (world_of self.old) choice) }
+        ensures idle { OnOk result (self.new.steps ≡ self.old.steps
+            → self.new ≡ record self.old { choices = self.old.choices + 1 }) }
+        ensures undo { OnOk result (self.new.steps ≢ self.old.steps
+            → undone (Some (scene.note_of choice.thread self.old.program self.old.scene)) self.new ≡ self.old) }
+        ensures can { OnOk result (self.new.steps ≢ self.old.steps
+            → scene.CanUndo (scene.note_of choice.thread self.old.program self.old.scene) self.new.scene) }
+        ensures counted { OnOk result (0 < self.new.choices) }
+        ensures no_thread { (result ≡ Err StepFault.NoSuchThread)
+            ↔ (refusal_of (world_of self.old) choice ≡ Some StepFault.NoSuchThread) }
+        ensures limit { (result ≡ Err StepFault.StepLimit)
+            ↔ (refusal_of (world_of self.old) choice ≡ Some StepFault.StepLimit) }
+        ensures there { OnOk result (choice.thread < length self.old.scene.threads) }
+        ensures accepted { OnOk result (refusal_of (world_of self.old) choice ≡ None) }
+        ensures memory { result ≡ Err StepFault.Memory → puts_out (world_of self.old) choice ≡ true }
+        ensures threads { length self.new.scene.threads ≡ length self.old.scene.threads }
+        ensures err { OnErr result (self.new ≡ self.old) }
+    {
+        let t = choice.thread as usize;
+        if !choice.expiry {
+            if self.stage.is_ready(&self.program, t) {
+                return Err(StepFault::StepLimit);
+            }
+            return Ok(self.stay(choice));
+        }
+        let Some(row) = self.stage.expiring_row(&self.program, t) else {
+            return Ok(self.stay(choice));
+        };
+        if self.steps == self.limit {
+            return Err(StepFault::StepLimit);
+        }
+        let event = self.stage.expire(&self.program, row, t);
+        self.choices += 1;
+        self.steps += 1;
+        Ok(event)
     }
 
     /// `step`, with what `take_back` needs to undo it written over `undo`. After `Err` the machine is as before, and `undo`
@@ -344,34 +436,6 @@ impl Machine {
         }
     }
 
-    /// The row at which a choice that isn't refused is an effective step, if it is one.
-    #[inline(always)]
-    fn accept(&self, choice: Choice) -> Result<Option<Row>, StepFault>
-        ensures ready { IfOk result (λ row.
-            is_some row ≡ is_choice_ready self.now.program choice (scene_of self.now.scene)) }
-        ensures row { IfOk result (λ row. IfSome row (λ row.
-            row ≡ row_at self.now.program.rows (thread_at (scene_of self.now.scene) choice.thread).pc)) }
-        ensures there { OnOk result (choice.thread < length self.now.scene.threads) }
-        ensures choices { OnOk result (self.now.choices < 1000000000000) }
-        ensures steps { IfOk result (λ row. is_some row ≡ true → self.now.steps < self.now.limit) }
-        ensures accepted { OnOk result (refusal_of (world_of self.now) choice ≡ None) }
-        ensures refused { IfErr result (λ fault. refusal_of (world_of self.now) choice ≡ Some fault) }
-    {
-        if choice.thread as usize >= self.stage.thread_count() {
-            return Err(StepFault::NoSuchThread);
-        }
-        if self.choices == MOST_CHOICES {
-            return Err(StepFault::StepLimit);
-        }
-        let Some(row) = self.chosen_row(choice) else {
-            return Ok(None);
-        };
-        if self.steps == self.limit {
-            return Err(StepFault::StepLimit);
-        }
-        Ok(Some(row))
-    }
-
     /// An idle choice.
     #[tactic(auto, using(crate::proofs::Readiness::idle_choice))]
     fn stay(&mut self, choice: Choice) -> Event
@@ -387,22 +451,6 @@ impl Machine {
         }
     }
 
-    /// The row at which the chosen thread stands, where the choice would not be idle.
-    #[inline(always)]
-    fn chosen_row(&self, choice: Choice) -> Option<Row>
-        requires { choice.thread < length self.now.scene.threads }
-        ensures ready { is_some result ≡ is_choice_ready self.now.program choice (scene_of self.now.scene) }
-        ensures row { IfSome result (λ row.
-            row ≡ row_at self.now.program.rows (thread_at (scene_of self.now.scene) choice.thread).pc) }
-    {
-        let t = choice.thread as usize;
-        if choice.expiry {
-            self.stage.expiring_row(&self.program, t)
-        } else {
-            self.stage.ready_row(&self.program, t)
-        }
-    }
-
     /// Whether a choice would not be idle.
     fn is_choice_ready(&self, choice: Choice) -> bool
         requires { choice.thread < length self.now.scene.threads }
@@ -412,43 +460,6 @@ impl Machine {
             self.can_expire(choice.thread)
         } else {
             self.stage.is_ready(&self.program, choice.thread as usize)
-        }
-    }
-
-    /// An effective step of a thread that stands at this row.
-    fn go_on(&mut self, choice: Choice, row: Row) -> Result<Event, StepFault>
-        requires there { choice.thread < length self.old.scene.threads }
-        requires row { row ≡ row_at self.old.program.rows (thread_at (scene_of self.old.scene) choice.thread).pc }
-        requires ready { is_choice_ready self.old.program choice (scene_of self.old.scene) ≡ true }
-        requires steps { self.old.steps < self.old.limit }
-        requires choices { self.old.choices < 1000000000000 }
-        ensures played { IfOk result (λ event.
-            record { world = world_of self.new; event = event } ≡ played (world_of self.old) choice) }
-        ensures undo { OnOk result
-            (undone (Some (scene.note_of choice.thread self.old.program self.old.scene)) self.new ≡ self.old) }
-        ensures can { OnOk result
-            (scene.CanUndo (scene.note_of choice.thread self.old.program self.old.scene) self.new.scene) }
-        ensures counted { OnOk result (0 < self.new.choices) }
-        ensures steps { OnOk result (self.new.steps ≡ self.old.steps + 1) }
-        ensures memory { IfErr result (λ fault. (fault ≡ StepFault.Memory)
-            × (puts_out (world_of self.old) choice ≡ true)) }
-        ensures threads { length self.new.scene.threads ≡ length self.old.scene.threads }
-        ensures err { OnErr result (self.new ≡ self.old) }
-    {
-        let t = choice.thread as usize;
-        if choice.expiry {
-            let event = self.stage.expire(&self.program, row, t);
-            self.choices += 1;
-            self.steps += 1;
-            return Ok(event);
-        }
-        match self.stage.turn(&self.program, row, t) {
-            Ok(event) => {
-                self.choices += 1;
-                self.steps += 1;
-                Ok(event)
-            }
-            Err(_) => Err(StepFault::Memory),
         }
     }
 

@@ -205,6 +205,16 @@ pub put_here : (i : ℕ) (phasers after : List PhaserState) (g : Flat) → i < l
 put_here i phasers after g there set =
     ap (λ (ps : List PhaserState). phaser_at ps i) set ∙ get_or-set_same phasers i (record (phaser_at phasers i) { flat = g }) no_phaser there
 
+-- so it is told with the view of its word
+pub turns_root : (i : ℕ) (line above : List ℕ) (phasers mid : List PhaserState) (f g : Flat) → line ≡ i ∷ above → (length line == 1) ≡ true
+    → line ≡ (phaser_at phasers i).line → f ≡ flat_at phasers i → IsAsLate g f × (f.ended ≡ false) → Turns g ≡ arrive false f
+    → mid ≡ with_flat phasers i g
+    → record { phasers = mid; answer = arrived.Turning (record { 0 = i }) (view_of g) (flat_at mid i).parties } ≡ arrival i false phasers
+turns_root i line above phasers mid f g is one line_is found late arrives set =
+    ap (λ (z : ℤ). record { phasers = mid; answer = arrived.Turning (record { 0 = i }) z (flat_at mid i).parties })
+    (ap (λ (n : ℕ). phase_view n g.ended) late.0.0 ∙ ap (phase_view f.phase) (late.0.1 ∙ late.1))
+    ∙ sym (turned_here i line above phasers mid f g is one line_is found late.1 arrives set)
+
 -- and the end of its phase, where the policy is the default one: parties are left
 pub ends_at_root : (i : ℕ) (line above : List ℕ) (phasers mid now : List PhaserState) (f g : Flat) → line ≡ i ∷ above → (length line == 1) ≡ true
     → line ≡ (phaser_at phasers i).line → f ≡ flat_at phasers i → IsAsLate g f × (f.ended ≡ false) → Turns g ≡ arrive false f → i < length phasers

@@ -10,6 +10,7 @@ ghost use Rattle.tier_tree.specs.Stored.{IsStored, ChangedOnly, ChangedAt, store
 
 use crate::arrived::Arrived;
 use crate::id::PhaserId;
+use crate::last_arrival::LastArrival;
 use crate::line::MOST_LEVELS;
 use crate::node::Node;
 use crate::phase_end::end_phase;
@@ -296,28 +297,37 @@ fn has_default_policy(nodes: &[Node], i: usize) -> bool
     matches!(nodes[i].policy(), Policy::Default)
 }
 
-/// The last arrival at a root, of a party that stays, and the end of its phase: the number of that phase. `None` where others
-/// are still to arrive, nobody could arrive, there is a phaser above, or the policy isn't the default one; nothing has
-/// changed then.
-pub fn end_at_root(nodes: &mut [Node], i: usize) -> Option<i32>
+/// An arrival of a party that stays, where it is the last at a root that has none above. Where the policy is the default one,
+/// the phase ends with it.
+pub fn arrive_last(nodes: &mut [Node], i: usize) -> LastArrival
     requires stored { IsStored nodes.old }
     requires there { i < length nodes.old }
     requires ends { (phaser_at (phasers_of nodes.old) i).ends < most_ends }
-    ensures ends { IfSome result (λ phase.
-        EndsAtRoot i phase (phasers_of nodes.old) (phasers_of nodes.new)) }
-    ensures none { result ≡ None → nodes.new ≡ nodes.old }
+    ensures ended { (phase : ℤ) → result ≡ LastArrival.Ended phase
+        → EndsAtRoot i phase (phasers_of nodes.old) (phasers_of nodes.new) }
+    ensures turned { (phase : ℤ) → result ≡ LastArrival.Turned phase
+        → record {
+          phasers = phasers_of nodes.new;
+          answer = Arrived.Turning (record { 0 = i }) phase (flat_at (phasers_of nodes.new) i).parties;
+        }
+        ≡ arrival i false (phasers_of nodes.old) }
+    ensures none { result ≡ LastArrival.Elsewhere → nodes.new ≡ nodes.old }
     ensures stored { IsStored nodes.new }
     ensures only { ChangedAt i nodes.old nodes.new }
 {
-    if !is_root(nodes, i) || !has_default_policy(nodes, i) {
-        return None;
+    if !is_root(nodes, i) {
+        return LastArrival::Elsewhere;
     }
+    let is_default = has_default_policy(nodes, i);
     match arrival_at(nodes, i) {
         packed_phaser::Arrived::Turned(word) => {
             set_word(nodes, i, word);
+            if !is_default {
+                return LastArrival::Turned(word.phase_view());
+            }
             end_phase(nodes, i, false);
-            Some(word.phase_view())
+            LastArrival::Ended(word.phase_view())
         }
-        _ => None,
+        _ => LastArrival::Elsewhere,
     }
 }

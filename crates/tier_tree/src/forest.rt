@@ -14,6 +14,7 @@ ghost use Rattle.tier_tree.specs.Undo.{saved_of, IsSavedOf, restored};
 
 use crate::arrived::Arrived;
 use crate::id::PhaserId;
+use crate::last_arrival::LastArrival;
 use crate::node::Node;
 use crate::registered::Registered;
 use crate::saved::{self, Saved};
@@ -147,19 +148,32 @@ impl Forest {
         climb::arrive_early(self.nodes.as_mut_slice(), id.0 as usize)
     }
 
-    /// `arrive` of a party that stays, and `finish_turn`, where it is the last at a root whose policy is the default
-    /// one: the number of the phase that ended. `None` anywhere else; nothing has changed then.
+    /// `arrive` of a party that stays, where it is the last at a root that has none above, and `finish_turn` where the policy
+    /// is the default one. Anywhere else nothing has changed.
     #[inline(always)]
-    pub fn end_at_root(&mut self, id: PhaserId) -> Option<i32>
+    pub fn arrive_last(&mut self, id: PhaserId) -> LastArrival
         requires there { id.0 < length self.old }
         requires ends { (phaser_at (phasers_of self.old) id.0).ends < most_ends }
-        ensures ends { IfSome result (λ phase.
-            EndsAtRoot id.0 phase (phasers_of self.old) (phasers_of self.new)) }
-        ensures none { result ≡ None → self.new ≡ self.old }
+        ensures ended { (phase : ℤ) → result ≡ LastArrival.Ended phase
+            → EndsAtRoot id.0 phase (phasers_of self.old) (phasers_of self.new) }
+        ensures turned { (phase : ℤ) → result ≡ LastArrival.Turned phase
+            → record {
+              phasers = phasers_of self.new;
+              answer = Arrived.Turning id phase (flat_at (phasers_of self.new) id.0).parties;
+            }
+            ≡ arrival id.0 false (phasers_of self.old) }
+        ensures pending { (phase : ℤ) → result ≡ LastArrival.Turned phase
+            → (id.0 ≡ root_at (phasers_of self.old) id.0)
+            × MakesPending id.0 (phasers_of self.old) (phasers_of self.new) }
+        ensures places { (phase : ℤ) → result ≡ LastArrival.Turned phase
+            → KeepsPlaces (phasers_of self.old) (phasers_of self.new) }
+        ensures phase_ends { (phase : ℤ) → result ≡ LastArrival.Turned phase
+            → KeepsEnds (phasers_of self.old) (phasers_of self.new) }
+        ensures none { result ≡ LastArrival.Elsewhere → self.new ≡ self.old }
         ensures only { ChangedAt id.0 self.old self.new }
         ensures many { length self.new ≡ length self.old }
     {
-        climb::end_at_root(self.nodes.as_mut_slice(), id.0 as usize)
+        climb::arrive_last(self.nodes.as_mut_slice(), id.0 as usize)
     }
 
     /// Ends the phase of a turned root, after `onAdvance` answered: `ends` is its answer. Where the

@@ -4,12 +4,12 @@ ghost use Rattle.cyclic_barrier.specs.Waits.{wait_at};
 ghost use Rattle.loader.specs.Program.{IsNamed, row_at};
 ghost use Rattle.machine_scene.specs.Scene.{scene_of, counts_in, thread_at, barrier_at};
 ghost use Rattle.machine_scene.specs.Sound.{IsSound, HasItsWait, most_after};
-ghost use Rattle.machine_scene.specs.Asleep.{is_asleep, AreAsleep, AreOthersAsleep, IsSetAt, begins, is_loud_at, may_wake, is_local_turn};
+ghost use Rattle.machine_scene.specs.Asleep.{is_asleep, AreAsleep, AreOthersAsleep, IsSetAt, is_loud_at, may_wake, is_local_turn};
 
 use super::Stage;
 use instruction_table::{Row, is_local};
 use loader::Loaded;
-use thread_state::{Event, Mark, Status, What};
+use thread_state::{Event, Mark, Status};
 
 /// Whether a thread is in the set: bit n is thread n.
 #[inline(always)]
@@ -37,12 +37,9 @@ pub(super) fn set_at(set: u64, thread: usize, asleep: bool) -> u64
 /// Whether the event shows more than a turn of its own thread.
 #[inline(always)]
 fn is_loud(event: Event) -> bool
-    ensures { result ≡ is_loud_at event.mark event.what }
+    ensures { result ≡ is_loud_at event.mark }
 {
-    match event.mark {
-        Mark::Nothing => matches!(event.what, What::Enters),
-        _ => true,
-    }
+    !matches!(event.mark, Mark::Nothing)
 }
 
 /// Whether a step at this row, with this event, may have woken other threads, beside one that it interrupts.
@@ -125,7 +122,7 @@ impl Stage {
     }
 
     /// `still_asleep`, by a look at each thread.
-    #[inline(never)]
+    #[inline(always)]
     fn all_looked_at(&self, program: &Loaded, before: u64) -> u64
         requires sound { IsSound program.now most_after (scene_of self.now) }
         ensures { AreAsleep program.now result self.now }

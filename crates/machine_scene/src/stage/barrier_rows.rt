@@ -63,6 +63,7 @@ impl Stage {
     }
 
     /// `cawait` and `cawaitt`.
+    #[inline(always)]
     fn come(&mut self, program: &Loaded, no_wait: bool, into: Reg, barrier: u16, t: usize) -> Event
         requires ready { is_some (unless_busy barrier t (scene_of self.old) (unless_runner barrier t (scene_of self.old)
             (outcome_of_await_at no_wait into barrier t program.now (scene_of self.old)))) ≡ true }
@@ -85,6 +86,7 @@ impl Stage {
     }
 
     /// The entry itself.
+    #[inline(always)]
     fn enter(&mut self, program: &Loaded, no_wait: bool, into: Reg, barrier: u16, t: usize) -> Event
         requires ready { is_some (outcome_of_entry no_wait into barrier t program.now (scene_of self.old)) ≡ true }
         requires there { barrier < length self.old.barriers }

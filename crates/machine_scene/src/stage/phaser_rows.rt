@@ -1,4 +1,4 @@
-ghost use Rattle.std.specs.Prelude.{◌≡◌, ℕ, ◌<◌, ◌≤◌, ◌&&◌, length, true, false, Some, None, is_some};
+ghost use Rattle.std.specs.Prelude.{◌≡◌, ℕ, ◌<◌, ◌≤◌, ◌&&◌, length, true, false, Some, None, is_some, IfSome};
 ghost use Rattle.tier_tree.specs.Forest.{phaser_at, flat_at, root_at};
 ghost use Rattle.tier_tree.specs.Stored.{phasers_of, ChangedAt};
 ghost use Rattle.instruction_table.specs.Registers.{value_in};
@@ -20,7 +20,7 @@ use instruction_table::{Reg, Row};
 use loader::Loaded;
 use packed_phaser::Policy;
 use thread_state::{Event, Mark, Thread, What};
-use tier_tree::{Arrived, PhaserId, Registered};
+use tier_tree::{Arrived, LastArrival, PhaserId, Registered};
 
 /// A thread whose phase hasn't ended waits, as long as it has the patience.
 fn wait_with(thread: &mut Thread, patience: Patience, phase: i32) -> What
@@ -240,7 +240,40 @@ impl Stage {
         matches!(self.phasers.policy(root), Policy::Routine)
     }
 
-    /// The last arrival at a root and the end of its phase are one call.
+    /// An arrival of a party that stays, where it is the last at a root that has none above, with the end of its phase or the
+    /// entry into its routine. `None` anywhere else; nothing has changed then.
+    #[inline(always)]
+    pub(super) fn last_arrival(
+        &mut self,
+        program: &Loaded,
+        manner: Manner,
+        phaser: u16,
+        t: usize,
+    ) -> Option<Event>
+        requires phaser { phaser < length self.old.phasers }
+        requires stays { manner.leaves ≡ false }
+        requires room { (has_routine phaser (scene_of self.old) && is_full (thread_at (scene_of self.old) t)) ≡ false }
+        requires routines { length program.now.routines ≡ length self.old.phasers }
+        requires ends { (p : ℕ) → (phaser_at (phasers_of self.old.phasers) p).ends < most_after }
+        requires plays { CanPlay t self.old }
+        ensures none { result ≡ None → self.new ≡ self.old }
+        ensures outcome { IfSome result (λ event. record { scene = scene_of self.new; event = event }
+            ≡ outcome_with_room manner phaser t program.now (scene_of self.old)) }
+        ensures phasers { ChangedAt phaser self.old.phasers self.new.phasers }
+    {
+        let id = self.phaser_id(phaser);
+        self.phasers.is_forest();
+        match self.phasers.arrive_last(id) {
+            LastArrival::Ended(phase) => Some(self.phase_ended(manner, id, phase, t)),
+            LastArrival::Turned(phase) => {
+                self.phasers.is_forest();
+                Some(self.pending_end(program, manner, id, phase, t))
+            }
+            LastArrival::Elsewhere => None,
+        }
+    }
+
+    /// The arrival itself.
     fn arrival_with_room(
         &mut self,
         program: &Loaded,
@@ -248,26 +281,6 @@ impl Stage {
         phaser: u16,
         t: usize,
     ) -> Event
-        requires phaser { phaser < length self.old.phasers }
-        requires room { (has_routine phaser (scene_of self.old) && is_full (thread_at (scene_of self.old) t)) ≡ false }
-        requires routines { length program.now.routines ≡ length self.old.phasers }
-        requires ends { (p : ℕ) → (phaser_at (phasers_of self.old.phasers) p).ends < most_after }
-        requires plays { CanPlay t self.old }
-        ensures outcome { record { scene = scene_of self.new; event = result }
-            ≡ outcome_with_room manner phaser t program.now (scene_of self.old) }
-        ensures phasers { ChangedAt phaser self.old.phasers self.new.phasers }
-    {
-        let id = self.phaser_id(phaser);
-        if !manner.leaves {
-            if let Some(phase) = self.phasers.end_at_root(id) {
-                return self.phase_ended(manner, id, phase, t);
-            }
-        }
-        self.arrival_in_tree(program, manner, phaser, t)
-    }
-
-    /// The arrival itself, wherever the phase's end that it may bring doesn't come by a root alone.
-    fn arrival_in_tree(&mut self, program: &Loaded, manner: Manner, phaser: u16, t: usize) -> Event
         requires phaser { phaser < length self.old.phasers }
         requires room { (has_routine phaser (scene_of self.old) && is_full (thread_at (scene_of self.old) t)) ≡ false }
         requires routines { length program.now.routines ≡ length self.old.phasers }
@@ -290,6 +303,7 @@ impl Stage {
     }
 
     /// The phase end of a root is pending: its policy answers, or its routine is entered.
+    #[inline(always)]
     #[tactic(auto, using(tier_tree::proofs::Changed::changed_nothing))]
     fn pending_end(
         &mut self,
@@ -352,6 +366,7 @@ impl Stage {
     }
 
     /// The arrival's answer and the step's mark, behind the phase end.
+    #[inline(always)]
     fn phase_ended(&mut self, manner: Manner, root: PhaserId, phase: i32, t: usize) -> Event
         requires there { root.0 < length self.old.phasers }
         requires plays { CanPlay t self.old }

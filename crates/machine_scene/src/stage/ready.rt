@@ -99,6 +99,7 @@ impl Stage {
     }
 
     /// Whether a wait at a barrier can end.
+    #[inline(always)]
     pub(super) fn is_barrier_wait_over(&self, row: Row, t: usize) -> bool
         requires named { IsNamed (counts_in self.now) row }
         requires waits { (b : ℕ) → is_wait_row b row ≡ true

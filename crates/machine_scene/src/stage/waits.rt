@@ -69,6 +69,7 @@ impl Stage {
     }
 
     /// Finishes a thread's wait at a barrier.
+    #[inline(always)]
     pub(super) fn finish_barrier_wait(&mut self, row: Row, index: i32, t: usize) -> Event
         requires ready { is_some (outcome_of_barrier_wait row index t (scene_of self.old)) ≡ true }
         requires named { IsNamed (counts_in self.old) row }
@@ -85,6 +86,7 @@ impl Stage {
     }
 
     /// By what the wait has come to.
+    #[inline(always)]
     fn finish_release(&mut self, into: Reg, index: i32, barrier: u16, t: usize) -> Event
         requires ready { is_some (outcome_of_release (wait_at (barrier_at (scene_of self.old) barrier).waits t)
             into index barrier t (scene_of self.old)) ≡ true }

@@ -5,8 +5,8 @@ use Rattle.tier_tree.specs.Forest.{phaser_at, flat_at, root_of}
 use Rattle.tier_tree.specs.Stored.{ChangedOnly, phasers_of}
 use Rattle.tier_tree.proofs.Shown.{length-shown, only_more, only_same}
 use Rattle.tier_tree.proofs.Times.{IsArrival, arrival_is}
-use Rattle.tier_tree.proofs.Ascent.{own_line, alone_top, put_here, ends_at_root, only_more_of}
-use Rattle.tier_tree.proofs.climb.end_at_root.Goals as goal
+use Rattle.tier_tree.proofs.Ascent.{own_line, alone_top, put_here, ends_at_root, turns_root, only_more_of}
+use Rattle.tier_tree.proofs.climb.arrive_last.Goals as goal
 
 pub end_phase-requires-clause-root : goal.end_phase-requires-clause-root
 end_phase-requires-clause-root c =
@@ -16,8 +16,25 @@ end_phase-requires-clause-root c =
     (subst (λ (n : ℕ). c.args.i < n) (sym (length-shown c.args.nodes.now)) c.requires.there) c.set_word.ensures.present)
     ∙ alone_top (phaser_at ps c.args.i).line own.0 c.args.i own.2 (sym c.is_root.ensures ∙ c.if-not-is_root.false)
 
-pub returns-in-Turned-clause-ends : goal.returns-in-Turned-clause-ends
-returns-in-Turned-clause-ends c =
+pub returns-then-not-is_default-clause-turned : goal.returns-then-not-is_default-clause-turned
+returns-then-not-is_default-clause-turned c = λ phase is.
+    let ps = phasers_of c.args.nodes.now in
+    let own = own_line c.args.nodes.now c.args.i c.requires.stored c.requires.there in
+    let f = flat_at ps c.args.i in
+    let g = record_of c.in-Turned.word in
+    let late : IsArrival f (Turns g) = subst (IsArrival f) (sym c.in-Turned.ensures) (arrival_is false f) in
+    let turns = turns_root c.args.i (phaser_at ps c.args.i).line own.0 ps (phasers_of c.set_word.new.nodes) f g own.2
+    (sym c.is_root.ensures ∙ c.if-not-is_root.false) refl refl late c.in-Turned.ensures c.set_word.ensures.present in
+    search (rules, turns, is)
+
+pub returns-then-not-is_default-clause-only : goal.returns-then-not-is_default-clause-only
+returns-then-not-is_default-clause-only c =
+    let own = own_line c.args.nodes.now c.args.i c.requires.stored c.requires.there in
+    subst (λ (line : _). ChangedOnly line c.args.nodes.now c.set_word.new.nodes) (sym own.1)
+    (only_more _ own.0 c.args.i c.args.nodes.now c.args.nodes.now c.set_word.new.nodes refl (only_same own.0 c.args.nodes.now) c.set_word.ensures.only)
+
+pub returns-else-not-is_default-clause-ended : goal.returns-else-not-is_default-clause-ended
+returns-else-not-is_default-clause-ended c = λ phase told.
     let ps = phasers_of c.args.nodes.now in
     let own = own_line c.args.nodes.now c.args.i c.requires.stored c.requires.there in
     let f = flat_at ps c.args.i in
@@ -26,11 +43,11 @@ returns-in-Turned-clause-ends c =
     let is = ends_at_root c.args.i (phaser_at ps c.args.i).line own.0 ps (phasers_of c.set_word.new.nodes) (phasers_of c.end_phase.new.nodes) f g own.2
     (sym c.is_root.ensures ∙ c.if-not-is_root.false) refl refl late c.in-Turned.ensures
     (subst (λ (n : ℕ). c.args.i < n) (sym (length-shown c.args.nodes.now)) c.requires.there) c.set_word.ensures.present
-    (c.has_default_policy.ensures c.if-not-has_default_policy.false) c.end_phase.ensures.present in
-    search (rules, is)
+    (c.has_default_policy-is_default.ensures c.if-not-is_default.false) c.end_phase.ensures.present in
+    search (rules, is, told)
 
-pub returns-in-Turned-clause-only : goal.returns-in-Turned-clause-only
-returns-in-Turned-clause-only c =
+pub returns-else-not-is_default-clause-only : goal.returns-else-not-is_default-clause-only
+returns-else-not-is_default-clause-only c =
     let own = own_line c.args.nodes.now c.args.i c.requires.stored c.requires.there in
     subst (λ (line : _). ChangedOnly line c.args.nodes.now c.end_phase.new.nodes) (sym own.1)
     (only_more_of (c.args.i ∷ own.0) 0 c.args.nodes.now c.set_word.new.nodes c.end_phase.new.nodes (search rules)

@@ -5,7 +5,7 @@ use Rattle.machine_scene.specs.Asleep.{AreAsleep}
 use Rattle.machine_scene.specs.Undo.{CanUndo, note_of, undone}
 use Rattle.machine_scene.proofs.Placed.{named_still}
 use Rattle.machine_scene.proofs.Undoing.{undone_still, can_still}
-use Rattle.machine_scene.proofs.stage.Stage.turn.Goals as goal
+use Rattle.machine_scene.proofs.stage.Stage.ready_turn.Goals as goal
 
 pub asleep_after-self-inside-requires-clause-sound : goal.asleep_after-self-inside-requires-clause-sound
 asleep_after-self-inside-requires-clause-sound c = c.in-Ok.ensures.sound 2147483646 (omega arith) c.requires.sound

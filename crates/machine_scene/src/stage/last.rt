@@ -1,0 +1,116 @@
+ghost use Rattle.std.specs.Prelude.{◌≡◌, ℕ, ◌+◌, ◌<◌, [], length, false, Some, None, IfSome};
+ghost use Rattle.std.specs.Option.{OnSome};
+ghost use Rattle.loader.specs.Program.{row_at};
+ghost use Rattle.thread_state.specs.Thread.{top_of};
+ghost use Rattle.machine_scene.specs.Scene.{scene_of, thread_at};
+ghost use Rattle.machine_scene.specs.Outcomes.{outcome_in, outcome_of, outcome_of_row};
+ghost use Rattle.machine_scene.specs.Sound.{IsSound, StandsAt, most_after, most_before};
+ghost use Rattle.machine_scene.specs.Asleep.{KeepsAsleep, AreOthersAsleep, may_wake};
+ghost use Rattle.machine_scene.specs.Undo.{PhasersWithin, CanUndo, reach_in, reach_of_row, note_of, undone};
+
+use super::Stage;
+use crate::manner::manner_of;
+use instruction_table::Row;
+use loader::Loaded;
+use thread_state::{Event, Status};
+
+/// Turns that end a phase as most phases end.
+impl Stage {
+    /// `turn` of a running thread with an empty stack that is the last to arrive, by `parr` or `paaa`, at a root that has none
+    /// above. `None` where `turn` has to look, and nothing has changed.
+    #[inline(always)]
+    pub fn last_turn(&mut self, program: &Loaded, t: usize) -> Option<Event>
+        requires sound { IsSound program.now most_before (scene_of self.old) }
+        requires asleep { KeepsAsleep program.now self.old }
+        requires thread { t < length self.old.threads }
+        ensures none { result ≡ None → self.new ≡ self.old }
+        ensures ok { IfSome result (λ event. outcome_of t program.now (scene_of self.old)
+            ≡ Some (record { scene = scene_of self.new; event = event })) }
+        ensures sound { OnSome result ((steps : ℕ) → steps < most_before
+            → IsSound program.now steps (scene_of self.old)
+            → IsSound program.now (steps + 1) (scene_of self.new)) }
+        ensures undo { OnSome result (undone (note_of t program.now self.old) self.new ≡ self.old) }
+        ensures can { OnSome result (CanUndo (note_of t program.now self.old) self.new) }
+        ensures threads { OnSome result (length self.new.threads ≡ length self.old.threads) }
+        ensures asleep { OnSome result (KeepsAsleep program.now self.new) }
+    {
+        let row = self.row_of(program, t);
+        let before = self.asleep;
+        match self.last_of_row(program, row, t) {
+            Some(event) => {
+                self.asleep = self.asleep_after(program, before, row, event, t);
+                Some(event)
+            }
+            None => None,
+        }
+    }
+
+    /// `last_turn` of a thread that stands at this row, but for the set of those asleep.
+    #[inline(always)]
+    fn last_of_row(&mut self, program: &Loaded, row: Row, t: usize) -> Option<Event>
+        requires sound { IsSound program.now most_before (scene_of self.old) }
+        requires thread { t < length self.old.threads }
+        requires row { row ≡ row_at program.now.rows (thread_at (scene_of self.old) t).pc }
+        requires at { StandsAt program.now row t self.old }
+        ensures none { result ≡ None → self.new ≡ self.old }
+        ensures ok { IfSome result (λ event. outcome_of t program.now (scene_of self.old)
+            ≡ Some (record { scene = scene_of self.new; event = event })) }
+        ensures sound { OnSome result ((steps : ℕ) → steps < most_after
+            → IsSound program.now steps (scene_of self.old)
+            → IsSound program.now (steps + 1) (scene_of self.new)) }
+        ensures undo { OnSome result (undone (note_of t program.now self.old) self.new ≡ self.old) }
+        ensures can { OnSome result (CanUndo (note_of t program.now self.old) self.new) }
+        ensures threads { OnSome result (length self.new.threads ≡ length self.old.threads) }
+        ensures others { IfSome result (λ event. KeepsAsleep program.now self.old → may_wake row event ≡ false
+            → AreOthersAsleep program.now t row self.old.asleep self.new) }
+    {
+        self.phasers_are_stored();
+        // The answer goes on as it is: each arm names its case for the proof.
+        match self.last_at(program, row, t) {
+            Some(event) => Some(event),
+            None => None,
+        }
+    }
+
+    /// What the thread is doing decides.
+    #[inline(always)]
+    fn last_at(&mut self, program: &Loaded, row: Row, t: usize) -> Option<Event>
+        requires sound { IsSound program.now most_before (scene_of self.old) }
+        requires at { StandsAt program.now row t self.old }
+        ensures none { result ≡ None → self.new ≡ self.old }
+        ensures ok { IfSome result (λ event. outcome_in (thread_at (scene_of self.old) t).status row t
+            program.now (scene_of self.old)
+            ≡ Some (record { scene = scene_of self.new; event = event })) }
+        ensures phasers { OnSome result (PhasersWithin (reach_in (thread_at (scene_of self.old) t).status row
+            (top_of (thread_at (scene_of self.old) t).stack)) self.old.phasers self.new.phasers) }
+    {
+        if !self.threads[t].stack().is_empty() {
+            return None;
+        }
+        match self.threads[t].status() {
+            Status::Runs => self.last_row(program, row, t),
+            _ => None,
+        }
+    }
+
+    /// Its row decides.
+    #[inline(always)]
+    #[tactic(auto, using(crate::proofs::UsualTurns::free_room))]
+    fn last_row(&mut self, program: &Loaded, row: Row, t: usize) -> Option<Event>
+        requires sound { IsSound program.now most_before (scene_of self.old) }
+        requires at { StandsAt program.now row t self.old }
+        requires free { (thread_at (scene_of self.old) t).stack ≡ [] }
+        ensures none { result ≡ None → self.new ≡ self.old }
+        ensures ok { IfSome result (λ event. outcome_of_row row t program.now (scene_of self.old)
+            ≡ Some (record { scene = scene_of self.new; event = event })) }
+        ensures phasers { OnSome result (PhasersWithin (reach_of_row row
+            (top_of (thread_at (scene_of self.old) t).stack)) self.old.phasers self.new.phasers) }
+    {
+        match row {
+            Row::Parr { phaser, .. } | Row::Paaa { phaser, .. } => {
+                self.last_arrival(program, manner_of(row), phaser, t)
+            }
+            _ => None,
+        }
+    }
+}

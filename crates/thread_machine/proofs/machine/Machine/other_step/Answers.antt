@@ -1,0 +1,13 @@
+use Rattle.std.proofs.Common.{arith}
+use Rattle.thread_machine.proofs.Sound.{one_step_more}
+use Rattle.thread_machine.proofs.machine.Machine.other_step.Goals as goal
+
+pub invariant_of-self : goal.invariant_of-self
+invariant_of-self c =
+    let inside = c.self.inside in
+    let most = c.self.invariant.steps in
+    let left = c.if-self.false in
+    let many = c.self.invariant.choices in
+    let more = c.if-self-eq-MOST_CHOICES.false in
+    one_step_more inside.program inside.limit inside.choices inside.steps inside.stage c.last_turn.new.self c.self.invariant
+    (omega (arith, most, left)) (omega (arith, many, more)) (c.in-Some.ensures.sound inside.steps) c.in-Some.ensures.asleep
