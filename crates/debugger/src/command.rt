@@ -1,14 +1,17 @@
-ghost use Rattle.std.specs.Prelude.{◌≡◌, ◌↔◌, Err, OnErr, true, ◌==◌, ◌+◌, ◌≤◌, ◌<◌, IfOk, Some, None, length};
+ghost use Rattle.std.specs.Prelude.{◌≡◌, ◌↔◌, Err, OnErr, true, false, ◌==◌, ◌+◌, ◌≤◌, ◌<◌, ◌∷◌, [], IfOk, IfSome, Some, None, length};
 ghost use Rattle.std.specs.Char.{is_ascii_digit};
 ghost use Rattle.std.specs.List.{AllPass, list_all, list_any, position, position_or_len};
 ghost use Rattle.std.specs.Option.{option_map};
 ghost use Rattle.std.specs.Str.Parse.{digits_value};
-ghost use Rattle.schedule_reader.specs.Schedule.{is_blank};
-ghost use Rattle.debugger.specs.Command.{Unknown, Break, Clear, alone, by_row, go_by, goes_on, has_tokens, is_letter, is_row, letter_of, line_order, order_of, rest_of, row_in, runs_in, step_by, word_of};
+ghost use Rattle.schedule_reader.specs.Schedule.{choice_of, is_blank, run_of};
+ghost use Rattle.debugger.specs.Command.{Unknown, Break, Clear, Go, alone, by_row, go_by, goes_on, has_tokens, is_letter, is_row, letter_of, line_order, order_of, rest_of, row_in, runs_in, step_by, word_of};
 
 use schedule_reader::{Reader, Run, ScheduleFault};
 use std::alloc::AllocError;
 use thread_machine::Choice;
+
+/// The last thread that a token can name.
+const LAST_THREAD: u8 = 63;
 
 /// What a line asks for.
 #[derive(Drop)]
@@ -247,6 +250,41 @@ fn clear_of(row: Option<usize>) -> Command
     match row {
         Some(row) => Command::Clear(row),
         None => Command::Unknown,
+    }
+}
+
+/// The thread that the digits name which end a line of `g`, a space and a turn.
+fn thread_of(digits: &[u8]) -> Option<u8>
+    ensures { IfSome result (λ thread. line_order (103 ∷ 32 ∷ 116 ∷ digits.now)
+        ≡ Go (run_of (choice_of false thread) 1 ∷ [])) }
+{
+    match digits {
+        [one] if one.is_ascii_digit() => Some(*one - b'0'),
+        [ten, one] if ten.is_ascii_digit() && one.is_ascii_digit() => {
+            let thread = (*ten - b'0') * 10 + (*one - b'0');
+            if thread <= LAST_THREAD {
+                Some(thread)
+            } else {
+                None
+            }
+        }
+        _ => None,
+    }
+}
+
+/// The turn of a line that is read at one look: `g`, a space and a turn that is named once.
+pub fn lone_turn(line: &[u8]) -> Option<Run>
+    ensures turn { IfSome result (λ run. line_order line.now ≡ Go (run ∷ [])) }
+{
+    match line {
+        [b'g', b' ', b't', digits @ ..] => match thread_of(digits) {
+            Some(thread) => Some(Run::once(Choice {
+                thread,
+                expiry: false,
+            })),
+            None => None,
+        },
+        _ => None,
     }
 }
 

@@ -7,6 +7,7 @@ use itoa::write_digits;
 pub const ROOM: usize = 40;
 
 /// Puts a word before what stands from a place on, and answers where it begins.
+#[inline(always)]
 fn put_before(bytes: &mut [u8; ROOM], from: usize, word: &[u8]) -> usize
     requires from { from ≤ 40 }
     requires room { length word.now ≤ from }
@@ -19,7 +20,8 @@ fn put_before(bytes: &mut [u8; ROOM], from: usize, word: &[u8]) -> usize
 }
 
 /// Puts a word, a number and the line's end at the end of a room, and answers where the word begins: so the line is told in
-/// one piece.
+/// one piece. Where the words are known, their bytes are stored without a call.
+#[inline(always)]
 pub fn put_number_line(bytes: &mut [u8; ROOM], word: &[u8], number: u64, end: &[u8]) -> usize
     requires { length word.now + length end.now ≤ 20 }
     ensures text { drop result bytes.new ≡ word.now ++ (decimal number ++ end.now) }

@@ -9,7 +9,7 @@ ghost use Rattle.debugger.specs.declared.stop.Stop.{Stop};
 ghost use Rattle.debugger.specs.Command.{MayWantMemory, Back, Break, Clear, Go, Step, goes_on, line_order, order_of, wants_memory};
 ghost use Rattle.debugger.specs.Reply.{IsCarriedOut, IsStepUnless, number_line, stop_text};
 
-use crate::command::{Command, command_of};
+use crate::command::{Command, command_of, lone_turn};
 use crate::number_line::{ROOM, put_number_line};
 use crate::session::Debugger;
 use crate::stop::Stop;
@@ -53,6 +53,7 @@ impl From<Failed> for CommandFault {
 }
 
 /// Writes a word, a number and the line's end, in one piece.
+#[inline(always)]
 fn say<W: Sink>(output: &mut W, word: &[u8], number: u64, end: &[u8]) -> Result<(), Failed>
     requires { length word.now + length end.now ≤ 20 }
     ensures line { OnOk result (Appends (W.written output.old) (W.written output.new)
@@ -274,6 +275,10 @@ impl Debugger {
         ensures write { result ≡ Err CommandFault.Write → IsTrue (W.has_failed output.new) }
         ensures wants { result ≡ Err CommandFault.Memory → MayWantMemory line.now }
     {
+        if let Some(run) = lone_turn(line) {
+            self.go_command(&[run], output)?;
+            return Ok(true);
+        }
         let room = self.take_room(alloc);
         let command = command_of(room, line)?;
         let goes_on = command.goes_on();
