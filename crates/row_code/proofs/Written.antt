@@ -1,10 +1,12 @@
 -- Entries that are written one after the other.
-use Rattle.std.proofs.Common.{◌≡◌, ℕ, ◌+◌, ◌<◌, List, [], ◌++◌, length, get_or, take, Option, Result, Ok, Err, subst, sym, ap, ◌∙◌}
+use Rattle.std.proofs.Common.{◌≡◌, ℕ, ◌+◌, ◌-◌, ◌<◌, List, [], ◌++◌, length, get_or, take, drop, Option, Result, Ok, Err, subst, sym, ap, ◌∙◌, arith, take-append-drop, append_assoc}
 use Rattle.std.specs.List.{flat_map}
 use Rattle.std.specs.Result.{OnOk}
 use Rattle.std.specs.Io.KnownBytes.{Appends}
 use Rattle.std.proofs.KnownBytes.{Appends-trans}
 use Rattle.std.proofs.lemmas.List.{flat_map_more, take_more}
+use Rattle.std.proofs.lemmas.List.Concat.{flat_map-append}
+use Rattle.std.proofs.lemmas.Slice.{between_to_end}
 
 -- one more entry's bytes behind those of the entries before it
 pub written_more : {X : Type 0} (f : X → List ℕ) (xs : List X) (i : ℕ) (d : X) (a b c : Option (List ℕ)) →
@@ -20,3 +22,16 @@ pub appends_behind : {X E : Type 0} (r : Result X E) (a b c : Option (List ℕ))
     Appends a b front → OnOk r (Appends b c back) → OnOk r (Appends a c (front ++ back))
 appends_behind (Ok x) a b c front back before more = Appends-trans a b c front back before more
 appends_behind (Err e) a b c front back before more = tt
+
+-- one more group of entries is behind the front
+pub group_behind : {X : Type 0} (whole front rest : List X) (count : ℕ) → whole ≡ front ++ rest →
+    whole ≡ (front ++ take count rest) ++ take (length rest - count) (drop count rest)
+group_behind whole front rest count is =
+    is ∙ ap (λ x. front ++ x) (sym (take-append-drop count rest) ∙ ap (λ x. take count rest ++ x) (sym (between_to_end rest count (length rest) (omega arith))))
+    ∙ sym (append_assoc front (take count rest) (take (length rest - count) (drop count rest)))
+
+-- and its bytes behind those of the front
+pub group_written : {X : Type 0} (f : X → List ℕ) (front group : List X) (block : List ℕ) (a b c : Option (List ℕ)) →
+    block ≡ flat_map f group → Appends a b (flat_map f front) → Appends b c block → Appends a c (flat_map f (front ++ group))
+group_written f front group block a b c is before more =
+    subst (Appends a c) (ap (λ x. flat_map f front ++ x) is ∙ sym (flat_map-append f front group)) (Appends-trans a b c _ _ before more)
