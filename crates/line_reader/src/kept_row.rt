@@ -143,6 +143,7 @@ fn operand_there<'a>(
 }
 
 /// Reads operands of these kinds, from left to right, as those of a row of this opcode.
+#[inline(always)]
 #[tactic(auto, unfolding(crate::specs::Reading::row_of_kinds))]
 fn row_of_kinds<'a>(
     opcode: u8,
@@ -172,6 +173,7 @@ fn row_of_kinds<'a>(
 }
 
 /// Reads a row: the word that begins it, and its operands.
+#[inline(always)]
 #[tactic(auto, unfolding(crate::specs::Reading::row_at))]
 pub fn row_at<'a>(word: &[u8], words: &[&'a [u8]]) -> Result<KeptRow<'a>, AsmFaultKind>
     ensures { seen row_kept result ≡ row_at word.now (map name_seen words.now) }
