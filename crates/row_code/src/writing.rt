@@ -139,7 +139,16 @@ fn put_group(block: &mut [u8; GROUP_BYTES], rows: &[Row])
     ensures { take (8 * length rows.now) block.new ≡ flat_map bytes_of rows.now }
 {
     for (place, row) in rows.iter().enumerate() {
-        block[8 * place..8 * place + 8].copy_from_slice(&encode(*row));
+        let at = 8 * place;
+        let [code, a, b, c, imm0, imm1, imm2, imm3] = encode(*row);
+        block[at] = code;
+        block[at + 1] = a;
+        block[at + 2] = b;
+        block[at + 3] = c;
+        block[at + 4] = imm0;
+        block[at + 5] = imm1;
+        block[at + 6] = imm2;
+        block[at + 7] = imm3;
     }
 }
 
