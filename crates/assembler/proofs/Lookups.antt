@@ -1,5 +1,5 @@
 -- Look-ups one behind the other: what they give where all of them find something.
-use Rattle.std.proofs.Common.{◌≡◌, Bool, true, false, ◌&&◌, List, [], ◌∷◌, ◌++◌, Option, Some, None, cond, Result, Ok, Err, ap, refl, subst, ◌∙◌, ℕ, zero, suc, All, slice_index_or, arith}
+use Rattle.std.proofs.Common.{◌≡◌, Bool, true, false, ◌&&◌, List, [], ◌∷◌, ◌++◌, Option, Some, None, cond, Result, Ok, Err, ap, refl, subst, ℕ, zero, suc, All, slice_index_or, arith}
 use Rattle.std.specs.Prelude.{IfOk, is_some}
 use Rattle.std.specs.List.{cons_option}
 
@@ -9,33 +9,33 @@ pub found_used : {A B : Type 0} (f : A → B) (known : Bool) (x found : A) → S
 found_used f true x found e = cc
 found_used f false x found e = absurd (cc)
 
--- where nothing was found, nothing is made of it
-pub none_used : {A B : Type 0} (known : Bool) (x : A) (y : B) → None ≡ cond known (Some x) None → None ≡ cond known (Some y) None
-none_used true x y e = absurd (cc)
-none_used false x y e = refl
+-- a look-up that uses what those before it found
+two_found : {A : Type 0} (f : A → A) (first rest : Bool) (x found : A) (last : Option A) → Some found ≡ cond rest (Some x) None →
+    last ≡ cond first (Some (f found)) None → last ≡ cond (first && rest) (Some (f x)) None
+two_found f true true x found last p q = cc
+two_found f false true x found last p q = q
+two_found f first false x found last p q = absurd (cc)
 
--- four look-ups, each of which uses what the one before found
-pub four_found : {A : Type 0} (f g h : A → A) (first second third fourth : Bool) (x found next then : A) (last : Option A) →
-    Some found ≡ cond fourth (Some x) None → Some next ≡ cond third (Some (h found)) None →
-    Some then ≡ cond second (Some (g next)) None → last ≡ cond first (Some (f then)) None →
-    last ≡ cond (first && (second && (third && (fourth && true)))) (Some (f (g (h x)))) None
-four_found f g h true true true true x found next then last p q r s = cc
-four_found f g h false true true true x found next then last p q r s = cc
-four_found f g h first true true false x found next then last p q r s = absurd (cc)
-four_found f g h first true false fourth x found next then last p q r s = absurd (cc)
-four_found f g h first false third fourth x found next then last p q r s = absurd (cc)
+-- and that finds by the same names, though it is told where they stood behind those before
+pub two_found_by : {L A : Type 0} (f : L → A → A) (first : L → Bool) (rest : Bool) (names one : L) (x found : A) (last : Option A) →
+    one ≡ names → Some found ≡ cond rest (Some x) None → last ≡ cond (first one) (Some (f one found)) None →
+    last ≡ cond (first names && rest) (Some (f names x)) None
+two_found_by f first rest names one x found last same p q =
+    two_found (f names) (first names) rest x found last p (subst (λ l. last ≡ cond (first l) (Some (f l found)) None) same q)
 
--- and four that find by the same names, though each is told where they stood behind the one before
-pub four_found_by : {L A : Type 0} (f g h : L → A → A) (first second third : L → Bool) (fourth : Bool) (names one two three : L)
-    (x found next then : A) (last : Option A) → one ≡ names → two ≡ one → three ≡ two →
-    Some found ≡ cond fourth (Some x) None → Some next ≡ cond (third one) (Some (h one found)) None →
-    Some then ≡ cond (second two) (Some (g two next)) None → last ≡ cond (first three) (Some (f three then)) None →
-    last ≡ cond (first names && (second names && (third names && (fourth && true)))) (Some (f names (g names (h names x)))) None
-four_found_by f g h first second third fourth names one two three x found next then last a b c p q r s =
-    four_found (f names) (g names) (h names) (first names) (second names) (third names) fourth x found next then last p
-    (subst (λ l. Some next ≡ cond (third l) (Some (h l found)) None) a q)
-    (subst (λ l. Some then ≡ cond (second l) (Some (g l next)) None) (b ∙ a) r)
-    (subst (λ l. last ≡ cond (first l) (Some (f l then)) None) (c ∙ (b ∙ a)) s)
+-- and one look-up before it
+pub one_found : {A : Type 0} (known : Bool) (x found : A) → Some found ≡ cond known (Some x) None →
+    Some found ≡ cond (known && true) (Some x) None
+one_found true x found p = p
+one_found false x found p = p
+
+-- where those before found nothing, nothing is made of it
+pub none_behind : {A B : Type 0} (first second rest : Bool) (x : A) (y : B) → None ≡ cond rest (Some x) None →
+    None ≡ cond (first && (second && rest)) (Some y) None
+none_behind first second true x y e = absurd (cc)
+none_behind true true false x y e = refl
+none_behind true false false x y e = refl
+none_behind false second false x y e = refl
 
 -- what was found stands behind the others
 pub found_behind : {A E : Type 0} (before after : List A) (known : Bool) (x : A) (found : Option A) (told : Result Bool E) →

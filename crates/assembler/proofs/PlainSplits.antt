@@ -1,10 +1,10 @@
 -- A plain line that is split when its end is found: the words so far, and one more.
-use Rattle.std.proofs.Common.{◌≡◌, ◌∙◌, ℕ, suc, ◌+◌, ◌-◌, ◌<◌, ◌==◌, Bool, true, false, not, nat_lt, ◌&&◌, List, [], ◌∷◌, ◌++◌, length, take, drop, get_or, Some, refl, sym, ap, arith, append-nil}
+use Rattle.std.proofs.Common.{◌≡◌, ◌∙◌, ℕ, suc, ◌+◌, ◌-◌, ◌<◌, ◌≤◌, ◌==◌, Bool, true, false, not, nat_lt, ◌&&◌, List, [], ◌∷◌, ◌++◌, length, take, drop, get_or, Some, refl, sym, ap, subst, arith, append-nil, take-append-drop, length-take-le}
 use Rattle.std.specs.List.{filter, position, position_or_len, slice_split, before_first, after_first, list_all}
 use Rattle.std.proofs.Math.Seq.{split_at, drop-append-add, take-append-add, take-append_seam, get_or-append_seam}
 use Rattle.std.proofs.lemmas.Bool.Decides.{nat_tests}
 use Rattle.std.proofs.lemmas.Grind.{common_steps}
-use Rattle.std.proofs.lemmas.List.{append_assoc, get_or_append_left, get_or-append-add, length-append}
+use Rattle.std.proofs.lemmas.List.{append_assoc, get_or_append_left, get_or-append-add, length-append, length-drop}
 use Rattle.std.proofs.lemmas.List.Folds.{list_all-append}
 use Rattle.std.proofs.lemmas.List.Splits.{slice_split_first, slice_split_none}
 use Rattle.std.proofs.lemmas.List.Sums.{fails_before_first, position_or_len_is, list_all-from_AllPass, AllPass-from_list_all}
@@ -138,3 +138,50 @@ split_there text front rest words place is front-is found ends =
       plain = ap (list_all is_plain) line ∙ longer_plain front piece front-is.plain (letters_plain piece letters);
       split = ap (λ x. words ++ x) (sym (letters_alone piece letters)) ∙ sym (front-is.before piece) ∙ ap words_in (sym line);
     }
+
+-- the rest behind a start
+behind : (text : List ℕ) (start : ℕ) → text ≡ take start text ++ take (length text - start) (drop start text)
+behind text start = sym (take-append-drop start text) ∙ ap (λ x. take start text ++ x) (sym (to_end text start))
+
+long_behind : (text : List ℕ) (start : ℕ) → length (take (length text - start) (drop start text)) ≡ length text - start
+long_behind text start = ap length (to_end text start) ∙ length-drop start text
+
+-- a place behind a start stands in the text
+pub place_behind : (text : List ℕ) (start place : ℕ) → start ≤ length text →
+    Some place ≡ position is_end (take (length text - start) (drop start text)) → start + (place + 1) ≤ length text
+place_behind text start place within found =
+    let rest = take (length text - start) (drop start text) in
+    let first = position_some is_end rest place found in
+    let in-rest = position_within is_end rest place found in
+    omega (arith, first, in-rest, long_behind text start, within)
+
+-- the line ends at the place behind a start
+pub split_at_start : (text : List ℕ) (start place : ℕ) (words : List (List ℕ)) → start ≤ length text → IsFront words (take start text) →
+    Some place ≡ position is_end (take (length text - start) (drop start text)) →
+    is_line_end (get_or (take (length text - start) (drop start text)) place 0) ≡ true →
+    IsSplit (start + place) (words ++ word_alone (take place (take (length text - start) (drop start text)))) text
+split_at_start text start place words within front-is found ends =
+    let rest = take (length text - start) (drop start text) in
+    let long = long_behind text start in
+    let at : length text - length rest + place ≡ start + place = omega (arith, long, within) in
+    subst (λ n. IsSplit n (words ++ word_alone (take place rest)) text) at
+    (split_there text (take start text) rest words place (behind text start) front-is found ends)
+
+-- the front with a word more and the space behind it
+pub next_front : (text : List ℕ) (start place : ℕ) (words : List (List ℕ)) → start ≤ length text → IsFront words (take start text) →
+    Some place ≡ position is_end (take (length text - start) (drop start text)) →
+    get_or (take (length text - start) (drop start text)) place 0 ≡ 32 →
+    IsFront (words ++ word_alone (take place (take (length text - start) (drop start text)))) (take (start + (place + 1)) text)
+next_front text start place words within front-is found space =
+    let rest = take (length text - start) (drop start text) in
+    let front = take start text in
+    let one = take place rest ++ 32 ∷ [] in
+    let in-rest : place < length rest = (let first = position_some is_end rest place found in let in' = position_within is_end rest place found in omega (arith, first, in')) in
+    let more = take (length rest - (place + 1)) (drop (place + 1) rest) in
+    let whole : text ≡ (front ++ one) ++ more = rest_behind text front rest place (behind text start) found space in
+    let long : length (front ++ one) ≡ start + (place + 1) =
+    length-append front one ∙ ap (λ n. n + length one) (length-take-le start text within)
+    ∙ ap (λ n. start + n) (length-append (take place rest) (32 ∷ []) ∙ ap (λ n. n + 1) (length-take-le place rest (omega (arith, in-rest)))) in
+    let taken : take (start + (place + 1)) text ≡ front ++ one =
+    ap (λ n. take n text) (sym long) ∙ ap (take (length (front ++ one))) whole ∙ take-append_seam (front ++ one) more in
+    subst (IsFront (words ++ word_alone (take place rest))) (sym taken) (longer_front front rest words place front-is found)

@@ -87,19 +87,20 @@ fn put_plain<'a>(words: &mut Vec<&'a [u8]>, text: &'a [u8]) -> Result<Option<usi
         (λ length. IsSplit length (map name_seen words.new.items) text.now)) }
 {
     words.clear();
-    let mut rest = text;
-    while !rest.is_empty() {
+    let mut start = 0usize;
+    while start < text.len() {
+        let rest = &text[start..];
         let Some(place) = place_of_end(rest) else {
             return Ok(None);
         };
         push_piece(words, &rest[..place])?;
         if is_line_end(rest[place]) {
-            return Ok(Some(text.len() - rest.len() + place));
+            return Ok(Some(start + place));
         }
         if rest[place] != b' ' {
             return Ok(None);
         }
-        rest = &rest[place + 1..];
+        start += place + 1;
     }
     Ok(None)
 }

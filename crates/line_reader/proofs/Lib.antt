@@ -2,7 +2,6 @@ pub mod Steps
 pub mod Extended
 pub mod Places
 pub mod Digits
-pub mod Registers
 pub mod Labels
 pub mod ByPlace
 pub mod SpelledNumbers

@@ -1,4 +1,4 @@
-ghost use Rattle.std.specs.Prelude.{◌≡◌, ◌<◌, IfOk, IfSome, length, false, map, true};
+ghost use Rattle.std.specs.Prelude.{◌≡◌, ◌<◌, [], ◌∷◌, IfOk, IfSome, length, false, map, true};
 ghost use Rattle.line_reader.specs.Reading.{operand_at, operand_there, register_at, row_at, row_of_kinds};
 ghost use Rattle.line_reader.specs.Seen.{name_seen, seen};
 ghost use Rattle.line_reader.specs.KeptRow.{is_other, is_other_there, is_register, one_other, operand_kept, row_kept};
@@ -6,7 +6,6 @@ ghost use Rattle.line_reader.specs.KeptRow.{is_other, is_other_there, is_registe
 use crate::asm_fault::AsmFaultKind;
 use crate::number::number_at;
 use crate::reference::{Reference, reference_at};
-use crate::words::is_word;
 use instruction_table::{OperandKind, Reg, opcode_named, operands_of};
 
 /// What stands at one of the four places of a row.
@@ -41,35 +40,39 @@ pub struct KeptRow<'a> {
     pub fourth: KeptOperand,
 }
 
+/// The register of a digit.
+#[inline(always)]
+#[tactic(auto, unfolding(crate::specs::Reading::register_at))]
+fn register_of(digit: u8) -> Result<Reg, AsmFaultKind>
+    ensures { result ≡ register_at (114 ∷ digit ∷ []) }
+{
+    match digit {
+        b'0' => Ok(Reg::R0),
+        b'1' => Ok(Reg::R1),
+        b'2' => Ok(Reg::R2),
+        b'3' => Ok(Reg::R3),
+        b'4' => Ok(Reg::R4),
+        b'5' => Ok(Reg::R5),
+        b'6' => Ok(Reg::R6),
+        b'7' => Ok(Reg::R7),
+        _ => Err(AsmFaultKind::BadRegister),
+    }
+}
+
 /// Reads a register: `r0` to `r7`.
 #[inline(always)]
-#[tactic(auto, using(crate::proofs::Registers::register_by_tests))]
+#[tactic(auto, unfolding(crate::specs::Reading::register_at))]
 fn register_at(word: &[u8]) -> Result<Reg, AsmFaultKind>
     ensures { result ≡ register_at word.now }
 {
-    if is_word(word, "r0") {
-        Ok(Reg::R0)
-    } else if is_word(word, "r1") {
-        Ok(Reg::R1)
-    } else if is_word(word, "r2") {
-        Ok(Reg::R2)
-    } else if is_word(word, "r3") {
-        Ok(Reg::R3)
-    } else if is_word(word, "r4") {
-        Ok(Reg::R4)
-    } else if is_word(word, "r5") {
-        Ok(Reg::R5)
-    } else if is_word(word, "r6") {
-        Ok(Reg::R6)
-    } else if is_word(word, "r7") {
-        Ok(Reg::R7)
-    } else {
-        Err(AsmFaultKind::BadRegister)
+    match word {
+        [b'r', digit] => register_of(*digit),
+        _ => Err(AsmFaultKind::BadRegister),
     }
 }
 
 /// Reads an operand of this kind, which is no register, and holds what it is.
-#[inline(never)]
+#[inline(always)]
 #[tactic(auto, unfolding(crate::specs::Reading::operand_at))]
 fn other_at<'a>(
     held: &mut Held<'a>,
@@ -140,6 +143,7 @@ fn operand_there<'a>(
 }
 
 /// Reads operands of these kinds, from left to right, as those of a row of this opcode.
+#[inline(always)]
 #[tactic(auto, unfolding(crate::specs::Reading::row_of_kinds))]
 fn row_of_kinds<'a>(
     opcode: u8,
@@ -169,6 +173,7 @@ fn row_of_kinds<'a>(
 }
 
 /// Reads a row: the word that begins it, and its operands.
+#[inline(always)]
 #[tactic(auto, unfolding(crate::specs::Reading::row_at))]
 pub fn row_at<'a>(word: &[u8], words: &[&'a [u8]]) -> Result<KeptRow<'a>, AsmFaultKind>
     ensures { seen row_kept result ≡ row_at word.now (map name_seen words.now) }

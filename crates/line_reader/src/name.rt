@@ -13,10 +13,34 @@ fn begins_name(byte: u8) -> bool
     byte.is_ascii_alphabetic() || byte == b'_'
 }
 
+/// For each byte whether it goes on a name: a letter, a digit or `_`.
+const GOES_ON: [bool; 256] = [
+    false, false, false, false, false, false, false, false, false, false, false, false, false,
+    false, false, false, false, false, false, false, false, false, false, false, false, false,
+    false, false, false, false, false, false, false, false, false, false, false, false, false,
+    false, false, false, false, false, false, false, false, false, true, true, true, true, true,
+    true, true, true, true, true, false, false, false, false, false, false, false, true, true,
+    true, true, true, true, true, true, true, true, true, true, true, true, true, true, true, true,
+    true, true, true, true, true, true, true, true, false, false, false, false, true, false, true,
+    true, true, true, true, true, true, true, true, true, true, true, true, true, true, true, true,
+    true, true, true, true, true, true, true, true, true, false, false, false, false, false, false,
+    false, false, false, false, false, false, false, false, false, false, false, false, false,
+    false, false, false, false, false, false, false, false, false, false, false, false, false,
+    false, false, false, false, false, false, false, false, false, false, false, false, false,
+    false, false, false, false, false, false, false, false, false, false, false, false, false,
+    false, false, false, false, false, false, false, false, false, false, false, false, false,
+    false, false, false, false, false, false, false, false, false, false, false, false, false,
+    false, false, false, false, false, false, false, false, false, false, false, false, false,
+    false, false, false, false, false, false, false, false, false, false, false, false, false,
+    false, false, false, false, false, false, false, false, false, false, false, false, false,
+    false, false, false, false, false, false, false, false, false, false,
+];
+
+/// Whether a byte goes on a name. Each byte of a name is asked about, so the answers are listed.
 fn goes_on_name(byte: u8) -> bool
     ensures { result ≡ goes_on_name byte }
 {
-    byte.is_ascii_alphanumeric() || byte == b'_'
+    GOES_ON[usize::from(byte)]
 }
 
 fn all_go_on_name(word: &[u8]) -> bool

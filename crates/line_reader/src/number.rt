@@ -60,6 +60,7 @@ fn value_in(word: &[u8]) -> i64
 }
 
 /// Reads a number from `low` to `high`: a minus sign where it is negative, and one to ten digits.
+#[inline(never)]
 #[tactic(auto, unfolding(crate::specs::Reading::number_at))]
 pub fn number_at(low: i32, high: i32, word: &[u8]) -> Result<i32, AsmFaultKind>
     ensures read { result ≡ number_at low high word.now }

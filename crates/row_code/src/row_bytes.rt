@@ -9,6 +9,7 @@ use crate::operands::{operands_at, row_with};
 use instruction_table::{Row, opcode};
 
 /// The eight bytes of a row.
+#[inline(always)]
 pub fn encode(row: Row) -> [u8; 8]
     ensures bytes { result ≡ bytes_of row }
 

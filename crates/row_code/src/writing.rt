@@ -1,4 +1,4 @@
-ghost use Rattle.std.specs.Prelude.{◌≡◌, ◌↔◌, ◌++◌, false, IsErr, IsTrue, OnOk, length};
+ghost use Rattle.std.specs.Prelude.{◌≡◌, ◌↔◌, ◌++◌, ◌≤◌, ◌*◌, false, IsErr, IsTrue, OnOk, length, take};
 ghost use Rattle.std.specs.List.{flat_map};
 ghost use Rattle.std.specs.Io.KnownBytes.{Appends};
 ghost use Rattle.byte_ports.specs.Port.{FailsForGood};
@@ -16,6 +16,12 @@ use crate::threads::DeclaredThread;
 use crate::write_fault::WriteFault;
 use byte_ports::Sink;
 use instruction_table::Row;
+
+/// How many rows are handed to a sink at once.
+const GROUP: usize = 64;
+
+/// The bytes of so many rows.
+const GROUP_BYTES: usize = 512;
 
 /// How many of each the image has, which is within its limits.
 fn counts_of(image: &Image) -> Counts
@@ -126,14 +132,40 @@ fn write_threads<W: Sink>(sink: &mut W, threads: &[DeclaredThread]) -> Result<()
     Ok(())
 }
 
+/// Puts the bytes of a group of rows at the front of a block.
+#[inline(always)]
+fn put_group(block: &mut [u8; GROUP_BYTES], rows: &[Row])
+    requires { length rows.now ≤ 64 }
+    ensures { take (8 * length rows.now) block.new ≡ flat_map bytes_of rows.now }
+{
+    for (place, row) in rows.iter().enumerate() {
+        let at = 8 * place;
+        let [code, a, b, c, imm0, imm1, imm2, imm3] = encode(*row);
+        block[at] = code;
+        block[at + 1] = a;
+        block[at + 2] = b;
+        block[at + 3] = c;
+        block[at + 4] = imm0;
+        block[at + 5] = imm1;
+        block[at + 6] = imm2;
+        block[at + 7] = imm3;
+    }
+}
+
+/// Writes a group of rows at a time, since each call of a sink costs more than a row.
 fn write_rows<W: Sink>(sink: &mut W, rows: &[Row]) -> Result<(), WriteFault>
     requires { W.has_failed sink.old ≡ false }
     ensures bytes { OnOk result
         (Appends (W.written sink.old) (W.written sink.new) (flat_map bytes_of rows.now)) }
     ensures failed { IsErr result ↔ IsTrue (W.has_failed sink.new) }
 {
-    for row in rows {
-        sink.push(&encode(*row))?;
+    let mut block = [0u8; GROUP_BYTES];
+    let mut rest = rows;
+    while !rest.is_empty() {
+        let count = rest.len().min(GROUP);
+        put_group(&mut block, &rest[..count]);
+        sink.push(&block[..8 * count])?;
+        rest = &rest[count..];
     }
     Ok(())
 }
@@ -150,7 +182,7 @@ fn write_lists<W: Sink>(sink: &mut W, image: &Image) -> Result<(), WriteFault>
     write_rows(sink, image.rows.as_slice())
 }
 
-/// Writes the image's bytes: first the counts, then one entry or row at a time. How much of them
+/// Writes the image's bytes: first the counts, then one entry or group of rows at a time. How much of them
 /// went out where the sink failed is left open.
 pub fn write_image<W: Sink>(image: &Image, sink: &mut W) -> Result<(), WriteFault>
     ensures bytes { OnOk result

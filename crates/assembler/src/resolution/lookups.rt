@@ -1,4 +1,4 @@
-ghost use Rattle.std.specs.Prelude.{◌≡◌, ◌<◌, if◌then◌else◌, option_map, IfSome, Some, None};
+ghost use Rattle.std.specs.Prelude.{◌≡◌, ◌<◌, [], ◌∷◌, if◌then◌else◌, option_map, IfSome, Some, None};
 ghost use Rattle.std.specs.List.{list_all};
 ghost use Rattle.instruction_table.specs.declared.shape.OperandKind.TheVariants as kind;
 ghost use Rattle.row_code.specs.Phasers.{IsPhaser};
@@ -131,12 +131,13 @@ fn with_operand<'a>(
     }
 }
 
-/// The operands of a row; nothing where a name is not known.
+/// The operands of a row's last two places, which most rows leave empty; nothing where a name is not known.
 #[inline(always)]
-fn operands_of<'a>(names: &mut Names<'_, 'a>, row: &KeptRow<'a>) -> Option<Operands>
-    ensures found { result
-        ≡ (if list_all (is_operand_known names.old) (operands_in (row_kept row.now))
-        then Some (operands_of names.old (operands_in (row_kept row.now))) else None) }
+fn last_operands<'a>(names: &mut Names<'_, 'a>, row: &KeptRow<'a>) -> Option<Operands>
+    ensures found { let last = operand_kept row.now.held row.now.third
+        ∷ operand_kept row.now.held row.now.fourth ∷ [] in
+        result ≡ (if list_all (is_operand_known names.old) last
+        then Some (operands_of names.old last) else None) }
     ensures same { names.new ≡ names.old }
 {
     let none = Operands {
@@ -146,10 +147,11 @@ fn operands_of<'a>(names: &mut Names<'_, 'a>, row: &KeptRow<'a>) -> Option<Opera
         number: 0,
         object: 0,
     };
+    if let (KeptOperand::Absent, KeptOperand::Absent) = (row.third, row.fourth) {
+        return Some(none);
+    }
     let operands = with_operand(names, &row.held, row.fourth, none)?;
-    let operands = with_operand(names, &row.held, row.third, operands)?;
-    let operands = with_operand(names, &row.held, row.second, operands)?;
-    with_operand(names, &row.held, row.first, operands)
+    with_operand(names, &row.held, row.third, operands)
 }
 
 /// A row; nothing where a name is not known.
@@ -160,8 +162,8 @@ pub fn row_of<'a>(names: &mut Names<'_, 'a>, row: &KeptRow<'a>) -> Option<Row>
         then Some (row_of names.old (row_kept row.now)) else None) }
     ensures same { names.new ≡ names.old }
 {
-    match operands_of(names, row) {
-        Some(operands) => Some(row_with(row.held.opcode, operands)),
-        None => None,
-    }
+    let operands = last_operands(names, row)?;
+    let operands = with_operand(names, &row.held, row.second, operands)?;
+    let operands = with_operand(names, &row.held, row.first, operands)?;
+    Some(row_with(row.held.opcode, operands))
 }
