@@ -1,7 +1,6 @@
 -- Sets of threads of which one is looked at.
-use Rattle.std.proofs.Common.{inl, inr, sym, ◌≢◌, ◌≡◌, ◌∙◌, ℕ, ◌-◌, ◌*◌, ◌%◌, ◌^◌, ◌+◌, ◌<◌, ◌==◌, ◌||◌, ◌&&◌, not, Bool, true, false, refl, ap, arith, bit_and, bit_or, if◌then◌else◌}
+use Rattle.std.proofs.Common.{sym, ◌≢◌, ◌≡◌, ◌∙◌, ℕ, ◌-◌, ◌*◌, ◌%◌, ◌^◌, ◌<◌, ◌==◌, ◌||◌, ◌&&◌, not, Bool, true, false, refl, ap, bit_and, bit_or, if◌then◌else◌}
 use Rattle.cyclic_barrier.specs.ThreadSet.{has}
-use Rattle.std.proofs.lemmas.Bool.{cases_eq}
 use Rattle.machine_scene.specs.Asleep.{IsSetAt}
 use Rattle.cyclic_barrier.proofs.ThreadSetLemmas.{has-with, has-without}
 use Rattle.cyclic_barrier.proofs.WaitsLemmas.{has-none}
@@ -37,14 +36,6 @@ here t asleep before set is u same =
 elsewhere : (t : ℕ) (asleep : Bool) (before set : ℕ) → IsSetAt t asleep before set → (u : ℕ) → u ≢ t → has set u ≡ has before u
 elsewhere t asleep before set is u apart =
     is u ∙ ap (λ (x : Bool). if x then asleep else has before u) (other-is t u (λ same. apart (sym same)))
-
--- one thread more was looked at
-pub one_more : (asleep : ℕ → Bool) (t before set : ℕ) → ((u : ℕ) → u < t → has before u ≡ asleep u) → IsSetAt t (asleep t) before set
-    → (u : ℕ) → u < t + 1 → has set u ≡ asleep u
-one_more asleep t before set known is u within = elim (cases_eq u t) as (λ _. has set u ≡ asleep u) [
-  | inl same ↦ here t (asleep t) before set is u same ∙ ap asleep (sym same)
-  | inr apart ↦ elsewhere t (asleep t) before set is u apart ∙ known u (omega (arith, within, apart))
-]
 
 -- nobody is in the empty set
 pub nobody : (u : ℕ) → has 0 u ≡ true → false ≡ true

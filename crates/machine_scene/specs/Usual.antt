@@ -48,3 +48,9 @@ abbrev pub is_usual : ℕ → Program → Scene → Bool
 is_usual t program scene =
     let thread : ThreadState = thread_at scene t in
     is_usual_in thread.status (row_at program.rows thread.pc) thread.stack scene
+
+-- an arrival at a phaser by a party that stays
+abbrev pub is_arrival : Row → Bool
+is_arrival (Parr into p) = true
+is_arrival (Paaa into p) = true
+is_arrival _ = false

@@ -257,18 +257,44 @@ impl Machine {
         if self.stage.is_known_asleep(&self.program, t) {
             return Ok(self.stay(choice));
         }
-        match self.stage.last_turn(&self.program, t) {
+        if self.stage.is_at_arrival(&self.program, t) {
+            if let Some(event) = self.arrival_step(choice) {
+                return Ok(event);
+            }
+        }
+        self.awake_step(choice)
+    }
+
+    /// `awake_step`, where it is the last arrival at a root; else nothing has changed.
+    #[inline(never)]
+    fn arrival_step(&mut self, choice: Choice) -> Option<Event>
+        requires there { choice.thread < length self.old.scene.threads }
+        requires choices { self.old.choices < 1000000000000 }
+        requires turn { choice.expiry ≡ false }
+        requires steps { self.old.steps < self.old.limit }
+        ensures played { IfSome result (λ event.
+            record { world = world_of self.new; event = event } ≡ played (world_of self.old) choice) }
+        ensures none { result ≡ None → self.new ≡ self.old }
+        ensures undo { OnSome result
+            (undone (Some (scene.note_of choice.thread self.old.program self.old.scene)) self.new ≡ self.old) }
+        ensures can { OnSome result
+            (scene.CanUndo (scene.note_of choice.thread self.old.program self.old.scene) self.new.scene) }
+        ensures counted { OnSome result (0 < self.new.choices) }
+        ensures steps { OnSome result (self.new.steps ≡ self.old.steps + 1) }
+        ensures threads { length self.new.scene.threads ≡ length self.old.scene.threads }
+    {
+        match self.stage.last_turn(&self.program, choice.thread as usize) {
             Some(event) => {
                 self.choices += 1;
                 self.steps += 1;
-                Ok(event)
+                Some(event)
             }
-            None => self.awake_step(choice),
+            None => None,
         }
     }
 
     /// `other_step` of a thread that may be awake, where a step is left.
-    #[inline(never)]
+    #[inline(always)]
     fn awake_step(&mut self, choice: Choice) -> Result<Event, StepFault>
         requires there { choice.thread < length self.old.scene.threads }
         requires choices { self.old.choices < 1000000000000 }

@@ -299,6 +299,7 @@ fn has_default_policy(nodes: &[Node], i: usize) -> bool
 
 /// An arrival of a party that stays, where it is the last at a root that has none above. Where the policy is the default one,
 /// the phase ends with it.
+#[inline(always)]
 pub fn arrive_last(nodes: &mut [Node], i: usize) -> LastArrival
     requires stored { IsStored nodes.old }
     requires there { i < length nodes.old }

@@ -97,48 +97,13 @@ impl Stage {
         }
     }
 
-    /// The set, with this thread where it was in the one of before and is asleep still.
-    #[inline(always)]
-    fn looked_at(&self, program: &Loaded, before: u64, set: u64, t: usize) -> u64
-        requires sound { IsSound program.now most_after (scene_of self.now) }
-        requires thread { t < length self.now.threads }
-        ensures { IsSetAt t (has before t && is_asleep t program.now (scene_of self.now)) set result }
-    {
-        let sleeps = is_in(before, t) && self.is_asleep(program, t);
-        set_at(set, t, sleeps)
-    }
-
-    /// The threads of the set that are asleep still.
+    /// Threads but thread t that are asleep still after a step of it at this row, with this event; these were so before. Of a
+    /// step that may have woken some, none is kept: most such steps wake all who wait, and who sleeps on is looked at again
+    /// when it is chosen.
     #[inline(always)]
     #[tactic(auto, using(crate::proofs::ThreadSets::nobody))]
-    fn still_asleep(&self, program: &Loaded, before: u64) -> u64
-        requires sound { IsSound program.now most_after (scene_of self.now) }
-        ensures { AreAsleep program.now result self.now }
-    {
-        if before == 0 {
-            return 0;
-        }
-        self.all_looked_at(program, before)
-    }
-
-    /// `still_asleep`, by a look at each thread.
-    #[inline(always)]
-    fn all_looked_at(&self, program: &Loaded, before: u64) -> u64
-        requires sound { IsSound program.now most_after (scene_of self.now) }
-        ensures { AreAsleep program.now result self.now }
-    {
-        let mut set = 0;
-        for t in 0..self.threads.len() {
-            set = self.looked_at(program, before, set, t);
-        }
-        set
-    }
-
-    /// The threads but thread t that are asleep still after a step of it at this row, with this event; these were so before.
-    #[inline(always)]
     fn others_asleep(&self, program: &Loaded, before: u64, row: Row, event: Event, t: usize) -> u64
         requires sound { IsSound program.now most_after (scene_of self.now) }
-        requires thread { t < length self.now.threads }
         requires named { IsNamed (counts_in self.now) row }
         requires others { may_wake row event ≡ false
             → AreOthersAsleep program.now t row before self.now }
@@ -146,7 +111,7 @@ impl Stage {
             → is_asleep u program.now (scene_of self.now) ≡ true }
     {
         if may_wake(row, event) {
-            return self.still_asleep(program, before);
+            return 0;
         }
         match row {
             Row::Intr { thread } => set_at(before, thread as usize, false),

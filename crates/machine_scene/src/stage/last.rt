@@ -6,6 +6,7 @@ ghost use Rattle.machine_scene.specs.Scene.{scene_of, thread_at};
 ghost use Rattle.machine_scene.specs.Outcomes.{outcome_in, outcome_of, outcome_of_row};
 ghost use Rattle.machine_scene.specs.Sound.{IsSound, StandsAt, most_after, most_before};
 ghost use Rattle.machine_scene.specs.Asleep.{KeepsAsleep, AreOthersAsleep, may_wake};
+ghost use Rattle.machine_scene.specs.Usual.{is_arrival};
 ghost use Rattle.machine_scene.specs.Undo.{PhasersWithin, CanUndo, reach_in, reach_of_row, note_of, undone};
 
 use super::Stage;
@@ -16,6 +17,16 @@ use thread_state::{Event, Status};
 
 /// Turns that end a phase as most phases end.
 impl Stage {
+    /// Whether the thread stands at an arrival of a party that stays, so that its turn may be a `last_turn`.
+    #[inline(always)]
+    pub fn is_at_arrival(&self, program: &Loaded, t: usize) -> bool
+        requires sound { IsSound program.now most_before (scene_of self.now) }
+        requires thread { t < length self.now.threads }
+        ensures { result ≡ is_arrival (row_at program.now.rows (thread_at (scene_of self.now) t).pc) }
+    {
+        matches!(self.row_of(program, t), Row::Parr { .. } | Row::Paaa { .. })
+    }
+
     /// `turn` of a running thread with an empty stack that is the last to arrive, by `parr` or `paaa`, at a root that has none
     /// above. `None` where `turn` has to look, and nothing has changed.
     #[inline(always)]

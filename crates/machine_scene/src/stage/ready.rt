@@ -35,7 +35,7 @@ pub(super) fn may_be_blocked(row: Row) -> bool
 /// Which rows can be played, and which waits can end.
 impl Stage {
     /// Whether a running thread has to wait before it plays the row.
-    #[inline(never)]
+    #[inline(always)]
     pub(super) fn is_blocked(&self, row: Row, t: usize) -> bool
         requires named { IsNamed (counts_in self.now) row }
         requires thread { t < length self.now.threads }
@@ -58,6 +58,7 @@ impl Stage {
     }
 
     /// Whether a registration would wait for the phase's end.
+    #[inline(never)]
     fn is_held(&self, phaser: u16, count: i32, t: usize) -> bool
         requires phaser { phaser < length self.now.phasers }
         requires thread { t < length self.now.threads }
@@ -115,6 +116,7 @@ impl Stage {
     }
 
     /// Whether the thread's wait at the barrier was released, or an interruption ends it.
+    #[inline(always)]
     fn is_released(&self, barrier: u16, t: usize) -> bool
         requires there { barrier < length self.now.barriers }
         requires waits { wait_at (barrier_at (scene_of self.now) barrier).waits t ≢ None }

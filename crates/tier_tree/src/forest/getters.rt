@@ -37,6 +37,7 @@ impl Forest {
     }
 
     /// `getRegisteredParties`.
+    #[inline(always)]
     pub fn parties(&self, id: PhaserId) -> u16
         requires { id.0 < length self.now }
         ensures { result ≡ (flat_at (phasers_of self.now) id.0).parties }

@@ -1,4 +1,4 @@
-use Rattle.std.proofs.Common.{inl, inr, ◌≡◌, ◌∙◌, Bool, false, ap, refl, sym}
+use Rattle.std.proofs.Common.{inl, inr, ◌≡◌, ◌∙◌, false, ap, sym}
 use Rattle.std.specs.Prelude.{Option, Some, None, IfSome}
 use Rattle.instruction_table.specs.declared.row.Row.{Row}
 use Rattle.thread_state.specs.declared.event.Event.{Event}
