@@ -294,7 +294,7 @@ impl Machine {
     }
 
     /// `other_step` of a thread that may be awake, where a step is left.
-    #[inline(always)]
+    #[inline(never)]
     fn awake_step(&mut self, choice: Choice) -> Result<Event, StepFault>
         requires there { choice.thread < length self.old.scene.threads }
         requires choices { self.old.choices < 1000000000000 }
