@@ -1,4 +1,4 @@
-ghost use Rattle.std.specs.Prelude.{◌≡◌, ◌≢◌, ◌↔◌, ◌+◌, ◌<◌, ◌≤◌, length, map, is_some, IfSome, IfOk, IfErr, OnOk, OnErr, true, false, Some, None, slice_get};
+ghost use Rattle.std.specs.Prelude.{◌≡◌, ◌≢◌, ◌↔◌, ◌+◌, ◌<◌, ◌≤◌, length, map, is_some, IfSome, IfOk, IfErr, OnOk, OnErr, Ok, Err, true, false, Some, None, slice_get};
 ghost use Rattle.std.specs.Option.{option_map, OnSome};
 ghost use Rattle.instruction_table.specs.Registers.{value_in};
 ghost use Rattle.loader.specs.Program.{row_at};
@@ -10,6 +10,7 @@ ghost use Rattle.machine_scene.specs.Outcomes.{is_ready};
 ghost use Rattle.machine_scene.specs.Usual.{is_usual};
 ghost use Rattle.machine_scene.specs.Undo as scene;
 ghost use Rattle.thread_machine.specs.World.{world_of, first_world};
+ghost use Rattle.thread_machine.specs.Idle.{idle_event};
 ghost use Rattle.thread_machine.specs.Ready.{can_expire, can_go_on, is_choice_ready, has_ended, is_stuck, some_ready};
 ghost use Rattle.thread_machine.specs.Standing.{standing_of};
 ghost use Rattle.thread_machine.specs.DirectCounts.{counts_after, EndsNoPhaseEarly, NumbersStay};
@@ -32,6 +33,12 @@ use std::alloc::{AllocError, Global};
 use std::marker::Model;
 use thread_state::{Entry, Event, Mark, Status, Thread, What};
 use tier_tree::Forest;
+
+/// The event of an idle choice.
+const IDLE: Event = Event {
+    what: What::Idle,
+    mark: Mark::Nothing,
+};
 
 /// How many choices a machine takes in all.
 const MOST_CHOICES: u64 = 1_000_000_000_000;
@@ -217,156 +224,167 @@ impl Machine {
     {
         match self.usual_step(choice) {
             Some(event) => Ok(event),
-            None => self.other_step(choice),
+            None => {
+                let mut told = Ok(IDLE);
+                self.other_step(choice, &mut told);
+                told
+            }
         }
     }
 
-    /// `stepped` where the turn isn't a usual one, so that such a step is one function when it runs.
+    /// `stepped` where the turn isn't a usual one, so that such a step is one function when it runs. What comes of it is
+    /// written where its caller wants it, in place of an idle choice: so one call hands it to the next as it is.
     #[inline(never)]
-    fn other_step(&mut self, choice: Choice) -> Result<Event, StepFault>
-        ensures played { IfOk result (λ event.
+    fn other_step(&mut self, choice: Choice, told: &mut Result<Event, StepFault>)
+        requires { told.old ≡ Ok idle_event }
+        ensures played { IfOk told.new (λ event.
             record { world = world_of self.new; event = event } ≡ played (world_of self.old) choice) }
-        ensures idle { OnOk result (self.new.steps ≡ self.old.steps
+        ensures idle { OnOk told.new (self.new.steps ≡ self.old.steps
             → self.new ≡ record self.old { choices = self.old.choices + 1 }) }
-        ensures undo { OnOk result (self.new.steps ≢ self.old.steps
+        ensures undo { OnOk told.new (self.new.steps ≢ self.old.steps
             → undone (Some (scene.note_of choice.thread self.old.program self.old.scene)) self.new ≡ self.old) }
-        ensures can { OnOk result (self.new.steps ≢ self.old.steps
+        ensures can { OnOk told.new (self.new.steps ≢ self.old.steps
             → scene.CanUndo (scene.note_of choice.thread self.old.program self.old.scene) self.new.scene) }
-        ensures counted { OnOk result (0 < self.new.choices) }
-        ensures no_thread { (result ≡ Err StepFault.NoSuchThread)
+        ensures counted { OnOk told.new (0 < self.new.choices) }
+        ensures no_thread { (told.new ≡ Err StepFault.NoSuchThread)
             ↔ (refusal_of (world_of self.old) choice ≡ Some StepFault.NoSuchThread) }
-        ensures limit { (result ≡ Err StepFault.StepLimit)
+        ensures limit { (told.new ≡ Err StepFault.StepLimit)
             ↔ (refusal_of (world_of self.old) choice ≡ Some StepFault.StepLimit) }
-        ensures there { OnOk result (choice.thread < length self.old.scene.threads) }
-        ensures accepted { OnOk result (refusal_of (world_of self.old) choice ≡ None) }
-        ensures memory { result ≡ Err StepFault.Memory → puts_out (world_of self.old) choice ≡ true }
+        ensures there { OnOk told.new (choice.thread < length self.old.scene.threads) }
+        ensures accepted { OnOk told.new (refusal_of (world_of self.old) choice ≡ None) }
+        ensures memory { told.new ≡ Err StepFault.Memory → puts_out (world_of self.old) choice ≡ true }
         ensures threads { length self.new.scene.threads ≡ length self.old.scene.threads }
-        ensures err { OnErr result (self.new ≡ self.old) }
+        ensures err { OnErr told.new (self.new ≡ self.old) }
     {
         self.is_sound();
         let t = choice.thread as usize;
         if t >= self.stage.thread_count() {
-            return Err(StepFault::NoSuchThread);
+            *told = Err(StepFault::NoSuchThread);
+        } else if self.choices == MOST_CHOICES {
+            *told = Err(StepFault::StepLimit);
+        } else if choice.expiry || self.steps == self.limit {
+            self.seldom_step(choice, told);
+        } else if self.stage.is_known_asleep(&self.program, t) {
+            self.stay(choice);
+        } else if self.stage.is_at_arrival(&self.program, t) {
+            self.arrival_step(choice, told);
+        } else {
+            self.awake_step(choice, told);
         }
-        if self.choices == MOST_CHOICES {
-            return Err(StepFault::StepLimit);
-        }
-        if choice.expiry || self.steps == self.limit {
-            return self.seldom_step(choice);
-        }
-        if self.stage.is_known_asleep(&self.program, t) {
-            return Ok(self.stay(choice));
-        }
-        if self.stage.is_at_arrival(&self.program, t) {
-            if let Some(event) = self.arrival_step(choice) {
-                return Ok(event);
-            }
-        }
-        self.awake_step(choice)
     }
 
-    /// `awake_step`, where it is the last arrival at a root; else nothing has changed.
+    /// `awake_step`, where it may be the last arrival at a root.
     #[inline(never)]
-    fn arrival_step(&mut self, choice: Choice) -> Option<Event>
+    fn arrival_step(&mut self, choice: Choice, told: &mut Result<Event, StepFault>)
         requires there { choice.thread < length self.old.scene.threads }
         requires choices { self.old.choices < 1000000000000 }
         requires turn { choice.expiry ≡ false }
         requires steps { self.old.steps < self.old.limit }
-        ensures played { IfSome result (λ event.
+        requires told { told.old ≡ Ok idle_event }
+        ensures played { IfOk told.new (λ event.
             record { world = world_of self.new; event = event } ≡ played (world_of self.old) choice) }
-        ensures none { result ≡ None → self.new ≡ self.old }
-        ensures undo { OnSome result
-            (undone (Some (scene.note_of choice.thread self.old.program self.old.scene)) self.new ≡ self.old) }
-        ensures can { OnSome result
-            (scene.CanUndo (scene.note_of choice.thread self.old.program self.old.scene) self.new.scene) }
-        ensures counted { OnSome result (0 < self.new.choices) }
-        ensures steps { OnSome result (self.new.steps ≡ self.old.steps + 1) }
+        ensures idle { OnOk told.new (self.new.steps ≡ self.old.steps
+            → self.new ≡ record self.old { choices = self.old.choices + 1 }) }
+        ensures undo { OnOk told.new (self.new.steps ≢ self.old.steps
+            → undone (Some (scene.note_of choice.thread self.old.program self.old.scene)) self.new ≡ self.old) }
+        ensures can { OnOk told.new (self.new.steps ≢ self.old.steps
+            → scene.CanUndo (scene.note_of choice.thread self.old.program self.old.scene) self.new.scene) }
+        ensures counted { OnOk told.new (0 < self.new.choices) }
+        ensures memory { IfErr told.new (λ fault. (fault ≡ StepFault.Memory)
+            × (puts_out (world_of self.old) choice ≡ true)) }
         ensures threads { length self.new.scene.threads ≡ length self.old.scene.threads }
+        ensures err { OnErr told.new (self.new ≡ self.old) }
     {
         match self.stage.last_turn(&self.program, choice.thread as usize) {
             Some(event) => {
                 self.choices += 1;
                 self.steps += 1;
-                Some(event)
+                *told = Ok(event);
             }
-            None => None,
+            None => self.awake_step(choice, told),
         }
     }
 
     /// `other_step` of a thread that may be awake, where a step is left.
     #[inline(never)]
-    fn awake_step(&mut self, choice: Choice) -> Result<Event, StepFault>
+    fn awake_step(&mut self, choice: Choice, told: &mut Result<Event, StepFault>)
         requires there { choice.thread < length self.old.scene.threads }
         requires choices { self.old.choices < 1000000000000 }
         requires turn { choice.expiry ≡ false }
         requires steps { self.old.steps < self.old.limit }
-        ensures played { IfOk result (λ event.
+        requires told { told.old ≡ Ok idle_event }
+        ensures played { IfOk told.new (λ event.
             record { world = world_of self.new; event = event } ≡ played (world_of self.old) choice) }
-        ensures idle { OnOk result (self.new.steps ≡ self.old.steps
+        ensures idle { OnOk told.new (self.new.steps ≡ self.old.steps
             → self.new ≡ record self.old { choices = self.old.choices + 1 }) }
-        ensures undo { OnOk result (self.new.steps ≢ self.old.steps
+        ensures undo { OnOk told.new (self.new.steps ≢ self.old.steps
             → undone (Some (scene.note_of choice.thread self.old.program self.old.scene)) self.new ≡ self.old) }
-        ensures can { OnOk result (self.new.steps ≢ self.old.steps
+        ensures can { OnOk told.new (self.new.steps ≢ self.old.steps
             → scene.CanUndo (scene.note_of choice.thread self.old.program self.old.scene) self.new.scene) }
-        ensures counted { OnOk result (0 < self.new.choices) }
-        ensures memory { IfErr result (λ fault. (fault ≡ StepFault.Memory)
+        ensures counted { OnOk told.new (0 < self.new.choices) }
+        ensures memory { IfErr told.new (λ fault. (fault ≡ StepFault.Memory)
             × (puts_out (world_of self.old) choice ≡ true)) }
         ensures threads { length self.new.scene.threads ≡ length self.old.scene.threads }
-        ensures err { OnErr result (self.new ≡ self.old) }
+        ensures err { OnErr told.new (self.new ≡ self.old) }
     {
         match self.stage.turn(&self.program, choice.thread as usize) {
             Ok(Some(event)) => {
                 self.choices += 1;
                 self.steps += 1;
-                Ok(event)
+                *told = Ok(event);
             }
-            Ok(None) => Ok(self.stay(choice)),
-            Err(_) => Err(StepFault::Memory),
+            Ok(None) => self.stay(choice),
+            Err(_) => *told = Err(StepFault::Memory),
         }
     }
 
     /// `other_step` of a choice that isn't idle only where a wait runs out, or where no step is left.
     #[inline(never)]
-    fn seldom_step(&mut self, choice: Choice) -> Result<Event, StepFault>
+    fn seldom_step(&mut self, choice: Choice, told: &mut Result<Event, StepFault>)
         requires there { choice.thread < length self.old.scene.threads }
         requires choices { self.old.choices < 1000000000000 }
         requires seldom { choice.expiry ≡ false → self.old.steps ≡ self.old.limit }
-        ensures played { IfOk result (λ event.
+        requires told { told.old ≡ Ok idle_event }
+        ensures played { IfOk told.new (λ event.
             record { world = world_of self.new; event = event } ≡ played (world_of self.old) choice) }
-        ensures idle { OnOk result (self.new.steps ≡ self.old.steps
+        ensures idle { OnOk told.new (self.new.steps ≡ self.old.steps
             → self.new ≡ record self.old { choices = self.old.choices + 1 }) }
-        ensures undo { OnOk result (self.new.steps ≢ self.old.steps
+        ensures undo { OnOk told.new (self.new.steps ≢ self.old.steps
             → undone (Some (scene.note_of choice.thread self.old.program self.old.scene)) self.new ≡ self.old) }
-        ensures can { OnOk result (self.new.steps ≢ self.old.steps
+        ensures can { OnOk told.new (self.new.steps ≢ self.old.steps
             → scene.CanUndo (scene.note_of choice.thread self.old.program self.old.scene) self.new.scene) }
-        ensures counted { OnOk result (0 < self.new.choices) }
-        ensures no_thread { (result ≡ Err StepFault.NoSuchThread)
+        ensures counted { OnOk told.new (0 < self.new.choices) }
+        ensures no_thread { (told.new ≡ Err StepFault.NoSuchThread)
             ↔ (refusal_of (world_of self.old) choice ≡ Some StepFault.NoSuchThread) }
-        ensures limit { (result ≡ Err StepFault.StepLimit)
+        ensures limit { (told.new ≡ Err StepFault.StepLimit)
             ↔ (refusal_of (world_of self.old) choice ≡ Some StepFault.StepLimit) }
-        ensures there { OnOk result (choice.thread < length self.old.scene.threads) }
-        ensures accepted { OnOk result (refusal_of (world_of self.old) choice ≡ None) }
-        ensures memory { result ≡ Err StepFault.Memory → puts_out (world_of self.old) choice ≡ true }
+        ensures there { OnOk told.new (choice.thread < length self.old.scene.threads) }
+        ensures accepted { OnOk told.new (refusal_of (world_of self.old) choice ≡ None) }
+        ensures memory { told.new ≡ Err StepFault.Memory → puts_out (world_of self.old) choice ≡ true }
         ensures threads { length self.new.scene.threads ≡ length self.old.scene.threads }
-        ensures err { OnErr result (self.new ≡ self.old) }
+        ensures err { OnErr told.new (self.new ≡ self.old) }
     {
         let t = choice.thread as usize;
         if !choice.expiry {
             if self.stage.is_ready(&self.program, t) {
-                return Err(StepFault::StepLimit);
+                *told = Err(StepFault::StepLimit);
+                return;
             }
-            return Ok(self.stay(choice));
+            self.stay(choice);
+            return;
         }
         let Some(row) = self.stage.expiring_row(&self.program, t) else {
-            return Ok(self.stay(choice));
+            self.stay(choice);
+            return;
         };
         if self.steps == self.limit {
-            return Err(StepFault::StepLimit);
+            *told = Err(StepFault::StepLimit);
+            return;
         }
         let event = self.stage.expire(&self.program, row, t);
         self.choices += 1;
         self.steps += 1;
-        Ok(event)
+        *told = Ok(event);
     }
 
     /// `step`, with what `take_back` needs to undo it written over `undo`. After `Err` the machine is as before, and `undo`
@@ -464,17 +482,13 @@ impl Machine {
 
     /// An idle choice.
     #[tactic(auto, using(crate::proofs::Readiness::idle_choice))]
-    fn stay(&mut self, choice: Choice) -> Event
+    fn stay(&mut self, choice: Choice)
         requires choices { self.old.choices < 1000000000000 }
         requires idle { is_choice_ready self.old.program choice (scene_of self.old.scene) ≡ false }
-        ensures played { record { world = world_of self.new; event = result } ≡ played (world_of self.old) choice }
+        ensures played { record { world = world_of self.new; event = idle_event } ≡ played (world_of self.old) choice }
         ensures stored { self.new ≡ record self.old { choices = self.old.choices + 1 } }
     {
         self.choices += 1;
-        Event {
-            what: What::Idle,
-            mark: Mark::Nothing,
-        }
     }
 
     /// Whether a choice would not be idle.
