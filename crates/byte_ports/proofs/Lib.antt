@@ -1,2 +1,3 @@
 mod Blocks
 mod Pieces
+pub mod ShortCopies

@@ -3,6 +3,7 @@ ghost use Rattle.std.specs.Io.KnownBytes.{Appends, Keeps, append_known};
 ghost use Rattle.byte_ports.specs.Port.{FailsForGood};
 
 use crate::failed::Failed;
+use crate::short_copy::copy_short;
 use crate::sink::Sink;
 use std::alloc::{AllocError, Global};
 use std::marker::Model;
@@ -110,7 +111,7 @@ impl<K: Sink + Drop> BlockPort<K> {
         ensures { self.new ≡ record self.old { held = self.old.held ++ bytes.now } }
     {
         let end = self.held + bytes.len();
-        self.block.as_mut_slice()[self.held..end].copy_from_slice(bytes);
+        copy_short(bytes, &mut self.block.as_mut_slice()[self.held..end]);
         self.held = end;
     }
 }

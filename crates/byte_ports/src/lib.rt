@@ -15,6 +15,7 @@ pub mod source;
 // Ports over another one.
 pub mod block_port;
 pub mod block_source;
+mod short_copy;
 
 // Lines.
 pub mod source_lines;

@@ -319,7 +319,6 @@ impl Thread {
 
     /// Enters the advance routine of a root, which begins at the row `first`: it is told the phase that ends and the
     /// parties that are then registered.
-    #[inline(always)]
     pub fn enter_advance(&mut self, root: u8, phase: i32, parties: u16, first: u16) -> What
         requires { is_full self.old ≡ false }
         ensures { record { thread = self.new; what = result }
@@ -333,7 +332,6 @@ impl Thread {
     }
 
     /// Enters the action of a barrier, which begins at the row `first`.
-    #[inline(always)]
     pub fn enter_action(&mut self, barrier: u8, first: u16) -> What
         requires { is_full self.old ≡ false }
         ensures { record { thread = self.new; what = result } ≡ turn_of_action barrier first self.old }

@@ -10,7 +10,7 @@ use thread_machine::{Choice, Event, Mark, What};
 
 /// A word, and a number behind it.
 #[inline(always)]
-fn put_with_value(line: &mut LineEnd, word: &[u8], value: i32)
+fn put_with_value<const N: usize>(line: &mut LineEnd, word: &[u8; N], value: i32)
     requires { length line.old + length word.now + 11 ≤ 192 }
     ensures text { line.new ≡ (word.now ++ signed_decimal value) ++ line.old }
     ensures length { length line.new ≤ length line.old + length word.now + 11 }
@@ -21,7 +21,7 @@ fn put_with_value(line: &mut LineEnd, word: &[u8], value: i32)
 
 /// A word, and a number behind it that is never below 0.
 #[inline(always)]
-fn put_with_count(line: &mut LineEnd, word: &[u8], count: u64)
+fn put_with_count<const N: usize>(line: &mut LineEnd, word: &[u8; N], count: u64)
     requires { length line.old + length word.now + 20 ≤ 192 }
     ensures text { line.new ≡ (word.now ++ decimal count) ++ line.old }
     ensures length { length line.new ≤ length line.old + length word.now + 20 }

@@ -53,15 +53,16 @@ impl LineEnd {
         &self.bytes[self.start..]
     }
 
-    /// Puts a word before it.
+    /// Puts a word before it. Its length is known where it is put, so a short one is a store or two.
     #[inline(always)]
-    pub fn put_word(&mut self, word: &[u8])
+    pub fn put_word<const N: usize>(&mut self, word: &[u8; N])
         requires { length self.old + length word.now ≤ 192 }
         ensures text { self.new ≡ word.now ++ self.old }
         ensures length { length self.new ≡ length word.now + length self.old }
     {
-        let start = self.start - word.len();
-        self.bytes[start..self.start].copy_from_slice(word);
+        let word = *word;
+        let start = self.start - N;
+        self.bytes[start..self.start].copy_from_slice(&word);
         self.start = start;
     }
 

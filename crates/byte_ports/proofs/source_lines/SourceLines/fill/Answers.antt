@@ -1,4 +1,4 @@
-use Rattle.std.proofs.Common.{◌≡◌, ◌∙◌, ◌+◌, ◌-◌, ◌++◌, ◌≤◌, ap, sym, length, take, drop, rules, arith, length-drop, length-take, length-take-le}
+use Rattle.std.proofs.Common.{◌≡◌, ◌∙◌, ◌+◌, ◌-◌, ◌++◌, ◌≤◌, ap, length, take, drop, rules, arith, length-drop, length-take, length-take-le}
 use Rattle.std.specs.Vec.{with_items}
 use Rattle.std.proofs.Math.Seq.{take-add}
 use Rattle.std.proofs.lemmas.List.{with_items_is, places}

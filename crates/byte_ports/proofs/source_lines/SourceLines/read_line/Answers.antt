@@ -1,4 +1,4 @@
-use Rattle.std.proofs.Common.{◌≡◌, ◌∙◌, ◌+◌, ◌≤◌, ap, sym, subst, length, take, drop, arith, length-drop, length-take-le}
+use Rattle.std.proofs.Common.{◌≡◌, ◌∙◌, ◌≤◌, ap, sym, subst, length, take, arith, length-drop, length-take-le}
 use Rattle.byte_ports.specs.SourceLines.{IsOneLine}
 use Rattle.byte_ports.proofs.Pieces.{front-held, less-line, line-held, taken-held}
 use Rattle.byte_ports.proofs.source_lines.SourceLines.read_line.Goals as goal
