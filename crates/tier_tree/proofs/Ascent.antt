@@ -5,6 +5,9 @@ use Rattle.std.proofs.lemmas.Bool.{cases_eq}
 use Rattle.std.proofs.lemmas.Bool.Decides.{nat_tests}
 use Rattle.std.proofs.lemmas.List.Elements.{All-cons, All-nil}
 use Rattle.packed_phaser.specs.Flat.{Flat, Arrival, Counts, Turns, ComesLate, IsUnregistered, arrive, settled, view_of}
+use Rattle.packed_phaser.specs.declared.word.Arrived.{Arrived as Answer}
+use Rattle.packed_phaser.specs.declared.word.Arrived.TheVariants as answer
+use Rattle.packed_phaser.specs.Answer.{arrival_of}
 use Rattle.packed_phaser.specs.declared.policy.Policy.{Policy}
 use Rattle.packed_phaser.specs.declared.policy.Policy.TheVariants as policy
 use Rattle.packed_phaser.specs.Policy.{ends}
@@ -15,12 +18,14 @@ use Rattle.tier_tree.specs.declared.arrived.Arrived.TheVariants as arrived
 use Rattle.tier_tree.specs.Forest.{PhaserState, no_phaser, phaser_at, flat_at, root_at, with_flat}
 use Rattle.tier_tree.specs.Sound.{IsForest}
 use Rattle.tier_tree.specs.Stored.{Stored, no_stored, stored_at, IsStored, ChangedOnly, phasers_of}
+use Rattle.tier_tree.specs.Answer.{turns}
 use Rattle.tier_tree.specs.Arrival.{Climbed, is_top, with_child, climbed_by, climbed, Arrives, arrival_by, arrival}
 use Rattle.tier_tree.specs.PhaseEnd.{after_phase_end, EndsAtRoot}
 use Rattle.std.proofs.lemmas.List.{get_or_read, get_or-set_same, get_or-set_other, drop_all}
 use Rattle.std.proofs.Math.Seq.{drop-cons}
-use Rattle.tier_tree.proofs.Changed.{there_shown}
-use Rattle.tier_tree.proofs.Shown.{shown_at, only_same}
+use Rattle.tier_tree.proofs.Changed.{there_shown, root-line}
+use Rattle.tier_tree.proofs.Shown.{shown_at, root_shown, only_same}
+use Rattle.tier_tree.proofs.Stands.{other-is}
 use Rattle.tier_tree.proofs.Safe.{linked, line_own, rest_of, root-parent}
 use Rattle.phase_number.specs.Phase.{phase_view}
 use Rattle.tier_tree.proofs.Times.{IsAsLate, IsArrival, arrival_is, climb_ready}
@@ -301,6 +306,50 @@ arrives_otherwise i line phasers line_is not phase = by_end (flat_at phasers i).
     by_end false is =
         otherwise (climbed (phaser_at phasers i).line false phasers).climb i (climbed (phaser_at phasers i).line false phasers).phasers phasers phase
         (subst (λ (l : List ℕ). (climbed l false phasers).climb ≢ climb.Counted) line_is not) is
+
+-- and one that turns no root, or another one
+not_turned : (c : Climb) (i : ℕ) (after phasers : List PhaserState) → (c ≡ climb.Turned → root_at phasers i ≢ i)
+    → turns i (arrival_by c i after phasers).answer ≡ false
+not_turned climb.Counted i after phasers other = refl
+not_turned climb.Turned i after phasers other = other-is (root_at phasers i) i (other refl)
+not_turned climb.Refused i after phasers other = refl
+
+turns_elsewhere : (i : ℕ) (phasers : List PhaserState)
+    → ((climbed (phaser_at phasers i).line false phasers).climb ≡ climb.Turned → root_at phasers i ≢ i)
+    → turns i (arrival i false phasers).answer ≡ false
+turns_elsewhere i phasers other = by_end (flat_at phasers i).ended
+  where
+    by_end : (ended : Bool) → turns i (if ended then record { phasers = phasers; answer = arrived.Dead (view_of (flat_at phasers i)) }
+        else arrival_by (climbed (phaser_at phasers i).line false phasers).climb i (climbed (phaser_at phasers i).line false phasers).phasers phasers).answer
+        ≡ false
+    by_end true = refl
+    by_end false =
+        not_turned (climbed (phaser_at phasers i).line false phasers).climb i (climbed (phaser_at phasers i).line false phasers).phasers phasers other
+
+-- a phaser that has one above isn't its root
+pub turns_above : (forest : List Stored) (i : ℕ) → IsStored forest → i < length forest
+    → (length (phaser_at (phasers_of forest) i).line == 1) ≡ false
+    → turns i (arrival i false (phasers_of forest)).answer ≡ false
+turns_above forest i stored there more = turns_elsewhere i (phasers_of forest) (λ _ top.
+    let line : (phaser_at (phasers_of forest) i).line ≡ i ∷ [] =
+    ap (λ (p : PhaserState). p.line) (shown_at forest i there) ∙ root-line forest i stored there (sym (root_shown forest i there) ∙ top) in
+    absurd (cc (sym more ∙ ap (λ (l : List ℕ). length l == 1) line)))
+
+-- not all have arrived at it
+unturned_climb : (a : Answer) (id : ℕ) (top : Bool) (above : Bool → Climbed) (phasers : List PhaserState)
+    → ((word : ℕ) → a ≢ answer.Turned word) → (climbed_by (arrival_of a) id top above phasers).climb ≢ climb.Turned
+unturned_climb (answer.Counted word) id top above phasers not is = absurd (cc is)
+unturned_climb (answer.Turned word) id top above phasers not is = not word refl
+unturned_climb (answer.Dead view) id top above phasers not is = absurd (cc is)
+unturned_climb answer.NotThere id top above phasers not is = absurd (cc is)
+
+pub turns_not_yet : (line above : List ℕ) (id : ℕ) (phasers : List PhaserState) (a : Answer) → line ≡ id ∷ above
+    → line ≡ (phaser_at phasers id).line → arrival_of a ≡ arrive false (flat_at phasers id) → ((word : ℕ) → a ≢ answer.Turned word)
+    → turns id (arrival id false phasers).answer ≡ false
+turns_not_yet line above id phasers a is line_is arrives not = turns_elsewhere id phasers (λ turned.
+    absurd (unturned_climb a id (is_top above) (λ leaves. climbed above leaves phasers) phasers not
+    (ap (λ (b : Arrival). (climbed_by b id (is_top above) (λ leaves. climbed above leaves phasers) phasers).climb) arrives
+    ∙ ap (λ (l : List ℕ). (climbed l false phasers).climb) (sym is ∙ line_is) ∙ turned)))
 
 -- a climb of one look at each phaser, and then of one write at each: so far each is turned by a party that stays
 abbrev pub HaveTurned : List ℕ → List ℕ → ℕ → List PhaserState → Type 0

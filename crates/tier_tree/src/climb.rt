@@ -1,10 +1,10 @@
-ghost use Rattle.std.specs.Prelude.{◌≡◌, ◌≢◌, ℤ, ◌<◌, ◌≤◌, [], ◌∷◌, length, All, true, false, None, IfSome};
+ghost use Rattle.std.specs.Prelude.{◌≡◌, ◌≢◌, ◌↔◌, ℤ, ◌<◌, ◌≤◌, [], ◌∷◌, length, All, true, false, IsTrue, None, IfSome};
 ghost use Rattle.packed_phaser.specs.Answer.{arrival_of};
 ghost use Rattle.packed_phaser.specs.Flat.{Turns, arrive};
 ghost use Rattle.packed_phaser.specs.Word.{record_of};
 ghost use Rattle.tier_tree.specs.Forest.{phaser_at, flat_at, root_at};
 ghost use Rattle.tier_tree.specs.Arrival.{climbed, with_child, passed_on, arrival};
-ghost use Rattle.tier_tree.specs.Answer.{DoesntArrive};
+ghost use Rattle.tier_tree.specs.Answer.{DoesntArrive, turns};
 ghost use Rattle.tier_tree.specs.PhaseEnd.{most_ends, EndsAtRoot};
 ghost use Rattle.tier_tree.specs.Stored.{IsStored, ChangedOnly, ChangedAt, stored_at, phasers_of};
 
@@ -292,7 +292,7 @@ pub fn arrive_early(nodes: &mut [Node], i: usize) -> Option<i32>
 /// Whether the policy of one phaser is the default one.
 fn has_default_policy(nodes: &[Node], i: usize) -> bool
     requires { i < length nodes.now }
-    ensures { result ≡ true → (phaser_at (phasers_of nodes.now) i).policy ≡ Policy.Default }
+    ensures { IsTrue result ↔ ((phaser_at (phasers_of nodes.now) i).policy ≡ Policy.Default) }
 {
     matches!(nodes[i].policy(), Policy::Default)
 }
@@ -312,6 +312,12 @@ pub fn arrive_last(nodes: &mut [Node], i: usize) -> LastArrival
           answer = Arrived.Turning (record { 0 = i }) phase (flat_at (phasers_of nodes.new) i).parties;
         }
         ≡ arrival i false (phasers_of nodes.old) }
+    ensures default { (phase : ℤ) → result ≡ LastArrival.Ended phase
+        → (phaser_at (phasers_of nodes.old) i).policy ≡ Policy.Default }
+    ensures other { (phase : ℤ) → result ≡ LastArrival.Turned phase
+        → (phaser_at (phasers_of nodes.old) i).policy ≢ Policy.Default }
+    ensures elsewhere { result ≡ LastArrival.Elsewhere
+        → turns i (arrival i false (phasers_of nodes.old)).answer ≡ false }
     ensures none { result ≡ LastArrival.Elsewhere → nodes.new ≡ nodes.old }
     ensures stored { IsStored nodes.new }
     ensures only { ChangedAt i nodes.old nodes.new }

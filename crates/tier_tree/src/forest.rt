@@ -1,5 +1,6 @@
 ghost use Rattle.std.specs.Prelude.{◌≡◌, ◌≢◌, ℕ, ℤ, ◌<◌, List, [], length, true, false, None, IfOk, IfSome};
-ghost use Rattle.tier_tree.specs.Answer.{DoesntJoin, DoesntArrive, IfTurning, MakesPending};
+ghost use Rattle.packed_phaser.specs.declared.policy.Policy.TheVariants as policy;
+ghost use Rattle.tier_tree.specs.Answer.{DoesntJoin, DoesntArrive, IfTurning, turns, MakesPending};
 ghost use Rattle.tier_tree.specs.Answer.{KeepsPlaces, KeepsEnds, HaveOnePhase};
 ghost use Rattle.tier_tree.specs.Arrival.{arrival};
 ghost use Rattle.tier_tree.specs.Declaration.{AreAllFresh};
@@ -169,6 +170,12 @@ impl Forest {
             → KeepsPlaces (phasers_of self.old) (phasers_of self.new) }
         ensures phase_ends { (phase : ℤ) → result ≡ LastArrival.Turned phase
             → KeepsEnds (phasers_of self.old) (phasers_of self.new) }
+        ensures default { (phase : ℤ) → result ≡ LastArrival.Ended phase
+            → (phaser_at (phasers_of self.old) id.0).policy ≡ policy.Default }
+        ensures other { (phase : ℤ) → result ≡ LastArrival.Turned phase
+            → (phaser_at (phasers_of self.old) id.0).policy ≢ policy.Default }
+        ensures elsewhere { result ≡ LastArrival.Elsewhere
+            → turns id.0 (arrival id.0 false (phasers_of self.old)).answer ≡ false }
         ensures none { result ≡ LastArrival.Elsewhere → self.new ≡ self.old }
         ensures only { ChangedAt id.0 self.old self.new }
         ensures many { length self.new ≡ length self.old }
