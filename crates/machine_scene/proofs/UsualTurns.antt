@@ -16,6 +16,7 @@ use Rattle.tier_tree.specs.declared.climb.Climb.TheVariants as climb
 use Rattle.tier_tree.specs.declared.arrived.Arrived.{Arrived}
 use Rattle.tier_tree.specs.declared.arrived.Arrived.TheVariants as arrived
 use Rattle.tier_tree.specs.Forest.{PhaserState, phaser_at, flat_at, root_at}
+use Rattle.tier_tree.specs.Answer.{turns}
 use Rattle.tier_tree.specs.Arrival.{Arrives, climbed, arrival_by, arrival}
 use Rattle.cyclic_barrier.specs.ThreadSet.{has}
 use Rattle.loader.specs.Program.{Program, row_at}
@@ -34,7 +35,7 @@ use Rattle.machine_scene.specs.Asleep.{is_asleep, is_asleep_in, is_local_turn, K
 use Rattle.machine_scene.specs.Usual.{is_early, is_usual_in}
 use Rattle.machine_scene.proofs.Standings.{Standing, arrival-standings}
 use Rattle.machine_scene.proofs.Asleep.{others_asleep, no_turn}
-use Rattle.tier_tree.proofs.Stands.{other-is}
+use Rattle.tier_tree.proofs.Stands.{other-is, same-is}
 
 -- a row on registers alone
 pub local_is_usual : (of : Status) (row : Row) (stack : List Frame) (scene : Scene) → is_local_turn of row ≡ true → is_usual_in of row stack scene ≡ true
@@ -69,6 +70,13 @@ early manner p t program scene phasers phase turn empty is turned =
     free_arrival manner p t program scene empty
     ∙ ap (λ (all : Arrives). Some (outcome_of_arrived all.answer manner t program (with_phasers all.phasers scene))) (sym is)
     ∙ ap (λ (x : Turn). Some (outcome_of_turn x t (with_phasers phasers scene))) (sym turned)
+
+-- an arrival that turns a root is the last there
+pub last_here : (id p : ℕ) (phasers : List PhaserState) (phase : ℤ) (parties : ℕ) → id ≡ p
+    → (arrival id false phasers).answer ≡ arrived.Turning (record { 0 = id }) phase parties
+    → turns p (arrival p false phasers).answer ≡ true
+last_here id p phasers phase parties same is =
+    ap (λ (n : ℕ). turns n (arrival n false phasers).answer) (sym same) ∙ ap (turns id) is ∙ same-is id
 
 -- thread t waits after an arrival that left these phasers
 abbrev pub waiting : ℤ → List PhaserState → ℕ → Scene → Scene

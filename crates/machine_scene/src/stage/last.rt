@@ -1,4 +1,4 @@
-ghost use Rattle.std.specs.Prelude.{◌≡◌, ℕ, ◌+◌, ◌<◌, [], length, false, Some, None, IfSome};
+ghost use Rattle.std.specs.Prelude.{◌≡◌, ℕ, ◌+◌, ◌<◌, [], length, false, Some, None, is_some, IfSome};
 ghost use Rattle.std.specs.Option.{OnSome};
 ghost use Rattle.loader.specs.Program.{row_at};
 ghost use Rattle.thread_state.specs.Thread.{top_of};
@@ -6,7 +6,7 @@ ghost use Rattle.machine_scene.specs.Scene.{scene_of, thread_at};
 ghost use Rattle.machine_scene.specs.Outcomes.{outcome_in, outcome_of, outcome_of_row};
 ghost use Rattle.machine_scene.specs.Sound.{IsSound, StandsAt, most_after, most_before};
 ghost use Rattle.machine_scene.specs.Asleep.{KeepsAsleep, AreOthersAsleep, may_wake};
-ghost use Rattle.machine_scene.specs.Usual.{is_arrival};
+ghost use Rattle.machine_scene.specs.Usual.{is_arrival, is_last, is_last_in, is_last_turn};
 ghost use Rattle.machine_scene.specs.Undo.{PhasersWithin, CanUndo, reach_in, reach_of_row, note_of, undone};
 
 use super::Stage;
@@ -34,6 +34,7 @@ impl Stage {
         requires sound { IsSound program.now most_before (scene_of self.old) }
         requires asleep { KeepsAsleep program.now self.old }
         requires thread { t < length self.old.threads }
+        ensures last { is_some result ≡ is_last_turn t program.now (scene_of self.old) }
         ensures none { result ≡ None → self.new ≡ self.old }
         ensures ok { IfSome result (λ event. outcome_of t program.now (scene_of self.old)
             ≡ Some (record { scene = scene_of self.new; event = event })) }
@@ -63,6 +64,7 @@ impl Stage {
         requires thread { t < length self.old.threads }
         requires row { row ≡ row_at program.now.rows (thread_at (scene_of self.old) t).pc }
         requires at { StandsAt program.now row t self.old }
+        ensures last { is_some result ≡ is_last_turn t program.now (scene_of self.old) }
         ensures none { result ≡ None → self.new ≡ self.old }
         ensures ok { IfSome result (λ event. outcome_of t program.now (scene_of self.old)
             ≡ Some (record { scene = scene_of self.new; event = event })) }
@@ -88,6 +90,8 @@ impl Stage {
     fn last_at(&mut self, program: &Loaded, row: Row, t: usize) -> Option<Event>
         requires sound { IsSound program.now most_before (scene_of self.old) }
         requires at { StandsAt program.now row t self.old }
+        ensures last { is_some result ≡ is_last_in (thread_at (scene_of self.old) t).status row
+            (thread_at (scene_of self.old) t).stack (scene_of self.old) }
         ensures none { result ≡ None → self.new ≡ self.old }
         ensures ok { IfSome result (λ event. outcome_in (thread_at (scene_of self.old) t).status row t
             program.now (scene_of self.old)
@@ -111,6 +115,8 @@ impl Stage {
         requires sound { IsSound program.now most_before (scene_of self.old) }
         requires at { StandsAt program.now row t self.old }
         requires free { (thread_at (scene_of self.old) t).stack ≡ [] }
+        ensures last { is_some result
+            ≡ is_last row (thread_at (scene_of self.old) t).stack (scene_of self.old) }
         ensures none { result ≡ None → self.new ≡ self.old }
         ensures ok { IfSome result (λ event. outcome_of_row row t program.now (scene_of self.old)
             ≡ Some (record { scene = scene_of self.new; event = event })) }

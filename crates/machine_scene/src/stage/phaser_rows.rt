@@ -10,6 +10,7 @@ ghost use Rattle.machine_scene.specs.PhaserRows.{is_own_tree, unless_own, has_ro
 ghost use Rattle.machine_scene.specs.PhaserRows.{outcome_of_ended_phase, outcome_of_phase_end, outcome_of_pending_end, outcome_with_room};
 ghost use Rattle.machine_scene.specs.PhaserRows.{outcome_of_arrival, outcome_of_registration, outcome_of_bulk};
 ghost use Rattle.machine_scene.specs.PhaserRows.{outcome_of_await, outcome_of_force, outcome_of_phaser_row};
+ghost use Rattle.machine_scene.specs.Usual.{is_last_at};
 ghost use Rattle.machine_scene.specs.Undo.{PhasersWithin, reach_of_row};
 ghost use Rattle.machine_scene.specs.Sound.{CanPlay, most_after};
 
@@ -256,6 +257,7 @@ impl Stage {
         requires routines { length program.now.routines ≡ length self.old.phasers }
         requires ends { (p : ℕ) → (phaser_at (phasers_of self.old.phasers) p).ends < most_after }
         requires plays { CanPlay t self.old }
+        ensures last { is_some result ≡ is_last_at phaser (scene_of self.old) }
         ensures none { result ≡ None → self.new ≡ self.old }
         ensures outcome { IfSome result (λ event. record { scene = scene_of self.new; event = event }
             ≡ outcome_with_room manner phaser t program.now (scene_of self.old)) }
