@@ -10,9 +10,9 @@ reader takes each as a word without a meaning of its own, and loses nothing that
 
 That is checked. A statement stands in clauses of exported functions alone, and in no definition that is believed. There it is
 a whole part: the clause itself, one of the parts that `×` or `⊎` joins, what a premise implies, what holds behind `OnOk` and
-its like; or else a premise. A record that calls ask for, and that stands nowhere else, is as its fields. Who gives it first doesn't take it; who takes it answers or changes something; and no law, which has
-no arguments, ends in it. Of a type no field is named in what is believed, but by the calls of its own file. A view is from or to
-such a type, and two calls promise something by it."""
+its like; or else a premise. A record that stands as such parts alone is as its fields. Who gives it first doesn't take it; who
+takes it answers or changes something; and no law, which has no arguments, ends in it. Of a type no field is named in what is
+believed, but by the calls of its own file. A view is from or to such a type, and two calls promise something by it."""
 import re
 import sys
 from pathlib import Path
@@ -160,6 +160,9 @@ class Believed:
         self.fields = {key: fields_of(definitions[key]) for key in believed}
         for call in calls:
             self.uses.setdefault(call.name, set()).update(call.uses())
+        self.open = {key for key in believed if self.is_open(key)}
+        for uses in self.uses.values():
+            uses |= {use for name, sign in uses if name in self.open for use in self.uses_in_fields(name, sign)}
         self.laws = {call.name for call in calls if call.is_law}
         self.sayings = {call.name for call in calls if call.only_says}
 
@@ -173,7 +176,7 @@ class Believed:
     def wrong_statement(self, mark):
         holders = [key for key in sorted(self.believed) if mark.key in self.definitions[key].names]
         for key in holders:
-            if not self.is_asked_for(key) or not self.is_field(mark.key, self.definitions[key]):
+            if key not in self.open:
                 return f"{key[2]} names it, and is believed"
         for name, its in self.uses.items():
             if (mark.key, WITHIN) in its:
@@ -182,21 +185,21 @@ class Believed:
                 return f"the law {name} ends in it"
         if (mark.key, GIVEN) not in self.uses[mark.giver] or (mark.key, TAKEN) in self.uses[mark.giver]:
             return f"{mark.giver} doesn't give it, or takes it too"
-        if mark.taker in self.sayings or not any((key, TAKEN) in self.uses[mark.taker] for key in [mark.key, *holders]):
+        if mark.taker in self.sayings or (mark.key, TAKEN) not in self.uses[mark.taker]:
             return f"{mark.taker} doesn't take it, or neither answers nor changes anything"
         return None
 
-    def is_asked_for(self, key):
-        """Whether a definition is a record that calls ask for, and that stands nowhere else."""
+    def is_open(self, key):
+        """Whether a definition is a record that is given or asked for, and that stands nowhere else."""
         its_uses = {its for uses in self.uses.values() for name, its in uses if name == key}
         is_named = any(key in self.definitions[other].names for other in self.believed)
-        return self.definitions[key].lines[0].startswith("pub record") and its_uses == {TAKEN} and not is_named
+        return self.definitions[key].lines[0].startswith("pub record") and its_uses and WITHIN not in its_uses and not is_named
 
-    def is_field(self, name, it):
-        """Whether a name stands in a record as whole fields alone."""
+    def uses_in_fields(self, key, sign):
+        """The names in a record's fields, each with what it is where the record is given or asked for."""
+        it = self.definitions[key]
         fields = re.split(rf"(?m)^  (?:pub )?{WORD} :", "\n".join(it.lines))[1:]
-        found = [sign for field in fields for part, sign in parts(field, GIVEN) if name in named(part, it.scope)]
-        return set(found) == {GIVEN}
+        return {(name, its) for field in fields for part, its in parts(field, sign) for name in named(part, it.scope)}
 
     def wrong_type(self, mark):
         fields = fields_of(self.definitions[mark.key])

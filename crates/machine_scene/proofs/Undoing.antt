@@ -1,6 +1,6 @@
--- A turn, or an expiry, that is undone to the word.
+-- A turn, or an expiry: a sound scene stays sound, and it is undone to the word.
 use Rattle.std.proofs.Common.{◌≡◌, ◌∙◌, ℕ, ℤ, ◌<◌, false, List, length, ap, refl, sym, subst, arith}
-use Rattle.std.specs.Prelude.{Some, None, slice_index_or}
+use Rattle.std.specs.Prelude.{Option, Some, None, slice_index_or}
 use Rattle.std.proofs.lemmas.List.{length-set}
 use Rattle.instruction_table.specs.declared.row.Row.{Row}
 use Rattle.instruction_table.specs.declared.row.Row.TheVariants.{Intr}
@@ -15,10 +15,12 @@ use Rattle.machine_scene.specs.declared.reach.Reach.{Reach}
 use Rattle.machine_scene.specs.declared.reach.Reach.TheVariants as reach
 use Rattle.machine_scene.specs.declared.note.Touched.{Touched}
 use Rattle.machine_scene.specs.declared.note.Touched.TheVariants as touched
-use Rattle.machine_scene.specs.Scene.{StoredScene, scene_of, counts_in, no_thread, thread_at}
+use Rattle.machine_scene.specs.Scene.{StoredScene, Outcome, scene_of, counts_in, no_thread, thread_at}
 use Rattle.machine_scene.specs.Sound.{IsSound}
 use Rattle.machine_scene.specs.Outcomes.{outcome_in, outcome_of, is_ready, outcome_of_expiry}
 use Rattle.machine_scene.specs.Undo.{Note, IsThere, PhasersWithin, CanPutBack, CanUndo, reach_in, reach_of, touched_by, note_of, with_undone, with_touched, undone}
+use Rattle.machine_scene.specs.Played.{IsPlayed}
+use Rattle.machine_scene.proofs.Outcomes.{sound_outcome, sound_timeout}
 use Rattle.machine_scene.proofs.Plain.{either}
 use Rattle.machine_scene.proofs.Placed.{turn_placed, top_placed}
 use Rattle.machine_scene.proofs.Reaches.{reach_there}
@@ -26,7 +28,7 @@ use Rattle.machine_scene.proofs.Undone.{GivesBack, BackIf, threads_back, thread_
 use Rattle.machine_scene.proofs.UndoneRows.{NamesThread, back_in, back_timeout}
 
 -- the note gives the scene back, and may be used
-pub record IsUndone (note : Note) (old new : StoredScene) : Type 0 where
+record IsUndone (note : Note) (old new : StoredScene) : Type 0 where
   pub undo : undone note new ≡ old
   pub can : CanUndo note new
   pub threads : length new.threads ≡ length old.threads
@@ -108,13 +110,13 @@ reached program t old sound there =
     (top_placed program (top_of thread.stack) t old sound there refl)
 
 -- a turn, of a thread that stands at this row
-pub turn_undone_at : (row : Row) (program : Program) (t : ℕ) (old new : StoredScene) (event : Event)
+pub turn_played : (row : Row) (program : Program) (t : ℕ) (old new : StoredScene) (event : Event)
     → row ≡ row_at program.rows (thread_at (scene_of old) t).pc → IsSound program 2147483646 (scene_of old)
     → t < length old.threads → IsStored old.phasers
     → outcome_in (thread_at (scene_of old) t).status row t program (scene_of old) ≡ Some (record { scene = scene_of new; event = event })
     → PhasersWithin (reach_in (thread_at (scene_of old) t).status row (top_of (thread_at (scene_of old) t).stack)) old.phasers new.phasers
-    → IsUndone (note_of t program old) old new
-turn_undone_at row program t old new event at sound there stored is within =
+    → IsPlayed (outcome_of t program (scene_of old)) t program old new event
+turn_played row program t old new event at sound there stored is within =
     let scene = scene_of old in
     let thread = thread_at scene t in
     let own_row = row_at program.rows thread.pc in
@@ -122,23 +124,38 @@ turn_undone_at row program t old new event at sound there stored is within =
     let named = names_thread own_row program old (turn_placed program own_row t old sound there refl).sees.named in
     let outcome : outcome_of t program scene ≡ Some (record { scene = scene_of new; event = event }) =
     ap (λ (r : Row). outcome_in thread.status r t program scene) (sym at) ∙ is in
-    undone_within reach t old new (reached program t old sound there) there stored
+    let back = undone_within reach t old new (reached program t old sound there) there stored
     (subst (BackIf reach t scene) outcome (back_in thread.status own_row t program scene named there))
-    (subst (λ (r : Row). PhasersWithin (reach_in thread.status r (top_of thread.stack)) old.phasers new.phasers) at within)
+    (subst (λ (r : Row). PhasersWithin (reach_in thread.status r (top_of thread.stack)) old.phasers new.phasers) at within) in
+    record {
+      outcome_is = outcome;
+      sound = λ steps few was. sound_outcome program steps t scene (record { scene = scene_of new; event = event }) was few there outcome;
+      undo = back.undo;
+      can = back.can;
+      threads = back.threads;
+    }
 
 -- an expiry
-pub expiry_undone : (program : Program) (t : ℕ) (old new : StoredScene) (event : Event) → IsSound program 2147483646 (scene_of old)
+pub expiry_played : (program : Program) (t : ℕ) (old new : StoredScene) (event : Event) → IsSound program 2147483646 (scene_of old)
     → t < length old.threads → IsStored old.phasers
     → outcome_of_expiry t program (scene_of old) ≡ Some (record { scene = scene_of new; event = event })
-    → PhasersWithin (reach_of t program (scene_of old)) old.phasers new.phasers → IsUndone (note_of t program old) old new
-expiry_undone program t old new event sound there stored is within =
+    → PhasersWithin (reach_of t program (scene_of old)) old.phasers new.phasers
+    → IsPlayed (outcome_of_expiry t program (scene_of old)) t program old new event
+expiry_played program t old new event sound there stored is within =
     let scene = scene_of old in
     let thread = thread_at scene t in
     let row = row_at program.rows thread.pc in
     let reach = reach_of t program scene in
-    undone_within reach t old new (reached program t old sound there) there stored
+    let back = undone_within reach t old new (reached program t old sound there) there stored
     (subst (BackIf reach t scene) is
-    (either (BackIf reach t scene) (is_ready t program scene) {a = None} tt (back_timeout thread.status row t scene there))) within
+    (either (BackIf reach t scene) (is_ready t program scene) {a = None} tt (back_timeout thread.status row t scene there))) within in
+    record {
+      outcome_is = is;
+      sound = λ steps few was. sound_timeout program steps t scene (record { scene = scene_of new; event = event }) was few there is;
+      undo = back.undo;
+      can = back.can;
+      threads = back.threads;
+    }
 
 -- a note gives back the same, whatever set is kept of the threads that are asleep
 touched_still : (of : Touched) (stored : StoredScene) (set : ℕ)
@@ -149,7 +166,7 @@ touched_still (touched.Thread other before) stored set = refl
 touched_still (touched.Tree saved) stored set = refl
 touched_still (touched.Barrier b before) stored set = refl
 
-pub undone_still : (note : Note) (stored : StoredScene) (set : ℕ) → undone note (record stored { asleep = set }) ≡ undone note stored
+undone_still : (note : Note) (stored : StoredScene) (set : ℕ) → undone note (record stored { asleep = set }) ≡ undone note stored
 undone_still note stored set =
     ap (λ (s : StoredScene). record (with_undone note.before note.thread s) { asleep = note.asleep }) (touched_still note.touched stored set)
 
@@ -160,5 +177,15 @@ put_back_still (touched.Thread other before) stored set can = can
 put_back_still (touched.Tree saved) stored set can = can
 put_back_still (touched.Barrier b before) stored set can = can
 
-pub can_still : (note : Note) (stored : StoredScene) (set : ℕ) → CanUndo note stored → CanUndo note (record stored { asleep = set })
+can_still : (note : Note) (stored : StoredScene) (set : ℕ) → CanUndo note stored → CanUndo note (record stored { asleep = set })
 can_still note stored set can = record { there = can.there; touched = put_back_still note.touched stored set can.touched }
+
+pub played_still : (outcome : Option Outcome) (t : ℕ) (program : Program) (old new : StoredScene) (set : ℕ) (event : Event)
+    → IsPlayed outcome t program old new event → IsPlayed outcome t program old (record new { asleep = set }) event
+played_still outcome t program old new set event is = record {
+  outcome_is = is.outcome_is;
+  sound = is.sound;
+  undo = undone_still (note_of t program old) new set ∙ is.undo;
+  can = can_still (note_of t program old) new set is.can;
+  threads = is.threads;
+}

@@ -14,4 +14,5 @@ pub mod Ready
 pub mod Asleep
 pub mod Sound
 pub mod Undo
+pub mod Played
 pub mod Usual

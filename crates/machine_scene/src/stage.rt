@@ -1,4 +1,4 @@
-ghost use Rattle.std.specs.Prelude.{◌≡◌, ℕ, ◌+◌, ◌<◌, ◌≤◌, length, replicate, pos, true, false, Ok, Some, None, is_some, IfSome, IsErr, IfOk, OnErr, OnOk};
+ghost use Rattle.std.specs.Prelude.{◌≡◌, ◌<◌, ◌≤◌, length, replicate, pos, true, false, Ok, Some, None, is_some, IfSome, IsErr, IfOk, OnErr, OnOk};
 ghost use Rattle.std.specs.Option.{OnSome};
 ghost use Rattle.std.specs.List.{list_all};
 ghost use Rattle.instruction_table.specs.LocalRows.{is_local_row};
@@ -9,9 +9,10 @@ ghost use Rattle.machine_scene.specs.DataRows.{runs, may_grow};
 ghost use Rattle.machine_scene.specs.Group.{group_of};
 ghost use Rattle.machine_scene.specs.Outcomes.{outcome_in, outcome_of, outcome_of_row, outcome_of_expiry, is_ready};
 ghost use Rattle.machine_scene.specs.Outcomes.{timeout_in};
-ghost use Rattle.machine_scene.specs.Sound.{IsSound, StandsAt, most_after, most_before};
+ghost use Rattle.machine_scene.specs.Sound.{IsSound, StandsAt, most_before};
 ghost use Rattle.machine_scene.specs.Asleep.{KeepsAsleep, AreOthersAsleep, may_wake, is_local_turn};
-ghost use Rattle.machine_scene.specs.Undo.{PhasersWithin, CanUndo, reach_of_row, reach_in, note_of, undone};
+ghost use Rattle.machine_scene.specs.Played.{IsPlayed};
+ghost use Rattle.machine_scene.specs.Undo.{PhasersWithin, reach_of_row, reach_in};
 
 use crate::group::{Group, group_of};
 use cyclic_barrier::Barrier;
@@ -278,20 +279,13 @@ impl Stage {
         requires thread { t < length self.old.threads }
         ensures ready { IfOk result (λ event. is_some event ≡ is_ready t program.now (scene_of self.old)) }
         ensures none { result ≡ Ok None → self.new ≡ self.old }
-        ensures ok { IfOk result (λ event. IfSome event (λ event. outcome_of t program.now (scene_of self.old)
-            ≡ Some (record { scene = scene_of self.new; event = event }))) }
+        ensures ok { IfOk result (λ event. IfSome event (λ event.
+            IsPlayed (outcome_of t program.now (scene_of self.old)) t program.now self.old self.new event)) }
         ensures err { OnErr result (self.new ≡ self.old) }
         ensures wants { OnErr result (is_ready t program.now (scene_of self.old) ≡ true) }
         ensures memory { IsErr result → may_grow
             (row_at program.now.rows (thread_at (scene_of self.old) t).pc)
             (thread_at (scene_of self.old) t) ≡ true }
-        ensures sound { IfOk result (λ event. OnSome event ((steps : ℕ) → steps < most_before
-            → IsSound program.now steps (scene_of self.old)
-            → IsSound program.now (steps + 1) (scene_of self.new))) }
-        ensures undo { IfOk result (λ event. OnSome event
-            (undone (note_of t program.now self.old) self.new ≡ self.old)) }
-        ensures can { IfOk result (λ event. OnSome event (CanUndo (note_of t program.now self.old) self.new)) }
-        ensures threads { IfOk result (λ event. OnSome event (length self.new.threads ≡ length self.old.threads)) }
         ensures asleep { IfOk result (λ event. OnSome event (KeepsAsleep program.now self.new)) }
     {
         let row = self.row_of(program, t);
@@ -329,18 +323,12 @@ impl Stage {
         requires of { (thread_at (scene_of self.old) t).status ≡ of }
         requires row { row ≡ row_at program.now.rows (thread_at (scene_of self.old) t).pc }
         requires ready { is_ready t program.now (scene_of self.old) ≡ true }
-        ensures ok { IfOk result (λ event. outcome_of t program.now (scene_of self.old)
-            ≡ Some (record { scene = scene_of self.new; event = event })) }
+        ensures ok { IfOk result (λ event.
+            IsPlayed (outcome_of t program.now (scene_of self.old)) t program.now self.old self.new event) }
         ensures err { OnErr result (self.new ≡ self.old) }
         ensures memory { IsErr result → may_grow
             (row_at program.now.rows (thread_at (scene_of self.old) t).pc)
             (thread_at (scene_of self.old) t) ≡ true }
-        ensures sound { OnOk result ((steps : ℕ) → steps < most_before
-            → IsSound program.now steps (scene_of self.old)
-            → IsSound program.now (steps + 1) (scene_of self.new)) }
-        ensures undo { OnOk result (undone (note_of t program.now self.old) self.new ≡ self.old) }
-        ensures can { OnOk result (CanUndo (note_of t program.now self.old) self.new) }
-        ensures threads { OnOk result (length self.new.threads ≡ length self.old.threads) }
         ensures asleep { OnOk result (KeepsAsleep program.now self.new) }
     {
         if self.is_local_turn(row, t) {
@@ -365,14 +353,7 @@ impl Stage {
         requires thread { t < length self.old.threads }
         requires row { row ≡ row_at program.now.rows (thread_at (scene_of self.old) t).pc }
         requires local { is_local_turn (thread_at (scene_of self.old) t).status row ≡ true }
-        ensures ok { outcome_of t program.now (scene_of self.old)
-            ≡ Some (record { scene = scene_of self.new; event = result }) }
-        ensures sound { (steps : ℕ) → steps < most_after
-            → IsSound program.now steps (scene_of self.old)
-            → IsSound program.now (steps + 1) (scene_of self.new) }
-        ensures undo { undone (note_of t program.now self.old) self.new ≡ self.old }
-        ensures can { CanUndo (note_of t program.now self.old) self.new }
-        ensures threads { length self.new.threads ≡ length self.old.threads }
+        ensures ok { IsPlayed (outcome_of t program.now (scene_of self.old)) t program.now self.old self.new result }
         ensures asleep { KeepsAsleep program.now self.new }
     {
         self.turn_is_placed(program, row, t);
@@ -397,16 +378,10 @@ impl Stage {
         requires at { StandsAt program.now row t self.old }
         requires ready { is_ready t program.now (scene_of self.old) ≡ true }
         requires apart { is_local_turn (thread_at (scene_of self.old) t).status row ≡ false }
-        ensures ok { IfOk result (λ event. outcome_of t program.now (scene_of self.old)
-            ≡ Some (record { scene = scene_of self.new; event = event })) }
+        ensures ok { IfOk result (λ event.
+            IsPlayed (outcome_of t program.now (scene_of self.old)) t program.now self.old self.new event) }
         ensures err { OnErr result (self.new ≡ self.old) }
         ensures memory { IsErr result → may_grow row (thread_at (scene_of self.old) t) ≡ true }
-        ensures sound { OnOk result ((steps : ℕ) → steps < most_after
-            → IsSound program.now steps (scene_of self.old)
-            → IsSound program.now (steps + 1) (scene_of self.new)) }
-        ensures undo { OnOk result (undone (note_of t program.now self.old) self.new ≡ self.old) }
-        ensures can { OnOk result (CanUndo (note_of t program.now self.old) self.new) }
-        ensures threads { OnOk result (length self.new.threads ≡ length self.old.threads) }
         ensures others { IfOk result (λ event. KeepsAsleep program.now self.old → may_wake row event ≡ false
             → AreOthersAsleep program.now t row self.old.asleep self.new) }
     {
@@ -485,14 +460,7 @@ impl Stage {
         requires thread { t < length self.old.threads }
         requires row { row ≡ row_at program.now.rows (thread_at (scene_of self.old) t).pc }
         requires ready { is_some (outcome_of_expiry t program.now (scene_of self.old)) ≡ true }
-        ensures ok { outcome_of_expiry t program.now (scene_of self.old)
-            ≡ Some (record { scene = scene_of self.new; event = result }) }
-        ensures sound { (steps : ℕ) → steps < most_before
-            → IsSound program.now steps (scene_of self.old)
-            → IsSound program.now (steps + 1) (scene_of self.new) }
-        ensures undo { undone (note_of t program.now self.old) self.new ≡ self.old }
-        ensures can { CanUndo (note_of t program.now self.old) self.new }
-        ensures threads { length self.new.threads ≡ length self.old.threads }
+        ensures ok { IsPlayed (outcome_of_expiry t program.now (scene_of self.old)) t program.now self.old self.new result }
         ensures asleep { KeepsAsleep program.now self.new }
     {
         self.turn_is_placed(program, row, t);
@@ -509,14 +477,7 @@ impl Stage {
         requires row { row ≡ row_at program.now.rows (thread_at (scene_of self.old) t).pc }
         requires at { StandsAt program.now row t self.old }
         requires ready { is_some (outcome_of_expiry t program.now (scene_of self.old)) ≡ true }
-        ensures ok { outcome_of_expiry t program.now (scene_of self.old)
-            ≡ Some (record { scene = scene_of self.new; event = result }) }
-        ensures sound { (steps : ℕ) → steps < most_after
-            → IsSound program.now steps (scene_of self.old)
-            → IsSound program.now (steps + 1) (scene_of self.new) }
-        ensures undo { undone (note_of t program.now self.old) self.new ≡ self.old }
-        ensures can { CanUndo (note_of t program.now self.old) self.new }
-        ensures threads { length self.new.threads ≡ length self.old.threads }
+        ensures ok { IsPlayed (outcome_of_expiry t program.now (scene_of self.old)) t program.now self.old self.new result }
         ensures others { KeepsAsleep program.now self.old → may_wake row result ≡ false
             → AreOthersAsleep program.now t row self.old.asleep self.new }
     {

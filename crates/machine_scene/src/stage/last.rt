@@ -1,13 +1,14 @@
-ghost use Rattle.std.specs.Prelude.{◌≡◌, ℕ, ◌+◌, ◌<◌, [], length, false, Some, None, is_some, IfSome};
+ghost use Rattle.std.specs.Prelude.{◌≡◌, ◌<◌, [], length, false, Some, None, is_some, IfSome};
 ghost use Rattle.std.specs.Option.{OnSome};
 ghost use Rattle.loader.specs.Program.{row_at};
 ghost use Rattle.thread_state.specs.Thread.{top_of};
 ghost use Rattle.machine_scene.specs.Scene.{scene_of, thread_at};
 ghost use Rattle.machine_scene.specs.Outcomes.{outcome_in, outcome_of, outcome_of_row};
-ghost use Rattle.machine_scene.specs.Sound.{IsSound, StandsAt, most_after, most_before};
+ghost use Rattle.machine_scene.specs.Sound.{IsSound, StandsAt, most_before};
 ghost use Rattle.machine_scene.specs.Asleep.{KeepsAsleep, AreOthersAsleep, may_wake};
 ghost use Rattle.machine_scene.specs.Usual.{is_arrival, is_last, is_last_in, is_last_turn};
-ghost use Rattle.machine_scene.specs.Undo.{PhasersWithin, CanUndo, reach_in, reach_of_row, note_of, undone};
+ghost use Rattle.machine_scene.specs.Played.{IsPlayed};
+ghost use Rattle.machine_scene.specs.Undo.{PhasersWithin, reach_in, reach_of_row};
 
 use super::Stage;
 use crate::manner::manner_of;
@@ -36,14 +37,8 @@ impl Stage {
         requires thread { t < length self.old.threads }
         ensures last { is_some result ≡ is_last_turn t program.now (scene_of self.old) }
         ensures none { result ≡ None → self.new ≡ self.old }
-        ensures ok { IfSome result (λ event. outcome_of t program.now (scene_of self.old)
-            ≡ Some (record { scene = scene_of self.new; event = event })) }
-        ensures sound { OnSome result ((steps : ℕ) → steps < most_before
-            → IsSound program.now steps (scene_of self.old)
-            → IsSound program.now (steps + 1) (scene_of self.new)) }
-        ensures undo { OnSome result (undone (note_of t program.now self.old) self.new ≡ self.old) }
-        ensures can { OnSome result (CanUndo (note_of t program.now self.old) self.new) }
-        ensures threads { OnSome result (length self.new.threads ≡ length self.old.threads) }
+        ensures ok { IfSome result (λ event.
+            IsPlayed (outcome_of t program.now (scene_of self.old)) t program.now self.old self.new event) }
         ensures asleep { OnSome result (KeepsAsleep program.now self.new) }
     {
         let row = self.row_of(program, t);
@@ -66,14 +61,8 @@ impl Stage {
         requires at { StandsAt program.now row t self.old }
         ensures last { is_some result ≡ is_last_turn t program.now (scene_of self.old) }
         ensures none { result ≡ None → self.new ≡ self.old }
-        ensures ok { IfSome result (λ event. outcome_of t program.now (scene_of self.old)
-            ≡ Some (record { scene = scene_of self.new; event = event })) }
-        ensures sound { OnSome result ((steps : ℕ) → steps < most_after
-            → IsSound program.now steps (scene_of self.old)
-            → IsSound program.now (steps + 1) (scene_of self.new)) }
-        ensures undo { OnSome result (undone (note_of t program.now self.old) self.new ≡ self.old) }
-        ensures can { OnSome result (CanUndo (note_of t program.now self.old) self.new) }
-        ensures threads { OnSome result (length self.new.threads ≡ length self.old.threads) }
+        ensures ok { IfSome result (λ event.
+            IsPlayed (outcome_of t program.now (scene_of self.old)) t program.now self.old self.new event) }
         ensures others { IfSome result (λ event. KeepsAsleep program.now self.old → may_wake row event ≡ false
             → AreOthersAsleep program.now t row self.old.asleep self.new) }
     {

@@ -1,4 +1,4 @@
-ghost use Rattle.std.specs.Prelude.{◌≡◌, ℕ, ◌+◌, ◌<◌, length, [], Some, None, is_some, IfSome};
+ghost use Rattle.std.specs.Prelude.{◌≡◌, ◌<◌, length, [], Some, None, is_some, IfSome};
 ghost use Rattle.std.specs.Option.{OnSome};
 ghost use Rattle.tier_tree.specs.Stored.{ChangedAt};
 ghost use Rattle.loader.specs.Program.{IsNamed, row_at};
@@ -7,10 +7,11 @@ ghost use Rattle.machine_scene.specs.Scene.{scene_of, counts_in, thread_at};
 ghost use Rattle.machine_scene.specs.PhaserRows.{outcome_of_phaser_row};
 ghost use Rattle.machine_scene.specs.Waits.{outcome_of_phase_wait};
 ghost use Rattle.machine_scene.specs.Outcomes.{outcome_in, outcome_of, outcome_of_row};
-ghost use Rattle.machine_scene.specs.Sound.{IsSound, CanPlay, StandsAt, most_after, most_before};
+ghost use Rattle.machine_scene.specs.Sound.{IsSound, CanPlay, StandsAt, most_before};
 ghost use Rattle.machine_scene.specs.Asleep.{KeepsAsleep, MayFallAsleep, WakesNobody};
 ghost use Rattle.machine_scene.specs.Usual.{is_early, is_early_at, is_end, is_usual_in, is_usual};
-ghost use Rattle.machine_scene.specs.Undo.{PhasersWithin, CanUndo, reach_of_row, reach_in, note_of, undone};
+ghost use Rattle.machine_scene.specs.Played.{IsPlayed};
+ghost use Rattle.machine_scene.specs.Undo.{PhasersWithin, reach_of_row, reach_in};
 
 use super::asleep::set_at;
 use super::{Stage, alone};
@@ -30,14 +31,8 @@ impl Stage {
         requires thread { t < length self.old.threads }
         ensures usual { is_some result ≡ is_usual t program.now (scene_of self.old) }
         ensures none { result ≡ None → self.new ≡ self.old }
-        ensures ok { IfSome result (λ event. outcome_of t program.now (scene_of self.old)
-            ≡ Some (record { scene = scene_of self.new; event = event })) }
-        ensures sound { OnSome result ((steps : ℕ) → steps < most_after
-            → IsSound program.now steps (scene_of self.old)
-            → IsSound program.now (steps + 1) (scene_of self.new)) }
-        ensures undo { OnSome result (undone (note_of t program.now self.old) self.new ≡ self.old) }
-        ensures can { OnSome result (CanUndo (note_of t program.now self.old) self.new) }
-        ensures threads { OnSome result (length self.new.threads ≡ length self.old.threads) }
+        ensures ok { IfSome result (λ event.
+            IsPlayed (outcome_of t program.now (scene_of self.old)) t program.now self.old self.new event) }
         ensures asleep { OnSome result (KeepsAsleep program.now self.new) }
     {
         let row = self.row_of(program, t);
