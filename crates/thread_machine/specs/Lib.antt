@@ -8,3 +8,4 @@ pub mod Limit
 pub mod DirectCounts
 pub mod Sound
 pub mod Undo
+pub mod Stepped

@@ -1,14 +1,12 @@
-ghost use Rattle.std.specs.Prelude.{◌≡◌, ◌≢◌, ◌↔◌, ◌+◌, ◌<◌, ◌≤◌, length, map, is_some, IfSome, IfOk, IfErr, OnOk, OnErr, Ok, Err, true, false, Some, None, slice_get};
+ghost use Rattle.std.specs.Prelude.{◌≡◌, ◌↔◌, ◌+◌, ◌<◌, ◌≤◌, length, map, is_some, IfSome, IfOk, OnOk, OnErr, Ok, Err, true, false, Some, None, slice_get};
 ghost use Rattle.std.specs.Option.{option_map, OnSome};
 ghost use Rattle.instruction_table.specs.Registers.{value_in};
-ghost use Rattle.loader.specs.Program.{row_at};
 ghost use Rattle.tier_tree.specs.Origin.{Origin, AreTallied};
 ghost use Rattle.tier_tree.specs.Stored.{phasers_of};
 ghost use Rattle.thread_state.specs.Frame.{entry_of};
 ghost use Rattle.machine_scene.specs.Scene.{scene_of, first_scene, thread_at, barrier_at, starting};
 ghost use Rattle.machine_scene.specs.Outcomes.{is_ready};
 ghost use Rattle.machine_scene.specs.Usual.{is_usual};
-ghost use Rattle.machine_scene.specs.Undo as scene;
 ghost use Rattle.thread_machine.specs.World.{world_of, first_world};
 ghost use Rattle.thread_machine.specs.Idle.{idle_event};
 ghost use Rattle.thread_machine.specs.Ready.{can_expire, can_go_on, is_choice_ready, has_ended, is_stuck, some_ready};
@@ -17,6 +15,7 @@ ghost use Rattle.thread_machine.specs.DirectCounts.{counts_after, EndsNoPhaseEar
 ghost use Rattle.thread_machine.specs.Sound.{IsMachine};
 ghost use Rattle.thread_machine.specs.Step.{played, refusal_of, puts_out};
 ghost use Rattle.thread_machine.specs.Undo.{undone, CanUndo};
+ghost use Rattle.thread_machine.specs.Stepped.{IsStep};
 
 mod idle;
 
@@ -170,17 +169,8 @@ impl Machine {
             → self.old.choices < 1000000000000 → self.old.steps < self.old.limit
             → is_some result ≡ is_usual choice.thread self.old.program (scene_of self.old.scene) }
         ensures none { result ≡ None → self.new ≡ self.old }
-        ensures played { IfSome result (λ event.
-            record { world = world_of self.new; event = event } ≡ played (world_of self.old) choice) }
-        ensures undo { OnSome result
-            (undone (Some (scene.note_of choice.thread self.old.program self.old.scene)) self.new ≡ self.old) }
-        ensures can { OnSome result
-            (scene.CanUndo (scene.note_of choice.thread self.old.program self.old.scene) self.new.scene) }
-        ensures counted { OnSome result (0 < self.new.choices) }
+        ensures step { IfSome result (λ event. IsStep self.old choice (Ok event) self.new) }
         ensures steps { OnSome result (self.new.steps ≡ self.old.steps + 1) }
-        ensures there { OnSome result (choice.thread < length self.old.scene.threads) }
-        ensures accepted { OnSome result (refusal_of (world_of self.old) choice ≡ None) }
-        ensures threads { length self.new.scene.threads ≡ length self.old.scene.threads }
     {
         let t = choice.thread as usize;
         if choice.expiry
@@ -203,24 +193,7 @@ impl Machine {
     /// `step`, and what undoes it where it is an effective step, as the count of these tells.
     #[inline(always)]
     fn stepped(&mut self, choice: Choice) -> Result<Event, StepFault>
-        ensures played { IfOk result (λ event.
-            record { world = world_of self.new; event = event } ≡ played (world_of self.old) choice) }
-        ensures idle { OnOk result (self.new.steps ≡ self.old.steps
-            → self.new ≡ record self.old { choices = self.old.choices + 1 }) }
-        ensures undo { OnOk result (self.new.steps ≢ self.old.steps
-            → undone (Some (scene.note_of choice.thread self.old.program self.old.scene)) self.new ≡ self.old) }
-        ensures can { OnOk result (self.new.steps ≢ self.old.steps
-            → scene.CanUndo (scene.note_of choice.thread self.old.program self.old.scene) self.new.scene) }
-        ensures counted { OnOk result (0 < self.new.choices) }
-        ensures no_thread { (result ≡ Err StepFault.NoSuchThread)
-            ↔ (refusal_of (world_of self.old) choice ≡ Some StepFault.NoSuchThread) }
-        ensures limit { (result ≡ Err StepFault.StepLimit)
-            ↔ (refusal_of (world_of self.old) choice ≡ Some StepFault.StepLimit) }
-        ensures there { OnOk result (choice.thread < length self.old.scene.threads) }
-        ensures accepted { OnOk result (refusal_of (world_of self.old) choice ≡ None) }
-        ensures memory { result ≡ Err StepFault.Memory → puts_out (world_of self.old) choice ≡ true }
-        ensures threads { length self.new.scene.threads ≡ length self.old.scene.threads }
-        ensures err { OnErr result (self.new ≡ self.old) }
+        ensures { IsStep self.old choice result self.new }
     {
         match self.usual_step(choice) {
             Some(event) => Ok(event),
@@ -237,24 +210,7 @@ impl Machine {
     #[inline(never)]
     fn other_step(&mut self, choice: Choice, told: &mut Result<Event, StepFault>)
         requires { told.old ≡ Ok idle_event }
-        ensures played { IfOk told.new (λ event.
-            record { world = world_of self.new; event = event } ≡ played (world_of self.old) choice) }
-        ensures idle { OnOk told.new (self.new.steps ≡ self.old.steps
-            → self.new ≡ record self.old { choices = self.old.choices + 1 }) }
-        ensures undo { OnOk told.new (self.new.steps ≢ self.old.steps
-            → undone (Some (scene.note_of choice.thread self.old.program self.old.scene)) self.new ≡ self.old) }
-        ensures can { OnOk told.new (self.new.steps ≢ self.old.steps
-            → scene.CanUndo (scene.note_of choice.thread self.old.program self.old.scene) self.new.scene) }
-        ensures counted { OnOk told.new (0 < self.new.choices) }
-        ensures no_thread { (told.new ≡ Err StepFault.NoSuchThread)
-            ↔ (refusal_of (world_of self.old) choice ≡ Some StepFault.NoSuchThread) }
-        ensures limit { (told.new ≡ Err StepFault.StepLimit)
-            ↔ (refusal_of (world_of self.old) choice ≡ Some StepFault.StepLimit) }
-        ensures there { OnOk told.new (choice.thread < length self.old.scene.threads) }
-        ensures accepted { OnOk told.new (refusal_of (world_of self.old) choice ≡ None) }
-        ensures memory { told.new ≡ Err StepFault.Memory → puts_out (world_of self.old) choice ≡ true }
-        ensures threads { length self.new.scene.threads ≡ length self.old.scene.threads }
-        ensures err { OnErr told.new (self.new ≡ self.old) }
+        ensures { IsStep self.old choice told.new self.new }
     {
         self.is_sound();
         let t = choice.thread as usize;
@@ -281,19 +237,7 @@ impl Machine {
         requires turn { choice.expiry ≡ false }
         requires steps { self.old.steps < self.old.limit }
         requires told { told.old ≡ Ok idle_event }
-        ensures played { IfOk told.new (λ event.
-            record { world = world_of self.new; event = event } ≡ played (world_of self.old) choice) }
-        ensures idle { OnOk told.new (self.new.steps ≡ self.old.steps
-            → self.new ≡ record self.old { choices = self.old.choices + 1 }) }
-        ensures undo { OnOk told.new (self.new.steps ≢ self.old.steps
-            → undone (Some (scene.note_of choice.thread self.old.program self.old.scene)) self.new ≡ self.old) }
-        ensures can { OnOk told.new (self.new.steps ≢ self.old.steps
-            → scene.CanUndo (scene.note_of choice.thread self.old.program self.old.scene) self.new.scene) }
-        ensures counted { OnOk told.new (0 < self.new.choices) }
-        ensures memory { IfErr told.new (λ fault. (fault ≡ StepFault.Memory)
-            × (puts_out (world_of self.old) choice ≡ true)) }
-        ensures threads { length self.new.scene.threads ≡ length self.old.scene.threads }
-        ensures err { OnErr told.new (self.new ≡ self.old) }
+        ensures { IsStep self.old choice told.new self.new }
     {
         match self.stage.last_turn(&self.program, choice.thread as usize) {
             Some(event) => {
@@ -313,19 +257,7 @@ impl Machine {
         requires turn { choice.expiry ≡ false }
         requires steps { self.old.steps < self.old.limit }
         requires told { told.old ≡ Ok idle_event }
-        ensures played { IfOk told.new (λ event.
-            record { world = world_of self.new; event = event } ≡ played (world_of self.old) choice) }
-        ensures idle { OnOk told.new (self.new.steps ≡ self.old.steps
-            → self.new ≡ record self.old { choices = self.old.choices + 1 }) }
-        ensures undo { OnOk told.new (self.new.steps ≢ self.old.steps
-            → undone (Some (scene.note_of choice.thread self.old.program self.old.scene)) self.new ≡ self.old) }
-        ensures can { OnOk told.new (self.new.steps ≢ self.old.steps
-            → scene.CanUndo (scene.note_of choice.thread self.old.program self.old.scene) self.new.scene) }
-        ensures counted { OnOk told.new (0 < self.new.choices) }
-        ensures memory { IfErr told.new (λ fault. (fault ≡ StepFault.Memory)
-            × (puts_out (world_of self.old) choice ≡ true)) }
-        ensures threads { length self.new.scene.threads ≡ length self.old.scene.threads }
-        ensures err { OnErr told.new (self.new ≡ self.old) }
+        ensures { IsStep self.old choice told.new self.new }
     {
         match self.stage.turn(&self.program, choice.thread as usize) {
             Ok(Some(event)) => {
@@ -345,24 +277,7 @@ impl Machine {
         requires choices { self.old.choices < 1000000000000 }
         requires seldom { choice.expiry ≡ false → self.old.steps ≡ self.old.limit }
         requires told { told.old ≡ Ok idle_event }
-        ensures played { IfOk told.new (λ event.
-            record { world = world_of self.new; event = event } ≡ played (world_of self.old) choice) }
-        ensures idle { OnOk told.new (self.new.steps ≡ self.old.steps
-            → self.new ≡ record self.old { choices = self.old.choices + 1 }) }
-        ensures undo { OnOk told.new (self.new.steps ≢ self.old.steps
-            → undone (Some (scene.note_of choice.thread self.old.program self.old.scene)) self.new ≡ self.old) }
-        ensures can { OnOk told.new (self.new.steps ≢ self.old.steps
-            → scene.CanUndo (scene.note_of choice.thread self.old.program self.old.scene) self.new.scene) }
-        ensures counted { OnOk told.new (0 < self.new.choices) }
-        ensures no_thread { (told.new ≡ Err StepFault.NoSuchThread)
-            ↔ (refusal_of (world_of self.old) choice ≡ Some StepFault.NoSuchThread) }
-        ensures limit { (told.new ≡ Err StepFault.StepLimit)
-            ↔ (refusal_of (world_of self.old) choice ≡ Some StepFault.StepLimit) }
-        ensures there { OnOk told.new (choice.thread < length self.old.scene.threads) }
-        ensures accepted { OnOk told.new (refusal_of (world_of self.old) choice ≡ None) }
-        ensures memory { told.new ≡ Err StepFault.Memory → puts_out (world_of self.old) choice ≡ true }
-        ensures threads { length self.new.scene.threads ≡ length self.old.scene.threads }
-        ensures err { OnErr told.new (self.new ≡ self.old) }
+        ensures { IsStep self.old choice told.new self.new }
     {
         let t = choice.thread as usize;
         if !choice.expiry {
