@@ -18,9 +18,9 @@ pub mod registers;
 // What the rows do that need nothing else.
 pub mod local_rows;
 
-pub use local_rows::{is_local, local};
+pub use local_rows::{is_local, local, play_local};
 pub use register::Reg;
-pub use registers::Regs;
+pub use registers::{Local, Regs};
 pub use row::{Row, is_timed, opcode};
 pub use shape::{OperandKind, Shape};
 pub use table::{mnemonic, opcode_named, operands_of, row_shape, shape_of};

@@ -1,9 +1,9 @@
-ghost use Rattle.std.specs.Prelude.{◌≡◌, ◌<◌, ◌+◌, ◌+ℤ◌, ◌-ℤ◌, IsTrue, None, if◌then◌else◌};
+ghost use Rattle.std.specs.Prelude.{◌≡◌, ◌<◌, ◌+◌, ◌+ℤ◌, ◌-ℤ◌, IsTrue, None, min, if◌then◌else◌};
 ghost use Rattle.instruction_table.specs.LocalRows.{is_local_row, loads, local_of, wrapped};
 ghost use Rattle.instruction_table.specs.Registers.{value_in};
 
 use crate::register::Reg;
-use crate::registers::Regs;
+use crate::registers::{Local, Regs};
 use crate::row::Row;
 
 /// Whether the row touches nothing but its own thread's registers and place: the rows of opcodes
@@ -68,11 +68,25 @@ fn branch(pc: &mut u16, taken: bool, target: u16) -> Option<i32>
     go_to(pc, if taken { target } else { next })
 }
 
-/// Plays the row at `pc`: it leaves its effect on the registers and on `pc`, and answers what it put into a register, where
-/// it puts anything: its event shows this number. Sums and differences wrap as Java's `int` does. The number of a
-/// program's row is always below 65535.
+/// What the row at `pc` leaves of these registers and of `pc`. Sums and differences wrap as Java's `int` does. Numbers of rows
+/// end at 65535: no row comes after it.
+pub fn local(row: Row, registers: &Regs, pc: u16) -> Local
+    requires { IsTrue (is_local_row row) }
+    ensures registers { result.registers ≡ (local_of row registers.now pc).registers }
+    ensures pc { result.pc ≡ min (local_of row registers.now pc).pc 65535 }
+{
+    let mut left = Local {
+        registers: *registers,
+        pc: pc.min(65534),
+    };
+    play_local(row, &mut left.registers, &mut left.pc);
+    left
+}
+
+/// `local`, written over the registers and `pc`. It answers what it put into a register, where it puts anything: its event
+/// shows this number. The number of a program's row is always below 65535.
 #[inline(always)]
-pub fn local(row: Row, registers: &mut Regs, pc: &mut u16) -> Option<i32>
+pub fn play_local(row: Row, registers: &mut Regs, pc: &mut u16) -> Option<i32>
     requires local { IsTrue (is_local_row row) }
     requires place { pc.old < 65535 }
     ensures { record { registers = registers.new; pc = pc.new; written = result }

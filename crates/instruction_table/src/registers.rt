@@ -45,3 +45,10 @@ impl Regs {
         self.values[place] = value;
     }
 }
+
+/// What a row leaves that touches nothing else: the registers, and the number of the row that comes next.
+#[derive(Clone, Copy)]
+pub struct Local {
+    pub registers: Regs,
+    pub pc: u16,
+}

@@ -11,7 +11,7 @@ ghost use Rattle.std.specs.List.{list_any};
 use crate::event::What;
 use crate::frame::Frame;
 use crate::status::Status;
-use instruction_table::{Reg, Regs, Row, local};
+use instruction_table::{Reg, Regs, Row, play_local};
 use std::alloc::{AllocError, Global};
 use std::marker::Model;
 
@@ -235,7 +235,7 @@ impl Thread {
         requires place { self.old.pc < 65535 }
         ensures { record { thread = self.new; what = result } ≡ turn_of_local row self.old }
     {
-        match local(row, &mut self.registers, &mut self.pc) {
+        match play_local(row, &mut self.registers, &mut self.pc) {
             Some(value) => What::Value(value),
             None => What::Done,
         }

@@ -79,8 +79,8 @@ pub fn undo_two(
     forest.is_forest();
     let second = forest.save(other);
     let registered = forest.register(other, count);
-    forest.restore(&second);
-    forest.restore(&first);
+    forest.restore(second);
+    forest.restore(first);
     (arrived, registered)
 }
 

@@ -232,7 +232,19 @@ impl Forest {
 
     /// Undoes the call since the forest was saved, or the call and the phase end that it brought:
     /// every word is as it was then (`undone`).
-    pub fn restore(&mut self, saved: &Saved)
+    pub fn restore(&mut self, saved: Saved)
+        requires { IsSavedOf saved self.old }
+        ensures forest { self.new ≡ restored saved self.old }
+        ensures many { length self.new ≡ length self.old }
+        ensures places { KeepsPlaces (phasers_of self.old) (phasers_of self.new) }
+        ensures undone { (id : ℕ) (before : List Stored) → saved ≡ saved_of id before
+            → ChangedAt id before self.old → self.new ≡ before }
+    {
+        self.put_back(&saved);
+    }
+
+    /// `restore`, by what was saved where it lies.
+    pub fn put_back(&mut self, saved: &Saved)
         requires { IsSavedOf saved.now self.old }
         ensures forest { self.new ≡ restored saved.now self.old }
         ensures many { length self.new ≡ length self.old }

@@ -98,7 +98,7 @@ impl Stage {
             Touched::Nothing => {}
             Touched::Cell { cell, number } => self.cells[*cell as usize] = *number,
             Touched::Thread { thread, before } => self.threads[*thread as usize].undo(before),
-            Touched::Tree(saved) => self.phasers.restore(saved),
+            Touched::Tree(saved) => self.phasers.put_back(saved),
             Touched::Barrier { barrier, before } => self.barriers[*barrier as usize] = *before,
         }
     }

@@ -522,7 +522,7 @@ fn undo_phase_end(forest: &mut Forest, id: PhaserId, words: &[(u8, u64)]) -> (Ar
     let saved = forest.save(id);
     let answer = arrive_through(forest, id, false);
     let are_these = has_words(forest, words);
-    forest.restore(&saved);
+    forest.restore(saved);
     (answer, are_these)
 }
 

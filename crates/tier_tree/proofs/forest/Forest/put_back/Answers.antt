@@ -3,7 +3,7 @@ use Rattle.tier_tree.specs.Answer.{KeepsPlaces}
 use Rattle.tier_tree.specs.Stored.{Stored, IsStored, ChangedAt, phasers_of}
 use Rattle.tier_tree.proofs.Changed.{restored_call}
 use Rattle.tier_tree.proofs.Calls.{written_back, written_many, written_places}
-use Rattle.tier_tree.proofs.forest.Forest.restore.Goals as goal
+use Rattle.tier_tree.proofs.forest.Forest.put_back.Goals as goal
 
 pub returns-clause-undone : goal.returns-clause-undone
 returns-clause-undone c id before kept changed =
