@@ -82,6 +82,21 @@ def judge(answer, usual):
     return "as ever" if shown == usual[2] else "fewer words"
 
 
+def swept(refused):
+    """What comes of one refused request after another: of the first 300, then of one in 89, since a loop asks alike, and of all of
+    the last 89. None where there is no last one."""
+    request, is_near_end = 1, False
+    while request < 20000:
+        step = 1 if request <= 300 or is_near_end else 89
+        answer = refused(request)
+        yield answer
+        if answer[3] and step == 1:
+            return
+        is_near_end = is_near_end or answer[3]
+        request += 1 - 2 * step if answer[3] else step
+    yield None
+
+
 def sweep(program, library, examples, command, is_session):
     """What came of a command's calls."""
     came = set()
@@ -93,13 +108,8 @@ def sweep(program, library, examples, command, is_session):
         terminal = Terminal(program, library)
         usual = terminal.call(command.split(), is_session, {})
         for refusal in ("REFUSE_REQUEST", "REFUSE_FROM"):
-            for request in range(1, 2000):
-                answer = terminal.refused(command.split(), is_session, refusal, request)
-                came.add(judge(answer, usual))
-                if answer[3]:
-                    break
-            else:
-                came.add("requests without an end")
+            for answer in swept(lambda request: terminal.refused(command.split(), is_session, refusal, request)):
+                came.add(judge(answer, usual) if answer else "requests without an end")
         os.chdir("/")
     return came
 

@@ -53,7 +53,7 @@ impl<'a> Mirror<'a> {
     /// Plays what a line asks the debugger for.
     pub fn follow(&mut self, alloc: Global, line: &[u8]) -> Result<(), AllocError> {
         let before = self.debugger.machine().choices();
-        if self.debugger.command(alloc, line, &mut Nowhere).is_err() {
+        if self.debugger.command(line, &mut Nowhere).is_err() {
             return Err(AllocError);
         }
         let after = self.debugger.machine().choices();

@@ -1,4 +1,4 @@
-pub mod Slots
+pub mod Boxes
 pub mod Trails
 pub mod Histories
 pub mod Moves

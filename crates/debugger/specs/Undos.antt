@@ -1,5 +1,5 @@
 -- What is kept so that the last choices can be undone.
-use Rattle.std.specs.Prelude.{ℕ, zero, suc, ◌-◌, List, ◌∷◌, ◌++◌, take, drop, Option}
+use Rattle.std.specs.Prelude.{ℕ, List, ◌∷◌, take, drop, Option}
 use Rattle.machine_scene.specs.Undo.{Note}
 
 -- the notes of the last choices, the newest first, and how many of them there may be
@@ -14,12 +14,3 @@ with_note note kept = record kept { notes = take kept.most (note ∷ kept.notes)
 -- all but the newest
 abbrev pub without_newest : Kept → Kept
 without_newest kept = record kept { notes = drop 1 kept.notes }
-
--- the slots from one of them on, to the last and on from the first
-abbrev pub around : {X : Type 0} → ℕ → List X → List X
-around first slots = drop first slots ++ take first slots
-
--- the slot before one, around
-abbrev pub before : ℕ → ℕ → ℕ
-before zero count = count - 1
-before (suc slot) count = slot

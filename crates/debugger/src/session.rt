@@ -8,7 +8,7 @@ use crate::undos::Undos;
 use schedule_reader::Run;
 use std::alloc::{AllocError, Global};
 use std::marker::Model;
-use thread_machine::{Choice, Event, Machine, StepFault};
+use thread_machine::{Choice, Event, Machine, StepFault, Undo};
 
 mod go;
 mod reply;
@@ -20,9 +20,12 @@ pub use reply::CommandFault;
 pub struct Debugger {
     played: Machine,
     undos: Undos,
+    /// What undoes the next choice is written here.
+    spare: Box<Undo>,
     marks: Vec<bool>,
     /// Room for the runs of a line, so that one `g` after another takes no memory.
     room: Vec<Run>,
+    alloc: Global,
 }
 
 impl Model for Debugger {
@@ -42,7 +45,7 @@ impl Model for Debugger {
 
 /// No record of a choice, with room for so many, and no breakpoint at any of the rows.
 fn nothing_yet(alloc: Global, kept: u16, rows: usize) -> Result<(Undos, Vec<bool>), AllocError>
-    requires { kept ≤ 4096 }
+    requires { 0 < kept }
     ensures kept { IfOk result (λ both. both.0 ≡ record { notes = []; most = kept }) }
     ensures marks { IfOk result (λ both. both.1.items ≡ replicate rows false) }
 {
@@ -67,8 +70,10 @@ impl Debugger {
         Ok(Debugger {
             played: machine,
             undos,
+            spare: Box::new(alloc, Undo::new())?,
             marks,
             room: Vec::new(alloc),
+            alloc,
         })
     }
 
@@ -94,10 +99,11 @@ impl Debugger {
         ensures memory { result ≡ Err StepFault.Memory → puts_out (world_of self.old.machine) choice ≡ true }
         ensures err { OnErr result (self.new ≡ self.old) }
     {
-        let event = match self.undos.step(&mut self.played, choice) {
+        let event = match self.played.step_into(choice, &mut self.spare) {
             Ok(event) => event,
             Err(fault) => return Err(fault),
         };
+        self.undos.push(&mut self.spare);
         Ok(event)
     }
 

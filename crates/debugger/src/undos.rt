@@ -1,108 +1,67 @@
-ghost use Rattle.std.specs.Prelude.{◌≡◌, ◌↔◌, ◌+◌, ◌<◌, ◌≤◌, [], length, slice_get, option_copied, true, Option, Some, None, IfOk, OnOk, OnErr};
-ghost use Rattle.machine_scene.specs.Undo.{Note};
-ghost use Rattle.thread_machine.specs.World.{world_of};
-ghost use Rattle.thread_machine.specs.Step.{played, refusal_of, puts_out};
-ghost use Rattle.thread_machine.specs.Undo.{undone, CanUndo};
-ghost use Rattle.debugger.specs.Undos.{before, with_note, without_newest};
+ghost use Rattle.std.specs.Prelude.{◌≡◌, ◌<◌, [], length, slice_get, option_copied, IfOk};
+ghost use Rattle.debugger.specs.Undos.{with_note, without_newest};
 
+use circular_buffer::HeapCircularBuffer;
 use std::alloc::{AllocError, Global};
 use std::marker::Model;
-use thread_machine::{Choice, Event, Machine, StepFault, Undo};
+use std::mem::replace;
+use thread_machine::Undo;
 
-/// What undoes the last choices, in slots that are written over in turn, each where it lies. There is one slot more than
-/// are kept: a choice that is refused may have written over the one that it was given.
+/// What undoes the last choices, the newest first, each in a box that stays where it is, and boxes for the next ones.
 #[derive(Drop)]
 pub struct Undos {
-    slots: Vec<Undo>,
-    newest: usize,
-    count: usize,
+    kept: HeapCircularBuffer<Box<Undo>>,
+    free: HeapCircularBuffer<Box<Undo>>,
 }
 
 impl Model for Undos {
-    ghost use Rattle.std.specs.Prelude.{◌-◌, ◌<◌, ◌≤◌, length, take};
-    ghost use Rattle.debugger.specs.Undos.{Kept, around};
+    ghost use Rattle.std.specs.Prelude.{◌≡◌, ◌+◌, ◌<◌, length, map};
+    ghost use Rattle.std.specs.Box.{box_value};
+    ghost use Rattle.debugger.specs.Undos.{Kept};
 
     ghost Value = { Kept };
 
-    ghost view = { λ undos. record {
-      notes = take undos.count (around undos.newest undos.slots.items);
-      most = length undos.slots.items - 1;
-    } };
+    ghost view = { λ undos. record { notes = map box_value undos.kept.items; most = undos.kept.capacity } };
 
-    ghost invariant = { λ undos. (undos.newest < length undos.slots.items)
-        × (undos.count < length undos.slots.items) × (length undos.slots.items ≤ 4097) };
+    ghost invariant = { λ undos. (length undos.kept.items + length undos.free.items ≡ undos.kept.capacity)
+        × (undos.free.capacity ≡ undos.kept.capacity) × (0 < undos.kept.capacity) };
 }
 
-/// So many slots.
-fn slots(alloc: Global, count: usize) -> Result<Vec<Undo>, AllocError>
-    ensures { IfOk result (λ slots. length slots.items ≡ count) }
+/// So many boxes.
+fn boxes(alloc: Global, count: usize) -> Result<HeapCircularBuffer<Box<Undo>>, AllocError>
+    ensures { IfOk result (λ boxes. (length boxes.items ≡ count) × (boxes.capacity ≡ count)) }
 {
-    let mut slots = Vec::with_capacity(alloc, count)?;
+    let mut boxes = HeapCircularBuffer::with_capacity(alloc, count)?;
     for _ in 0..count {
-        slots.push(Undo::new())?;
+        boxes.try_push_back(Box::new(alloc, Undo::new())?).unwrap();
     }
-    Ok(slots)
-}
-
-/// The slot before one, around.
-fn before(slot: usize, count: usize) -> usize
-    requires { slot < count }
-    ensures slot { result ≡ before slot count }
-    ensures within { result < count }
-{
-    if slot == 0 { count - 1 } else { slot - 1 }
+    Ok(boxes)
 }
 
 impl Undos {
     /// Of no choice, with room for so many. Only this takes memory.
     pub fn new(alloc: Global, most: u16) -> Result<Undos, AllocError>
-        requires { most ≤ 4096 }
+        requires { 0 < most }
         ensures { IfOk result (λ undos. undos ≡ record { notes = []; most = most }) }
     {
+        let kept = HeapCircularBuffer::with_capacity(alloc, most as usize)?;
         Ok(Undos {
-            slots: slots(alloc, most as usize + 1)?,
-            newest: 0,
-            count: 0,
+            kept,
+            free: boxes(alloc, most as usize)?,
         })
     }
 
-    /// Plays a choice, and keeps what undoes it: it is written where it stays.
+    /// Keeps what undoes one choice more, and gives another box for it.
     #[inline(always)]
-    pub fn step(&mut self, machine: &mut Machine, choice: Choice) -> Result<Event, StepFault>
-        ensures played { IfOk result (λ event. record { world = world_of machine.new; event = event }
-            ≡ played (world_of machine.old) choice) }
-        ensures kept { OnOk result ((note : Option Note) × (self.new ≡ with_note note self.old)
-            × (undone note machine.new ≡ machine.old) × CanUndo note machine.new) }
-        ensures no_thread { (result ≡ Err StepFault.NoSuchThread)
-            ↔ (refusal_of (world_of machine.old) choice ≡ Some StepFault.NoSuchThread) }
-        ensures limit { (result ≡ Err StepFault.StepLimit)
-            ↔ (refusal_of (world_of machine.old) choice ≡ Some StepFault.StepLimit) }
-        ensures accepted { OnOk result (refusal_of (world_of machine.old) choice ≡ None) }
-        ensures memory { result ≡ Err StepFault.Memory → puts_out (world_of machine.old) choice ≡ true }
-        ensures machine { OnErr result (machine.new ≡ machine.old) }
-        ensures err { OnErr result (self.new ≡ self.old) }
+    pub fn push(&mut self, undo: &mut Box<Undo>)
+        ensures { self.new ≡ with_note undo.old.value self.old }
     {
-        let slot = before(self.newest, self.slots.len());
-        let event = match machine.step_into(choice, &mut self.slots[slot]) {
-            Ok(event) => event,
-            Err(fault) => return Err(fault),
-        };
-        self.newest = slot;
-        if self.count + 1 < self.slots.len() {
-            self.count += 1;
-        }
-        Ok(event)
-    }
-
-    /// Keeps what undoes one choice more.
-    pub fn push(&mut self, undo: Undo)
-        ensures { self.new ≡ with_note undo self.old }
-    {
-        let at = before(self.newest, self.slots.len());
-        self.slots[at] = undo;
-        self.newest = at;
-        if self.count + 1 < self.slots.len() {
-            self.count += 1;
+        if self.kept.is_full() {
+            let oldest = self.kept.pop_back().unwrap();
+            self.kept.try_push_front(replace(undo, oldest)).unwrap();
+        } else {
+            let next = self.free.pop_back().unwrap();
+            self.kept.try_push_front(replace(undo, next)).unwrap();
         }
     }
 
@@ -110,24 +69,18 @@ impl Undos {
     pub fn newest(&self) -> Option<&Undo>
         ensures { option_copied result ≡ slice_get self.now.notes 0 }
     {
-        if self.count == 0 {
-            return None;
+        match self.kept.front() {
+            Some(undo) => Some(&**undo),
+            None => None,
         }
-        Some(&self.slots[self.newest])
     }
 
     /// Drops what undoes the last choice, if it is kept.
     pub fn drop_newest(&mut self)
         ensures { self.new ≡ without_newest self.old }
     {
-        if self.count == 0 {
-            return;
-        }
-        self.count -= 1;
-        if self.newest + 1 == self.slots.len() {
-            self.newest = 0;
-        } else {
-            self.newest += 1;
+        if let Some(newest) = self.kept.pop_front() {
+            self.free.try_push_back(newest).unwrap();
         }
     }
 }

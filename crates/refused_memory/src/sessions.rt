@@ -180,7 +180,7 @@ impl Trial for Commanding {
         let mut debugger = debugger_after(alloc, 3)?;
         let mut output = MemorySink::new(alloc, 1000, None)?;
         marks::begin(alloc, refusal);
-        let result = debugger.command(alloc, self.line, &mut output);
+        let result = debugger.command(self.line, &mut output);
         marks::end(alloc);
         let (answer, count) = self.judged(result, output.bytes());
         let stands = stands_at(alloc, &mut debugger, count)?;

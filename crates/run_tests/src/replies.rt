@@ -32,10 +32,7 @@ fn debugger_behind(alloc: Global, commands: &[&str]) -> Result<Debugger, Fail> {
     let mut debugger = Debugger::new(alloc, machine, 100)?;
     for line in commands {
         let mut output = MemorySink::new(alloc, 1000, None)?;
-        if debugger
-            .command(alloc, line.as_bytes(), &mut output)
-            .is_err()
-        {
+        if debugger.command(line.as_bytes(), &mut output).is_err() {
             return Err("a fault".into());
         }
     }
@@ -50,8 +47,8 @@ fn is_like(alloc: Global, debugger: &mut Debugger, other: &mut Debugger) -> Resu
     }
     let mut output = MemorySink::new(alloc, 1000, None)?;
     let mut wanted = MemorySink::new(alloc, 1000, None)?;
-    let one = debugger.command(alloc, b"g t0*3 t1*3", &mut output).is_ok();
-    let two = other.command(alloc, b"g t0*3 t1*3", &mut wanted).is_ok();
+    let one = debugger.command(b"g t0*3 t1*3", &mut output).is_ok();
+    let two = other.command(b"g t0*3 t1*3", &mut wanted).is_ok();
     Ok(one && two && output.bytes() == wanted.bytes())
 }
 
@@ -65,7 +62,7 @@ fn first(count: usize) -> &'static [&'static str] {
 fn reply(alloc: Global, count: usize, line: &str) -> Result<MemorySink, Fail> {
     let mut debugger = debugger_behind(alloc, first(count))?;
     let mut output = MemorySink::new(alloc, 1000, None)?;
-    match debugger.command(alloc, line.as_bytes(), &mut output) {
+    match debugger.command(line.as_bytes(), &mut output) {
         Ok(_) => Ok(output),
         Err(_) => Err("a fault".into()),
     }
@@ -82,7 +79,7 @@ fn is_told(
 ) -> Result<bool, Fail> {
     let mut output = MemorySink::new(alloc, 1000, Some(call))?;
     Ok(
-        match debugger.command(alloc, line.as_bytes(), &mut output) {
+        match debugger.command(line.as_bytes(), &mut output) {
             Ok(_) => output.bytes() == whole,
             Err(fault) => fault == CommandFault::Write && whole.starts_with(output.bytes()),
         },

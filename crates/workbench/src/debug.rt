@@ -191,7 +191,7 @@ fn converse<S: Source, K: Sink>(
     let mut line = Vec::new(alloc);
     let mut reads = MOST_READS;
     while reads > 0 {
-        match take_turn(alloc, debugger, &mut line, &mut reads, commands, output) {
+        match take_turn(debugger, &mut line, &mut reads, commands, output) {
             Ok(true) => {}
             Ok(false) => return Ok(()),
             Err(fault) => return Err(fault),
@@ -202,7 +202,6 @@ fn converse<S: Source, K: Sink>(
 
 /// Reads a line and answers it; whether the session goes on. `reads` is how often the commands may still be read.
 fn take_turn<S: Source, K: Sink>(
-    alloc: Global,
     debugger: &mut Debugger,
     line: &mut Vec<u8>,
     reads: &mut u64,
@@ -235,19 +234,14 @@ fn take_turn<S: Source, K: Sink>(
     if !is_ended && line.is_empty() {
         return Ok(false);
     }
-    match answer(alloc, debugger, line.as_slice(), output) {
+    match answer(debugger, line.as_slice(), output) {
         Ok(goes_on) => Ok(is_ended && goes_on),
         Err(fault) => Err(fault),
     }
 }
 
 /// `Debugger::command` in the words of the commands.
-fn answer<K: Sink>(
-    alloc: Global,
-    debugger: &mut Debugger,
-    line: &[u8],
-    output: &mut K,
-) -> Result<bool, Fault>
+fn answer<K: Sink>(debugger: &mut Debugger, line: &[u8], output: &mut K) -> Result<bool, Fault>
     ensures answered { OnOk result ((text : List ℕ)
         × (Replies debugger.old (line_order line.now) debugger.new text
         × Appends (K.written output.old) (K.written output.new) text)) }
@@ -257,7 +251,7 @@ fn answer<K: Sink>(
     ensures write { result ≡ Err Fault.Write → IsTrue (K.has_failed output.new) }
     ensures fault { IfErr result (λ fault. (fault ≡ Fault.Memory) ⊎ (fault ≡ Fault.Write)) }
 {
-    match debugger.command(alloc, line, output) {
+    match debugger.command(line, output) {
         Ok(goes_on) => Ok(goes_on),
         Err(CommandFault::Memory) => Err(Fault::Memory),
         Err(CommandFault::Write) => Err(Fault::Write),

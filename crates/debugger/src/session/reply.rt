@@ -15,7 +15,7 @@ use crate::session::Debugger;
 use crate::stop::Stop;
 use byte_ports::{Failed, Sink};
 use schedule_reader::Run;
-use std::alloc::{AllocError, Global};
+use std::alloc::AllocError;
 use std::mem::replace;
 use thread_machine::{Choice, StepFault};
 use trace_compare::line::{event_line, refusal_line};
@@ -128,14 +128,14 @@ impl Debugger {
             return refusal_line(line, number, choice, None);
         }
         let pc = self.played.pc(choice.thread);
-        match self.played.step_noting(choice) {
-            Ok((event, undo)) => match event_line(line, number, choice, pc, &event) {
+        match self.played.step_into(choice, &mut self.spare) {
+            Ok(event) => match event_line(line, number, choice, pc, &event) {
                 Ok(()) => {
-                    self.undos.push(undo);
+                    self.undos.push(&mut self.spare);
                     Ok(())
                 }
                 Err(error) => {
-                    self.played.back(undo);
+                    self.played.take_back(&self.spare);
                     Err(error)
                 }
             },
@@ -144,19 +144,14 @@ impl Debugger {
         }
     }
 
-    fn step_command<W: Sink>(
-        &mut self,
-        alloc: Global,
-        choice: Choice,
-        output: &mut W,
-    ) -> Result<(), CommandFault>
+    fn step_command<W: Sink>(&mut self, choice: Choice, output: &mut W) -> Result<(), CommandFault>
         ensures replies { result ≢ Err CommandFault.Memory → IsCarriedOut result self.old (Step choice) self.new
             (W.written output.old) (W.written output.new) }
         ensures memory { result ≡ Err CommandFault.Memory
             → (self.new ≡ self.old) × (W.written output.new ≡ W.written output.old) }
         ensures write { result ≡ Err CommandFault.Write → IsTrue (W.has_failed output.new) }
     {
-        let mut line = Vec::new(alloc);
+        let mut line = Vec::new(self.alloc);
         self.step_line(&mut line, choice)?;
         output.push(line.as_slice())?;
         Ok(())
@@ -210,24 +205,19 @@ impl Debugger {
         Ok(())
     }
 
-    fn print_command<W: Sink>(&self, alloc: Global, output: &mut W) -> Result<(), CommandFault>
+    fn print_command<W: Sink>(&self, output: &mut W) -> Result<(), CommandFault>
         ensures text { OnOk result (Appends (W.written output.old) (W.written output.new)
             (state_text (world_of self.now.machine))) }
         ensures memory { result ≡ Err CommandFault.Memory → W.written output.new ≡ W.written output.old }
         ensures write { result ≡ Err CommandFault.Write → IsTrue (W.has_failed output.new) }
     {
-        let text = state_text(alloc, self.machine())?;
+        let text = state_text(self.alloc, self.machine())?;
         output.push(text.as_slice())?;
         Ok(())
     }
 
     /// Carries out a command and writes its reply.
-    fn carry_out<W: Sink>(
-        &mut self,
-        alloc: Global,
-        command: Command,
-        output: &mut W,
-    ) -> Result<(), CommandFault>
+    fn carry_out<W: Sink>(&mut self, command: Command, output: &mut W) -> Result<(), CommandFault>
         ensures replies { result ≢ Err CommandFault.Memory → IsCarriedOut result self.old (order_of command) self.new
             (W.written output.old) (W.written output.new) }
         ensures memory { result ≡ Err CommandFault.Memory
@@ -236,7 +226,7 @@ impl Debugger {
         ensures wants { result ≡ Err CommandFault.Memory → wants_memory (order_of command) ≡ true }
     {
         match command {
-            Command::Step(choice) => self.step_command(alloc, choice, output),
+            Command::Step(choice) => self.step_command(choice, output),
             Command::Go(runs) => {
                 let done = self.go_command(runs.as_slice(), output);
                 self.room = runs;
@@ -245,28 +235,23 @@ impl Debugger {
             Command::Back => self.back_command(output),
             Command::Break(row) => self.break_command(row, output),
             Command::Clear(row) => self.clear_command(row, output),
-            Command::Print => self.print_command(alloc, output),
+            Command::Print => self.print_command(output),
             Command::Quit => Ok(()),
             Command::Unknown => say_unknown(output),
         }
     }
 
     /// The room for the runs of a line. `go` puts it back.
-    fn take_room(&mut self, alloc: Global) -> Vec<Run>
+    fn take_room(&mut self) -> Vec<Run>
         ensures { self.new ≡ self.old }
     {
-        replace(&mut self.room, Vec::new(alloc))
+        replace(&mut self.room, Vec::new(self.alloc))
     }
 
     /// Carries out the command of a line and writes its reply; false after `q`. The line is read whole before anything is
     /// done, so one that is no command leaves the debugger as before. After `Write` the command was carried out, and how much
     /// of its reply went out is left open; after `Memory` it was not, and nothing was written.
-    pub fn command<W: Sink>(
-        &mut self,
-        alloc: Global,
-        line: &[u8],
-        output: &mut W,
-    ) -> Result<bool, CommandFault>
+    pub fn command<W: Sink>(&mut self, line: &[u8], output: &mut W) -> Result<bool, CommandFault>
         ensures replies { result ≢ Err CommandFault.Memory → IsCarriedOut result self.old (line_order line.now) self.new
             (W.written output.old) (W.written output.new) }
         ensures goes_on { IfOk result (λ more. more ≡ goes_on (line_order line.now)) }
@@ -279,10 +264,10 @@ impl Debugger {
             self.go_command(&[run], output)?;
             return Ok(true);
         }
-        let room = self.take_room(alloc);
+        let room = self.take_room();
         let command = command_of(room, line)?;
         let goes_on = command.goes_on();
-        match self.carry_out(alloc, command, output) {
+        match self.carry_out(command, output) {
             Ok(()) => Ok(goes_on),
             Err(fault) => Err(fault),
         }

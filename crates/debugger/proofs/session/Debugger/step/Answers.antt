@@ -8,13 +8,13 @@ use Rattle.debugger.proofs.session.Debugger.step.Goals as goal
 
 pub invariant_of-self-2 : goal.invariant_of-self-2
 invariant_of-self-2 c =
-    trail_on c.self.inside.played c.step.new.machine c.in-Ok.ensures.kept.0 c.self.inside.undos c.step.new.self
-    c.in-Ok.ensures.kept.1 c.in-Ok.ensures.kept.2 c.in-Ok.ensures.kept.3 c.self.invariant
+    trail_on c.self.inside.played c.step_into.new.self c.step_into.new.undo c.self.inside.undos c.push.new.self
+    c.push.ensures c.in-Ok.ensures.undo c.in-Ok.ensures.can c.self.invariant
 
 pub returns-clause-session : goal.returns-clause-session
 returns-clause-session c =
-    session_on c.self.inside.played c.step.new.machine c.in-Ok.ensures.kept.0 c.self.inside.undos c.step.new.self
-    c.self.inside.marks.items c.args.self.now c.in-Ok.ensures.kept.1 c.in-Ok.ensures.kept.2 c.self.view_is
+    session_on c.self.inside.played c.step_into.new.self c.step_into.new.undo c.self.inside.undos c.push.new.self
+    c.self.inside.marks.items c.args.self.now c.push.ensures c.in-Ok.ensures.undo c.self.view_is
 
 pub returns-clause-history : goal.returns-clause-history
 returns-clause-history c = λ first choices history.

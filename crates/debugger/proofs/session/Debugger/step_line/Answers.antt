@@ -8,7 +8,7 @@ use Rattle.debugger.proofs.session.Debugger.step_line.Goals as goal
 
 pub invariant_of-self : goal.invariant_of-self
 invariant_of-self c =
-    trail_on c.self.inside.played c.step_noting.new.self c.in-Ok.undo c.self.inside.undos c.push.new.self
+    trail_on c.self.inside.played c.step_into.new.self c.step_into.new.undo c.self.inside.undos c.push.new.self
     c.push.ensures c.in-Ok.ensures.undo c.in-Ok.ensures.can c.self.invariant
 
 pub returns-in-Ok-event_line-clause-session : goal.returns-in-Ok-event_line-clause-session
@@ -19,6 +19,6 @@ returns-in-Ok-event_line-clause-session c =
     (record {
       world = ap (λ (play : Played). play.world) c.in-Ok.ensures.played
           ∙ ap (λ (w : StoredWorld). (played (world_of w) c.args.choice).world) seen;
-      session = session_on c.self.inside.played c.step_noting.new.self c.in-Ok.undo c.self.inside.undos c.push.new.self
+      session = session_on c.self.inside.played c.step_into.new.self c.step_into.new.undo c.self.inside.undos c.push.new.self
           c.self.inside.marks.items c.args.self.now c.push.ensures c.in-Ok.ensures.undo c.self.view_is;
     })
