@@ -64,18 +64,3 @@ number_of caller = caller.known.number
 abbrev pub line_of : Flat → List ℕ
 line_of f =
     codes "phase " ++ (decimal f.phase ++ (codes " parties " ++ (decimal f.parties ++ (codes " unarrived " ++ (decimal (unarrived_of f) ++ codes "\n")))))
-
--- the exit status of a fault, and its line
-abbrev pub status_of : RaceFault → ℕ
-status_of fault.Memory = 4
-status_of fault.Spawn = 4
-status_of fault.Write = 5
-
-abbrev pub fault_line : RaceFault → List ℕ
-fault_line fault.Memory = codes "memory\n"
-fault_line fault.Spawn = codes "spawn\n"
-fault_line fault.Write = codes "write\n"
-
--- the line went out, or that port has failed
-abbrev pub HasTold : RaceFault → Bool → Option (List ℕ) → Option (List ℕ) → Type 0
-HasTold fault failed old new = IsTrue failed ⊎ Appends old new (fault_line fault)

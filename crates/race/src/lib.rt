@@ -1,4 +1,4 @@
-//! Real threads that meet at one shared phaser, and the command that plays it.
+//! Real threads that meet at one shared phaser, and the line that is written of them.
 #![tactic(auto)]
 
 mod command;
@@ -7,7 +7,7 @@ mod line;
 mod meeting;
 mod pace;
 
-pub use command::{race_cmd, write_race};
+pub use command::write_race;
 pub use fault::RaceFault;
 pub use meeting::race;
 pub use pace::{NoPace, Pace};

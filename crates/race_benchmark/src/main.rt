@@ -2,7 +2,7 @@
 #![tactic(auto)]
 
 use byte_ports::WritePort;
-use race::race_cmd;
+use race::{NoPace, write_race};
 use std::env;
 use std::process::ExitCode;
 
@@ -24,7 +24,8 @@ fn main(rt: HostRuntime) -> ExitCode {
         }
     }
     let mut output = WritePort::new(rt.stdout());
-    let mut errors = WritePort::new(rt.stderr());
-    let status = race_cmd(&rt, rt.alloc(), parties, rounds, &mut output, &mut errors);
-    ExitCode::from(status)
+    match write_race(&rt, rt.alloc(), parties, rounds, &NoPace, &mut output) {
+        Ok(()) => ExitCode::SUCCESS,
+        Err(_) => ExitCode::FAILURE,
+    }
 }

@@ -45,7 +45,6 @@ use live_runs::{Asked, Pauses, report_runs};
 use no_command::NoCommand;
 use planning::write_plan;
 use progress::{BehindProgress, ShownGate, ShownPace, ShownSource, ShownWriter, trace_port};
-use race::write_race;
 use refusal_words::explain::explain;
 use row_code::is_image_file;
 use short_schedule::ShortSchedule;
@@ -54,7 +53,7 @@ use std::process::ExitCode;
 use std::sync::Wait;
 use std::thread::Threads;
 use trace_compare::RunEnd;
-use trouble::{Trouble, fault_of_race};
+use trouble::Trouble;
 use until_failure::UntilFailure;
 use workbench::asm::asm;
 use workbench::compare::{compared, done_by};
@@ -62,6 +61,7 @@ use workbench::done::{Done, as_asked};
 use workbench::fault::Fault;
 use workbench::input::read_all;
 use workbench::list::list;
+use workbench::racing;
 use workbench::run_line::split_at_run;
 use workbench::slice_source::SliceSource;
 
@@ -326,9 +326,8 @@ fn meet<'a, R: Threads + Wait + Sync>(
 ) -> Answer<'a> {
     let mut output = WritePort::new(rt.stdout());
     let pace = ShownPace::new(rt);
-    let raced = write_race(threads, rt.alloc(), parties, rounds, &pace, &mut output);
+    let answer = racing::race(threads, rt.alloc(), parties, rounds, &pace, &mut output);
     pace.end();
-    let answer = raced.map_err(fault_of_race);
     Ok(as_asked(flushed(answer, &mut output))?)
 }
 

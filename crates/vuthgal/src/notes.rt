@@ -22,7 +22,7 @@ fn push_note(rt: &HostRuntime, parts: &[&[u8]]) -> Result<(), Failed> {
 /// Tells a person at a terminal what is waited for.
 pub fn push_waiting(rt: &HostRuntime, text: &[u8]) {
     if rt.stdin().is_terminal() {
-        let _ = WritePort::new(rt.stderr()).push(text);
+        let _ = push_note(rt, &[text]);
     }
 }
 

@@ -5,7 +5,6 @@ use crate::no_command::NoCommand;
 use byte_ports::WritePort;
 use commands::unplanned::Unplanned;
 use plan_reader::fault::PlanFault;
-use race::RaceFault;
 use refusal_words::explain::Unexplained;
 use std::alloc::AllocError;
 use workbench::done::settled;
@@ -48,15 +47,6 @@ impl<'a> From<Unplanned> for Trouble<'a> {
             Unplanned::Plan(fault) => Trouble::Plan(fault),
             Unplanned::Fault(fault) => Trouble::Fault(fault),
         }
-    }
-}
-
-/// A race's fault among those of all commands.
-pub fn fault_of_race(fault: RaceFault) -> Fault {
-    match fault {
-        RaceFault::Memory => Fault::Memory,
-        RaceFault::Spawn => Fault::Spawn,
-        RaceFault::Write => Fault::Write,
     }
 }
 

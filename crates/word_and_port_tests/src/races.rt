@@ -1,6 +1,6 @@
 //! Races of real threads, and what is written of them.
 use byte_ports::MemorySink;
-use race::{NoPace, RaceFault, race, race_cmd};
+use race::{NoPace, RaceFault, race, write_race};
 use std::alloc::{AllocError, Global};
 use std::sync::Wait;
 use std::test::Fail;
@@ -17,10 +17,8 @@ const RACES: [(u16, u32, &str); 3] = [
 fn races(rt: HostRuntime) -> Result<(), Fail> {
     for (parties, rounds, line) in &RACES {
         let mut output = MemorySink::new(rt.alloc(), 80, None)?;
-        let mut errors = MemorySink::new(rt.alloc(), 80, None)?;
-        let status = race_cmd(&rt, rt.alloc(), *parties, *rounds, &mut output, &mut errors);
-        assert!(rt; status == 0 && errors.bytes().is_empty());
-        assert!(rt; output.bytes() == line.as_bytes());
+        let raced = write_race(&rt, rt.alloc(), *parties, *rounds, &NoPace, &mut output);
+        assert!(rt; raced == Ok(()) && output.bytes() == line.as_bytes());
     }
     Ok(())
 }
@@ -41,14 +39,9 @@ fn written(alloc: Global, calls: usize) -> Result<Vec<u8>, AllocError> {
 /// Whether a race whose output fails at this call says so, and what it wrote before stands.
 fn is_cut_at<R: Threads + Wait + Sync>(rt: &R, alloc: Global, call: u8) -> Result<bool, Fail> {
     let mut output = MemorySink::new(alloc, 80, Some(u32::from(call)))?;
-    let mut errors = MemorySink::new(alloc, 80, None)?;
-    let status = race_cmd(rt, alloc, 1, 1, &mut output, &mut errors);
+    let raced = write_race(rt, alloc, 1, 1, &NoPace, &mut output);
     let before = written(alloc, usize::from(call))?;
-    Ok(
-        status == 5
-            && output.bytes() == before.as_slice()
-            && errors.bytes() == b"write\n".as_slice(),
-    )
+    Ok(raced == Err(RaceFault::Write) && output.bytes() == before.as_slice())
 }
 
 #[test]

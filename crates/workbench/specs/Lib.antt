@@ -8,5 +8,6 @@ pub mod Input
 pub mod List
 pub mod Live
 pub mod ProgramFile
+pub mod Racing
 pub mod Run
 pub mod RunLine

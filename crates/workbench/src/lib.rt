@@ -1,7 +1,7 @@
 //! The commands of the workbench, each a function over sources and sinks of bytes that answers the program's exit status.
 //!
 //! `asm_cmd` and `list_cmd` make an image and a canonical text. `run_cmd`, `both_cmd` and `live_cmd` play a program and write
-//! its trace, `compare_cmd` compares one with its run, `debug_cmd` answers commands.
+//! its trace, `compare_cmd` compares one with its run, `debug_cmd` answers commands. `race_cmd` lets real threads meet.
 #![tactic(auto)]
 
 pub mod asm;
@@ -16,8 +16,17 @@ pub mod list;
 pub mod live;
 mod play;
 pub mod program_file;
+pub mod racing;
 pub mod run;
 pub mod run_line;
 pub mod slice_source;
 
+pub use asm::asm_cmd;
+pub use both::both_cmd;
+pub use compare::compare_cmd;
+pub use debug::debug_cmd;
+pub use list::list_cmd;
+pub use live::live_cmd;
 pub use program_file::a_file_is_one_program;
+pub use racing::race_cmd;
+pub use run::run_cmd;

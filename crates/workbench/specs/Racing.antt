@@ -1,0 +1,11 @@
+-- What a race came to.
+use Rattle.race.specs.declared.fault.RaceFault.{RaceFault}
+use Rattle.race.specs.declared.fault.RaceFault.TheVariants as race
+use Rattle.workbench.specs.declared.fault.Fault.{Fault}
+use Rattle.workbench.specs.declared.fault.Fault.TheVariants as fault
+
+-- a race's fault among those of all commands
+abbrev pub fault_of_race : RaceFault → Fault
+fault_of_race race.Memory = fault.Memory
+fault_of_race race.Spawn = fault.Spawn
+fault_of_race race.Write = fault.Write

@@ -1,0 +1,77 @@
+//! A race as a command.
+ghost use Rattle.std.specs.Prelude.{◌≡◌, ◌⊎◌, ℕ, Err, IfErr, IsTrue, OnOk};
+ghost use Rattle.std.specs.Io.KnownBytes.{Appends};
+ghost use Rattle.packed_phaser.specs.Word.{record_of};
+ghost use Rattle.race.specs.Race.{IsFinal, line_of};
+ghost use Rattle.race.specs.declared.fault.RaceFault.{RaceFault};
+ghost use Rattle.workbench.specs.declared.fault.Fault.{Fault};
+ghost use Rattle.workbench.specs.Fault.{HasTold, status_of};
+ghost use Rattle.workbench.specs.Racing.{fault_of_race};
+
+use crate::done::{as_asked, settled};
+use crate::fault::Fault;
+use byte_ports::Sink;
+use race::{NoPace, Pace, RaceFault, write_race};
+use std::alloc::Global;
+use std::sync::Wait;
+use std::thread::Threads;
+
+/// `parties` threads call `arriveAndAwaitAdvance` `rounds` times each on one shared phaser of as many parties. Writes
+/// the line `phase A parties B unarrived C` of the closed phaser to `output`, and answers the exit status: 0 where all
+/// went well, 4 with the line `memory` or `spawn` on `errors`, 5 with `write`. It asks nothing of `parties` and
+/// `rounds`: the command line keeps them to 1 to 16 and 1 to 1000000. Neither port is flushed.
+pub fn race_cmd<R: Threads + Wait + Sync, K: Sink, E: Sink>(
+    rt: &R,
+    alloc: Global,
+    parties: u16,
+    rounds: u32,
+    output: &mut K,
+    errors: &mut E,
+) -> u8
+    ensures statuses { (result ≡ 0) ⊎ ((result ≡ 4) ⊎ (result ≡ 5)) }
+    ensures done { result ≡ 0 → (word : ℕ) × (IsFinal parties rounds word
+        × Appends (K.written output.old) (K.written output.new) (line_of (record_of word))) }
+    ensures told { ((result ≡ 0) × (E.written errors.new ≡ E.written errors.old))
+        ⊎ ((fault : RaceFault) × ((result ≡ status_of (fault_of_race fault))
+        × HasTold (fault_of_race fault) (E.has_failed errors.new) (E.written errors.old) (E.written errors.new))) }
+    ensures unchanged { result ≡ 4 → K.written output.new ≡ K.written output.old }
+    ensures port { result ≡ 5 → IsTrue (K.has_failed output.new) }
+{
+    settled(
+        as_asked(race(rt, alloc, parties, rounds, &NoPace, output)),
+        errors,
+    )
+}
+
+/// `race_cmd` with the fault that decides the status. Each thread tells `pace` of each meeting.
+pub fn race<R: Threads + Wait + Sync, P: Pace + Sync, K: Sink>(
+    rt: &R,
+    alloc: Global,
+    parties: u16,
+    rounds: u32,
+    pace: &P,
+    output: &mut K,
+) -> Result<(), Fault>
+    ensures done { OnOk result ((word : ℕ) × (IsFinal parties rounds word
+        × Appends (K.written output.old) (K.written output.new) (line_of (record_of word)))) }
+    ensures fault { IfErr result (λ fault. (why : RaceFault) × (fault ≡ fault_of_race why)) }
+    ensures unchanged { IfErr result (λ fault. (fault ≡ Fault.Write)
+        ⊎ (K.written output.new ≡ K.written output.old)) }
+    ensures write { result ≡ Err Fault.Write → IsTrue (K.has_failed output.new) }
+{
+    match write_race(rt, alloc, parties, rounds, pace, output) {
+        Ok(()) => Ok(()),
+        Err(fault) => Err(fault_of_race(fault)),
+    }
+}
+
+/// A race's fault among those of all commands.
+fn fault_of_race(fault: RaceFault) -> Fault
+    ensures { result ≡ fault_of_race fault }
+{
+    match fault {
+        RaceFault::Memory => Fault::Memory,
+        RaceFault::Spawn => Fault::Spawn,
+        RaceFault::Write => Fault::Write,
+    }
+}
