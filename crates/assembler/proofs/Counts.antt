@@ -9,17 +9,8 @@ use Rattle.line_reader.specs.declared.statement.Statement.{Statement}
 use Rattle.line_reader.specs.declared.statement.Statement.TheVariants as statement
 use Rattle.line_reader.specs.declared.statement.Line.{Line}
 use Rattle.line_reader.specs.Symbols.{Name}
+use Rattle.assembler.proofs.Drafts.{count-append, same_kind}
 use Rattle.assembler.specs.Statements.{adds, count, gives_to, has_room, is_kind, most, number_named, EachFollows}
-
-same_kind : (k named : OperandKind) → is_kind k named ≡ true → k ≡ named
-same_kind kind.Register kind.Register h = refl
-same_kind kind.Number kind.Number h = refl
-same_kind kind.Target kind.Target h = refl
-same_kind kind.Phaser kind.Phaser h = refl
-same_kind kind.Barrier kind.Barrier h = refl
-same_kind kind.Thread kind.Thread h = refl
-same_kind kind.Cell kind.Cell h = refl
-same_kind _ _ h = absurd (cc)
 
 -- one thing more of a kind that there is room for
 one_more : (k named : OperandKind) (before : List (Line Name)) → nat_lt (count named before) (most named) ≡ true →
@@ -41,11 +32,6 @@ room_kept k before (statement.Thread t) room few = one_more k kind.Thread before
 room_kept k before (statement.Cell name) room few = one_more k kind.Cell before room few
 room_kept k before (statement.Label name) room few = omega (arith, few)
 room_kept k before (statement.Row label row) room few = one_more k kind.Target before room few
-
-count-append : (k : OperandKind) (before : List (Line Name)) (line : Line Name) →
-    count k (before ++ line ∷ []) ≡ count k before + adds k line.statement
-count-append k [] line = omega arith
-count-append k (first ∷ before) line = omega (arith, count-append k before line)
 
 few_behind : (k : OperandKind) (before lines : List (Line Name)) → count k before ≤ most k → EachFollows before lines →
     count k (before ++ lines) ≤ most k

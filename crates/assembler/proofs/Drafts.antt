@@ -1,15 +1,21 @@
 -- What is kept beside the lines, with one line more.
-use Rattle.std.proofs.Common.{◌≡◌, ◌∙◌, ℕ, ◌+◌, Bool, true, false, cond, ◌||◌, List, [], ◌∷◌, ◌++◌, Option, Some, None, option_map, is_some, bytes_eq, refl, sym, ap, arith}
-use Rattle.std.specs.List.{list_any}
+use Rattle.std.proofs.Common.{◌≡◌, ◌∙◌, ℕ, ◌+◌, Bool, true, false, cond, ◌||◌, not, List, [], ◌∷◌, ◌++◌, Option, Some, None, option_map, is_some, bytes_eq, refl, sym, ap, arith}
+use Rattle.std.specs.List.{flat_map, list_any}
+use Rattle.std.proofs.lemmas.Grind.{flat_map-append}
+use Rattle.std.proofs.lemmas.List.{append-nil}
 use Rattle.std.proofs.lemmas.List.Folds.{list_any-append}
+use Rattle.std.proofs.lemmas.Slice.Eq.{bytes_eq-Decides}
 use Rattle.instruction_table.specs.declared.shape.OperandKind.{OperandKind}
 use Rattle.instruction_table.specs.declared.shape.OperandKind.TheVariants as kind
 use Rattle.assembler.specs.declared.draft.Counts.{Counts}
 use Rattle.assembler.specs.declared.draft.Place.{Place}
+use Rattle.assembler.specs.declared.symbols.Symbol.{Symbol}
 use Rattle.line_reader.specs.declared.statement.Line.{Line}
+use Rattle.line_reader.specs.declared.statement.Statement.{Statement}
 use Rattle.line_reader.specs.Symbols.{Name}
 use Rattle.line_reader.specs.Seen.{Borrowed}
 use Rattle.assembler.specs.Statements.{name_in, kind_named, is_kind, is_named, gives, gives_to, adds, count, is_given, is_new, number_named, is_code}
+use Rattle.assembler.specs.Symbols.{number_by, symbol_by, symbol_in, symbols_of}
 use Rattle.assembler.specs.Draft.{counted, number_there, IsKept, named_with}
 use Rattle.line_reader.proofs.Steps.{is_bytes, not_true}
 
@@ -85,7 +91,7 @@ or_true : (b : Bool) → (b || true) ≡ true
 or_true true = refl
 or_true false = refl
 
-same_kind : (a b : OperandKind) → is_kind a b ≡ true → a ≡ b
+pub same_kind : (a b : OperandKind) → is_kind a b ≡ true → a ≡ b
 same_kind kind.Register kind.Register h = refl
 same_kind kind.Number kind.Number h = refl
 same_kind kind.Target kind.Target h = refl
@@ -107,7 +113,7 @@ given_with None place names q = sym (or_false (is_some (names q)))
 given_with (Some name) place names q = given_there (bytes_eq name q.now) place (names q)
 
 module _ (k : OperandKind) (lines : List (Line Name)) (names : Borrowed → Option Place) (counts : Counts)
-    (code : Bool) (kept : IsKept lines names counts code) (named : OperandKind) (q : Borrowed) where
+    (code : Bool) (order : List (Symbol Name)) (kept : IsKept lines names order counts code) (named : OperandKind) (q : Borrowed) where
   -- the number that a name has, where it is the new name or not
   abbrev number_now : Bool → Option ℕ
   number_now here = or_else (number_named k q.now lines)
@@ -145,15 +151,100 @@ module _ (k : OperandKind) (lines : List (Line Name)) (names : Borrowed → Opti
       by_name (bytes_eq name q.now)
       (λ same. ap (λ n. is_given n lines) (sym (is_bytes name q.now same)) ∙ not_true (is_given name lines) new)
 
+differ : (a b : Name) → bytes_eq a b ≡ false → bytes_eq b a ≡ false
+differ a b h = by (bytes_eq b a) refl
+  where
+    by : (same : Bool) → bytes_eq b a ≡ same → same ≡ false
+    by true e = let p : b ≡ a = is_bytes b a e in cc
+    by false e = refl
+
+-- a name names the same where another name stands behind the lines
+named_before : (k : OperandKind) (name : Name) (lines : List (Line Name)) (line : Line Name) →
+    gives name line.statement ≡ false → number_named k name (lines ++ (line ∷ [])) ≡ number_named k name lines
+named_before k name lines line other =
+    named-append k name lines line
+    ∙ ap (λ b. or_else (number_named k name lines) (cond b (Some (count k lines)) None))
+    (not_given_to (is_kind k (kind_named line.statement)) (gives name line.statement) other)
+    ∙ none_else (number_named k name lines)
+
+one_kind : (k : OperandKind) → is_kind k k ≡ true
+one_kind kind.Register = refl
+one_kind kind.Number = refl
+one_kind kind.Target = refl
+one_kind kind.Phaser = refl
+one_kind kind.Barrier = refl
+one_kind kind.Thread = refl
+one_kind kind.Cell = refl
+
+gives_it : (s : Statement Name) (name : Name) → name_in s ≡ Some name → gives_to (kind_named s) name s ≡ true
+gives_it s name is = rw (one_kind (kind_named s), is) ((bytes_eq-Decides name name).1 refl)
+
+-- where a name is new behind some lines, it is so behind those but the first
+new_behind : (first : Line Name) (lines : List (Line Name)) (last : Option Name) → is_new (first ∷ lines) last ≡ true →
+    is_new lines last ≡ true
+new_behind first lines None new = refl
+new_behind first lines (Some name) new =
+    ap not (either_false (gives name first.statement) (is_given name lines) (not_true (is_given name (first ∷ lines)) new)).1
+
+-- and isn't the first one's
+other_name : (first : Line Name) (lines : List (Line Name)) (last : Option Name) → is_new (first ∷ lines) last ≡ true →
+    (name : Name) → name_in first.statement ≡ Some name → is_named name last ≡ false
+other_name first lines None new name is = refl
+other_name first lines (Some last) new name is =
+    let both = either_false (gives last first.statement) (is_given last lines) (not_true (is_given last (first ∷ lines)) new) in
+    differ name last (sym (ap (is_named last) is) ∙ both.0)
+
+-- a symbol, where the number of its name is this
+symbol_as : (k : OperandKind) (all : List (Line Name)) (number : Option ℕ) (name : Option Name) →
+    ((n : Name) → name ≡ Some n → number_named k n all ≡ number) →
+    symbol_by k name (number_by all k name) ≡ symbol_by k name number
+symbol_as k all number None same = refl
+symbol_as k all number (Some name) same = ap (symbol_by k (Some name)) (same name refl)
+
+module _ (lines : List (Line Name)) (line : Line Name) where
+  abbrev all : List (Line Name)
+  all = lines ++ (line ∷ [])
+
+  -- the names of lines stay what they are, where another stands behind them
+  symbols_stay : (some : List (Line Name)) → is_new some (name_in line.statement) ≡ true →
+      flat_map (λ l. symbol_in all l.statement) some ≡ flat_map (λ l. symbol_in lines l.statement) some
+  symbols_stay [] new = refl
+  symbols_stay (first ∷ some) new =
+      let k = kind_named first.statement in
+      let given = name_in first.statement in
+      let here = symbol_as k all (number_by lines k given) given
+      (λ n is. named_before k n lines line (other_name first some (name_in line.statement) new n is) ∙ sym (ap (number_by lines k) is)) in
+      let rest = symbols_stay some (new_behind first some (name_in line.statement) new) in
+      λ j. here j ++ rest j
+
+  new_number : (name : Name) → name_in line.statement ≡ Some name → is_new lines (name_in line.statement) ≡ true →
+      number_named (kind_named line.statement) name all ≡ Some (count (kind_named line.statement) lines)
+  new_number name is new =
+      let k = kind_named line.statement in
+      let none = unnamed k name lines (not_true (is_given name lines) (sym (ap (is_new lines) is) ∙ new)) in
+      let here = gives_it line.statement name is in
+      named-append k name lines line ∙ (λ j. or_else (none j) (cond (here j) (Some (count k lines)) None))
+
+  -- a name that is new comes last
+  pub symbols_with : is_new lines (name_in line.statement) ≡ true → (symbols_of all).names ≡ (symbols_of lines).names
+      ++ symbol_by (kind_named line.statement) (name_in line.statement) (Some (count (kind_named line.statement) lines))
+  symbols_with new =
+      let k = kind_named line.statement in
+      let name = name_in line.statement in
+      let last = symbol_as k all (Some (count k lines)) name (λ n is. new_number n is new) in
+      flat_map-append (λ l. symbol_in all l.statement) lines (line ∷ [])
+      ∙ (λ j. symbols_stay lines new j ++ append-nil (last j) j)
+
 -- what is kept, of the lines with one more
-pub kept_with : (lines : List (Line Name)) (names with : Borrowed → Option Place) (counts counted_now : Counts)
-    (code : Bool) (line : Line Name) (place : Place) → IsKept lines names counts code →
+pub kept_with : (lines : List (Line Name)) (names with : Borrowed → Option Place) (order ordered : List (Symbol Name))
+    (counts counted_now : Counts) (code : Bool) (line : Line Name) (place : Place) → IsKept lines names order counts code →
     is_new lines (name_in line.statement) ≡ true →
     place ≡ record { kind = kind_named line.statement; number = counted counts (kind_named line.statement) } →
     ((q : Borrowed) → with q ≡ named_with (name_in line.statement) place names q) →
+    ordered ≡ order ++ symbol_by place.kind (name_in line.statement) (Some place.number) →
     ((k : OperandKind) → counted counted_now k ≡ counted counts k + adds k line.statement) →
-    IsKept (lines ++ (line ∷ [])) with counted_now (code || is_code line.statement)
-kept_with lines names with counts counted_now code line place kept new placed found number = record {
+    IsKept (lines ++ (line ∷ [])) with ordered counted_now (code || is_code line.statement)
+kept_with lines names with order ordered counts counted_now code line place kept new placed found last number = record {
   given = λ q.
       ap is_some (found q)
       ∙ given_with (name_in line.statement) place names q
@@ -162,8 +253,13 @@ kept_with lines names with counts counted_now code line place kept new placed fo
   named = λ k q.
       ap (number_there k) (found q)
       ∙ ap (λ p. number_there k (named_with (name_in line.statement) p names q)) placed
-      ∙ named_there k lines names counts code kept (kind_named line.statement) q (name_in line.statement) new
+      ∙ named_there k lines names counts code order kept (kind_named line.statement) q (name_in line.statement) new
       ∙ sym (named-append k q.now lines line);
+  in_order =
+      let k = kind_named line.statement in
+      last ∙ (λ j. kept.in_order j ++ symbol_by (placed j).kind (name_in line.statement) (Some (placed j).number))
+      ∙ ap (λ n. (symbols_of lines).names ++ symbol_by k (name_in line.statement) (Some n)) (kept.number k)
+      ∙ sym (symbols_with lines line new);
   number = λ k. number k ∙ ap (λ n. n + adds k line.statement) (kept.number k) ∙ sym (count-append k lines line);
   any_code = ap (λ b. b || is_code line.statement) kept.any_code ∙ sym (any-append (λ l. is_code l.statement) lines line);
 }

@@ -1,5 +1,5 @@
 -- Look-ups one behind the other: what they give where all of them find something.
-use Rattle.std.proofs.Common.{◌≡◌, Bool, true, false, ◌&&◌, List, [], ◌∷◌, ◌++◌, Option, Some, None, cond, Result, Ok, Err, ap, refl, subst, ℕ, zero, suc, All, slice_index_or, arith}
+use Rattle.std.proofs.Common.{◌≡◌, Bool, true, false, ◌&&◌, List, [], ◌∷◌, ◌++◌, Option, Some, None, cond, Result, Ok, Err, ap, refl, subst}
 use Rattle.std.specs.Prelude.{IfOk, is_some}
 use Rattle.std.specs.List.{cons_option}
 
@@ -10,18 +10,11 @@ found_used f true x found e = cc
 found_used f false x found e = absurd (cc)
 
 -- a look-up that uses what those before it found
-two_found : {A : Type 0} (f : A → A) (first rest : Bool) (x found : A) (last : Option A) → Some found ≡ cond rest (Some x) None →
+pub two_found : {A : Type 0} (f : A → A) (first rest : Bool) (x found : A) (last : Option A) → Some found ≡ cond rest (Some x) None →
     last ≡ cond first (Some (f found)) None → last ≡ cond (first && rest) (Some (f x)) None
 two_found f true true x found last p q = cc
 two_found f false true x found last p q = q
 two_found f first false x found last p q = absurd (cc)
-
--- and that finds by the same names, though it is told where they stood behind those before
-pub two_found_by : {L A : Type 0} (f : L → A → A) (first : L → Bool) (rest : Bool) (names one : L) (x found : A) (last : Option A) →
-    one ≡ names → Some found ≡ cond rest (Some x) None → last ≡ cond (first one) (Some (f one found)) None →
-    last ≡ cond (first names && rest) (Some (f names x)) None
-two_found_by f first rest names one x found last same p q =
-    two_found (f names) (first names) rest x found last p (subst (λ l. last ≡ cond (first l) (Some (f l found)) None) same q)
 
 -- and one look-up before it
 pub one_found : {A : Type 0} (known : Bool) (x found : A) → Some found ≡ cond known (Some x) None →
@@ -46,10 +39,3 @@ found_behind before after true x found (Ok b) is some pushed was = subst (λ (f 
 found_behind before after false x found (Ok b) is some pushed was =
     let none : is_some found ≡ false = ap is_some is in
     absurd (cc)
-
--- what holds of each place of a list, and of none, holds of what is read at any place
-pub anywhere : {X : Type 0} (P : Option X → Type 0) (places : List (Option X)) (i : ℕ) → P None → All P places →
-    P (slice_index_or places i None)
-anywhere P [] i none each = none
-anywhere P (x ∷ places) zero none each = each 0 None (omega arith)
-anywhere P (x ∷ places) (suc i) none each = anywhere P places i none (λ k d within. each (suc k) d (omega (arith, within)))

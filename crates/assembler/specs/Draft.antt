@@ -7,9 +7,11 @@ use Rattle.instruction_table.specs.declared.shape.OperandKind.TheVariants as kin
 use Rattle.assembler.specs.declared.draft.Counts.{Counts}
 use Rattle.assembler.specs.declared.draft.Place.{Place}
 use Rattle.assembler.specs.declared.name_hash.NameKey.{NameKey}
+use Rattle.assembler.specs.declared.symbols.Symbol.{Symbol}
 use Rattle.line_reader.specs.declared.statement.Line.{Line}
 use Rattle.line_reader.specs.Symbols.{Name}
 use Rattle.line_reader.specs.Seen.{Borrowed}
+use Rattle.assembler.specs.Symbols.{symbols_of}
 use Rattle.assembler.specs.Statements.{is_kind, count, is_given, number_named, has_code}
 
 -- how many things of a kind were counted
@@ -31,12 +33,18 @@ abbrev pub places : {S : Type 0} → IndexMap NameKey Place S → Borrowed → O
 places names name =
     get (λ a b. bytes_eq a.bytes.now b.bytes.now) names (record { bytes = name })
 
--- names by what they name, counts and whether there is code are those of the lines
-pub record IsKept (lines : List (Line Name)) (names : Borrowed → Option Place) (counts : Counts)
-    (code : Bool) : Type 0 where
+-- an entry of the map as a symbol
+abbrev pub symbol_there : NameKey × Place → Symbol Name
+symbol_there entry =
+    record { kind = entry.1.kind; number = entry.1.number; name = entry.0.bytes.now }
+
+-- names by what they name and in their order, counts and whether there is code are those of the lines
+pub record IsKept (lines : List (Line Name)) (names : Borrowed → Option Place)
+    (order : List (Symbol Name)) (counts : Counts) (code : Bool) : Type 0 where
   pub given : (name : Borrowed) → is_some (names name) ≡ is_given name.now lines
   pub named : (k : OperandKind) → (name : Borrowed) →
       number_there k (names name) ≡ number_named k name.now lines
+  pub in_order : order ≡ (symbols_of lines).names
   pub number : (k : OperandKind) → counted counts k ≡ count k lines
   pub any_code : code ≡ has_code lines
 

@@ -8,4 +8,3 @@ pub mod Answers
 pub mod Draft
 pub mod PlainLine
 pub mod KeptLine
-pub mod Found

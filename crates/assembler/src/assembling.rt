@@ -59,7 +59,7 @@ pub fn assemble_named(alloc: Global, text: &[u8]) -> Result<(Image, Symbols<'_>)
         Ok(image) => image,
         Err(fault) => return Err(fault),
     };
-    match symbols_of(alloc, &draft, draft.lines()) {
+    match symbols_of(alloc, draft) {
         Ok(symbols) => Ok((image, symbols)),
         Err(_) => Err(AsmFault {
             line: last,

@@ -1,9 +1,10 @@
-ghost use Rattle.std.specs.Prelude.{◌≡◌, ◌+◌, ◌<◌, ◌||◌, ◌++◌, ◌∷◌, [], IfErr, IfOk, List, Option, false, is_some, map, option_copied, option_map};
+ghost use Rattle.std.specs.Prelude.{◌≡◌, ◌+◌, ◌<◌, ◌||◌, ◌++◌, ◌∷◌, [], IfErr, IfOk, IfSome, List, Option, None, Some, false, is_some, map, option_copied, option_map};
 ghost use Rattle.instruction_table.specs.declared.shape.OperandKind.{OperandKind};
 ghost use Rattle.line_reader.specs.declared.statement.Line.{Line};
-ghost use Rattle.assembler.specs.Draft.{IsKept, counted, named_with, number_there, places};
+ghost use Rattle.assembler.specs.Draft.{IsKept, counted, named_with, number_there, places, symbol_there};
 ghost use Rattle.assembler.specs.Meaning.{referent};
 ghost use Rattle.assembler.specs.Statements.{Follows, adds, has_code, has_room, is_code, is_given, kind_named, most, name_in, number_named};
+ghost use Rattle.assembler.specs.Symbols.{symbol_by, symbols_of};
 ghost use Rattle.line_reader.specs.Symbols.{Name};
 ghost use Rattle.line_reader.specs.Seen.{Borrowed, name_seen, reference_seen, statement_seen};
 ghost use Rattle.line_reader.specs.declared.statement.Statement.TheVariants as statement;
@@ -52,7 +53,7 @@ impl<'a> Model for Draft<'a> {
     ghost view = { λ d. map line_kept d.lines.items };
 
     ghost invariant = { λ d. IsKept (map line_kept d.lines.items)
-        (places d.names) d.counts d.has_code };
+        (places d.names) (map symbol_there d.names.entries) d.counts d.has_code };
 }
 
 /// The name that a statement gives.
@@ -156,16 +157,19 @@ fn place_behind(counts: &Counts, line: &KeptLine<'_>) -> Place
     }
 }
 
-/// Adds a name, where there is one: none where memory is refused.
+/// Adds a name, where there is one, behind those that are there: none where memory is refused.
 #[inline(always)]
 fn add_name<'a>(
     names: &mut IndexMap<NameKey<'a>, Place, NameHash>,
     name: Option<&'a [u8]>,
     place: Place,
 ) -> Result<(), AllocError>
+    requires { IfSome name (λ name. places names.old name ≡ None) }
     ensures added { IfOk result (λ _. (q : Borrowed) → places names.new q
         ≡ named_with (option_map name_seen name.entry) place (places names.old) q) }
-    ensures kept { IfErr result (λ _. (q : Borrowed) → places names.new q ≡ places names.old q) }
+    ensures last { IfOk result (λ _. map symbol_there names.new.entries ≡ map symbol_there names.old.entries
+        ++ symbol_by place.kind (option_map name_seen name.entry) (Some place.number)) }
+    ensures kept { IfErr result (λ _. names.new.entries ≡ names.old.entries) }
 {
     if let Some(name) = name {
         names.insert(NameKey { bytes: name }, place)?;
@@ -215,6 +219,13 @@ impl<'a> Draft<'a> {
         ensures { map line_kept result.now ≡ self.now }
     {
         &self.lines
+    }
+
+    /// The names in order of declaration, each with what it names.
+    pub fn into_names(self) -> IndexMap<NameKey<'a>, Place, NameHash>
+        ensures { map symbol_there result.entries ≡ (symbols_of self.entry).names }
+    {
+        self.names
     }
 
     /// Whether a label or a row was read.

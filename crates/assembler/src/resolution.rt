@@ -9,13 +9,11 @@ ghost use Rattle.assembler.specs.KeptLine.{line_kept};
 use crate::draft::Draft;
 use crate::kept_line::KeptLine;
 use line_reader::asm_fault::{AsmFault, AsmFaultKind};
-use names::Names;
 use parts::Parts;
 use row_code::Image;
 use std::alloc::Global;
 
 mod lookups;
-pub(crate) mod names;
 mod parts;
 
 /// Makes the lists of an image, line by line.
@@ -32,9 +30,8 @@ fn parts_of<'a>(
     ensures memory { IfErr result (λ e. e.kind ≡ fault.Memory → e.line ≡ last) }
 {
     let mut parts = Parts::new(alloc);
-    let mut names = Names::new(draft);
     for line in lines {
-        match parts.add(&mut names, line) {
+        match parts.add(draft, line) {
             Ok(true) => {}
             Ok(false) => {
                 return Err(AsmFault {

@@ -46,7 +46,7 @@ impl Trial for Assembling {
 
 /// Whether these are the names of the text.
 fn are_names(symbols: &Symbols) -> bool {
-    symbols.names().len() == 8
+    symbols.len() == 8
         && symbols.rows() == [6, 7, 8].as_slice()
         && symbols.name_of(OperandKind::Target, 2) == Some(b"adv".as_slice())
 }

@@ -47,7 +47,10 @@ fn push_subject(text: &mut Vec<u8>, symbols: &Symbols<'_>, name: &[u8]) -> Resul
     if is_numbered(name) {
         return text.extend_from_slice(name);
     }
-    for symbol in symbols.names() {
+    for index in 0..symbols.len() {
+        let Some(symbol) = symbols.get(index) else {
+            break;
+        };
         if symbol.name == name {
             if let Some(letter) = letter_of(symbol.kind) {
                 text.extend_from_slice(letter)?;

@@ -8,7 +8,6 @@ ghost use Rattle.line_reader.specs.Symbols.{operands_in};
 ghost use Rattle.line_reader.specs.Seen.{barrier_seen, phaser_seen, policy_seen, reference_seen, thread_seen};
 ghost use Rattle.line_reader.specs.KeptRow.{operand_kept, row_kept};
 
-use super::names::Names;
 use crate::draft::Draft;
 use instruction_table::{OperandKind, Reg, Row};
 use line_reader::kept_row::{Held, KeptOperand, KeptRow};
@@ -99,14 +98,13 @@ pub fn thread_of<'a>(draft: &Draft<'a>, thread: &SymbolicThread<&'a [u8]>) -> Op
 /// One more operand of a row before these; nothing where its name is not known.
 #[inline(always)]
 fn with_operand<'a>(
-    names: &mut Names<'_, 'a>,
+    draft: &Draft<'a>,
     held: &Held<'a>,
     operand: KeptOperand,
     operands: Operands,
 ) -> Option<Operands>
-    ensures found { result ≡ (if is_operand_known names.old (operand_kept held.now operand)
-        then Some (with_operand names.old (operand_kept held.now operand) operands) else None) }
-    ensures same { names.new ≡ names.old }
+    ensures { result ≡ (if is_operand_known draft.now (operand_kept held.now operand)
+        then Some (with_operand draft.now (operand_kept held.now operand) operands) else None) }
 {
     match operand {
         KeptOperand::Absent => Some(operands),
@@ -125,7 +123,7 @@ fn with_operand<'a>(
             ..operands
         }),
         KeptOperand::Named(kind) => {
-            let object = names.number_named(kind, held.name)?;
+            let object = draft.number_named(kind, held.name)?;
             Some(Operands { object, ..operands })
         }
     }
@@ -133,12 +131,11 @@ fn with_operand<'a>(
 
 /// The operands of a row's last two places, which most rows leave empty; nothing where a name is not known.
 #[inline(always)]
-fn last_operands<'a>(names: &mut Names<'_, 'a>, row: &KeptRow<'a>) -> Option<Operands>
-    ensures found { let last = operand_kept row.now.held row.now.third
+fn last_operands<'a>(draft: &Draft<'a>, row: &KeptRow<'a>) -> Option<Operands>
+    ensures { let last = operand_kept row.now.held row.now.third
         ∷ operand_kept row.now.held row.now.fourth ∷ [] in
-        result ≡ (if list_all (is_operand_known names.old) last
-        then Some (operands_of names.old last) else None) }
-    ensures same { names.new ≡ names.old }
+        result ≡ (if list_all (is_operand_known draft.now) last
+        then Some (operands_of draft.now last) else None) }
 {
     let none = Operands {
         a: Reg::R0,
@@ -150,20 +147,19 @@ fn last_operands<'a>(names: &mut Names<'_, 'a>, row: &KeptRow<'a>) -> Option<Ope
     if let (KeptOperand::Absent, KeptOperand::Absent) = (row.third, row.fourth) {
         return Some(none);
     }
-    let operands = with_operand(names, &row.held, row.fourth, none)?;
-    with_operand(names, &row.held, row.third, operands)
+    let operands = with_operand(draft, &row.held, row.fourth, none)?;
+    with_operand(draft, &row.held, row.third, operands)
 }
 
 /// A row; nothing where a name is not known.
 #[inline(always)]
-pub fn row_of<'a>(names: &mut Names<'_, 'a>, row: &KeptRow<'a>) -> Option<Row>
-    ensures found { result
-        ≡ (if list_all (is_operand_known names.old) (operands_in (row_kept row.now))
-        then Some (row_of names.old (row_kept row.now)) else None) }
-    ensures same { names.new ≡ names.old }
+pub fn row_of<'a>(draft: &Draft<'a>, row: &KeptRow<'a>) -> Option<Row>
+    ensures { result
+        ≡ (if list_all (is_operand_known draft.now) (operands_in (row_kept row.now))
+        then Some (row_of draft.now (row_kept row.now)) else None) }
 {
-    let operands = last_operands(names, row)?;
-    let operands = with_operand(names, &row.held, row.second, operands)?;
-    let operands = with_operand(names, &row.held, row.first, operands)?;
+    let operands = last_operands(draft, row)?;
+    let operands = with_operand(draft, &row.held, row.second, operands)?;
+    let operands = with_operand(draft, &row.held, row.first, operands)?;
     Some(row_with(row.held.opcode, operands))
 }

@@ -7,7 +7,7 @@ ghost use Rattle.assembler.specs.Meaning.{are_known, barriers_in, image_of, phas
 ghost use Rattle.assembler.specs.KeptLine.{statement_kept};
 
 use super::lookups::{barrier_of, phaser_of, row_of, thread_of};
-use super::names::Names;
+use crate::draft::Draft;
 use crate::kept_line::KeptLine;
 use instruction_table::Row;
 use row_code::{
@@ -65,39 +65,28 @@ impl Parts {
 
     /// Adds what a line adds to an image, where each name that it refers to is known, and
     /// tells whether this is so.
-    pub fn add<'a>(
-        &mut self,
-        names: &mut Names<'_, 'a>,
-        line: &KeptLine<'a>,
-    ) -> Result<bool, AllocError>
-        requires { AllByRecursion IsPhaser (phasers_in names.old (statement_kept line.now)) }
+    pub fn add<'a>(&mut self, draft: &Draft<'a>, line: &KeptLine<'a>) -> Result<bool, AllocError>
+        requires { AllByRecursion IsPhaser (phasers_in draft.now (statement_kept line.now)) }
         ensures known { IfOk result (λ known. known
-            ≡ are_known names.old (statement_kept line.now)) }
+            ≡ are_known draft.now (statement_kept line.now)) }
         ensures phasers { result ≡ Ok true → self.new.phasers
-            ≡ self.old.phasers ++ phasers_in names.old (statement_kept line.now) }
+            ≡ self.old.phasers ++ phasers_in draft.now (statement_kept line.now) }
         ensures barriers { result ≡ Ok true → self.new.barriers
-            ≡ self.old.barriers ++ barriers_in names.old (statement_kept line.now) }
+            ≡ self.old.barriers ++ barriers_in draft.now (statement_kept line.now) }
         ensures threads { result ≡ Ok true → self.new.threads
-            ≡ self.old.threads ++ threads_in names.old (statement_kept line.now) }
+            ≡ self.old.threads ++ threads_in draft.now (statement_kept line.now) }
         ensures rows { result ≡ Ok true → self.new.rows
-            ≡ self.old.rows ++ rows_in names.old (statement_kept line.now) }
-        ensures same { names.new ≡ names.old }
+            ≡ self.old.rows ++ rows_in draft.now (statement_kept line.now) }
     {
         match line {
-            KeptLine::Phaser(_, phaser) => push_found(
-                &mut self.phasers,
-                phaser_of(names.draft(), phaser),
-            ),
+            KeptLine::Phaser(_, phaser) => push_found(&mut self.phasers, phaser_of(draft, phaser)),
             KeptLine::Barrier(_, barrier) => push_found(
                 &mut self.barriers,
-                barrier_of(names.draft(), barrier),
+                barrier_of(draft, barrier),
             ),
-            KeptLine::Thread(_, thread) => push_found(
-                &mut self.threads,
-                thread_of(names.draft(), thread),
-            ),
-            KeptLine::Row(_, row) => push_found(&mut self.rows, row_of(names, row)),
-            KeptLine::LabelledRow(_, _, row) => push_found(&mut self.rows, row_of(names, row)),
+            KeptLine::Thread(_, thread) => push_found(&mut self.threads, thread_of(draft, thread)),
+            KeptLine::Row(_, row) => push_found(&mut self.rows, row_of(draft, row)),
+            KeptLine::LabelledRow(_, _, row) => push_found(&mut self.rows, row_of(draft, row)),
             KeptLine::Cell(_, _) | KeptLine::Label(_, _) => Ok(true),
         }
     }

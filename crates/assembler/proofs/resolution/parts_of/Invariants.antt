@@ -18,6 +18,5 @@ invariant-loop-line l =
           ≡ flat_map (λ line. threads_in l.draft line.statement) l.draft;
       rows : l.parts.rows ++ flat_map (λ line. rows_in l.draft line.statement) rest
           ≡ flat_map (λ line. rows_in l.draft line.statement) l.draft;
-      names : l.names ≡ l.draft;
       unknown : find (λ line. not (are_known l.draft line.statement)) rest ≡ first_unknown l.draft;
     }
