@@ -22,7 +22,8 @@ pub mod UndoneRows
 pub mod Undoing
 pub mod ReadyThreads
 pub mod Standings
-pub mod Asleep
+pub mod Steady
+pub mod ReadySets
 pub mod ThreadSets
 pub mod LocalTurns
 pub mod UsualTurns

@@ -15,7 +15,7 @@ use Rattle.machine_scene.specs.declared.reach.Reach.{Reach}
 use Rattle.machine_scene.specs.declared.reach.Reach.TheVariants as reach
 use Rattle.machine_scene.specs.Scene.{StoredScene, counts_in}
 use Rattle.machine_scene.specs.Sound.{IsTop}
-use Rattle.machine_scene.specs.Asleep.{is_local_turn}
+use Rattle.machine_scene.specs.ReadySet.{is_local_turn}
 use Rattle.machine_scene.specs.Undo.{IsThere, PhasersWithin, reach_of_entry, reach_of_ret, reach_of_row, reach_of_wait, reach_in}
 
 entry_there : (top : Option Frame) (program : Program) (stored : StoredScene) → IsTop program stored top

@@ -1,10 +1,15 @@
 -- Sets of threads of which one is looked at.
-use Rattle.std.proofs.Common.{sym, ◌≢◌, ◌≡◌, ◌∙◌, ℕ, ◌-◌, ◌*◌, ◌%◌, ◌^◌, ◌<◌, ◌==◌, ◌||◌, ◌&&◌, not, Bool, true, false, refl, ap, bit_and, bit_or, if◌then◌else◌}
+use Rattle.std.proofs.Common.{inl, inr, sym, arith, w64, ◌+◌, ◌≤◌, ◌≢◌, ◌≡◌, ◌∙◌, ℕ, ◌-◌, ◌*◌, ◌%◌, ◌^◌, ◌<◌, ◌==◌, ◌||◌, ◌&&◌, not, Bool, true, false, refl, ap, bit_and, bit_or, if◌then◌else◌}
 use Rattle.cyclic_barrier.specs.ThreadSet.{has}
-use Rattle.machine_scene.specs.Asleep.{IsSetAt}
+use Rattle.machine_scene.specs.ReadySet.{IsSetAt}
 use Rattle.cyclic_barrier.proofs.ThreadSetLemmas.{has-with, has-without}
 use Rattle.cyclic_barrier.proofs.WaitsLemmas.{has-none}
 use Rattle.tier_tree.proofs.Stands.{same-is, other-is}
+use Rattle.std.specs.Prelude.{nat_lt}
+use Rattle.std.specs.Int.{trailing_zeros}
+use Rattle.std.proofs.lemmas.Bool.{cases_eq, cases_lt}
+use Rattle.std.proofs.lemmas.Bool.Decides.{nat_tests}
+use Rattle.std.proofs.lemmas.Nat.Bits.{bit_at-trailing_zeros}
 
 with_by : (here was : Bool) → (was || here) ≡ (if here then true else was)
 with_by true true = refl
@@ -28,15 +33,127 @@ set_without a k fits within t = has-without a k fits within t ∙ without_by (k 
 
 pub ruleset set_at = (set_with, set_without)
 
--- the thread that was looked at, and the others
-here : (t : ℕ) (asleep : Bool) (before set : ℕ) → IsSetAt t asleep before set → (u : ℕ) → u ≡ t → has set u ≡ asleep
-here t asleep before set is u same =
-    is u ∙ ap (λ (x : Bool). if x then asleep else has before u) (ap (λ (n : ℕ). t == n) same ∙ same-is t)
+-- one thread was put to the test anew
+abbrev pub IsTestedAt : (ℕ → Bool) → ℕ → ℕ → ℕ → Type 0
+IsTestedAt test t before set = (u : ℕ) → has set u ≡ (if t == u then test u else has before u)
 
-elsewhere : (t : ℕ) (asleep : Bool) (before set : ℕ) → IsSetAt t asleep before set → (u : ℕ) → u ≢ t → has set u ≡ has before u
-elsewhere t asleep before set is u apart =
-    is u ∙ ap (λ (x : Bool). if x then asleep else has before u) (other-is t u (λ same. apart (sym same)))
+-- it, and the others
+here : (test : ℕ → Bool) (t before set : ℕ) → IsTestedAt test t before set → has set t ≡ test t
+here test t before set is = is t ∙ ap (λ (x : Bool). if x then test t else has before t) (same-is t)
+
+pub elsewhere : (test : ℕ → Bool) (t before set : ℕ) → IsTestedAt test t before set → (u : ℕ) → u ≢ t → has set u ≡ has before u
+elsewhere test t before set is u apart =
+    is u ∙ ap (λ (x : Bool). if x then test u else has before u) (other-is t u (λ same. apart (sym same)))
 
 -- nobody is in the empty set
 pub nobody : (u : ℕ) → has 0 u ≡ true → false ≡ true
 nobody u is = sym (has-none u) ∙ is
+
+-- another number is another thread
+pub apart_from : (t u : ℕ) → (t == u) ≡ false → u ≢ t
+apart_from t u other same = let yes = ap (λ (n : ℕ). t == n) same ∙ same-is t in cc (yes, other)
+
+-- one thread is looked at: the test of it is that of its number
+looked_by : (t u : ℕ) (test : ℕ → Bool) (was : Bool) → (if t == u then test t else was) ≡ (if t == u then test u else was)
+looked_by t u test was = elim (cases_eq u t) as (λ _. (if t == u then test t else was) ≡ (if t == u then test u else was)) [
+  | inl same ↦ ap (λ (n : ℕ). if t == u then test n else was) (sym same)
+  | inr apart ↦ ap (λ (x : Bool). if x then test t else was) (other-is t u (λ same. apart (sym same)))
+      ∙ sym (ap (λ (x : Bool). if x then test u else was) (other-is t u (λ same. apart (sym same))))
+]
+
+pub tested_at : (test : ℕ → Bool) (t before set : ℕ) → IsSetAt t (test t) before set → IsTestedAt test t before set
+tested_at test t before set is u = is u ∙ looked_by t u test (has before u)
+
+-- where the others were right, all are
+pub all_right : (these now was right : Bool) → now ≡ (if these then right else was) → (these ≡ false → was ≡ right) → now ≡ right
+all_right true now was right is others = is
+all_right false now was right is others = is ∙ others refl
+
+-- the first threads were put to the test, and nobody else is in the set
+pub record IsFilledTo (test : ℕ → Bool) (k set : ℕ) : Type 0 where
+  pub below : (u : ℕ) → u < k → has set u ≡ test u
+  pub above : (u : ℕ) → k ≤ u → has set u ≡ false
+
+pub filled_none : (test : ℕ → Bool) → IsFilledTo test 0 0
+filled_none test = record { below = λ u within. absurd (omega (arith, within)); above = λ u beyond. has-none u }
+
+pub filled_more : (test : ℕ → Bool) (k before set : ℕ) → IsFilledTo test k before → IsTestedAt test k before set → IsFilledTo test (k + 1) set
+filled_more test k before set filled is = record {
+  below = λ u within. elim (cases_eq u k) as (λ _. has set u ≡ test u) [
+    | inl same ↦ ap (has set) same ∙ here test k before set is ∙ ap test (sym same)
+    | inr apart ↦ elsewhere test k before set is u apart ∙ filled.below u (omega (arith, within, apart))
+  ];
+  above = λ u beyond. elsewhere test k before set is u (λ same. omega (arith, beyond, same)) ∙ filled.above u (omega (arith, beyond));
+}
+
+pub filled_all : (test : ℕ → Bool) (n set : ℕ) → IsFilledTo test n set → ((u : ℕ) → n ≤ u → test u ≡ false) → (u : ℕ) → has set u ≡ test u
+filled_all test n set filled none u = elim (cases_lt u n) as (λ _. has set u ≡ test u) [
+  | inl within ↦ filled.below u within
+  | inr beyond ↦ filled.above u beyond ∙ sym (none u beyond)
+]
+
+-- of the first threads those in a set were put to the test anew
+abbrev pub IsRefilledTo : (ℕ → Bool) → ℕ → ℕ → ℕ → ℕ → Type 0
+IsRefilledTo test these before k set = (u : ℕ) → has set u ≡ (if nat_lt u k && has these u then test u else has before u)
+
+passed_by : (below this new old : Bool) → below ≡ false → (if below && this then new else old) ≡ old
+passed_by false this new old is = refl
+passed_by true this new old is = absurd (cc is)
+
+left_out : (below this new old : Bool) → this ≡ false → (if below && this then new else old) ≡ old
+left_out false this new old is = refl
+left_out true false new old is = refl
+left_out true true new old is = absurd (cc is)
+
+put_to : (below this new old : Bool) → below ≡ true → this ≡ true → (if below && this then new else old) ≡ new
+put_to true true new old first second = refl
+put_to true false new old first second = absurd (cc second)
+put_to false this new old first second = absurd (cc first)
+
+below_none : (u : ℕ) → nat_lt u 0 ≡ false
+below_none u = grind (arith, nat_tests)
+
+pub refilled_none : (test : ℕ → Bool) (these before : ℕ) → IsRefilledTo test these before 0 before
+refilled_none test these before u = sym (passed_by (nat_lt u 0) (has these u) (test u) (has before u) (below_none u))
+
+not_yet : (u k : ℕ) → u ≡ k → nat_lt u k ≡ false
+not_yet u k same = grind (arith, nat_tests, same)
+
+now_below : (u k : ℕ) → u ≡ k → nat_lt u (k + 1) ≡ true
+now_below u k same = grind (arith, nat_tests, same)
+
+as_before : (u k : ℕ) → u ≢ k → nat_lt u k ≡ nat_lt u (k + 1)
+as_before u k apart = grind (arith, nat_tests, apart)
+
+refilled_else : (test : ℕ → Bool) (these before k set : ℕ) → IsRefilledTo test these before k set → (u : ℕ) → u ≢ k
+    → has set u ≡ (if nat_lt u (k + 1) && has these u then test u else has before u)
+refilled_else test these before k set filled u apart =
+    filled u ∙ ap (λ (x : Bool). if x && has these u then test u else has before u) (as_before u k apart)
+
+pub refilled_same : (test : ℕ → Bool) (these before k set : ℕ) → IsRefilledTo test these before k set → has these k ≡ false
+    → IsRefilledTo test these before (k + 1) set
+refilled_same test these before k set filled none u =
+    elim (cases_eq u k) as (λ _. has set u ≡ (if nat_lt u (k + 1) && has these u then test u else has before u)) [
+      | inl same ↦ filled u ∙ passed_by (nat_lt u k) (has these u) (test u) (has before u) (not_yet u k same)
+          ∙ sym (left_out (nat_lt u (k + 1)) (has these u) (test u) (has before u) (ap (has these) same ∙ none))
+      | inr apart ↦ refilled_else test these before k set filled u apart
+    ]
+
+pub refilled_more : (test : ℕ → Bool) (these before k set after : ℕ) → IsRefilledTo test these before k set → has these k ≡ true
+    → IsTestedAt test k set after → IsRefilledTo test these before (k + 1) after
+refilled_more test these before k set after filled some is u =
+    elim (cases_eq u k) as (λ _. has after u ≡ (if nat_lt u (k + 1) && has these u then test u else has before u)) [
+      | inl same ↦ ap (has after) same ∙ here test k set after is ∙ ap test (sym same)
+          ∙ sym (put_to (nat_lt u (k + 1)) (has these u) (test u) (has before u) (now_below u k same) (ap (has these) same ∙ some))
+      | inr apart ↦ elsewhere test k set after is u apart ∙ refilled_else test these before k set filled u apart
+    ]
+
+pub not_below : (u n : ℕ) → nat_lt u n ≡ false → n ≤ u
+not_below u n is = elim (cases_lt u n) as (λ _. n ≤ u) [
+  | inl within ↦ absurd (let below : nat_lt u n ≡ true = grind (arith, nat_tests, within) in cc (below, is))
+  | inr beyond ↦ beyond
+]
+
+-- the lowest bit of a set that isn't empty is a member
+pub lowest : (set : ℕ) → set ≢ 0 → set < 2 ^ 64 → has set (trailing_zeros w64 set) ≡ true
+lowest set some few = ap (λ (n : ℕ). n == 1) (bit_at-trailing_zeros w64 set (omega (arith, some)) few).1

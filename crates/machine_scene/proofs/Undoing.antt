@@ -11,6 +11,7 @@ use Rattle.loader.specs.Program.{Program, IsNamed, row_at}
 use Rattle.thread_state.specs.declared.event.Event.{Event}
 use Rattle.thread_state.specs.Thread.{ThreadState, top_of}
 use Rattle.thread_state.specs.Undo as own
+use Rattle.machine_scene.specs.declared.ready_set.ReadySet.{ReadySet}
 use Rattle.machine_scene.specs.declared.reach.Reach.{Reach}
 use Rattle.machine_scene.specs.declared.reach.Reach.TheVariants as reach
 use Rattle.machine_scene.specs.declared.note.Touched.{Touched}
@@ -35,18 +36,18 @@ record IsUndone (note : Note) (old new : StoredScene) : Type 0 where
 
 -- a note of this reach
 abbrev noted : Reach → ℕ → StoredScene → Note
-noted reach t stored = record { thread = t; before = own.note_of (thread_at (scene_of stored) t); touched = touched_by reach stored; asleep = stored.asleep }
+noted reach t stored = record { thread = t; before = own.note_of (thread_at (scene_of stored) t); touched = touched_by reach stored; ready = stored.ready }
 
 made : (old new : StoredScene) → new.cells ≡ old.cells → new.threads ≡ old.threads → new.phasers ≡ old.phasers → new.barriers ≡ old.barriers
-    → record new { asleep = old.asleep } ≡ old
+    → record new { ready = old.ready } ≡ old
 made old new cells threads phasers barriers =
-    let kept : StoredScene = record new { asleep = old.asleep } in
+    let kept : StoredScene = record new { ready = old.ready } in
     ap (λ (xs : List ℤ). record kept { cells = xs }) cells
     ∙ ap (λ (xs : List ThreadState). record kept { cells = old.cells; threads = xs }) threads
     ∙ ap (λ (xs : List Stored). record kept { cells = old.cells; threads = old.threads; phasers = xs }) phasers
     ∙ ap (λ (xs : List BarrierState). record old { barriers = xs }) barriers
 
--- the scene that such a note gives back, but for who was asleep
+-- the scene that such a note gives back, but for whose turn was ready
 abbrev given_back : Reach → ℕ → StoredScene → StoredScene → StoredScene
 given_back reach t old new = with_undone (own.note_of (thread_at (scene_of old) t)) t (with_touched (touched_by reach old) new)
 
@@ -157,31 +158,31 @@ expiry_played program t old new event sound there stored is within =
       threads = back.threads;
     }
 
--- a note gives back the same, whatever set is kept of the threads that are asleep
-touched_still : (of : Touched) (stored : StoredScene) (set : ℕ)
-    → with_touched of (record stored { asleep = set }) ≡ record (with_touched of stored) { asleep = set }
+-- a note gives back the same, whatever is kept of whose turn is ready
+touched_still : (of : Touched) (stored : StoredScene) (set : ReadySet)
+    → with_touched of (record stored { ready = set }) ≡ record (with_touched of stored) { ready = set }
 touched_still touched.Nothing stored set = refl
 touched_still (touched.Cell cell number) stored set = refl
 touched_still (touched.Thread other before) stored set = refl
 touched_still (touched.Tree saved) stored set = refl
 touched_still (touched.Barrier b before) stored set = refl
 
-undone_still : (note : Note) (stored : StoredScene) (set : ℕ) → undone note (record stored { asleep = set }) ≡ undone note stored
+undone_still : (note : Note) (stored : StoredScene) (set : ReadySet) → undone note (record stored { ready = set }) ≡ undone note stored
 undone_still note stored set =
-    ap (λ (s : StoredScene). record (with_undone note.before note.thread s) { asleep = note.asleep }) (touched_still note.touched stored set)
+    ap (λ (s : StoredScene). record (with_undone note.before note.thread s) { ready = note.ready }) (touched_still note.touched stored set)
 
-put_back_still : (of : Touched) (stored : StoredScene) (set : ℕ) → CanPutBack of stored → CanPutBack of (record stored { asleep = set })
+put_back_still : (of : Touched) (stored : StoredScene) (set : ReadySet) → CanPutBack of stored → CanPutBack of (record stored { ready = set })
 put_back_still touched.Nothing stored set can = tt
 put_back_still (touched.Cell cell number) stored set can = can
 put_back_still (touched.Thread other before) stored set can = can
 put_back_still (touched.Tree saved) stored set can = can
 put_back_still (touched.Barrier b before) stored set can = can
 
-can_still : (note : Note) (stored : StoredScene) (set : ℕ) → CanUndo note stored → CanUndo note (record stored { asleep = set })
+can_still : (note : Note) (stored : StoredScene) (set : ReadySet) → CanUndo note stored → CanUndo note (record stored { ready = set })
 can_still note stored set can = record { there = can.there; touched = put_back_still note.touched stored set can.touched }
 
-pub played_still : (outcome : Option Outcome) (t : ℕ) (program : Program) (old new : StoredScene) (set : ℕ) (event : Event)
-    → IsPlayed outcome t program old new event → IsPlayed outcome t program old (record new { asleep = set }) event
+pub played_still : (outcome : Option Outcome) (t : ℕ) (program : Program) (old new : StoredScene) (set : ReadySet) (event : Event)
+    → IsPlayed outcome t program old new event → IsPlayed outcome t program old (record new { ready = set }) event
 played_still outcome t program old new set event is = record {
   outcome_is = is.outcome_is;
   sound = is.sound;

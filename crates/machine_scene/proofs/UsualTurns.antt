@@ -1,9 +1,8 @@
--- Turns of the usual kinds: what an arrival before the last comes to, and who is asleep after such a turn.
+-- Turns of the usual kinds: what an arrival before the last comes to, and that its thread waits.
 use Rattle.std.proofs.Common.{inl, inr, ◌≡◌, ◌∙◌, ℕ, ℤ, pos, ◌<◌, ◌==◌, ◌&&◌, ◌||◌, not, Bool, true, false, List, [], ap, refl, sym, if◌then◌else◌}
 use Rattle.std.specs.Prelude.{length, is_some, Some, None}
 use Rattle.std.specs.List.{list_any}
 use Rattle.std.specs.Ordering.{int_eq}
-use Rattle.std.proofs.lemmas.Bool.{cases_eq}
 use Rattle.std.proofs.lemmas.Bool.Decides.{Decides-int_eq}
 use Rattle.std.proofs.lemmas.List.{get_or-set_same}
 use Rattle.instruction_table.specs.declared.row.Row.{Row}
@@ -18,9 +17,7 @@ use Rattle.tier_tree.specs.declared.arrived.Arrived.TheVariants as arrived
 use Rattle.tier_tree.specs.Forest.{PhaserState, phaser_at, flat_at, root_at}
 use Rattle.tier_tree.specs.Answer.{turns}
 use Rattle.tier_tree.specs.Arrival.{Arrives, climbed, arrival_by, arrival}
-use Rattle.cyclic_barrier.specs.ThreadSet.{has}
 use Rattle.loader.specs.Program.{Program, row_at}
-use Rattle.thread_state.specs.declared.event.Event.{Event}
 use Rattle.thread_state.specs.declared.frame.Frame.{Frame}
 use Rattle.thread_state.specs.declared.status.Status.{Status}
 use Rattle.thread_state.specs.declared.status.Status.TheVariants as status
@@ -31,16 +28,15 @@ use Rattle.machine_scene.specs.Scene.{Scene, StoredScene, Outcome, scene_of, no_
 use Rattle.machine_scene.specs.PhaserRows.{is_past, has_routine, turn_of_arrival, unless_own, outcome_of_arrived, outcome_with_room, outcome_of_arrival}
 use Rattle.machine_scene.specs.Waits.{outcome_of_view}
 use Rattle.machine_scene.specs.Outcomes.{outcome_in, is_ready}
-use Rattle.machine_scene.specs.Asleep.{is_asleep, is_asleep_in, is_local_turn, KeepsAsleep, IsSetAt, WakesNobody, MayFallAsleep}
+use Rattle.machine_scene.specs.ReadySet.{is_local_turn}
 use Rattle.machine_scene.specs.Usual.{is_early, is_usual_in}
 use Rattle.machine_scene.proofs.Standings.{Standing, arrival-standings}
-use Rattle.machine_scene.proofs.Asleep.{others_asleep, no_turn}
 use Rattle.tier_tree.proofs.Stands.{other-is, same-is}
 
 -- a row on registers alone
-pub local_is_usual : (of : Status) (row : Row) (stack : List Frame) (scene : Scene) → is_local_turn of row ≡ true → is_usual_in of row stack scene ≡ true
-local_is_usual status.Runs row stack scene is = ap (λ (test : Bool). test || is_early row stack scene) is
-local_is_usual _ row stack scene is = absurd (cc is)
+pub local_is_usual : (of : Status) (row : Row) (stack : List Frame) (stored : StoredScene) → is_local_turn of row ≡ true → is_usual_in of row stack stored ≡ true
+local_is_usual status.Runs row stack stored is = ap (λ (test : Bool). test || is_early row stack stored) is
+local_is_usual _ row stack stored is = absurd (cc is)
 
 and_false : (test : Bool) → (test && false) ≡ false
 and_false true = refl
@@ -111,44 +107,15 @@ view_after p phasers before phase is =
 same_number : (x y : ℤ) → x ≡ y → int_eq x y ≡ true
 same_number x y is = (Decides-int_eq x y).1 is
 
--- so the thread is asleep
-pub falls_asleep : (program : Program) (into : Reg) (p t : ℕ) (scene : Scene) (phasers : List PhaserState) (phase : ℤ)
+-- so the thread isn't ready
+pub not_ready : (program : Program) (into : Reg) (p t : ℕ) (scene : Scene) (phasers : List PhaserState) (phase : ℤ)
     → Paaa into p ≡ row_at program.rows (thread_at scene t).pc → t < length scene.threads
     → record { phasers = phasers; answer = arrived.At phase } ≡ arrival p false scene.phasers
-    → is_asleep t program (waiting phase phasers t scene) ≡ true
-falls_asleep program into p t scene phasers phase row there is =
+    → is_ready t program (waiting phase phasers t scene) ≡ false
+not_ready program into p t scene phasers phase row there is =
     let after = waiting phase phasers t scene in
     let thread = (turn_of_wait phase (thread_at scene t)).thread in
     let past : is_past p phase after ≡ false = ap not (same_number (view_of (flat_at phasers p)) phase (view_after p phasers scene.phasers phase is)) in
-    ap (λ (x : ThreadState). is_asleep_in x.status (row_at program.rows x.pc) t after) (get_or-set_same scene.threads t thread no_thread there)
-    ∙ ap (λ (r : Row). is_asleep_in (status.AwaitsPhase phase) r t after) (sym row)
-    ∙ ap (λ (x : Bool). not (is_some (if x then Some (outcome_of_view into p t after) else None))) past
-
--- the set of before, or that with the thread
-pub nobody_falls : (program : Program) (t : ℕ) (before after : StoredScene) → after.asleep ≡ before.asleep → MayFallAsleep program t before after
-nobody_falls program t before after same u member outside = absurd (let is = ap (λ (set : ℕ). has set u) (sym same) ∙ member in cc (is, outside))
-
-pub it_falls : (program : Program) (t : ℕ) (before after : StoredScene) → IsSetAt t true before.asleep after.asleep
-    → is_asleep t program (scene_of after) ≡ true → MayFallAsleep program t before after
-it_falls program t before after set sleeps u member outside = elim (cases_eq u t) as (λ _. (u ≡ t) × (is_asleep t program (scene_of after) ≡ true)) [
-  | inl same ↦ (same, sleeps)
-  | inr apart ↦ absurd (let is = sym member ∙ set u ∙ ap (λ (x : Bool). if x then true else has before.asleep u) (other-is t u (λ same. apart (sym same))) in
-      cc (is, outside))
-]
-
--- who is asleep after a turn that wakes nobody
-pub asleep_after : (program : Program) (row : Row) (t : ℕ) (old new : StoredScene) (event : Event)
-    → row ≡ row_at program.rows (thread_at (scene_of old) t).pc → t < length old.threads → length new.threads ≡ length old.threads
-    → outcome_in (thread_at (scene_of old) t).status row t program (scene_of old) ≡ Some (record { scene = scene_of new; event = event })
-    → WakesNobody row event → MayFallAsleep program t old new → KeepsAsleep program old → KeepsAsleep program new
-asleep_after program row t old new event at there many comes quiet falls keeps u within member = by (has old.asleep u) refl
-  where
-    ready : is_ready t program (scene_of old) ≡ true
-    ready = ap (λ (r : Row). is_some (outcome_in (thread_at (scene_of old) t).status r t program (scene_of old))) (sym at) ∙ ap is_some comes
-
-    by : (was : Bool) → has old.asleep u ≡ was → is_asleep u program (scene_of new) ≡ true
-    by false is = let fell = falls u member is in ap (λ (n : ℕ). is_asleep n program (scene_of new)) fell.0 ∙ fell.1
-    by true is = elim (cases_eq u t) as (λ _. is_asleep u program (scene_of new) ≡ true) [
-      | inl same ↦ absurd (let none = no_turn program old t keeps there (ap (has old.asleep) (sym same) ∙ is) in cc (none, ready))
-      | inr apart ↦ others_asleep program t row old new event keeps many comes quiet.0 u within apart (quiet.1 u) is
-    ]
+    ap (λ (x : ThreadState). is_some (outcome_in x.status (row_at program.rows x.pc) t program after)) (get_or-set_same scene.threads t thread no_thread there)
+    ∙ ap (λ (r : Row). is_some (outcome_in (status.AwaitsPhase phase) r t program after)) (sym row)
+    ∙ ap (λ (x : Bool). is_some (if x then Some (outcome_of_view into p t after) else None)) past

@@ -11,7 +11,7 @@ pub mod Unwinding
 pub mod Waits
 pub mod Outcomes
 pub mod Ready
-pub mod Asleep
+pub mod ReadySet
 pub mod Sound
 pub mod Undo
 pub mod Played

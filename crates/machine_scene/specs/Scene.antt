@@ -11,6 +11,7 @@ use Rattle.thread_state.specs.declared.event.Mark.{Mark}
 use Rattle.thread_state.specs.declared.event.Mark.TheVariants as mark
 use Rattle.thread_state.specs.declared.status.Status.TheVariants as status
 use Rattle.thread_state.specs.Thread.{ThreadState, Turn, new_thread}
+use Rattle.machine_scene.specs.declared.ready_set.ReadySet.{ReadySet}
 
 -- the shared cells, the threads, the phasers in their trees, and the barriers
 pub record Scene : Type 0 where
@@ -19,14 +20,14 @@ pub record Scene : Type 0 where
   pub phasers : List PhaserState
   pub barriers : List BarrierState
 
--- the same with the phasers as they are stored: the word of a child may be that of an earlier phase; and beside them, as a
--- set, threads that are known to be asleep
+-- the same with the phasers as they are stored: the word of a child may be that of an earlier phase; and beside them, as
+-- sets, whose turn is ready
 pub record StoredScene : Type 0 where
   pub cells : List ℤ
   pub threads : List ThreadState
   pub phasers : List Stored
   pub barriers : List BarrierState
-  pub asleep : ℕ
+  pub ready : ReadySet
 
 -- what it shows at present: all that is said of a row speaks of that alone
 abbrev pub scene_of : StoredScene → Scene

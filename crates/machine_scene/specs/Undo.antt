@@ -11,6 +11,7 @@ use Rattle.thread_state.specs.declared.status.Status.{Status}
 use Rattle.thread_state.specs.declared.status.Status.TheVariants as status
 use Rattle.thread_state.specs.Thread.{ThreadState, top_of}
 use Rattle.thread_state.specs.Undo as own
+use Rattle.machine_scene.specs.declared.ready_set.ReadySet.{ReadySet}
 use Rattle.machine_scene.specs.declared.reach.Reach.{Reach}
 use Rattle.machine_scene.specs.declared.reach.Reach.TheVariants as reach
 use Rattle.machine_scene.specs.declared.note.Touched.{Touched}
@@ -88,12 +89,12 @@ touched_by (reach.Thread other) stored = touched.Thread other (own.note_of (thre
 touched_by (reach.Tree p) stored = touched.Tree (saved_of p stored.phasers)
 touched_by (reach.Barrier b) stored = touched.Barrier b (barrier_at (scene_of stored) b)
 
--- what is kept of a scene before a turn; the set of the threads that were asleep is kept whole
+-- what is kept of a scene before a turn; whose turn was ready is kept whole
 pub record Note : Type 0 where
   pub thread : ℕ
   pub before : own.Note
   pub touched : Touched
-  pub asleep : ℕ
+  pub ready : ReadySet
 
 -- of this scene, before a turn of thread t or the expiry of its wait
 abbrev pub note_of : ℕ → Program → StoredScene → Note
@@ -101,7 +102,7 @@ note_of t program stored = record {
   thread = t;
   before = own.note_of (thread_at (scene_of stored) t);
   touched = touched_by (reach_of t program (scene_of stored)) stored;
-  asleep = stored.asleep;
+  ready = stored.ready;
 }
 
 -- a thread as it was
@@ -119,7 +120,7 @@ with_touched (touched.Barrier b before) stored = record stored { barriers = slic
 
 -- the scene before the turn
 abbrev pub undone : Note → StoredScene → StoredScene
-undone note stored = record (with_undone note.before note.thread (with_touched note.touched stored)) { asleep = note.asleep }
+undone note stored = record (with_undone note.before note.thread (with_touched note.touched stored)) { ready = note.ready }
 
 -- what was touched can be put back
 abbrev pub CanPutBack : Touched → StoredScene → Type 0

@@ -12,7 +12,7 @@ use Rattle.thread_state.specs.declared.frame.Frame.{Frame}
 use Rattle.thread_state.specs.declared.status.Status.{Status}
 use Rattle.thread_state.specs.declared.status.Status.TheVariants as status
 use Rattle.thread_state.specs.Thread.{ThreadState}
-use Rattle.machine_scene.specs.Scene.{Scene, thread_at}
+use Rattle.machine_scene.specs.Scene.{Scene, StoredScene, scene_of, thread_at}
 use Rattle.machine_scene.specs.PhaserRows.{is_past}
 
 -- an arrival was counted, and others are still to arrive
@@ -26,11 +26,11 @@ is_counted arrived.NotThere = false
 abbrev pub is_early_at : ℕ → Scene → Bool
 is_early_at p scene = is_counted (arrival p false scene.phasers).answer
 
--- an arrival at `parr` or `paaa` before the last, of a thread with an empty stack
-abbrev pub is_early : Row → List Frame → Scene → Bool
-is_early (Parr into p) stack scene = length stack == 0 && is_early_at p scene
-is_early (Paaa into p) stack scene = length stack == 0 && is_early_at p scene
-is_early _ stack scene = false
+-- an arrival at `parr` or `paaa` before the last, of a thread with an empty stack, while nobody is about to register
+abbrev pub is_early : Row → List Frame → StoredScene → Bool
+is_early (Parr into p) stack stored = (stored.ready.registering == 0 && length stack == 0) && is_early_at p (scene_of stored)
+is_early (Paaa into p) stack stored = (stored.ready.registering == 0 && length stack == 0) && is_early_at p (scene_of stored)
+is_early _ stack stored = false
 
 -- the phase that is awaited at `paaa` isn't the present one
 abbrev pub is_end : Row → ℤ → Scene → Bool
@@ -39,16 +39,16 @@ is_end _ phase scene = false
 
 -- by the thread's status: a row on registers alone, an arrival before the last, or the end of the wait that such an arrival
 -- began
-abbrev pub is_usual_in : Status → Row → List Frame → Scene → Bool
-is_usual_in status.Runs row stack scene = is_local_row row || is_early row stack scene
-is_usual_in (status.AwaitsPhase phase) row stack scene = is_end row phase scene
-is_usual_in _ row stack scene = false
+abbrev pub is_usual_in : Status → Row → List Frame → StoredScene → Bool
+is_usual_in status.Runs row stack stored = is_local_row row || is_early row stack stored
+is_usual_in (status.AwaitsPhase phase) row stack stored = is_end row phase (scene_of stored)
+is_usual_in _ row stack stored = false
 
 -- the turn of thread t is usual
-abbrev pub is_usual : ℕ → Program → Scene → Bool
-is_usual t program scene =
-    let thread : ThreadState = thread_at scene t in
-    is_usual_in thread.status (row_at program.rows thread.pc) thread.stack scene
+abbrev pub is_usual : ℕ → Program → StoredScene → Bool
+is_usual t program stored =
+    let thread : ThreadState = thread_at (scene_of stored) t in
+    is_usual_in thread.status (row_at program.rows thread.pc) thread.stack stored
 
 -- an arrival at phaser p, which is a root, would be the last of its tree
 abbrev pub is_last_at : ℕ → Scene → Bool

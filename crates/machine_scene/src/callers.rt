@@ -1,9 +1,9 @@
 // Callers, each with its proof: what a crate above can say of a turn that is taken back.
-ghost use Rattle.std.specs.Prelude.{◌≡◌, ◌<◌, length, true, is_some, IfOk};
+ghost use Rattle.std.specs.Prelude.{◌≡◌, ◌<◌, length, true, is_some};
 ghost use Rattle.machine_scene.specs.Scene.{scene_of};
 ghost use Rattle.machine_scene.specs.Outcomes.{is_ready, outcome_of_expiry};
 ghost use Rattle.machine_scene.specs.Sound.{IsSound, most_before};
-ghost use Rattle.machine_scene.specs.Asleep.{KeepsAsleep};
+ghost use Rattle.machine_scene.specs.ReadySet.{KnowsReady};
 
 use crate::note::SceneNote;
 use crate::stage::Stage;
@@ -16,21 +16,20 @@ pub fn turn_and_back(
     stage: &mut Stage,
     program: &Loaded,
     t: usize,
-) -> Result<Option<Event>, AllocError>
+) -> Result<Event, AllocError>
     requires sound { IsSound program.now most_before (scene_of stage.old) }
-    requires asleep { KeepsAsleep program.now stage.old }
+    requires known { KnowsReady program.now stage.old }
     requires thread { t < length stage.old.threads }
-    ensures back { stage.new ≡ stage.old }
-    ensures ready { IfOk result (λ event. is_some event ≡ is_ready t program.now (scene_of stage.old)) }
+    requires ready { is_ready t program.now (scene_of stage.old) ≡ true }
+    ensures { stage.new ≡ stage.old }
 {
     let mut note = SceneNote::new();
     stage.note(program, t, &mut note);
     match stage.turn(program, t) {
-        Ok(Some(event)) => {
+        Ok(event) => {
             stage.undo(&note);
-            Ok(Some(event))
+            Ok(event)
         }
-        Ok(None) => Ok(None),
         Err(refused) => Err(refused),
     }
 }
@@ -38,7 +37,7 @@ pub fn turn_and_back(
 // The time of a wait runs out, and this is taken back.
 pub fn expiry_and_back(stage: &mut Stage, program: &Loaded, t: usize) -> Event
     requires sound { IsSound program.now most_before (scene_of stage.old) }
-    requires asleep { KeepsAsleep program.now stage.old }
+    requires known { KnowsReady program.now stage.old }
     requires thread { t < length stage.old.threads }
     requires ready { is_some (outcome_of_expiry t program.now (scene_of stage.old)) ≡ true }
     ensures { stage.new ≡ stage.old }

@@ -13,6 +13,7 @@ mod manner;
 mod note;
 mod patience;
 mod reach;
+mod ready_set;
 mod stage;
 
 pub use law::{a_first_scene_is_sound, who_is_ready};

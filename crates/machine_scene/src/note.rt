@@ -1,6 +1,7 @@
 ghost use Rattle.std.specs.Prelude.{◌≡◌, None};
 ghost use Rattle.machine_scene.specs.declared.note.Touched.TheVariants.{Nothing};
 
+use crate::ready_set::ReadySet;
 use cyclic_barrier::Barrier;
 use std::marker::Model;
 use thread_state::ThreadNote;
@@ -34,7 +35,7 @@ pub struct SceneNote {
     pub(crate) number: u8,
     pub(crate) own: ThreadNote,
     pub(crate) beside: Touched,
-    pub(crate) asleep: u64,
+    pub(crate) ready: ReadySet,
 }
 
 impl Model for SceneNote {
@@ -46,7 +47,7 @@ impl Model for SceneNote {
       thread = note.number;
       before = note.own;
       touched = note.beside;
-      asleep = note.asleep;
+      ready = note.ready;
     } };
 }
 
@@ -60,7 +61,7 @@ impl SceneNote {
             number: 0,
             own: ThreadNote::new(),
             beside: Touched::Nothing,
-            asleep: 0,
+            ready: ReadySet { turns: 0, registering: 0 },
         }
     }
 }

@@ -2,29 +2,29 @@ ghost use Rattle.std.specs.Prelude.{◌≡◌, ◌<◌, ◌≤◌, length, repli
 ghost use Rattle.std.specs.Option.{OnSome};
 ghost use Rattle.std.specs.List.{list_all};
 ghost use Rattle.instruction_table.specs.LocalRows.{is_local_row};
-ghost use Rattle.loader.specs.Program.{Program, row_at};
+ghost use Rattle.tier_tree.specs.Stored.{phasers_of};
+ghost use Rattle.loader.specs.Program.{row_at};
 ghost use Rattle.thread_state.specs.Thread.{ThreadState, is_finished, top_of};
-ghost use Rattle.machine_scene.specs.Scene.{scene_of, thread_at, barrier_at};
+ghost use Rattle.machine_scene.specs.Scene.{Scene, scene_of, thread_at, cell_at, barrier_at};
 ghost use Rattle.machine_scene.specs.DataRows.{runs, may_grow};
 ghost use Rattle.machine_scene.specs.Group.{group_of};
 ghost use Rattle.machine_scene.specs.Outcomes.{outcome_in, outcome_of, outcome_of_row, outcome_of_expiry, is_ready};
 ghost use Rattle.machine_scene.specs.Outcomes.{timeout_in};
-ghost use Rattle.machine_scene.specs.Sound.{IsSound, StandsAt, most_before};
-ghost use Rattle.machine_scene.specs.Asleep.{KeepsAsleep, AreOthersAsleep, may_wake, is_local_turn};
+ghost use Rattle.machine_scene.specs.Sound.{IsSound, StandsAt, most_before, most_after};
+ghost use Rattle.machine_scene.specs.ReadySet.{KnowsReady, AreOthersReady, changes_all};
 ghost use Rattle.machine_scene.specs.Played.{IsPlayed};
 ghost use Rattle.machine_scene.specs.Undo.{PhasersWithin, reach_of_row, reach_in};
 
 use crate::group::{Group, group_of};
+use crate::ready_set::ReadySet;
 use cyclic_barrier::Barrier;
 use instruction_table::Row;
 use loader::Loaded;
-use ready::may_be_blocked;
 use std::alloc::{AllocError, Global};
 use std::marker::Model;
 use thread_state::{Event, Mark, Status, Thread, What};
 use tier_tree::{Forest, PhaserId};
 
-mod asleep;
 mod barrier_rows;
 mod call_rows;
 mod data_rows;
@@ -33,6 +33,7 @@ mod last;
 mod own_rows;
 mod phaser_rows;
 mod ready;
+mod ready_set;
 mod standing;
 mod undo;
 mod unwinding;
@@ -46,7 +47,7 @@ pub struct Stage {
     threads: Vec<Thread>,
     phasers: Forest,
     barriers: Vec<Barrier>,
-    asleep: u64,
+    ready: ReadySet,
 }
 
 impl Model for Stage {
@@ -60,7 +61,7 @@ impl Model for Stage {
       threads = stage.threads.items;
       phasers = stage.phasers;
       barriers = stage.barriers.items;
-      asleep = stage.asleep;
+      ready = stage.ready;
     } };
 
     ghost invariant = { λ stage.
@@ -89,30 +90,45 @@ fn copies(alloc: Global, threads: &[Thread]) -> Result<Vec<Thread>, AllocError>
 }
 
 impl Stage {
-    /// These threads, phasers and barriers, and cells of 0.
-    #[tactic(auto, using(crate::proofs::Asleep::nobody_kept))]
-    pub fn new(threads: Vec<Thread>, phasers: Forest, barriers: Vec<Barrier>) -> Stage
+    /// These threads, phasers and barriers, and cells of 0, for a program that fits them.
+    pub fn new(
+        program: &Loaded,
+        threads: Vec<Thread>,
+        phasers: Forest,
+        barriers: Vec<Barrier>,
+    ) -> Stage
         requires threads { length threads.items ≤ 64 }
         requires barriers { length barriers.items ≤ 64 }
+        requires sound { let scene : Scene = record {
+          cells = replicate 32 (pos 0);
+          threads = threads.items;
+          phasers = phasers_of phasers;
+          barriers = barriers.items;
+        } in IsSound program.now most_after scene }
         ensures stage { result ≡ record {
           cells = replicate 32 (pos 0);
           threads = threads.items;
           phasers = phasers;
           barriers = barriers.items;
-          asleep = 0;
+          ready = result.ready;
         } }
-        ensures asleep { (program : Program) → KeepsAsleep program result }
+        ensures ready { KnowsReady program.now result }
     {
-        Stage {
+        let mut stage = Stage {
             cells: [0; 32],
             threads,
             phasers,
             barriers,
-            asleep: 0,
-        }
+            ready: ReadySet {
+                turns: 0,
+                registering: 0,
+            },
+        };
+        stage.ready = stage.all_looked(program);
+        stage
     }
 
-    /// A copy of the stage: cells, threads, phasers, barriers and who is asleep, word for word.
+    /// A copy of the stage: cells, threads, phasers, barriers and whose turn is ready, word for word.
     pub fn copy(&self, alloc: Global) -> Result<Stage, AllocError>
         ensures { IfOk result (λ copy. copy ≡ self.now) }
     {
@@ -121,7 +137,7 @@ impl Stage {
             threads: copies(alloc, self.threads.as_slice())?,
             phasers: self.phasers.copy(alloc)?,
             barriers: Vec::from_slice(alloc, self.barriers.as_slice())?,
-            asleep: self.asleep,
+            ready: self.ready,
         })
     }
 
@@ -200,50 +216,28 @@ impl Stage {
         row
     }
 
+    /// The number in a cell.
+    pub fn cell(&self, number: usize) -> i32
+        requires { number < 32 }
+        ensures { result ≡ cell_at (scene_of self.now) number }
+    {
+        self.cells[number]
+    }
+
     /// Whether a thread may take a step.
-    #[tactic(auto, using(crate::proofs::Asleep::no_turn))]
+    #[inline(always)]
     pub fn is_ready(&self, program: &Loaded, t: usize) -> bool
-        requires sound { IsSound program.now most_before (scene_of self.now) }
-        requires asleep { KeepsAsleep program.now self.now }
+        requires ready { KnowsReady program.now self.now }
         requires thread { t < length self.now.threads }
         ensures { result ≡ is_ready t program.now (scene_of self.now) }
     {
-        !asleep::is_in(self.asleep, t) && self.goes_on(program, t)
-    }
-
-    /// Whether a thread is known to be asleep, so that it can take no step. False says nothing.
-    #[inline(always)]
-    #[tactic(auto, using(crate::proofs::Asleep::no_turn))]
-    pub fn is_known_asleep(&self, program: &Loaded, t: usize) -> bool
-        requires asleep { KeepsAsleep program.now self.now }
-        requires thread { t < length self.now.threads }
-        ensures { result ≡ true → is_ready t program.now (scene_of self.now) ≡ false }
-    {
-        asleep::is_in(self.asleep, t)
-    }
-
-    /// `is_ready` without the set of those that are known to be asleep: a look at what the thread does.
-    #[inline(always)]
-    #[tactic(auto, using(crate::proofs::Readiness::row_is_ready))]
-    fn goes_on(&self, program: &Loaded, t: usize) -> bool
-        requires sound { IsSound program.now most_before (scene_of self.now) }
-        requires thread { t < length self.now.threads }
-        ensures { result ≡ is_ready t program.now (scene_of self.now) }
-    {
-        let row = self.row_of(program, t);
-        match self.threads[t].status() {
-            Status::Runs => !self.is_blocked(row, t),
-            Status::Throws(_) => true,
-            Status::AwaitsPhase(phase) => self.is_phase_wait_over(row, phase, t),
-            Status::AwaitsBarrier(_) => self.is_barrier_wait_over(row, t),
-            Status::Ended | Status::Died(_) => false,
-        }
+        ready_set::is_in(self.ready.turns, t)
     }
 
     /// Whether the time of a thread's wait may run out now.
     pub fn can_expire(&self, program: &Loaded, t: usize) -> bool
         requires sound { IsSound program.now most_before (scene_of self.now) }
-        requires asleep { KeepsAsleep program.now self.now }
+        requires known { KnowsReady program.now self.now }
         requires thread { t < length self.now.threads }
         ensures { result ≡ is_some (outcome_of_expiry t program.now (scene_of self.now)) }
     {
@@ -253,7 +247,7 @@ impl Stage {
     /// The row that a thread stands at, where the time of its wait may run out now.
     pub fn expiring_row(&self, program: &Loaded, t: usize) -> Option<Row>
         requires sound { IsSound program.now most_before (scene_of self.now) }
-        requires asleep { KeepsAsleep program.now self.now }
+        requires known { KnowsReady program.now self.now }
         requires thread { t < length self.now.threads }
         ensures ready { is_some result ≡ is_some (outcome_of_expiry t program.now (scene_of self.now)) }
         ensures row { IfSome result (λ row. row ≡ row_at program.now.rows (thread_at (scene_of self.now) t).pc) }
@@ -269,59 +263,12 @@ impl Stage {
         }
     }
 
-    /// The turn of a thread, if it may take a step: else it is `Ok(None)`. `Err` is want of memory for a value put out. Nothing
-    /// has changed then.
+    /// The turn of a thread that may take a step. `Err` is want of memory for a value put out. Nothing has changed then.
     #[inline(always)]
-    #[tactic(auto, using(crate::proofs::Readiness::row_is_ready, crate::proofs::Readiness::seldom_blocked))]
-    pub fn turn(&mut self, program: &Loaded, t: usize) -> Result<Option<Event>, AllocError>
+    pub fn turn(&mut self, program: &Loaded, t: usize) -> Result<Event, AllocError>
         requires sound { IsSound program.now most_before (scene_of self.old) }
-        requires asleep { KeepsAsleep program.now self.old }
+        requires known { KnowsReady program.now self.old }
         requires thread { t < length self.old.threads }
-        ensures ready { IfOk result (λ event. is_some event ≡ is_ready t program.now (scene_of self.old)) }
-        ensures none { result ≡ Ok None → self.new ≡ self.old }
-        ensures ok { IfOk result (λ event. IfSome event (λ event.
-            IsPlayed (outcome_of t program.now (scene_of self.old)) t program.now self.old self.new event)) }
-        ensures err { OnErr result (self.new ≡ self.old) }
-        ensures wants { OnErr result (is_ready t program.now (scene_of self.old) ≡ true) }
-        ensures memory { IsErr result → may_grow
-            (row_at program.now.rows (thread_at (scene_of self.old) t).pc)
-            (thread_at (scene_of self.old) t) ≡ true }
-        ensures asleep { IfOk result (λ event. OnSome event (KeepsAsleep program.now self.new)) }
-    {
-        let row = self.row_of(program, t);
-        let of = self.threads[t].status();
-        match of {
-            Status::Runs => {
-                if may_be_blocked(row) && self.is_blocked(row, t) {
-                    return Ok(None);
-                }
-            }
-            _ => {
-                if !self.goes_on(program, t) {
-                    return Ok(None);
-                }
-            }
-        }
-        match self.ready_turn(program, of, row, t) {
-            Ok(event) => Ok(Some(event)),
-            Err(refused) => Err(refused),
-        }
-    }
-
-    /// The turn of a ready thread that does this and stands at this row.
-    #[inline(always)]
-    fn ready_turn(
-        &mut self,
-        program: &Loaded,
-        of: Status,
-        row: Row,
-        t: usize,
-    ) -> Result<Event, AllocError>
-        requires sound { IsSound program.now most_before (scene_of self.old) }
-        requires asleep { KeepsAsleep program.now self.old }
-        requires thread { t < length self.old.threads }
-        requires of { (thread_at (scene_of self.old) t).status ≡ of }
-        requires row { row ≡ row_at program.now.rows (thread_at (scene_of self.old) t).pc }
         requires ready { is_ready t program.now (scene_of self.old) ≡ true }
         ensures ok { IfOk result (λ event.
             IsPlayed (outcome_of t program.now (scene_of self.old)) t program.now self.old self.new event) }
@@ -329,65 +276,38 @@ impl Stage {
         ensures memory { IsErr result → may_grow
             (row_at program.now.rows (thread_at (scene_of self.old) t).pc)
             (thread_at (scene_of self.old) t) ≡ true }
-        ensures asleep { OnOk result (KeepsAsleep program.now self.new) }
+        ensures known { OnOk result (KnowsReady program.now self.new) }
     {
-        if self.is_local_turn(row, t) {
-            return Ok(self.local_turn(program, row, t));
-        }
-        self.turn_is_placed(program, row, t);
-        let before = self.asleep;
-        match self.turn_of_row(program, of, row, t) {
+        let row = self.row_of(program, t);
+        let before = self.ready;
+        match self.turn_of_row(program, row, t) {
             Ok(event) => {
-                self.asleep = self.asleep_after(program, before, row, event, t);
+                self.ready = self.ready_after(program, before, row, event, t);
                 Ok(event)
             }
             Err(refused) => Err(refused),
         }
     }
 
-    /// `ready_turn` at a row on registers alone: nobody is woken, so the set of those asleep stays as it is.
+    /// `turn` of a thread that stands at this row, but for the sets of those whose turn is ready: the turn may have changed
+    /// them, which its caller finds out. That the scene stays sound and can be given back is shown here.
     #[inline(always)]
-    fn local_turn(&mut self, program: &Loaded, row: Row, t: usize) -> Event
-        requires sound { IsSound program.now most_before (scene_of self.old) }
-        requires asleep { KeepsAsleep program.now self.old }
-        requires thread { t < length self.old.threads }
-        requires row { row ≡ row_at program.now.rows (thread_at (scene_of self.old) t).pc }
-        requires local { is_local_turn (thread_at (scene_of self.old) t).status row ≡ true }
-        ensures ok { IsPlayed (outcome_of t program.now (scene_of self.old)) t program.now self.old self.new result }
-        ensures asleep { KeepsAsleep program.now self.new }
-    {
-        self.turn_is_placed(program, row, t);
-        self.phasers_are_stored();
-        self.local_row(row, t)
-    }
-
-    /// `ready_turn` at any other row, but for the set of those asleep: the turn may have woken some, which its caller finds
-    /// out. That the scene stays sound and can be given back is shown here.
-    #[inline(always)]
-    fn turn_of_row(
-        &mut self,
-        program: &Loaded,
-        of: Status,
-        row: Row,
-        t: usize,
-    ) -> Result<Event, AllocError>
+    fn turn_of_row(&mut self, program: &Loaded, row: Row, t: usize) -> Result<Event, AllocError>
         requires sound { IsSound program.now most_before (scene_of self.old) }
         requires thread { t < length self.old.threads }
-        requires of { (thread_at (scene_of self.old) t).status ≡ of }
         requires row { row ≡ row_at program.now.rows (thread_at (scene_of self.old) t).pc }
         requires at { StandsAt program.now row t self.old }
         requires ready { is_ready t program.now (scene_of self.old) ≡ true }
-        requires apart { is_local_turn (thread_at (scene_of self.old) t).status row ≡ false }
         ensures ok { IfOk result (λ event.
             IsPlayed (outcome_of t program.now (scene_of self.old)) t program.now self.old self.new event) }
         ensures err { OnErr result (self.new ≡ self.old) }
         ensures memory { IsErr result → may_grow row (thread_at (scene_of self.old) t) ≡ true }
-        ensures others { IfOk result (λ event. KeepsAsleep program.now self.old → may_wake row event ≡ false
-            → AreOthersAsleep program.now t row self.old.asleep self.new) }
+        ensures others { IfOk result (λ event. KnowsReady program.now self.old → changes_all row event ≡ false
+            → AreOthersReady program.now t row self.old.ready (scene_of self.new)) }
     {
         self.phasers_are_stored();
         // The answer goes on as it is: each arm names its case for the proof.
-        match self.turn_at(program, of, row, t) {
+        match self.turn_at(program, row, t) {
             Ok(event) => Ok(event),
             Err(refused) => Err(refused),
         }
@@ -396,20 +316,12 @@ impl Stage {
     /// What the thread is doing decides: it plays its row, pops a stack entry, or finishes its wait.
     #[inline(always)]
     #[tactic(auto, using(crate::proofs::Reaches::within_same))]
-    fn turn_at(
-        &mut self,
-        program: &Loaded,
-        of: Status,
-        row: Row,
-        t: usize,
-    ) -> Result<Event, AllocError>
+    fn turn_at(&mut self, program: &Loaded, row: Row, t: usize) -> Result<Event, AllocError>
         requires sound { IsSound program.now most_before (scene_of self.old) }
         requires thread { t < length self.old.threads }
-        requires of { (thread_at (scene_of self.old) t).status ≡ of }
         requires at { StandsAt program.now row t self.old }
         requires ready { is_some (outcome_in (thread_at (scene_of self.old) t).status row t program.now
             (scene_of self.old)) ≡ true }
-        requires apart { is_local_turn (thread_at (scene_of self.old) t).status row ≡ false }
         ensures ok { IfOk result (λ event. outcome_in (thread_at (scene_of self.old) t).status row t
             program.now (scene_of self.old)
             ≡ Some (record { scene = scene_of self.new; event = event })) }
@@ -427,7 +339,7 @@ impl Stage {
         }
     }
 
-    /// The row of a running thread, by its group; those on registers alone are played by `local_turn`.
+    /// The row of a running thread, by its group.
     #[tactic(auto, using(crate::proofs::Reaches::within_same))]
     fn row(&mut self, program: &Loaded, row: Row, t: usize) -> Result<Event, AllocError>
         requires sound { IsSound program.now most_before (scene_of self.old) }
@@ -435,7 +347,6 @@ impl Stage {
         requires at { StandsAt program.now row t self.old }
         requires ready { is_some (outcome_of_row row t program.now (scene_of self.old)) ≡ true }
         requires runs { (thread_at (scene_of self.old) t).status ≡ Status.Runs }
-        requires apart { is_local_row row ≡ false }
         ensures ok { IfOk result (λ event. outcome_of_row row t program.now (scene_of self.old)
             ≡ Some (record { scene = scene_of self.new; event = event })) }
         ensures err { OnErr result (self.new ≡ self.old) }
@@ -444,7 +355,7 @@ impl Stage {
             self.old.phasers self.new.phasers }
     {
         match group_of(row) {
-            Group::Own => Ok(self.halt_row(row, t)),
+            Group::Own => Ok(self.own_row(row, t)),
             Group::Calls => Ok(self.call_row(program, row, t)),
             Group::Data => self.data_row(row, t),
             Group::Phasers => Ok(self.phaser_row(program, row, t)),
@@ -456,21 +367,21 @@ impl Stage {
     /// The time of the wait of a thread that stands at this row runs out.
     pub fn expire(&mut self, program: &Loaded, row: Row, t: usize) -> Event
         requires sound { IsSound program.now most_before (scene_of self.old) }
-        requires asleep { KeepsAsleep program.now self.old }
+        requires known { KnowsReady program.now self.old }
         requires thread { t < length self.old.threads }
         requires row { row ≡ row_at program.now.rows (thread_at (scene_of self.old) t).pc }
         requires ready { is_some (outcome_of_expiry t program.now (scene_of self.old)) ≡ true }
         ensures ok { IsPlayed (outcome_of_expiry t program.now (scene_of self.old)) t program.now self.old self.new result }
-        ensures asleep { KeepsAsleep program.now self.new }
+        ensures known { KnowsReady program.now self.new }
     {
         self.turn_is_placed(program, row, t);
-        let before = self.asleep;
+        let before = self.ready;
         let event = self.expiry_of_row(program, row, t);
-        self.asleep = self.asleep_after(program, before, row, event, t);
+        self.ready = self.ready_after(program, before, row, event, t);
         event
     }
 
-    /// `expire`, but for the set of those asleep, as `turn_of_row` is `ready_turn`.
+    /// `expire`, but for the sets of those whose turn is ready, as `turn_of_row` is `turn`.
     fn expiry_of_row(&mut self, program: &Loaded, row: Row, t: usize) -> Event
         requires sound { IsSound program.now most_before (scene_of self.old) }
         requires thread { t < length self.old.threads }
@@ -478,8 +389,8 @@ impl Stage {
         requires at { StandsAt program.now row t self.old }
         requires ready { is_some (outcome_of_expiry t program.now (scene_of self.old)) ≡ true }
         ensures ok { IsPlayed (outcome_of_expiry t program.now (scene_of self.old)) t program.now self.old self.new result }
-        ensures others { KeepsAsleep program.now self.old → may_wake row result ≡ false
-            → AreOthersAsleep program.now t row self.old.asleep self.new }
+        ensures others { KnowsReady program.now self.old → changes_all row result ≡ false
+            → AreOthersReady program.now t row self.old.ready (scene_of self.new) }
     {
         self.phasers_are_stored();
         self.expire_at(program, row, t)

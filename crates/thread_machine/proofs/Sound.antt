@@ -4,9 +4,8 @@ use Rattle.tier_tree.specs.Stored.{IsStored}
 use Rattle.loader.specs.Program.{Program, IsProgram}
 use Rattle.machine_scene.specs.Scene.{Scene, StoredScene, scene_of, first_scene}
 use Rattle.machine_scene.specs.Sound.{IsSound}
-use Rattle.machine_scene.specs.Asleep.{KeepsAsleep}
+use Rattle.machine_scene.specs.ReadySet.{KnowsReady}
 use Rattle.machine_scene.proofs.Start.{sound_start}
-use Rattle.machine_scene.proofs.Asleep.{nobody_kept}
 use Rattle.thread_machine.specs.World.{StoredWorld}
 use Rattle.std.specs.Prelude.{None}
 use Rattle.thread_machine.specs.Sound.{IsMachine}
@@ -21,12 +20,12 @@ world_with program limit scene choices steps =
 pub one_step_more : (program : Program) (limit choices steps : ℕ) (before after : StoredScene)
     → IsMachine (world_with program limit before choices steps) → steps < limit → choices < 1000000000000
     → (steps < 2147483646 → IsSound program steps (scene_of before) → IsSound program (steps + 1) (scene_of after))
-    → KeepsAsleep program after → IsMachine (world_with program limit after (choices + 1) (steps + 1))
-one_step_more program limit choices steps before after machine left more sound asleep =
+    → KnowsReady program after → IsMachine (world_with program limit after (choices + 1) (steps + 1))
+one_step_more program limit choices steps before after machine left more sound ready =
     let most = machine.limit in
     record {
       sound = sound (omega (arith, left, most)) machine.sound;
-      asleep = asleep;
+      ready = ready;
       steps = omega (arith, left);
       limit = most;
       choices = omega (arith, more);
@@ -38,10 +37,10 @@ scene_starts : (program : Program) (scene : StoredScene) → IsProgram program �
 scene_starts program scene whole stored is = subst (λ (s : Scene). IsSound program 0 s) (sym is) (sound_start program whole stored.places)
 
 pub machine_starts : (program : Program) (limit : ℕ) (scene : StoredScene) → IsProgram program → IsStored program.phasers
-    → limit ≤ 1000000000 → scene_of scene ≡ first_scene program → scene.asleep ≡ 0 → IsMachine (world_with program limit scene 0 0)
-machine_starts program limit scene whole stored most is nobody = record {
+    → limit ≤ 1000000000 → scene_of scene ≡ first_scene program → KnowsReady program scene → IsMachine (world_with program limit scene 0 0)
+machine_starts program limit scene whole stored most is known = record {
   sound = scene_starts program scene whole stored is;
-  asleep = nobody_kept program scene nobody;
+  ready = known;
   steps = omega arith;
   limit = most;
   choices = omega arith;
@@ -54,5 +53,5 @@ idle_undone world after machine is =
       counted = omega arith;
       scene = tt;
       machine = let most = machine.choices in
-          record { sound = machine.sound; asleep = machine.asleep; steps = machine.steps; limit = machine.limit; choices = omega (arith, most) };
+          record { sound = machine.sound; ready = machine.ready; steps = machine.steps; limit = machine.limit; choices = omega (arith, most) };
     })

@@ -2,13 +2,13 @@
 use Rattle.std.specs.Prelude.{◌≤◌}
 use Rattle.machine_scene.specs.Scene.{scene_of}
 use Rattle.machine_scene.specs.Sound.{IsSound}
-use Rattle.machine_scene.specs.Asleep.{KeepsAsleep}
+use Rattle.machine_scene.specs.ReadySet.{KnowsReady}
 use Rattle.thread_machine.specs.World.{StoredWorld}
 
--- no row meets a missing thing, who is kept as asleep is so, and the counts are within their limits
+-- no row meets a missing thing, whose turn is ready is known, and the counts are within their limits
 pub record IsMachine (world : StoredWorld) : Type 0 where
   pub sound : IsSound world.program world.steps (scene_of world.scene)
-  pub asleep : KeepsAsleep world.program world.scene
+  pub ready : KnowsReady world.program world.scene
   pub steps : world.steps ≤ world.limit
   pub limit : world.limit ≤ 1000000000
   pub choices : world.choices ≤ 1000000000000

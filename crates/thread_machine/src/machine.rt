@@ -4,12 +4,13 @@ ghost use Rattle.instruction_table.specs.Registers.{value_in};
 ghost use Rattle.tier_tree.specs.Origin.{Origin, AreTallied};
 ghost use Rattle.tier_tree.specs.Stored.{phasers_of};
 ghost use Rattle.thread_state.specs.Frame.{entry_of};
-ghost use Rattle.machine_scene.specs.Scene.{scene_of, first_scene, thread_at, barrier_at, starting};
+ghost use Rattle.machine_scene.specs.Scene.{scene_of, first_scene, thread_at, cell_at, barrier_at, starting};
 ghost use Rattle.machine_scene.specs.Outcomes.{is_ready};
+ghost use Rattle.machine_scene.specs.ReadySet.{KnowsReady};
 ghost use Rattle.machine_scene.specs.Usual.{is_usual};
 ghost use Rattle.thread_machine.specs.World.{world_of, first_world};
 ghost use Rattle.thread_machine.specs.Idle.{idle_event};
-ghost use Rattle.thread_machine.specs.Ready.{can_expire, can_go_on, is_choice_ready, has_ended, is_stuck, some_ready};
+ghost use Rattle.thread_machine.specs.Ready.{can_expire, is_choice_ready, has_ended, is_stuck, some_ready};
 ghost use Rattle.thread_machine.specs.Standing.{standing_of};
 ghost use Rattle.thread_machine.specs.DirectCounts.{counts_after, EndsNoPhaseEarly, NumbersStay};
 ghost use Rattle.thread_machine.specs.Sound.{IsMachine};
@@ -26,7 +27,7 @@ use crate::undo::Undo;
 use cyclic_barrier::Barrier;
 use instruction_table::Reg;
 use loader::Loaded;
-use machine_scene::Stage;
+use machine_scene::{Stage, a_first_scene_is_sound};
 use row_code::DeclaredThread;
 use std::alloc::{AllocError, Global};
 use std::marker::Model;
@@ -90,13 +91,14 @@ fn new_threads(alloc: Global, declared: &[DeclaredThread]) -> Result<Vec<Thread>
 fn first_stage(alloc: Global, program: &Loaded) -> Result<Stage, AllocError>
     ensures stored { IfOk result (λ stage. stage.phasers ≡ program.now.phasers) }
     ensures scene { IfOk result (λ stage. scene_of stage ≡ first_scene program.now) }
-    ensures asleep { IfOk result (λ stage. stage.asleep ≡ 0) }
+    ensures ready { IfOk result (λ stage. KnowsReady program.now stage) }
 {
     program.each_program_is_whole();
+    a_first_scene_is_sound(program);
     let threads = new_threads(alloc, program.threads())?;
     let forest = program.phasers().copy(alloc)?;
     let barriers = Vec::from_slice(alloc, program.barriers())?;
-    Ok(Stage::new(threads, forest, barriers))
+    Ok(Stage::new(program, threads, forest, barriers))
 }
 
 impl Machine {
@@ -167,7 +169,7 @@ impl Machine {
     fn usual_step(&mut self, choice: Choice) -> Option<Event>
         ensures usual { choice.expiry ≡ false → choice.thread < length self.old.scene.threads
             → self.old.choices < 1000000000000 → self.old.steps < self.old.limit
-            → is_some result ≡ is_usual choice.thread self.old.program (scene_of self.old.scene) }
+            → is_some result ≡ is_usual choice.thread self.old.program self.old.scene }
         ensures none { result ≡ None → self.new ≡ self.old }
         ensures step { IfSome result (λ event. IsStep self.old choice (Ok event) self.new) }
         ensures steps { OnSome result (self.new.steps ≡ self.old.steps + 1) }
@@ -220,22 +222,23 @@ impl Machine {
             *told = Err(StepFault::StepLimit);
         } else if choice.expiry || self.steps == self.limit {
             self.seldom_step(choice, told);
-        } else if self.stage.is_known_asleep(&self.program, t) {
+        } else if !self.stage.is_ready(&self.program, t) {
             self.stay(choice);
         } else if self.stage.is_at_arrival(&self.program, t) {
             self.arrival_step(choice, told);
         } else {
-            self.awake_step(choice, told);
+            self.ready_step(choice, told);
         }
     }
 
-    /// `awake_step`, where it may be the last arrival at a root.
+    /// `ready_step`, where it may be the last arrival at a root.
     #[inline(never)]
     fn arrival_step(&mut self, choice: Choice, told: &mut Result<Event, StepFault>)
         requires there { choice.thread < length self.old.scene.threads }
         requires choices { self.old.choices < 1000000000000 }
         requires turn { choice.expiry ≡ false }
         requires steps { self.old.steps < self.old.limit }
+        requires ready { is_ready choice.thread self.old.program (scene_of self.old.scene) ≡ true }
         requires told { told.old ≡ Ok idle_event }
         ensures { IsStep self.old choice told.new self.new }
     {
@@ -245,27 +248,27 @@ impl Machine {
                 self.steps += 1;
                 *told = Ok(event);
             }
-            None => self.awake_step(choice, told),
+            None => self.ready_step(choice, told),
         }
     }
 
-    /// `other_step` of a thread that may be awake, where a step is left.
+    /// `other_step` of a thread whose turn is ready, where a step is left.
     #[inline(never)]
-    fn awake_step(&mut self, choice: Choice, told: &mut Result<Event, StepFault>)
+    fn ready_step(&mut self, choice: Choice, told: &mut Result<Event, StepFault>)
         requires there { choice.thread < length self.old.scene.threads }
         requires choices { self.old.choices < 1000000000000 }
         requires turn { choice.expiry ≡ false }
         requires steps { self.old.steps < self.old.limit }
+        requires ready { is_ready choice.thread self.old.program (scene_of self.old.scene) ≡ true }
         requires told { told.old ≡ Ok idle_event }
         ensures { IsStep self.old choice told.new self.new }
     {
         match self.stage.turn(&self.program, choice.thread as usize) {
-            Ok(Some(event)) => {
+            Ok(event) => {
                 self.choices += 1;
                 self.steps += 1;
                 *told = Ok(event);
             }
-            Ok(None) => self.stay(choice),
             Err(_) => *told = Err(StepFault::Memory),
         }
     }
@@ -473,20 +476,15 @@ impl Machine {
     fn some_ready(&self) -> bool
         ensures { result ≡ some_ready self.now.program (scene_of self.now.scene) }
     {
+        if self.stage.ready_thread(&self.program).is_some() {
+            return true;
+        }
         for t in 0..self.thread_count() {
-            if self.can_go_on(t as u8) {
+            if self.can_expire(t as u8) {
                 return true;
             }
         }
         false
-    }
-
-    /// Whether a thread has a choice that may take a step.
-    fn can_go_on(&self, thread: u8) -> bool
-        requires { thread < length self.now.scene.threads }
-        ensures { result ≡ can_go_on self.now.program (scene_of self.now.scene) thread }
-    {
-        self.is_ready(thread) || self.can_expire(thread)
     }
 
     /// The program.
@@ -593,6 +591,14 @@ impl Machine {
         ensures { result.now ≡ self.now.scene.cells }
     {
         self.stage.cells()
+    }
+
+    /// The number in one of them.
+    pub fn cell(&self, number: u8) -> i32
+        requires { number < 32 }
+        ensures { result ≡ cell_at (scene_of self.now.scene) number }
+    {
+        self.stage.cell(number as usize)
     }
 
     /// How many effective steps the machine may take.

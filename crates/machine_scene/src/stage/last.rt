@@ -5,7 +5,7 @@ ghost use Rattle.thread_state.specs.Thread.{top_of};
 ghost use Rattle.machine_scene.specs.Scene.{scene_of, thread_at};
 ghost use Rattle.machine_scene.specs.Outcomes.{outcome_in, outcome_of, outcome_of_row};
 ghost use Rattle.machine_scene.specs.Sound.{IsSound, StandsAt, most_before};
-ghost use Rattle.machine_scene.specs.Asleep.{KeepsAsleep, AreOthersAsleep, may_wake};
+ghost use Rattle.machine_scene.specs.ReadySet.{KnowsReady, AreOthersReady, changes_all};
 ghost use Rattle.machine_scene.specs.Usual.{is_arrival, is_last, is_last_in, is_last_turn};
 ghost use Rattle.machine_scene.specs.Played.{IsPlayed};
 ghost use Rattle.machine_scene.specs.Undo.{PhasersWithin, reach_in, reach_of_row};
@@ -33,26 +33,26 @@ impl Stage {
     #[inline(always)]
     pub fn last_turn(&mut self, program: &Loaded, t: usize) -> Option<Event>
         requires sound { IsSound program.now most_before (scene_of self.old) }
-        requires asleep { KeepsAsleep program.now self.old }
+        requires known { KnowsReady program.now self.old }
         requires thread { t < length self.old.threads }
         ensures last { is_some result ≡ is_last_turn t program.now (scene_of self.old) }
         ensures none { result ≡ None → self.new ≡ self.old }
         ensures ok { IfSome result (λ event.
             IsPlayed (outcome_of t program.now (scene_of self.old)) t program.now self.old self.new event) }
-        ensures asleep { OnSome result (KeepsAsleep program.now self.new) }
+        ensures known { OnSome result (KnowsReady program.now self.new) }
     {
         let row = self.row_of(program, t);
-        let before = self.asleep;
+        let before = self.ready;
         match self.last_of_row(program, row, t) {
             Some(event) => {
-                self.asleep = self.asleep_after(program, before, row, event, t);
+                self.ready = self.ready_after(program, before, row, event, t);
                 Some(event)
             }
             None => None,
         }
     }
 
-    /// `last_turn` of a thread that stands at this row, but for the set of those asleep.
+    /// `last_turn` of a thread that stands at this row, but for the sets of those whose turn is ready.
     #[inline(always)]
     fn last_of_row(&mut self, program: &Loaded, row: Row, t: usize) -> Option<Event>
         requires sound { IsSound program.now most_before (scene_of self.old) }
@@ -63,8 +63,8 @@ impl Stage {
         ensures none { result ≡ None → self.new ≡ self.old }
         ensures ok { IfSome result (λ event.
             IsPlayed (outcome_of t program.now (scene_of self.old)) t program.now self.old self.new event) }
-        ensures others { IfSome result (λ event. KeepsAsleep program.now self.old → may_wake row event ≡ false
-            → AreOthersAsleep program.now t row self.old.asleep self.new) }
+        ensures others { IfSome result (λ event. KnowsReady program.now self.old → changes_all row event ≡ false
+            → AreOthersReady program.now t row self.old.ready (scene_of self.new)) }
     {
         self.phasers_are_stored();
         // The answer goes on as it is: each arm names its case for the proof.

@@ -5,7 +5,7 @@ ghost use Rattle.machine_scene.specs.Sound.{CanPlay};
 ghost use Rattle.machine_scene.specs.OwnRows.{outcome_of_own_row};
 
 use super::{Stage, alone};
-use instruction_table::Row;
+use instruction_table::{Row, is_local};
 use thread_state::Event;
 
 impl Stage {
@@ -18,13 +18,28 @@ impl Stage {
         ensures outcome { outcome_of_own_row row t (scene_of self.old)
             ≡ Some (record { scene = scene_of self.new; event = result }) }
         ensures phasers { self.new.phasers ≡ self.old.phasers }
-        ensures asleep { (self.new).asleep ≡ self.old.asleep }
+        ensures ready { (self.new).ready ≡ self.old.ready }
     {
         alone(self.threads[t].local_row(row))
     }
 
-    /// `halt`, the one row of their group beside them.
-    pub(super) fn halt_row(&mut self, row: Row, t: usize) -> Event
+    /// The rows of their group: beside them there is only `halt`.
+    pub(super) fn own_row(&mut self, row: Row, t: usize) -> Event
+        requires ready { is_some (outcome_of_own_row row t (scene_of self.old)) ≡ true }
+        requires plays { CanPlay t self.old }
+        ensures outcome { outcome_of_own_row row t (scene_of self.old)
+            ≡ Some (record { scene = scene_of self.new; event = result }) }
+        ensures phasers { self.new.phasers ≡ self.old.phasers }
+    {
+        if is_local(row) {
+            self.local_row(row, t)
+        } else {
+            self.halt_row(row, t)
+        }
+    }
+
+    /// `halt`.
+    fn halt_row(&mut self, row: Row, t: usize) -> Event
         requires ready { is_some (outcome_of_own_row row t (scene_of self.old)) ≡ true }
         requires apart { is_local_row row ≡ false }
         requires thread { t < length self.old.threads }

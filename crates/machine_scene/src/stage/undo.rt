@@ -30,7 +30,7 @@ impl Stage {
         } else {
             self.note_beside(program, row, t, &mut note.beside);
         }
-        note.asleep = self.asleep;
+        note.ready = self.ready;
     }
 
     /// What is kept of what the turn of a thread at this row may change beside it.
@@ -85,7 +85,7 @@ impl Stage {
     {
         self.put_back(&note.beside);
         self.threads[note.number as usize].undo(&note.own);
-        self.asleep = note.asleep;
+        self.ready = note.ready;
     }
 
     /// Puts back what the turn changed beside its own thread.

@@ -12,8 +12,10 @@ use Rattle.machine_scene.specs.declared.manner.Manner.{Manner}
 use Rattle.machine_scene.specs.Manner.{manner_of}
 use Rattle.machine_scene.specs.Scene.{Scene, StoredScene, Outcome, scene_of, no_thread, thread_at, with_thread, with_phasers}
 use Rattle.machine_scene.specs.PhaserRows.{unless_own, outcome_of_arrival}
-use Rattle.machine_scene.specs.Asleep.{IsSetAt, is_asleep}
-use Rattle.machine_scene.proofs.UsualTurns.{early, falls_asleep, it_falls}
+use Rattle.machine_scene.specs.ReadySet.{IsSetAt}
+use Rattle.machine_scene.specs.Outcomes.{is_ready}
+use Rattle.machine_scene.proofs.ReadySets.{waits}
+use Rattle.machine_scene.proofs.UsualTurns.{early, not_ready}
 use Rattle.machine_scene.proofs.stage.Stage.early_wait.Goals as goal
 
 -- the turn of the thread
@@ -41,7 +43,7 @@ returns-in-Some-clause-ok c =
       threads = inside.threads.items;
       phasers = inside.phasers;
       barriers = inside.barriers.items;
-      asleep = inside.asleep;
+      ready = inside.ready;
     } in
     let manner : Manner = manner_of (Paaa c.args.into c.args.phaser) in
     let after : Scene = with_thread c.wait.new.self c.args.t (with_phasers phasers (scene_of before)) in
@@ -51,8 +53,8 @@ returns-in-Some-clause-ok c =
     (subst (λ (s : StoredScene). (thread_at (scene_of s) c.args.t).stack ≡ []) (sym c.self.view_is) c.requires.free) (arrives c) (turned c)
     ∙ ap (λ (e : Event). let done : Outcome = record { scene = after; event = e } in Some done) (sym c.alone.ensures)
 
-pub returns-in-Some-clause-asleep : goal.returns-in-Some-clause-asleep
-returns-in-Some-clause-asleep c =
+pub returns-in-Some-clause-ready : goal.returns-in-Some-clause-ready
+returns-in-Some-clause-ready c =
     let inside = c.self.inside in
     let phase = c.in-Some.phase in
     let phasers = phasers_of c.arrive_early.new.self in
@@ -61,14 +63,15 @@ returns-in-Some-clause-asleep c =
       threads = inside.threads.items;
       phasers = inside.phasers;
       barriers = inside.barriers.items;
-      asleep = inside.asleep;
+      ready = inside.ready;
     } in
     let row = subst (λ (s : StoredScene). Paaa c.args.into c.args.phaser ≡ row_at c.args.program.now.rows (thread_at (scene_of s) c.args.t).pc)
     (sym c.self.view_is) c.requires.row in
     let there = subst (λ (s : StoredScene). c.args.t < length s.threads) (sym c.self.view_is) c.requires.plays.thread in
     let after : ThreadState → Scene = λ x.
     record { cells = inside.cells; threads = slice_set inside.threads.items c.args.t x; phasers = phasers; barriers = inside.barriers.items } in
-    it_falls c.args.program.now c.args.t c.args.self.now _
-    (subst (λ (s : StoredScene). IsSetAt c.args.t true s.asleep c.set_at-self-inside.result) c.self.view_is c.set_at-self-inside.ensures)
-    (ap (λ (turn : Turn). is_asleep c.args.t c.args.program.now (after turn.thread)) (turned c)
-    ∙ falls_asleep c.args.program.now c.args.into c.args.phaser c.args.t (scene_of before) phasers phase row there (arrives c))
+    waits c.args.program.now c.args.t c.args.self.now _
+    (subst (λ (s : StoredScene). IsSetAt c.args.t false s.ready.turns c.set_at-self-inside.result) c.self.view_is c.set_at-self-inside.ensures)
+    (ap (λ (s : StoredScene). s.ready.registering) c.self.view_is)
+    (ap (λ (turn : Turn). is_ready c.args.t c.args.program.now (after turn.thread)) (turned c)
+    ∙ not_ready c.args.program.now c.args.into c.args.phaser c.args.t (scene_of before) phasers phase row there (arrives c))

@@ -1,7 +1,7 @@
 use Rattle.machine_scene.specs.Scene.{scene_of}
 use Rattle.machine_scene.proofs.Readiness.{expired}
 use Rattle.machine_scene.proofs.Reaches.{within_same}
-use Rattle.machine_scene.proofs.Asleep.{others_asleep_late}
+use Rattle.machine_scene.proofs.Steady.{others_ready_late}
 use Rattle.machine_scene.proofs.Undoing.{expiry_played}
 use Rattle.machine_scene.proofs.stage.Stage.expiry_of_row.Goals as goal
 
@@ -14,5 +14,5 @@ returns-clause-ok c =
 
 pub returns-clause-others : goal.returns-clause-others
 returns-clause-others c = λ keeps quiet.
-    others_asleep_late c.args.program.now c.args.t c.args.row c.args.self.now c.expire_at.new.self c.expire_at.result keeps
-    (returns-clause-ok c).threads c.expire_at.ensures.outcome quiet
+    others_ready_late c.args.program.now c.args.t c.args.row c.args.self.now c.expire_at.new.self c.expire_at.result keeps
+    c.expire_at.ensures.outcome c.expire_at.ensures.phasers quiet

@@ -1,4 +1,4 @@
-use Rattle.machine_scene.proofs.Asleep.{others_asleep}
+use Rattle.machine_scene.proofs.Steady.{others_ready}
 use Rattle.machine_scene.proofs.Undoing.{turn_played}
 use Rattle.machine_scene.proofs.stage.Stage.last_of_row.Goals as goal
 
@@ -9,5 +9,5 @@ returns-in-Some-clause-ok c =
 
 pub returns-in-Some-clause-others : goal.returns-in-Some-clause-others
 returns-in-Some-clause-others c = λ keeps quiet.
-    others_asleep c.args.program.now c.args.t c.args.row c.args.self.now c.last_at.new.self c.in-Some.event keeps
-    (returns-in-Some-clause-ok c).threads c.in-Some.ensures.ok quiet
+    others_ready c.args.program.now c.args.t c.args.row c.args.self.now c.last_at.new.self c.in-Some.event keeps
+    c.in-Some.ensures.ok c.in-Some.ensures.phasers quiet

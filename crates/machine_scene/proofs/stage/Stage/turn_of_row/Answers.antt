@@ -1,4 +1,4 @@
-use Rattle.machine_scene.proofs.Asleep.{others_asleep}
+use Rattle.machine_scene.proofs.Steady.{others_ready}
 use Rattle.machine_scene.proofs.Undoing.{turn_played}
 use Rattle.machine_scene.proofs.stage.Stage.turn_of_row.Goals as goal
 
@@ -9,5 +9,5 @@ returns-in-Ok-clause-ok c =
 
 pub returns-in-Ok-clause-others : goal.returns-in-Ok-clause-others
 returns-in-Ok-clause-others c = λ keeps quiet.
-    others_asleep c.args.program.now c.args.t c.args.row c.args.self.now c.turn_at.new.self c.in-Ok.event keeps
-    (returns-in-Ok-clause-ok c).threads c.in-Ok.ensures.ok quiet
+    others_ready c.args.program.now c.args.t c.args.row c.args.self.now c.turn_at.new.self c.in-Ok.event keeps
+    c.in-Ok.ensures.ok c.turn_at.ensures.phasers quiet

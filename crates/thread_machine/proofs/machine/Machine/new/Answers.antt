@@ -7,4 +7,4 @@ pub invariant_of-result : goal.invariant_of-result
 invariant_of-result c =
     machine_starts c.args.program c.args.limit c.in_ok-stage.stage c.each_program_is_whole.ensures
     (subst IsStored (c.forest.ensures ∙ c.in_ok-stage.ensures.stored) c.is_forest.ensures)
-    c.requires c.in_ok-stage.ensures.scene c.in_ok-stage.ensures.asleep
+    c.requires c.in_ok-stage.ensures.scene c.in_ok-stage.ensures.ready

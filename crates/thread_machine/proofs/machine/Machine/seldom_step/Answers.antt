@@ -10,7 +10,7 @@ invariant_of-self c =
     let left = c.if-self.false in
     let more = subst (λ (w : StoredWorld). w.choices < 1000000000000) (sym c.self-2.view_is) c.requires.choices in
     one_step_more inside.program inside.limit inside.choices inside.steps inside.stage c.expire-event.new.self c.self-2.invariant
-    (omega (arith, most, left)) (omega (arith, more)) (λ few. c.expire-event.ensures.ok.sound inside.steps (omega (arith, few))) c.expire-event.ensures.asleep
+    (omega (arith, most, left)) (omega (arith, more)) (λ few. c.expire-event.ensures.ok.sound inside.steps (omega (arith, few))) c.expire-event.ensures.known
 
 pub returns : goal.returns
 returns c = record {

@@ -11,4 +11,4 @@ invariant_of-self c =
     let more = c.if-self-eq-MOST_CHOICES.false in
     one_step_more inside.program inside.limit inside.choices inside.steps inside.stage c.usual_turn.new.self c.self.invariant
     (omega (arith, most, left)) (omega (arith, many, more)) (λ few. c.in-Some.ensures.ok.sound inside.steps (omega (arith, few)))
-    c.in-Some.ensures.asleep
+    c.in-Some.ensures.known

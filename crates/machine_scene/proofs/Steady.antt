@@ -1,7 +1,8 @@
--- A step wakes no other thread, unless its event shows more than a turn of its own thread, or its row
--- interrupts that thread.
+-- A step leaves every other thread as ready as it was, unless its event shows more than a turn of its own thread, its row
+-- interrupts that thread, or the thread is about to register and the step changes a tree.
 use Rattle.std.proofs.Common.{◌≡◌, ◌≢◌, ◌∙◌, ℕ, ℤ, pos, zero, suc, ◌+◌, ◌<◌, ◌==◌, ◌||◌, ◌&&◌, not, Bool, true, false, List, [], ◌∷◌, ap, refl, sym, subst}
 use Rattle.std.specs.Prelude.{nat_abs, int_lt, is_some, length, Option, Some, None, slice_set, slice_index_or}
+use Rattle.std.specs.List.{list_any}
 use Rattle.std.specs.Ordering.{int_eq}
 use Rattle.std.proofs.lemmas.List.{get_or-set_other}
 use Rattle.instruction_table.specs.declared.row.Row.{Row}
@@ -13,7 +14,8 @@ use Rattle.tier_tree.specs.declared.registered.Registered.{Registered}
 use Rattle.tier_tree.specs.declared.registered.Registered.TheVariants as registered
 use Rattle.tier_tree.specs.declared.arrived.Arrived.{Arrived}
 use Rattle.tier_tree.specs.declared.arrived.Arrived.TheVariants as arrived
-use Rattle.tier_tree.specs.Forest.{PhaserState, flat_at}
+use Rattle.tier_tree.specs.Forest.{PhaserState, flat_at, root_at}
+use Rattle.tier_tree.specs.Stored.{Stored, phasers_of}
 use Rattle.tier_tree.specs.Registration.{registration, after_registration}
 use Rattle.tier_tree.specs.Arrival.{Arrives, arrival}
 use Rattle.tier_tree.proofs.Stands.{same-is}
@@ -30,6 +32,7 @@ use Rattle.thread_state.specs.declared.frame.Frame.{Frame}
 use Rattle.thread_state.specs.declared.frame.Frame.TheVariants as frame
 use Rattle.thread_state.specs.declared.status.Status.{Status}
 use Rattle.thread_state.specs.declared.status.Status.TheVariants as status
+use Rattle.thread_state.specs.Frame.{is_advance}
 use Rattle.thread_state.specs.Thread.{ThreadState, top_of, is_full, left_routine, interrupted}
 use Rattle.machine_scene.specs.declared.group.Group.{Group}
 use Rattle.machine_scene.specs.declared.group.Group.TheVariants.{Own, Calls, Data, Phasers, Getters, Barriers}
@@ -45,23 +48,19 @@ use Rattle.machine_scene.specs.BarrierRows.{is_run_by, is_run_by_another, unless
 use Rattle.machine_scene.specs.Unwinding.{outcome_of_popped}
 use Rattle.machine_scene.specs.Waits.{outcome_of_awaited, outcome_of_phase_wait, outcome_of_release, outcome_of_barrier_wait, outcome_of_phase_timeout, outcome_of_barrier_timeout}
 use Rattle.machine_scene.specs.Outcomes.{outcome_in_group, outcome_in, is_ready, timeout_in}
-use Rattle.machine_scene.specs.Asleep.{is_asleep_in, is_asleep, AreOthersAsleep, KeepsAsleep, interrupts, is_loud_at, may_wake}
+use Rattle.machine_scene.specs.ReadySet.{is_registration, is_registering_in, is_registering, KnowsReady, AreOthersReady, IsQuiet, interrupts, changes_tree, is_loud, changes_all}
+use Rattle.machine_scene.specs.Undo.{PhasersWithin, reach_of_entry, reach_of_row, reach_of_wait, reach_in}
 use Rattle.machine_scene.proofs.Plain.{either}
-use Rattle.machine_scene.specs.Ready.{is_awaited, is_released, is_over_at, is_over}
-use Rattle.machine_scene.proofs.ReadyThreads.{phase_wait_ready, barrier_wait_ready}
-use Rattle.machine_scene.proofs.ThreadSets.{nobody}
+use Rattle.machine_scene.specs.Ready.{is_held, registration_is_held, is_blocked, is_awaited, is_released, is_over_at, is_over, is_listed}
+use Rattle.machine_scene.proofs.ReadyThreads.{ready_as_listed}
 use Rattle.machine_scene.proofs.Standings.{Standing, KeepsStandings, registration-standings, arrival-standings}
 
--- who runs an action may run it anew, and nobody has ended it
-abbrev GoesOn : BarrierState → BarrierState → Type 0
-GoesOn before after = is_some after.runner ≡ false → is_some before.runner ≡ false
-
--- what the wait of thread u may be over by is the same, or there is less of it
+-- what the turn of thread u is ready by is the same, but for what a registration looks at
 record Alike (u : ℕ) (scene after : Scene) : Type 0 where
   pub thread : thread_at after u ≡ thread_at scene u
   pub standings : KeepsStandings scene.phasers after.phasers
   pub waits : (b : ℕ) → wait_at (barrier_at after b).waits u ≡ wait_at (barrier_at scene b).waits u
-  pub runners : (b : ℕ) → GoesOn (barrier_at scene b) (barrier_at after b)
+  pub runners : (b : ℕ) → (barrier_at after b).runner ≡ (barrier_at scene b).runner
 
 past_same : (p : ℕ) (phase : ℤ) (u : ℕ) (scene after : Scene) → Alike u scene after → is_past p phase after ≡ is_past p phase scene
 past_same p phase u scene after alike = ap (λ (s : Standing). not (int_eq (phase_view s.phase s.ended) phase)) (alike.standings p)
@@ -80,65 +79,89 @@ awaited_same (Pawaiti into p number) phase u scene after alike = looked_same p p
 awaited_same (Pawaitt into p number time) phase u scene after alike = looked_same p phase u scene after alike
 awaited_same _ phase u scene after alike = refl
 
-later : (released waiting interrupted running_now running_before : Bool) → (running_now ≡ false → running_before ≡ false)
-    → (released || (waiting && (interrupted && not running_before))) ≡ false → (released || (waiting && (interrupted && not running_now))) ≡ false
-later true waiting interrupted now before goes_on none = none
-later false false interrupted now before goes_on none = refl
-later false true false now before goes_on none = refl
-later false true true true before goes_on none = refl
-later false true true false before goes_on none = absurd (let free = ap not (goes_on refl) in cc (free, none))
-
-not_over_at : (b u : ℕ) (scene after : Scene) → Alike u scene after → is_over_at b u scene ≡ false → is_over_at b u after ≡ false
-not_over_at b u scene after alike none =
-    let now = wait_at (barrier_at scene b).waits u in
+over_same_at : (b u : ℕ) (scene after : Scene) → Alike u scene after → is_over_at b u after ≡ is_over_at b u scene
+over_same_at b u scene after alike =
+    let before = wait_at (barrier_at scene b).waits u in
     ap (λ (w : Option WaitState). is_released w
     || (is_waiting w && ((thread_at after u).interrupted && not (is_some (barrier_at after b).runner)))) (alike.waits b)
-    ∙ ap (λ (thread : ThreadState). is_released now || (is_waiting now && (thread.interrupted && not (is_some (barrier_at after b).runner))))
+    ∙ ap (λ (thread : ThreadState). is_released before || (is_waiting before && (thread.interrupted && not (is_some (barrier_at after b).runner))))
     alike.thread
-    ∙ later (is_released now) (is_waiting now) (thread_at scene u).interrupted _ _ (alike.runners b) none
+    ∙ ap (λ (runner : Option ℕ). is_released before || (is_waiting before && ((thread_at scene u).interrupted && not (is_some runner))))
+    (alike.runners b)
 
-not_over : (row : Row) (u : ℕ) (scene after : Scene) → Alike u scene after → is_over row u scene ≡ false → is_over row u after ≡ false
-not_over (Cawait into b) u scene after alike none = not_over_at b u scene after alike none
-not_over (Cawaitt into b time) u scene after alike none = not_over_at b u scene after alike none
-not_over _ u scene after alike none = none
+over_same : (row : Row) (u : ℕ) (scene after : Scene) → Alike u scene after → is_over row u after ≡ is_over row u scene
+over_same (Cawait into b) u scene after alike = over_same_at b u scene after alike
+over_same (Cawaitt into b time) u scene after alike = over_same_at b u scene after alike
+over_same _ u scene after alike = refl
 
-isnt : (b : Bool) → not b ≡ true → b ≡ false
-isnt false is = refl
-isnt true is = absurd (cc is)
+busy_same : (b u : ℕ) (scene after : Scene) → Alike u scene after
+    → is_run_by_another u (barrier_at after b).runner ≡ is_run_by_another u (barrier_at scene b).runner
+busy_same b u scene after alike = ap (is_run_by_another u) (alike.runners b)
 
-asleep_in_still : (of : Status) (row : Row) (u : ℕ) (scene after : Scene) → Alike u scene after → is_asleep_in of row u scene ≡ true
-    → is_asleep_in of row u after ≡ true
-asleep_in_still (status.AwaitsPhase phase) row u scene after alike is =
-    ap not (phase_wait_ready row phase u after ∙ awaited_same row phase u scene after alike ∙ sym (phase_wait_ready row phase u scene)) ∙ is
-asleep_in_still (status.AwaitsBarrier index) row u scene after alike is =
-    ap not (barrier_wait_ready row index u after ∙ not_over row u scene after alike
-    (sym (barrier_wait_ready row index u scene) ∙ isnt (is_some (outcome_of_barrier_wait row index u scene)) is))
-asleep_in_still _ row u scene after alike is = is
+held_same : (p : ℕ) (count other : ℤ) (u : ℕ) (scene after : Scene) → Alike u scene after → count ≡ other → after.phasers ≡ scene.phasers
+    → registration_is_held p count u after ≡ registration_is_held p other u scene
+held_same p count other u scene after alike counted same =
+    let held : ThreadState → ℤ → List PhaserState → Bool = λ thread n phasers.
+    not (list_any (is_advance (root_at phasers p)) thread.stack) && (not (int_lt n (pos 0)) && is_held (registration p (nat_abs n) phasers)) in
+    ap (λ (thread : ThreadState). held thread count after.phasers) alike.thread
+    ∙ ap (λ (n : ℤ). held (thread_at scene u) n after.phasers) counted
+    ∙ ap (held (thread_at scene u) other) same
 
-asleep_still : (u : ℕ) (program : Program) (scene after : Scene) → Alike u scene after → is_asleep u program scene ≡ true
-    → is_asleep u program after ≡ true
-asleep_still u program scene after alike is =
-    ap (λ (thread : ThreadState). is_asleep_in thread.status (row_at program.rows thread.pc) u after) alike.thread
-    ∙ asleep_in_still (thread_at scene u).status (row_at program.rows (thread_at scene u).pc) u scene after alike is
+-- a registration is held as before where the phasers are the same
+blocked_same : (row : Row) (u : ℕ) (scene after : Scene) → Alike u scene after
+    → (is_registration row ≡ true → after.phasers ≡ scene.phasers) → is_blocked row u after ≡ is_blocked row u scene
+blocked_same (Preg into p) u scene after alike held = held_same p (pos 1) (pos 1) u scene after alike refl (held refl)
+blocked_same (Pbulk into p count) u scene after alike held =
+    held_same p _ _ u scene after alike (ap (λ (thread : ThreadState). value_in thread.registers count) alike.thread) (held refl)
+blocked_same (Cawait into b) u scene after alike held = busy_same b u scene after alike
+blocked_same (Cawaitt into b time) u scene after alike held = busy_same b u scene after alike
+blocked_same (Creset b) u scene after alike held = busy_same b u scene after alike
+blocked_same (Cbroken into b) u scene after alike held = busy_same b u scene after alike
+blocked_same (Cwaiting into b) u scene after alike held = busy_same b u scene after alike
+blocked_same _ u scene after alike held = refl
 
--- a step of thread t at this row that leaves to all others but those it interrupts what their waits may be over by
+listed_same : (of : Status) (row : Row) (u : ℕ) (scene after : Scene) → Alike u scene after
+    → (is_registering_in of row ≡ true → after.phasers ≡ scene.phasers) → is_listed of row u after ≡ is_listed of row u scene
+listed_same status.Runs row u scene after alike held = ap not (blocked_same row u scene after alike held)
+listed_same (status.Throws code) row u scene after alike held = refl
+listed_same (status.AwaitsPhase phase) row u scene after alike held = awaited_same row phase u scene after alike
+listed_same (status.AwaitsBarrier index) row u scene after alike held = over_same row u scene after alike
+listed_same status.Ended row u scene after alike held = refl
+listed_same (status.Died code) row u scene after alike held = refl
+
+-- so the turn is ready just where it was
+ready_same : (u : ℕ) (program : Program) (scene after : Scene) → Alike u scene after
+    → (is_registering u program scene ≡ true → after.phasers ≡ scene.phasers) → is_ready u program after ≡ is_ready u program scene
+ready_same u program scene after alike held =
+    let thread = thread_at scene u in
+    ready_as_listed u program after
+    ∙ ap (λ (x : ThreadState). is_listed x.status (row_at program.rows x.pc) u after) alike.thread
+    ∙ listed_same thread.status (row_at program.rows thread.pc) u scene after alike held
+    ∙ sym (ready_as_listed u program scene)
+
+registering_same : (u : ℕ) (program : Program) (scene after : Scene) → thread_at after u ≡ thread_at scene u
+    → is_registering u program after ≡ is_registering u program scene
+registering_same u program scene after same =
+    ap (λ (thread : ThreadState). is_registering_in thread.status (row_at program.rows thread.pc)) same
+
+-- a step of thread t at this row that leaves to all others but those it interrupts what they are ready by
 record Leaves (t : ℕ) (row : Row) (scene after : Scene) : Type 0 where
   pub threads : (u : ℕ) → u ≢ t → interrupts u row ≡ false → thread_at after u ≡ thread_at scene u
   pub standings : KeepsStandings scene.phasers after.phasers
   pub waits : (b u : ℕ) → u ≢ t → wait_at (barrier_at after b).waits u ≡ wait_at (barrier_at scene b).waits u
-  pub runners : (b : ℕ) → GoesOn (barrier_at scene b) (barrier_at after b)
+  pub runners : (b : ℕ) → (barrier_at after b).runner ≡ (barrier_at scene b).runner
 
 -- where there is an outcome whose event isn't loud
 abbrev CalmIf : ℕ → Row → Scene → Option Outcome → Type 0
 CalmIf t row scene None = Unit {0}
-CalmIf t row scene (Some outcome) = is_loud_at outcome.event.mark ≡ false → Leaves t row scene outcome.scene
+CalmIf t row scene (Some outcome) = is_loud outcome.event ≡ false → Leaves t row scene outcome.scene
 
--- where there is one that wakes nobody
+-- where there is one that changes nothing for all others
 abbrev QuietIf : ℕ → Row → Scene → Option Outcome → Type 0
 QuietIf t row scene None = Unit {0}
-QuietIf t row scene (Some outcome) = may_wake row outcome.event ≡ false → Leaves t row scene outcome.scene
+QuietIf t row scene (Some outcome) = changes_all row outcome.event ≡ false → Leaves t row scene outcome.scene
 
-not_loud : (row : Row) (event : Event) → may_wake row event ≡ false → is_loud_at event.mark ≡ false
+not_loud : (row : Row) (event : Event) → changes_all row event ≡ false → is_loud event ≡ false
 not_loud (Pforce p) event quiet = absurd (cc quiet)
 not_loud (Creset b) event quiet = absurd (cc quiet)
 not_loud _ event quiet = quiet
@@ -151,7 +174,7 @@ quiet_if t row scene (Some outcome) calm = λ quiet. calm (not_loud row outcome.
 turned : (t : ℕ) (row : Row) (scene mid : Scene) (after : ThreadState)
     → ((u : ℕ) → u ≢ t → interrupts u row ≡ false → thread_at mid u ≡ thread_at scene u) → KeepsStandings scene.phasers mid.phasers
     → ((b u : ℕ) → u ≢ t → wait_at (barrier_at mid b).waits u ≡ wait_at (barrier_at scene b).waits u)
-    → ((b : ℕ) → GoesOn (barrier_at scene b) (barrier_at mid b)) → Leaves t row scene (with_thread after t mid)
+    → ((b : ℕ) → (barrier_at mid b).runner ≡ (barrier_at scene b).runner) → Leaves t row scene (with_thread after t mid)
 turned t row scene mid after threads standings waits runners = record {
   threads = λ u apart free. get_or-set_other mid.threads t u after no_thread apart ∙ threads u apart free;
   standings = standings;
@@ -160,18 +183,18 @@ turned t row scene mid after threads standings waits runners = record {
 }
 
 still : (t : ℕ) (row : Row) (scene : Scene) (after : ThreadState) → Leaves t row scene (with_thread after t scene)
-still t row scene after = turned t row scene scene after (λ u apart free. refl) (λ id. refl) (λ b u apart. refl) (λ b none. none)
+still t row scene after = turned t row scene scene after (λ u apart free. refl) (λ id. refl) (λ b u apart. refl) (λ b. refl)
 
 -- with phasers in the same standings
 at_tree : (t : ℕ) (row : Row) (scene : Scene) (phasers : List PhaserState) (after : ThreadState) → KeepsStandings scene.phasers phasers
     → Leaves t row scene (with_thread after t (with_phasers phasers scene))
 at_tree t row scene phasers after same =
-    turned t row scene (with_phasers phasers scene) after (λ u apart free. refl) same (λ b u apart. refl) (λ b none. none)
+    turned t row scene (with_phasers phasers scene) after (λ u apart free. refl) same (λ b u apart. refl) (λ b. refl)
 
--- a barrier at which the others' waits are the same, and nobody has ended an action
+-- a barrier at which the others' waits are the same, and who runs its action
 abbrev KeepsOthers : ℕ → BarrierState → BarrierState → Type 0
 KeepsOthers t before after =
-    ((u : ℕ) → u ≢ t → wait_at after.waits u ≡ wait_at before.waits u) × GoesOn before after
+    ((u : ℕ) → u ≢ t → wait_at after.waits u ≡ wait_at before.waits u) × (after.runner ≡ before.runner)
 
 put : (P : BarrierState → BarrierState → Type 0) → ((x : BarrierState) → P x x) → (barriers : List BarrierState) (b : ℕ) (new : BarrierState)
     → P (slice_index_or barriers b (fresh 1 false)) new → (c : ℕ)
@@ -185,7 +208,7 @@ put P same (x ∷ barriers) (suc b) new is (suc c) = put P same barriers b new i
 at_gate : (b t : ℕ) (row : Row) (scene : Scene) (gate : BarrierState) (after : ThreadState) → KeepsOthers t (barrier_at scene b) gate
     → Leaves t row scene (with_thread after t (with_barrier gate b scene))
 at_gate b t row scene gate after keeps =
-    let each = put (KeepsOthers t) (λ x. (λ u apart. refl, λ none. none)) scene.barriers b gate keeps in
+    let each = put (KeepsOthers t) (λ x. (λ u apart. refl, refl)) scene.barriers b gate keeps in
     turned t row scene (with_barrier gate b scene) after (λ u apart free. refl) (λ id. refl) (λ c. (each c).0) (λ c. (each c).1)
 
 -- rows
@@ -205,7 +228,7 @@ quiet_own_row _ t scene = tt
 calm_routine_end : (ended : Bool) (manner : Manner) (root : ℕ) (ends : Bool) (t : ℕ) (row : Row) (scene : Scene) (left : ThreadState)
     → CalmIf t row scene (Some (outcome_of_routine_end ended manner root ends t (with_thread left t scene)))
 calm_routine_end true manner root ends t row scene left = λ calm.
-    turned t row scene (with_thread left t scene) _ (still t row scene left).threads (λ id. refl) (λ b u apart. refl) (λ b none. none)
+    turned t row scene (with_thread left t scene) _ (still t row scene left).threads (λ id. refl) (λ b u apart. refl) (λ b. refl)
 calm_routine_end false manner root ends t row scene left = λ calm. absurd (cc calm)
 
 calm_ret : (top : Option Frame) (t : ℕ) (row : Row) (program : Program) (scene : Scene)
@@ -230,14 +253,14 @@ quiet_interrupt other t scene = λ quiet.
     let mid = with_thread (interrupted (thread_at scene other)) other scene in
     turned t (Intr other) scene mid _ (λ u apart free.
     get_or-set_other scene.threads other u (interrupted (thread_at scene other)) no_thread
-    (λ is. (let yes = ap (λ (n : ℕ). other == n) is ∙ same-is other in cc (yes, free)))) (λ id. refl) (λ b u apart. refl) (λ b none. none)
+    (λ is. (let yes = ap (λ (n : ℕ). other == n) is ∙ same-is other in cc (yes, free)))) (λ id. refl) (λ b u apart. refl) (λ b. refl)
 
 quiet_data_row : (row : Row) (t : ℕ) (scene : Scene) → QuietIf t row scene (outcome_of_data_row row t scene)
 quiet_data_row (Out value) t scene = λ quiet. still t (Out value) scene _
 quiet_data_row (Lds into cell) t scene = λ quiet. still t (Lds into cell) scene _
 quiet_data_row (Sts from cell) t scene = λ quiet.
     turned t (Sts from cell) scene (with_cell (value_in (thread_at scene t).registers from) cell scene) _ (λ u apart free. refl)
-    (λ id. refl) (λ b u apart. refl) (λ b none. none)
+    (λ id. refl) (λ b u apart. refl) (λ b. refl)
 quiet_data_row (SelfNumber into) t scene = λ quiet. still t (SelfNumber into) scene _
 quiet_data_row (Intr other) t scene = quiet_interrupt other t scene
 quiet_data_row (Intrd into) t scene = λ quiet. still t (Intrd into) scene _
@@ -278,7 +301,7 @@ calm_turning : (answer : Option Bool) (manner : Manner) (root : ℕ) (phase : �
     (phasers : List PhaserState) → KeepsStandings scene.phasers phasers
     → CalmIf t row scene (Some (outcome_of_pending_end answer manner root phase t program (with_phasers phasers scene)))
 calm_turning (Some ends) manner root phase t row program scene phasers same = λ calm. absurd (cc calm)
-calm_turning None manner root phase t row program scene phasers same = λ calm. at_tree t row scene phasers _ same
+calm_turning None manner root phase t row program scene phasers same = λ calm. absurd (cc calm)
 
 calm_arrived : (answer : Arrived) (manner : Manner) (t : ℕ) (row : Row) (program : Program) (scene : Scene) (phasers : List PhaserState)
     → KeepsStandings scene.phasers phasers
@@ -326,19 +349,18 @@ quiet_phaser_row _ t program scene = tt
 
 -- rows at barriers
 
--- an entry that wakes nobody keeps the others' waits, and ends no action
+-- a quiet entry keeps the others' waits, and who runs the action
 abbrev KeepsIf : Entered → ℕ → BarrierState → BarrierState → Type 0
 KeepsIf (entered.Wait index) t before after = KeepsOthers t before after
-KeepsIf entered.Run t before after = KeepsOthers t before after
 KeepsIf entered.Broken t before after = KeepsOthers t before after
 KeepsIf entered.Own t before after = KeepsOthers t before after
 KeepsIf _ t before after = Unit {0}
 
 none_else : (t : ℕ) (gate : BarrierState) → KeepsOthers t gate gate
-none_else t gate = (λ u apart. refl, λ none. none)
+none_else t gate = (λ u apart. refl, refl)
 
 set_else : (t : ℕ) (gate : BarrierState) (wait : Option WaitState) → KeepsOthers t gate (record gate { waits = slice_set gate.waits t wait })
-set_else t gate wait = (λ u apart. get_or-set_other gate.waits t u wait None apart, λ none. none)
+set_else t gate wait = (λ u apart. get_or-set_other gate.waits t u wait None apart, refl)
 
 arrive_keeps : (t : ℕ) (interrupted no_wait : Bool) (gate : BarrierState)
     → KeepsIf (arrive t interrupted no_wait gate).answer t gate (arrive t interrupted no_wait gate).barrier
@@ -350,7 +372,7 @@ arrive_keeps t interrupted no_wait gate =
     either P gate.broken {a = told} (none_else t gate)
     (either P interrupted {a = stopped} tt
     (either P (number_waiting gate + 1 == gate.parties) {a = arrive_last t gate}
-    (either P gate.action {a = record { barrier = record gate { runner = Some t }; answer = entered.Run }} (λ u apart. refl, λ none. absurd (cc none)) tt)
+    (either P gate.action {a = record { barrier = record gate { runner = Some t }; answer = entered.Run }} tt tt)
     (either P no_wait {a = late} {b = add_wait t gate} tt (set_else t gate (Some state.Waiting)))))
 
 beside_keeps : (runner : Option ℕ) (t : ℕ) (interrupted no_wait : Bool) (gate : BarrierState)
@@ -363,7 +385,7 @@ calm_entered : (answer : Entered) (into : Reg) (b t : ℕ) (row : Row) (program 
     → KeepsIf answer t (barrier_at scene b) gate
     → CalmIf t row scene (outcome_of_entered answer into b t program (with_barrier gate b scene))
 calm_entered (entered.Wait index) into b t row program scene gate keeps = λ calm. at_gate b t row scene gate _ keeps
-calm_entered entered.Run into b t row program scene gate keeps = λ calm. at_gate b t row scene gate _ keeps
+calm_entered entered.Run into b t row program scene gate keeps = λ calm. absurd (cc calm)
 calm_entered entered.Tripped into b t row program scene gate keeps = λ calm. absurd (cc calm)
 calm_entered entered.Broken into b t row program scene gate keeps = λ calm. at_gate b t row scene gate _ keeps
 calm_entered entered.Interrupted into b t row program scene gate keeps = λ calm. absurd (cc calm)
@@ -487,54 +509,106 @@ quiet_timeout (status.AwaitsBarrier index) row t scene = quiet_if t row scene (o
 quiet_timeout status.Ended row t scene = tt
 quiet_timeout (status.Died code) row t scene = tt
 
--- who was asleep is so still, but perhaps the thread itself and one that it interrupts
-others_by : (program : Program) (t : ℕ) (row : Row) (old new : StoredScene) → Leaves t row (scene_of old) (scene_of new)
-    → length new.threads ≡ length old.threads → KeepsAsleep program old → AreOthersAsleep program t row old.asleep new
-others_by program t row old new leaves many keeps u there apart free is =
+-- a row that changes no tree
+same_entry : (top : Option Frame) (before after : List Stored) → PhasersWithin (reach_of_entry top) before after → after ≡ before
+same_entry None before after within = within
+same_entry (Some (frame.Call back)) before after within = within
+same_entry (Some (frame.Handler first)) before after within = within
+same_entry (Some (frame.Advance root registers back)) before after within = within
+same_entry (Some (frame.Action b registers back)) before after within = within
+
+same_row : (row : Row) (top : Option Frame) (before after : List Stored) → changes_tree row ≡ false
+    → PhasersWithin (reach_of_row row top) before after → after ≡ before
+same_row Ret top before after none within = absurd (cc none)
+same_row (Sts from cell) top before after none within = within
+same_row (Intr other) top before after none within = within
+same_row (Preg into p) top before after none within = absurd (cc none)
+same_row (Pbulk into p count) top before after none within = absurd (cc none)
+same_row (Parr into p) top before after none within = absurd (cc none)
+same_row (Pdereg into p) top before after none within = absurd (cc none)
+same_row (Paaa into p) top before after none within = absurd (cc none)
+same_row (Pforce p) top before after none within = absurd (cc none)
+same_row (Cawait into b) top before after none within = within
+same_row (Cawaitt into b time) top before after none within = within
+same_row (Creset b) top before after none within = within
+same_row _ top before after none within = within
+
+same_wait : (row : Row) (before after : List Stored) → PhasersWithin (reach_of_wait row) before after → after ≡ before
+same_wait (Cawait into b) before after within = within
+same_wait (Cawaitt into b time) before after within = within
+same_wait _ before after within = within
+
+pub same_trees : (of : Status) (row : Row) (top : Option Frame) (before after : List Stored) → changes_tree row ≡ false
+    → PhasersWithin (reach_in of row top) before after → after ≡ before
+same_trees status.Runs row top before after none within = same_row row top before after none within
+same_trees (status.Throws code) row top before after none within = same_entry top before after within
+same_trees (status.AwaitsPhase phase) row top before after none within = within
+same_trees (status.AwaitsBarrier index) row top before after none within = same_wait row before after within
+same_trees status.Ended row top before after none within = within
+same_trees (status.Died code) row top before after none within = within
+
+-- of another thread, whose registration isn't held by the trees that the step leaves
+other_by : (program : Program) (t u : ℕ) (row : Row) (old new : StoredScene) → Leaves t row (scene_of old) (scene_of new) → KnowsReady program old
+    → u ≢ t → interrupts u row ≡ false → (has old.ready.registering u ≡ true → new.phasers ≡ old.phasers)
+    → has old.ready.turns u ≡ is_ready u program (scene_of new)
+other_by program t u row old new leaves knows apart free same =
     let alike : Alike u (scene_of old) (scene_of new) = record {
       thread = leaves.threads u apart free;
       standings = leaves.standings;
       waits = λ b. leaves.waits b u apart;
       runners = leaves.runners;
     } in
-    asleep_still u program (scene_of old) (scene_of new) alike (keeps u (subst (λ (n : ℕ). u < n) many there) is)
+    knows.turns u
+    ∙ sym (ready_same u program (scene_of old) (scene_of new) alike (λ is. ap phasers_of (same (knows.registering u ∙ is))))
 
--- after a turn that wakes nobody, of a thread that stands at this row
-pub others_asleep : (program : Program) (t : ℕ) (row : Row) (old new : StoredScene) (event : Event) → KeepsAsleep program old
-    → length new.threads ≡ length old.threads
+-- where they change, whoever isn't about to register
+by_tree : (tree registering : Bool) (P : Type 0) → (tree ≡ false → P) → (tree && registering) ≡ false → registering ≡ true → P
+by_tree false registering P same none is = same refl
+by_tree true registering P same none is = absurd (cc (none, is))
+
+others_by : (program : Program) (t : ℕ) (row : Row) (old new : StoredScene) → Leaves t row (scene_of old) (scene_of new) → KnowsReady program old
+    → (changes_tree row ≡ false → new.phasers ≡ old.phasers) → AreOthersReady program t row old.ready (scene_of new)
+others_by program t row old new leaves knows same = record {
+  turns = λ u apart free none. other_by program t u row old new leaves knows apart free
+      (by_tree (changes_tree row) (has old.ready.registering u) (new.phasers ≡ old.phasers) same none);
+  registering = λ u apart free. knows.registering u
+      ∙ sym (registering_same u program (scene_of old) (scene_of new) (leaves.threads u apart free));
+}
+
+-- what a quiet turn leaves, of a thread that stands at this row
+leaves_turn : (program : Program) (t : ℕ) (row : Row) (old new : StoredScene) (event : Event)
     → outcome_in (thread_at (scene_of old) t).status row t program (scene_of old) ≡ Some (record { scene = scene_of new; event = event })
-    → may_wake row event ≡ false → AreOthersAsleep program t row old.asleep new
-others_asleep program t row old new event keeps many is quiet =
+    → changes_all row event ≡ false → Leaves t row (scene_of old) (scene_of new)
+leaves_turn program t row old new event is quiet =
     let scene = scene_of old in
-    others_by program t row old new
-    (subst (QuietIf t row scene) is (quiet_in (thread_at scene t).status row t program scene) quiet) many keeps
+    subst (QuietIf t row scene) is (quiet_in (thread_at scene t).status row t program scene) quiet
 
--- after the expiry of a wait that wakes nobody
-pub others_asleep_late : (program : Program) (t : ℕ) (row : Row) (old new : StoredScene) (event : Event) → KeepsAsleep program old
-    → length new.threads ≡ length old.threads
+-- after a quiet turn
+pub others_ready : (program : Program) (t : ℕ) (row : Row) (old new : StoredScene) (event : Event) → KnowsReady program old
+    → outcome_in (thread_at (scene_of old) t).status row t program (scene_of old) ≡ Some (record { scene = scene_of new; event = event })
+    → PhasersWithin (reach_in (thread_at (scene_of old) t).status row (top_of (thread_at (scene_of old) t).stack)) old.phasers new.phasers
+    → changes_all row event ≡ false → AreOthersReady program t row old.ready (scene_of new)
+others_ready program t row old new event knows is within quiet =
+    let thread = thread_at (scene_of old) t in
+    others_by program t row old new (leaves_turn program t row old new event is quiet) knows
+    (λ none. same_trees thread.status row (top_of thread.stack) old.phasers new.phasers none within)
+
+-- of one other thread, where the trees are the same or nobody is about to register
+pub other_ready : (program : Program) (t u : ℕ) (row : Row) (old new : StoredScene) (event : Event) → KnowsReady program old
+    → outcome_in (thread_at (scene_of old) t).status row t program (scene_of old) ≡ Some (record { scene = scene_of new; event = event })
+    → IsQuiet row event → u ≢ t → (has old.ready.registering u ≡ true → new.phasers ≡ old.phasers)
+    → (has old.ready.turns u ≡ is_ready u program (scene_of new)) × (has old.ready.registering u ≡ is_registering u program (scene_of new))
+other_ready program t u row old new event knows is quiet apart same =
+    let leaves = leaves_turn program t row old new event is quiet.few in
+    let free = quiet.interrupts u in (
+      other_by program t u row old new leaves knows apart free same,
+      knows.registering u ∙ sym (registering_same u program (scene_of old) (scene_of new) (leaves.threads u apart free)),
+    )
+
+-- after the quiet expiry of a wait
+pub others_ready_late : (program : Program) (t : ℕ) (row : Row) (old new : StoredScene) (event : Event) → KnowsReady program old
     → timeout_in (thread_at (scene_of old) t).status row t (scene_of old) ≡ Some (record { scene = scene_of new; event = event })
-    → may_wake row event ≡ false → AreOthersAsleep program t row old.asleep new
-others_asleep_late program t row old new event keeps many is quiet =
+    → new.phasers ≡ old.phasers → changes_all row event ≡ false → AreOthersReady program t row old.ready (scene_of new)
+others_ready_late program t row old new event knows is same quiet =
     let scene = scene_of old in
-    others_by program t row old new (subst (QuietIf t row scene) is (quiet_timeout (thread_at scene t).status row t scene) quiet) many keeps
-
--- a thread that is asleep has no turn
-none_of : (outcome : Option Outcome) → not (is_some outcome) ≡ true → is_some outcome ≡ false
-none_of None is = refl
-none_of (Some outcome) is = absurd (cc is)
-
-no_turn_in : (of : Status) (row : Row) (t : ℕ) (program : Program) (scene : Scene) → is_asleep_in of row t scene ≡ true
-    → is_some (outcome_in of row t program scene) ≡ false
-no_turn_in (status.AwaitsPhase phase) row t program scene is = none_of (outcome_of_phase_wait row phase t scene) is
-no_turn_in (status.AwaitsBarrier index) row t program scene is = none_of (outcome_of_barrier_wait row index t scene) is
-no_turn_in _ row t program scene is = absurd (cc is)
-
-pub no_turn : (program : Program) (stored : StoredScene) (t : ℕ) → KeepsAsleep program stored → t < length stored.threads
-    → has stored.asleep t ≡ true → is_ready t program (scene_of stored) ≡ false
-no_turn program stored t keeps there is =
-    let thread = thread_at (scene_of stored) t in
-    no_turn_in thread.status (row_at program.rows thread.pc) t program (scene_of stored) (keeps t there is)
-
--- the empty set holds nobody who would have to be asleep
-pub nobody_kept : (program : Program) (stored : StoredScene) → stored.asleep ≡ 0 → KeepsAsleep program stored
-nobody_kept program stored is u within member = absurd (let none = nobody u (ap (λ (set : ℕ). has set u) (sym is) ∙ member) in cc none)
+    others_by program t row old new (subst (QuietIf t row scene) is (quiet_timeout (thread_at scene t).status row t scene) quiet) knows (λ none. same)

@@ -1,0 +1,118 @@
+-- The threads whose turn is ready, kept as a set, so that whoever asks for one looks at a bit. A step finds anew the bits that it
+-- may have changed. Nobody has to believe it: it is what proofs go by.
+use Rattle.std.specs.Prelude.{◌≡◌, ◌≢◌, ℕ, ◌==◌, ◌&&◌, ◌||◌, Bool, true, false, if◌then◌else◌}
+use Rattle.instruction_table.specs.declared.row.Row.{Row}
+use Rattle.instruction_table.specs.declared.row.Row.TheVariants.{Ret, Intr, Preg, Pbulk, Parr, Pdereg, Paaa, Pforce, Creset}
+use Rattle.instruction_table.specs.LocalRows.{is_local_row}
+use Rattle.cyclic_barrier.specs.ThreadSet.{has}
+use Rattle.loader.specs.Program.{Program, row_at}
+use Rattle.thread_state.specs.declared.event.Event.{Event}
+use Rattle.thread_state.specs.declared.event.What.{What}
+use Rattle.thread_state.specs.declared.event.What.TheVariants as what
+use Rattle.thread_state.specs.declared.event.Mark.{Mark}
+use Rattle.thread_state.specs.declared.event.Mark.TheVariants as mark
+use Rattle.thread_state.specs.declared.status.Status.{Status}
+use Rattle.thread_state.specs.declared.status.Status.TheVariants as status
+use Rattle.machine_scene.specs.declared.ready_set.ReadySet.{ReadySet}
+use Rattle.machine_scene.specs.Scene.{Scene, StoredScene, scene_of, thread_at}
+use Rattle.machine_scene.specs.Outcomes.{is_ready}
+use Rattle.machine_scene.specs.Ready.{may_be_blocked}
+
+-- a registration: whether it is held, an arrival or a departure by any other thread may change
+abbrev pub is_registration : Row → Bool
+is_registration (Preg into p) = true
+is_registration (Pbulk into p count) = true
+is_registration _ = false
+
+-- a thread of this status at this row is about to register
+abbrev pub is_registering_in : Status → Row → Bool
+is_registering_in status.Runs row = is_registration row
+is_registering_in _ row = false
+
+-- thread t is
+abbrev pub is_registering : ℕ → Program → Scene → Bool
+is_registering t program scene = is_registering_in (thread_at scene t).status (row_at program.rows (thread_at scene t).pc)
+
+-- the sets are those of the scene: of the threads whose turn is ready, and of those that are about to register
+pub record AreReady (program : Program) (set : ReadySet) (scene : Scene) : Type 0 where
+  pub turns : (u : ℕ) → has set.turns u ≡ is_ready u program scene
+  pub registering : (u : ℕ) → has set.registering u ≡ is_registering u program scene
+
+-- and they are what is kept of the scene
+abbrev pub KnowsReady : Program → StoredScene → Type 0
+KnowsReady program stored = AreReady program stored.ready (scene_of stored)
+
+-- the set is that of before, but for one thread
+abbrev pub IsSetAt : ℕ → Bool → ℕ → ℕ → Type 0
+IsSetAt t within before set = (u : ℕ) → has set u ≡ (if t == u then within else has before u)
+
+-- the threads of which this is true were looked at anew, of all others the sets are those of before
+pub record AreLooked (program : Program) (these : ℕ → Bool) (before set : ReadySet) (scene : Scene) : Type 0 where
+  pub turns : (u : ℕ) → has set.turns u ≡ (if these u then is_ready u program scene else has before.turns u)
+  pub registering : (u : ℕ) → has set.registering u ≡ (if these u then is_registering u program scene else has before.registering u)
+
+-- thread t was
+abbrev pub IsLooked : Program → ℕ → ReadySet → ReadySet → Scene → Type 0
+IsLooked program t before set scene = AreLooked program (λ u. t == u) before set scene
+
+-- the row interrupts thread u
+abbrev pub interrupts : ℕ → Row → Bool
+interrupts u (Intr other) = other == u
+interrupts u _ = false
+
+-- a row that may change a tree
+abbrev pub changes_tree : Row → Bool
+changes_tree Ret = true
+changes_tree (Preg into p) = true
+changes_tree (Pbulk into p count) = true
+changes_tree (Parr into p) = true
+changes_tree (Pdereg into p) = true
+changes_tree (Paaa into p) = true
+changes_tree (Pforce p) = true
+changes_tree _ = false
+
+-- an event shows more than a turn of its own thread: a phase or a generation has ended
+abbrev pub is_marked : Mark → Bool
+is_marked mark.Nothing = false
+is_marked _ = true
+
+-- or a routine or an action begins
+abbrev pub is_entry : What → Bool
+is_entry what.Enters = true
+is_entry _ = false
+
+abbrev pub is_loud : Event → Bool
+is_loud event = is_marked event.mark || is_entry event.what
+
+-- a step at this row, with this event, may have changed whose turn is ready among all threads
+abbrev pub changes_all : Row → Event → Bool
+changes_all (Pforce p) event = true
+changes_all (Creset b) event = true
+changes_all _ event = is_loud event
+
+-- after a step of thread t at this row, these sets of before are right still, but perhaps of the thread itself, of one that the
+-- row interrupts, and, where the row may change a tree, of those that are about to register
+pub record AreOthersReady (program : Program) (t : ℕ) (row : Row) (set : ReadySet) (scene : Scene) : Type 0 where
+  pub turns : (u : ℕ) → u ≢ t → interrupts u row ≡ false → (changes_tree row && has set.registering u) ≡ false
+      → has set.turns u ≡ is_ready u program scene
+  pub registering : (u : ℕ) → u ≢ t → interrupts u row ≡ false → has set.registering u ≡ is_registering u program scene
+
+-- thread t, of this status, runs, and its row is one on registers alone
+abbrev pub is_local_turn : Status → Row → Bool
+is_local_turn status.Runs row = is_local_row row
+is_local_turn _ row = false
+
+-- a step at this row, with this event, by which no other thread's turn changes but one that is about to register; and the
+-- row is none at which a thread has to wait before it is played
+pub record IsQuiet (row : Row) (event : Event) : Type 0 where
+  pub few : changes_all row event ≡ false
+  pub interrupts : (u : ℕ) → interrupts u row ≡ false
+  pub seldom : may_be_blocked row ≡ false
+
+-- after a turn of thread t that was ready: of the others the sets are those of before, and its own turn is right but where
+-- its next row is one that it may have to wait at
+pub record Settles (program : Program) (t : ℕ) (before after : StoredScene) : Type 0 where
+  pub others : (u : ℕ) → u ≢ t → has after.ready.turns u ≡ has before.ready.turns u
+  pub own : has before.ready.turns t ≡ true → may_be_blocked (row_at program.rows (thread_at (scene_of after) t).pc) ≡ false
+      → has after.ready.turns t ≡ is_ready t program (scene_of after)
+  pub registering : after.ready.registering ≡ before.ready.registering

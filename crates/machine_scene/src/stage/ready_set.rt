@@ -1,0 +1,288 @@
+ghost use Rattle.std.specs.Prelude.{◌≡◌, ◌≢◌, ℕ, ◌<◌, ◌&&◌, nat_lt, length, true, false, None, IfSome, if◌then◌else◌};
+ghost use Rattle.cyclic_barrier.specs.ThreadSet.{has};
+ghost use Rattle.loader.specs.Program.{IsNamed, row_at};
+ghost use Rattle.machine_scene.specs.Scene.{scene_of, counts_in, thread_at};
+ghost use Rattle.machine_scene.specs.Outcomes.{is_ready};
+ghost use Rattle.machine_scene.specs.Sound.{IsSound, SeesWait, most_after};
+ghost use Rattle.machine_scene.specs.ReadySet.{AreReady, KnowsReady, IsSetAt, AreLooked, IsLooked, AreOthersReady, is_registration, is_registering, interrupts, changes_tree, is_loud, changes_all, is_local_turn};
+
+use super::Stage;
+use crate::ready_set::ReadySet;
+use instruction_table::{Row, is_local};
+use loader::Loaded;
+use thread_state::{Event, Mark, Status, What};
+
+/// Whether a thread is in the set: bit n is thread n.
+#[inline(always)]
+pub(super) fn is_in(set: u64, thread: usize) -> bool
+    requires { thread < 64 }
+    ensures { result ≡ has set thread }
+{
+    (set >> thread) & 1 == 1
+}
+
+/// The first thread in the set.
+#[inline(always)]
+fn first_in(set: u64) -> Option<usize>
+    ensures some { IfSome result (λ t. has set t ≡ true) }
+    ensures none { result ≡ None → set ≡ 0 }
+{
+    if set == 0 {
+        None
+    } else {
+        Some(set.trailing_zeros() as usize)
+    }
+}
+
+/// The set with this thread, or without it.
+#[inline(always)]
+#[tactic(auto, using(crate::proofs::ThreadSets::set_at))]
+pub(super) fn set_at(set: u64, thread: usize, within: bool) -> u64
+    requires { thread < 64 }
+    ensures { IsSetAt thread within set result }
+{
+    if within {
+        set | (1 << thread)
+    } else {
+        set & !(1 << thread)
+    }
+}
+
+/// Whether the row is a registration.
+#[inline(always)]
+fn is_registration(row: Row) -> bool
+    ensures { result ≡ is_registration row }
+{
+    matches!(row, Row::Preg { .. } | Row::Pbulk { .. })
+}
+
+/// Whether the row may change a tree.
+#[inline(always)]
+fn changes_tree(row: Row) -> bool
+    ensures { result ≡ changes_tree row }
+{
+    match row {
+        Row::Ret
+        | Row::Preg { .. }
+        | Row::Pbulk { .. }
+        | Row::Parr { .. }
+        | Row::Pdereg { .. }
+        | Row::Paaa { .. }
+        | Row::Pforce { .. } => true,
+        _ => false,
+    }
+}
+
+/// Whether the event shows more than a turn of its own thread, or that a routine or an action begins.
+#[inline(always)]
+fn is_loud(event: Event) -> bool
+    ensures { result ≡ is_loud event }
+{
+    !matches!(event.mark, Mark::Nothing) || matches!(event.what, What::Enters)
+}
+
+/// Whether a step at this row, with this event, may have changed whose turn is ready among all threads.
+#[inline(always)]
+fn changes_all(row: Row, event: Event) -> bool
+    ensures { result ≡ changes_all row event }
+{
+    match row {
+        Row::Pforce { .. } | Row::Creset { .. } => true,
+        _ => is_loud(event),
+    }
+}
+
+/// Whose turn is ready.
+impl Stage {
+    /// Whether the thread runs and its row is one on registers alone.
+    #[inline(always)]
+    pub(super) fn is_local_turn(&self, row: Row, t: usize) -> bool
+        requires { t < length self.now.threads }
+        ensures { result ≡ is_local_turn (thread_at (scene_of self.now) t).status row }
+    {
+        is_local(row) && matches!(self.threads[t].status(), Status::Runs)
+    }
+
+    /// The row at which a thread stands, after a step as before one.
+    #[inline(always)]
+    pub(super) fn place(&self, program: &Loaded, t: usize) -> Row
+        requires sound { IsSound program.now most_after (scene_of self.now) }
+        requires thread { t < length self.now.threads }
+        ensures row { result ≡ row_at program.now.rows (thread_at (scene_of self.now) t).pc }
+        ensures sees { SeesWait result t self.now }
+    {
+        let row = program.rows()[self.threads[t].pc() as usize];
+        self.wait_is_placed(program, row, t);
+        row
+    }
+
+    /// Whether a thread may take a step, by a look at what it does.
+    #[inline(always)]
+    #[tactic(auto, using(crate::proofs::Readiness::row_is_ready))]
+    fn goes_on(&self, program: &Loaded, t: usize) -> bool
+        requires sound { IsSound program.now most_after (scene_of self.now) }
+        requires thread { t < length self.now.threads }
+        ensures { result ≡ is_ready t program.now (scene_of self.now) }
+    {
+        let row = self.place(program, t);
+        match self.threads[t].status() {
+            Status::Runs => !self.is_blocked(row, t),
+            Status::Throws(_) => true,
+            Status::AwaitsPhase(phase) => self.is_phase_wait_over(row, phase, t),
+            Status::AwaitsBarrier(_) => self.is_barrier_wait_over(row, t),
+            Status::Ended | Status::Died(_) => false,
+        }
+    }
+
+    /// Whether a thread is about to register.
+    #[inline(always)]
+    fn is_registering(&self, program: &Loaded, t: usize) -> bool
+        requires sound { IsSound program.now most_after (scene_of self.now) }
+        requires thread { t < length self.now.threads }
+        ensures { result ≡ is_registering t program.now (scene_of self.now) }
+    {
+        let row = self.place(program, t);
+        match self.threads[t].status() {
+            Status::Runs => is_registration(row),
+            _ => false,
+        }
+    }
+
+    /// The sets with a thread looked at anew.
+    #[inline(always)]
+    fn looked(&self, program: &Loaded, before: ReadySet, t: usize) -> ReadySet
+        requires sound { IsSound program.now most_after (scene_of self.now) }
+        requires thread { t < length self.now.threads }
+        ensures { IsLooked program.now t before result (scene_of self.now) }
+    {
+        ReadySet {
+            turns: set_at(before.turns, t, self.goes_on(program, t)),
+            registering: set_at(before.registering, t, self.is_registering(program, t)),
+        }
+    }
+
+    /// A thread is looked at anew.
+    #[inline(never)]
+    pub(super) fn look(&mut self, program: &Loaded, t: usize)
+        requires sound { IsSound program.now most_after (scene_of self.old) }
+        requires thread { t < length self.old.threads }
+        ensures stored { self.new ≡ record self.old { ready = self.new.ready } }
+        ensures looked { IsLooked program.now t self.old.ready self.new.ready (scene_of self.old) }
+    {
+        self.ready = self.looked(program, self.ready, t);
+    }
+
+    /// The sets with all threads looked at.
+    #[inline(never)]
+    pub(super) fn all_looked(&self, program: &Loaded) -> ReadySet
+        requires sound { IsSound program.now most_after (scene_of self.now) }
+        ensures { AreReady program.now result (scene_of self.now) }
+    {
+        let mut set = ReadySet {
+            turns: 0,
+            registering: 0,
+        };
+        for u in 0..self.threads.len() {
+            set = self.looked(program, set, u);
+        }
+        set
+    }
+
+    /// The set of ready turns, with all threads looked at anew that are about to register.
+    #[inline(never)]
+    fn registering_looked(&self, program: &Loaded, before: ReadySet) -> u64
+        requires sound { IsSound program.now most_after (scene_of self.now) }
+        ensures { (u : ℕ) → has result u ≡ (if nat_lt u (length self.now.threads) && has before.registering u
+            then is_ready u program.now (scene_of self.now) else has before.turns u) }
+    {
+        let mut turns = before.turns;
+        for u in 0..self.threads.len() {
+            if is_in(before.registering, u) {
+                turns = set_at(turns, u, self.goes_on(program, u));
+            }
+        }
+        turns
+    }
+
+    /// The set of ready turns after a step at this row, but for its own thread and one that it interrupts.
+    #[inline(always)]
+    fn others_looked(&self, program: &Loaded, before: ReadySet, row: Row) -> u64
+        requires sound { IsSound program.now most_after (scene_of self.now) }
+        ensures { (t u : ℕ) → AreOthersReady program.now t row before (scene_of self.now) → u ≢ t
+            → interrupts u row ≡ false → has result u ≡ is_ready u program.now (scene_of self.now) }
+    {
+        if changes_tree(row) && before.registering != 0 {
+            self.registering_looked(program, before)
+        } else {
+            before.turns
+        }
+    }
+
+    /// The sets with the thread looked at anew that the row interrupts.
+    #[inline(always)]
+    fn interrupted_looked(&self, program: &Loaded, before: ReadySet, row: Row) -> ReadySet
+        requires sound { IsSound program.now most_after (scene_of self.now) }
+        requires named { IsNamed (counts_in self.now) row }
+        ensures { AreLooked program.now (λ u. interrupts u row) before result (scene_of self.now) }
+    {
+        match row {
+            Row::Intr { thread } => self.looked(program, before, thread as usize),
+            _ => before,
+        }
+    }
+
+    /// The sets after a step of thread t at this row, which has changed few others; these were so before it.
+    #[inline(always)]
+    fn few_looked(&self, program: &Loaded, before: ReadySet, row: Row, t: usize) -> ReadySet
+        requires sound { IsSound program.now most_after (scene_of self.now) }
+        requires thread { t < length self.now.threads }
+        requires named { IsNamed (counts_in self.now) row }
+        requires others { AreOthersReady program.now t row before (scene_of self.now) }
+        ensures { AreReady program.now result (scene_of self.now) }
+    {
+        let others = ReadySet {
+            turns: self.others_looked(program, before, row),
+            registering: before.registering,
+        };
+        let rest = self.interrupted_looked(program, others, row);
+        self.looked(program, rest, t)
+    }
+
+    /// The sets after a step of thread t at this row, with this event; these were so before it.
+    #[inline(always)]
+    pub(super) fn ready_after(
+        &self,
+        program: &Loaded,
+        before: ReadySet,
+        row: Row,
+        event: Event,
+        t: usize,
+    ) -> ReadySet
+        requires sound { IsSound program.now most_after (scene_of self.now) }
+        requires thread { t < length self.now.threads }
+        requires named { IsNamed (counts_in self.now) row }
+        requires others { changes_all row event ≡ false
+            → AreOthersReady program.now t row before (scene_of self.now) }
+        ensures { AreReady program.now result (scene_of self.now) }
+    {
+        if changes_all(row, event) {
+            self.all_looked(program)
+        } else {
+            self.few_looked(program, before, row, t)
+        }
+    }
+
+    /// The first thread that may take a step.
+    pub fn ready_thread(&self, program: &Loaded) -> Option<usize>
+        requires known { KnowsReady program.now self.now }
+        ensures there { IfSome result (λ t. t < length self.now.threads) }
+        ensures ready { IfSome result (λ t. is_ready t program.now (scene_of self.now) ≡ true) }
+        ensures none { result ≡ None → (u : ℕ) → is_ready u program.now (scene_of self.now) ≡ false }
+    {
+        // The answer goes on as it is: each arm names its case for the proof.
+        match first_in(self.ready.turns) {
+            Some(t) => Some(t),
+            None => None,
+        }
+    }
+}
