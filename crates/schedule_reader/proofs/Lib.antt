@@ -3,3 +3,5 @@ pub mod Streams
 pub mod Tokens
 pub mod Turns
 pub mod Runs
+pub mod Records
+pub mod ReadAtOnce

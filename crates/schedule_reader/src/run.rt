@@ -1,8 +1,9 @@
-ghost use Rattle.std.specs.Prelude.{◌≡◌, ◌≤◌, ◌<◌, ◌+◌, ◌++◌, ◌∷◌, [], All, MatchOption};
+ghost use Rattle.std.specs.Prelude.{◌≡◌, ◌≤◌, ◌<◌, ◌+◌, ◌++◌, ◌∷◌, [], All, IfOk, MatchOption, OnOk, replicate};
 ghost use Rattle.std.specs.Vec.{vec_len, vec_capacity};
 ghost use Rattle.schedule_reader.specs.Joined.{AreJoined};
 ghost use Rattle.schedule_reader.specs.Schedule.{IsRun, choices_of, run_of};
 
+use std::alloc::{AllocError, Global};
 use thread_machine::Choice;
 
 /// How often a run names its choice at most.
@@ -61,4 +62,35 @@ pub fn push_joined(runs: &mut Vec<Run>, choice: Choice)
         }
     }
     runs.push_reserved(Run::once(choice));
+}
+
+/// The same choices, those that repeat as one run. It takes as long as there are choices.
+pub fn joined(alloc: Global, runs: &[Run]) -> Result<Vec<Run>, AllocError>
+    requires { All IsRun runs.now }
+    ensures choices { IfOk result (λ all. choices_of all.items ≡ choices_of runs.now) }
+    ensures runs { IfOk result (λ all. All IsRun all.items) }
+    ensures joined { IfOk result (λ all. AreJoined all.items) }
+{
+    let mut all = Vec::new(alloc);
+    for run in runs {
+        push_run(&mut all, *run)?;
+    }
+    Ok(all)
+}
+
+/// One choice as often as a run says, behind runs that are joined.
+fn push_run(runs: &mut Vec<Run>, run: Run) -> Result<(), AllocError>
+    requires run { IsRun run }
+    requires runs { All IsRun runs.old.items }
+    requires joined { AreJoined runs.old.items }
+    ensures choices { OnOk result (choices_of runs.new.items
+        ≡ choices_of runs.old.items ++ replicate run.times run.choice) }
+    ensures runs { OnOk result (All IsRun runs.new.items) }
+    ensures joined { OnOk result (AreJoined runs.new.items) }
+{
+    for _done in 0..run.times {
+        runs.reserve(1)?;
+        push_joined(runs, run.choice);
+    }
+    Ok(())
 }

@@ -1,7 +1,9 @@
 -- A replay of one choice more.
-use Rattle.std.proofs.Common.{◌≡◌, ◌∙◌, ◌+◌, ◌<◌, true, List, [], ◌∷◌, ◌++◌, length, arith, refl, sym, ap, length-append}
-use Rattle.std.specs.Prelude.{Option, Some, None, is_some}
+use Rattle.std.proofs.Common.{◌≡◌, ◌∙◌, ◌+◌, ◌*◌, ◌<◌, ◌≤◌, ℕ, true, List, [], ◌∷◌, ◌++◌, length, arith, refl, sym, ap, subst, length-append}
+use Rattle.std.specs.Prelude.{All, Option, Some, None, is_some}
+use Rattle.std.proofs.lemmas.List.Elements.{All-nil, All-push}
 use Rattle.std.proofs.lemmas.Bool.Decides.{nat_tests}
+use Rattle.loader.specs.Program.{Program}
 use Rattle.machine_scene.specs.Scene.{Outcome}
 use Rattle.thread_machine.specs.declared.choice.Choice.{Choice}
 use Rattle.thread_machine.specs.declared.fault.StepFault.{StepFault}
@@ -10,8 +12,11 @@ use Rattle.thread_machine.specs.Ready.{outcome_of_choice, is_choice_ready}
 use Rattle.thread_machine.specs.Step.{played, played_by, refusal_of}
 use Rattle.thread_machine.specs.Execution.{Execution, execution, extended, extended_by}
 use Rattle.thread_machine.proofs.Executions.{execution-snoc}
-use Rattle.thread_runner.specs.Recording.{Recording, with_choice}
-use Rattle.thread_runner.specs.Replay.{IsReplay}
+use Rattle.schedule_reader.specs.Schedule.{Schedule, choices_of, finished_schedule}
+use Rattle.schedule_reader.specs.Record.{IsNamed, once_each, record_text}
+use Rattle.schedule_reader.proofs.Records.{choices-once, record-few, record-read}
+use Rattle.thread_runner.specs.Recording.{Recording, recording_of, with_choice}
+use Rattle.thread_runner.specs.Replay.{IsReplay, IsRecordOf}
 
 -- what a choice leaves as it was, and what it counts
 abbrev pub Counts : World → World → Type 0
@@ -36,10 +41,10 @@ extended-ok None (Some fault) done choice none accepted = absurd (cc accepted)
 extended-ok None None done choice none accepted = (refl, refl)
 
 pub replay_more : (recording : Recording) (choice : Choice) (before after : World) → IsReplay recording before
-    → is_choice_ready before.program choice before.scene ≡ true → refusal_of before choice ≡ None
+    → is_choice_ready before.program choice before.scene ≡ true → refusal_of before choice ≡ None → before.steps < before.limit
     → after ≡ (played before choice).world → length after.scene.threads ≡ length before.scene.threads
     → IsReplay (with_choice choice recording) after
-replay_more recording choice before after replay ready accepted is threads =
+replay_more recording choice before after replay ready accepted below is threads =
     let done = execution recording.first recording.choices in
     let more : execution recording.first (recording.choices ++ choice ∷ []) ≡ extended done choice = execution-snoc recording.choices recording.first choice in
     let here : refusal_of done.world choice ≡ None = ap (λ w. refusal_of w choice) replay.leads ∙ accepted in
@@ -52,6 +57,7 @@ replay_more recording choice before after replay ready accepted is threads =
       choices = ap (λ (w : World). w.choices) is ∙ counted.2 ∙ ap (λ n. n + 1) replay.choices ∙ sym longer;
       steps = ap (λ (w : World). w.steps) is ∙ counted.3 ∙ ap (λ n. n + 1) replay.steps ∙ sym longer;
       limit = ap (λ (w : World). w.limit) is ∙ counted.1 ∙ replay.limit;
+      within = omega (arith, below, longer, replay.steps, replay.limit);
       threads = threads ∙ replay.threads;
     }
 
@@ -69,6 +75,48 @@ same_first before after choice ready is =
     ∙ ap (λ p. first_world p (played before choice).world.limit) counted.0
     ∙ ap (first_world before.program) counted.1
 
-pub longer : (first second : World) (choices more : List Choice) (choice : Choice) → second ≡ first → more ≡ choices ++ choice ∷ []
-    → record { first = second; choices = more } ≡ with_choice choice (record { first = first; choices = choices })
-longer first second choices more choice same is = cc (same, is)
+-- nothing is recorded before the first choice
+pub nothing_recorded : (program : Program) (limit : ℕ) → IsRecordOf (first_world program limit) [] (first_world program limit)
+nothing_recorded program limit = record {
+  text_is = refl;
+  named = All-nil IsNamed;
+  replay = record {
+    fault = refl;
+    replay = record { leads = refl; accepted = refl; choices = refl; steps = refl; limit = refl; within = omega arith; threads = refl };
+  };
+}
+
+-- a record is read as the choices that it was made of
+read_back : (text : List ℕ) (choices : List Choice) → All IsNamed choices → text ≡ record_text choices
+    → (choices_of (finished_schedule text).runs ≡ choices) × ((finished_schedule text).fault ≡ None)
+read_back text choices named is =
+    let read : finished_schedule text ≡ record { runs = once_each choices; fault = None } = ap finished_schedule is ∙ record-read choices named in
+    (ap (λ (s : Schedule). choices_of s.runs) read ∙ choices-once choices, ap (λ (s : Schedule). s.fault) read)
+
+-- and one choice more
+pub recorded_more : (first second : World) (old new : List ℕ) (choice : Choice) (before after : World) → IsRecordOf first old before
+    → choice.thread ≤ 63 → second ≡ first → new ≡ record_text ((recording_of first old).choices ++ choice ∷ [])
+    → IsReplay (with_choice choice (recording_of first old)) after
+    → IsRecordOf second new after × (recording_of second new ≡ with_choice choice (recording_of first old))
+recorded_more first second old new choice before after recorded small same is replay =
+    let choices = (recording_of first old).choices ++ choice ∷ [] in
+    let named : All IsNamed choices = All-push IsNamed (recording_of first old).choices choice recorded.named small in
+    let read = read_back new choices named is in
+    let more : recording_of second new ≡ with_choice choice (recording_of first old) = cc (same, read.0) in (
+      record {
+        text_is = is ∙ ap record_text (sym read.0);
+        named = subst (All IsNamed) (sym read.0) named;
+        replay = record { fault = read.1; replay = subst (λ (r : Recording). IsReplay r after) (sym more) replay };
+      },
+      more,
+    )
+
+-- how long it is
+pub recorded_few : (first : World) (text : List ℕ) (world : World) → IsRecordOf first text world
+    → length text ≤ 4 * length (recording_of first text).choices
+recorded_few first text world recorded =
+    subst (λ t. length t ≤ 4 * length (recording_of first text).choices) (sym recorded.text_is)
+    (record-few (recording_of first text).choices recorded.named)
+
+pub recorded_within : (first : World) (text : List ℕ) (world : World) → IsRecordOf first text world → length text ≤ 4 * first.limit
+recorded_within first text world recorded = omega (arith, recorded_few first text world recorded, recorded.replay.replay.within)

@@ -1,5 +1,6 @@
 -- A machine by where it began and what was chosen since.
-use Rattle.std.specs.Prelude.{List, [], ◌∷◌, ◌++◌}
+use Rattle.std.specs.Prelude.{ℕ, List, [], ◌∷◌, ◌++◌}
+use Rattle.schedule_reader.specs.Schedule.{choices_of, finished_schedule}
 use Rattle.thread_machine.specs.declared.choice.Choice.{Choice}
 use Rattle.thread_machine.specs.World.{World, first_world}
 use Rattle.thread_machine.specs.Execution.{execution}
@@ -16,6 +17,10 @@ world_after recording = (execution recording.first recording.choices).world
 -- nothing was chosen yet
 abbrev pub begun : World → Recording
 begun first = record { first = first; choices = [] }
+
+-- what a schedule names was chosen
+abbrev pub recording_of : World → List ℕ → Recording
+recording_of first schedule = record { first = first; choices = choices_of (finished_schedule schedule).runs }
 
 -- one choice more
 abbrev pub with_choice : Choice → Recording → Recording

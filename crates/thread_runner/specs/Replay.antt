@@ -1,20 +1,36 @@
--- What is true of every record, and of what it was written as.
-use Rattle.std.specs.Prelude.{◌≡◌, ℕ, List, length, None}
+-- What is true of every record, and of its text.
+use Rattle.std.specs.Prelude.{◌≡◌, ◌≤◌, ℕ, All, List, length, None}
 use Rattle.thread_machine.specs.World.{World}
 use Rattle.thread_machine.specs.Execution.{execution}
-use Rattle.schedule_reader.specs.Schedule.{choices_of, finished_schedule}
-use Rattle.thread_runner.specs.Recording.{Recording, world_after}
+use Rattle.schedule_reader.specs.Record.{IsNamed, record_text}
+use Rattle.schedule_reader.specs.Schedule.{finished_schedule}
+use Rattle.thread_runner.specs.declared.fault.LiveFault.{LiveFault}
+use Rattle.thread_runner.specs.declared.fault.LiveFault.TheVariants as fault
+use Rattle.thread_runner.specs.Recording.{Recording, recording_of, world_after}
 
--- the choices, played from the first world, lead to this one; each was accepted and took a step, so that none was idle
+-- the choices, played from the first world, lead to this one; each was accepted and took a step, so that none was idle and
+-- they are at most as many as the limit
 pub record IsReplay (recording : Recording) (world : World) : Type 0 where
   pub leads : world_after recording ≡ world
   pub accepted : (execution recording.first recording.choices).refusal ≡ None
   pub choices : world.choices ≡ length recording.choices
   pub steps : world.steps ≡ length recording.choices
   pub limit : world.limit ≡ recording.first.limit
+  pub within : length recording.choices ≤ recording.first.limit
   pub threads : length world.scene.threads ≡ length recording.first.scene.threads
 
 -- a text without a fault, whose choices are such
 pub record IsReplayOfText (first : World) (text : List ℕ) (world : World) : Type 0 where
   pub fault : (finished_schedule text).fault ≡ None
-  pub replay : IsReplay (record { first = first; choices = choices_of (finished_schedule text).runs }) world
+  pub replay : IsReplay (recording_of first text) world
+
+-- such a text of which each choice is a token of its own, one space between them
+pub record IsRecordOf (first : World) (text : List ℕ) (world : World) : Type 0 where
+  pub text_is : text ≡ record_text (recording_of first text).choices
+  pub named : All IsNamed (recording_of first text).choices
+  pub replay : IsReplayOfText first text world
+
+-- what a run that was broken off left: out of memory, the record of what was played until then
+abbrev pub HasLeft : World → LiveFault → Type 0
+HasLeft first (fault.Memory schedule) = (world : World) × IsRecordOf first schedule.items world
+HasLeft first fault.Spawn = Unit {0}

@@ -1,5 +1,3 @@
-use crate::journaled::Journaled;
-
 /// Why a step was not taken. Nothing has changed.
 #[derive(Clone, Copy, Debug, PartialEq, Eq)]
 pub enum TakeFault {
@@ -14,10 +12,8 @@ pub enum TakeFault {
 /// Why a live run was broken off. Every worker that was started has ended.
 #[derive(Drop)]
 pub enum LiveFault {
-    /// Out of memory, while the run had its machine. What was played until then.
-    Memory(Journaled),
-    /// There was no memory for a machine, so that no thread was started.
-    NoMachine,
+    /// Out of memory. What was played until then, as a schedule; it is empty where there was no memory for a machine.
+    Memory(Vec<u8>),
     /// A thread could not be started.
     Spawn,
 }

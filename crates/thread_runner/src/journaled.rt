@@ -1,19 +1,19 @@
-ghost use Rattle.std.specs.Prelude.{◌≡◌, ◌≢◌, ◌↔◌, ◌+◌, ◌<◌, ◌≤◌, ◌++◌, ◌∷◌, [], length, All, IfOk, IfErr, OnOk, OnErr, Err, true, false, Some, None};
-ghost use Rattle.std.specs.String.{string_bytes};
+ghost use Rattle.std.specs.Prelude.{◌≡◌, ◌≢◌, ◌↔◌, ◌+◌, ◌*◌, ◌<◌, ◌≤◌, ◌++◌, ◌∷◌, [], length, IfOk, IfErr, OnOk, OnErr, Err, true, false, Some, None};
 ghost use Rattle.thread_machine.specs.World.{world_of, first_world};
 ghost use Rattle.thread_machine.specs.Ready.{is_choice_ready};
 ghost use Rattle.thread_machine.specs.Step.{played};
-ghost use Rattle.schedule_reader.specs.Schedule.{IsRun, choices_of, finished_schedule};
-ghost use Rattle.thread_runner.specs.Recording.{world_after, begun, with_choice};
+ghost use Rattle.schedule_reader.specs.Schedule.{choices_of, finished_schedule};
+ghost use Rattle.schedule_reader.specs.Record.{record_text};
+ghost use Rattle.thread_runner.specs.Recording.{world_after, begun, recording_of, with_choice};
 ghost use Rattle.thread_runner.specs.Turns.{turn_of, expiry_of, choice_in, is_ready_in, can_expire_in, is_due, may_choose, some_turn, some_lower};
-ghost use Rattle.thread_runner.specs.Replay.{IsReplay};
+ghost use Rattle.thread_runner.specs.Replay.{IsRecordOf, IsReplay};
 ghost use Rattle.thread_runner.specs.Endings.{ending_of};
 ghost use Rattle.thread_runner.specs.Waiting.{has_finished};
 
 use crate::ending::Ending;
 use crate::fault::TakeFault;
 use loader::Loaded;
-use schedule_reader::{Run, push_joined, write_schedule};
+use schedule_reader::{MOST_CHOICE_BYTES, push_choice};
 use std::alloc::{AllocError, Global};
 use std::marker::Model;
 use thread_machine::{Choice, Event, Machine, Status};
@@ -22,27 +22,22 @@ use thread_machine::{Choice, Event, Machine, Status};
 #[derive(Drop)]
 pub struct Journaled {
     machine: Machine,
-    runs: Vec<Run>,
+    schedule: Vec<u8>,
 }
 
 impl Model for Journaled {
-    ghost use Rattle.std.specs.Prelude.{All};
     ghost use Rattle.thread_machine.specs.World.{world_of, first_world};
-    ghost use Rattle.schedule_reader.specs.Schedule.{IsRun, choices_of};
-    ghost use Rattle.thread_runner.specs.Recording.{Recording};
-    ghost use Rattle.thread_runner.specs.Replay.{IsReplay};
+    ghost use Rattle.thread_runner.specs.Recording.{Recording, recording_of};
+    ghost use Rattle.thread_runner.specs.Replay.{IsRecordOf};
 
     ghost Value = { Recording };
 
-    ghost view = { λ journaled. record {
-      first = first_world journaled.machine.program journaled.machine.limit;
-      choices = choices_of journaled.runs.items;
-    } };
+    ghost view = { λ journaled. recording_of
+        (first_world journaled.machine.program journaled.machine.limit) journaled.schedule.items };
 
-    ghost invariant = { λ journaled. IsReplay (record {
-      first = first_world journaled.machine.program journaled.machine.limit;
-      choices = choices_of journaled.runs.items;
-    }) (world_of journaled.machine) × All IsRun journaled.runs.items };
+    ghost invariant = { λ journaled. IsRecordOf
+        (first_world journaled.machine.program journaled.machine.limit) journaled.schedule.items
+        (world_of journaled.machine) };
 }
 
 impl Journaled {
@@ -53,7 +48,7 @@ impl Journaled {
     {
         Ok(Journaled {
             machine: Machine::new(alloc, program, limit)?,
-            runs: Vec::new(alloc),
+            schedule: Vec::new(alloc),
         })
     }
 
@@ -116,12 +111,12 @@ impl Journaled {
         if self.machine.steps() == self.machine.limit() {
             return Err(TakeFault::StepLimit);
         }
-        if self.runs.reserve(1).is_err() {
+        if self.schedule.reserve(MOST_CHOICE_BYTES).is_err() {
             return Err(TakeFault::Memory);
         }
         match self.machine.step(choice) {
             Ok(event) => {
-                push_joined(&mut self.runs, choice);
+                push_choice(&mut self.schedule, choice);
                 Ok(event)
             }
             Err(_) => Err(TakeFault::Memory),
@@ -225,7 +220,7 @@ impl Journaled {
     pub fn each_record_is_a_replay(&self)
         ensures { IsReplay self.now (world_after self.now) }
     {
-        let _ = &self.runs;
+        let _ = &self.schedule;
     }
 
     /// Whether some thread is ready.
@@ -261,23 +256,23 @@ impl Journaled {
         &self.machine
     }
 
-    /// The same, and the record: the recorded choices, those that repeat as one run.
-    pub fn into_parts(self) -> (Vec<Run>, Machine)
-        ensures choices { choices_of result.0.items ≡ self.choices }
-        ensures runs { All IsRun result.0.items }
-        ensures replay { IsReplay self (world_of result.1) }
+    /// The recorded choices as a schedule: a token for each, one space between them.
+    pub fn schedule(&self) -> &[u8]
+        ensures text { result.now ≡ record_text self.now.choices }
+        ensures few { length result.now ≤ 4 * length self.now.choices }
+        ensures fault { (finished_schedule result.now).fault ≡ None }
+        ensures choices { choices_of (finished_schedule result.now).runs ≡ self.now.choices }
     {
-        (self.runs, self.machine)
+        self.schedule.as_slice()
     }
 
-    /// The recorded choices as a schedule, choices that repeat as one token (`t0*3`).
-    pub fn schedule(&self, alloc: Global) -> Result<String, AllocError>
-        ensures fault { IfOk result (λ text. (finished_schedule (string_bytes text)).fault ≡ None) }
-        ensures choices { IfOk result (λ text.
-            choices_of (finished_schedule (string_bytes text)).runs ≡ self.now.choices) }
+    /// The record as a schedule, and the machine that it leads to.
+    pub fn into_parts(self) -> (Vec<u8>, Machine)
+        ensures first { self.first ≡ first_world result.1.program result.1.limit }
+        ensures choices { self ≡ recording_of self.first result.0.items }
+        ensures record { IsRecordOf self.first result.0.items (world_of result.1) }
     {
-        let text = write_schedule(alloc, self.runs.as_slice())?;
-        Ok(text)
+        (self.schedule, self.machine)
     }
 
     /// How the run has ended, `None` where some choice may still take a step.

@@ -1,7 +1,7 @@
 //! Real threads that play a loaded program under one lock, and the record of what they did.
 //!
-//! Whoever gets the lock finds a `Journaled`, the replay of the recorded choices. `run_live` has a worker for each of the
-//! program's threads, and gives back schedule, machine and ending; `record_live` gives the choices as runs.
+//! Whoever gets the lock finds a `Journaled`, the replay of the recorded choices; their text is made as they come.
+//! `run_live` has a worker for each of the program's threads, and gives back that schedule, the machine and the ending.
 #![tactic(auto)]
 
 mod ending;
@@ -17,4 +17,4 @@ pub use fault::{LiveFault, TakeFault};
 pub use gate::{Gate, NoGate};
 pub use journaled::Journaled;
 pub use law::{a_run_goes_on_or_is_over, some_worker_does_not_wait};
-pub use runner::{LiveRecord, LiveRun, record_live, run_live};
+pub use runner::{LiveRun, run_live};

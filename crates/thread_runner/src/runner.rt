@@ -1,11 +1,9 @@
-ghost use Rattle.std.specs.Prelude.{◌≡◌, ◌≢◌, ◌↔◌, ◌<◌, ◌≤◌, All, length, IfErr, IfOk, Err, Some};
-ghost use Rattle.std.specs.String.{string_bytes};
+ghost use Rattle.std.specs.Prelude.{◌≡◌, ◌≢◌, ◌↔◌, ◌*◌, ◌<◌, ◌≤◌, length, IfErr, IfOk, Err, Some};
 ghost use Rattle.std.specs.Thread.{IsSend, IsSync};
-ghost use Rattle.schedule_reader.specs.Schedule.{IsRun, choices_of};
 ghost use Rattle.thread_machine.specs.World.{world_of, first_world};
 ghost use Rattle.thread_runner.specs.declared.live.Break.{Break};
-ghost use Rattle.thread_runner.specs.Recording.{Recording, world_after};
-ghost use Rattle.thread_runner.specs.Replay.{IsReplay, IsReplayOfText};
+ghost use Rattle.thread_runner.specs.Recording.{world_after};
+ghost use Rattle.thread_runner.specs.Replay.{HasLeft, IsRecordOf};
 ghost use Rattle.thread_runner.specs.Endings.{ending_of};
 ghost use Rattle.thread_runner.specs.Waiting.{waits};
 
@@ -15,7 +13,6 @@ use crate::gate::Gate;
 use crate::journaled::Journaled;
 use crate::live::{Break, Live, Origin};
 use loader::Loaded;
-use schedule_reader::Run;
 use std::alloc::Global;
 use std::marker::Brand;
 use std::sync::{Condvar, Mutex, Wait};
@@ -25,18 +22,9 @@ use thread_machine::Machine;
 
 /// A live run that has ended.
 #[derive(Drop)]
-pub struct LiveRecord {
-    /// The choices that were made, in the order in which the workers had the lock, those that repeat as one run.
-    pub runs: Vec<Run>,
-    /// The machine that they led to.
-    pub machine: Machine,
-    pub ending: Ending,
-}
-
-/// The same, its choices as a schedule.
-#[derive(Drop)]
 pub struct LiveRun {
-    pub schedule: String,
+    /// The choices that were made, in the order in which the workers had the lock: a token for each, one space between them.
+    pub schedule: Vec<u8>,
     /// The machine that they led to.
     pub machine: Machine,
     pub ending: Ending,
@@ -125,8 +113,8 @@ fn start<O: Origin + Send + Sync, R: Threads + Wait + Sync, G: Gate + Sync>(
 fn play_on(mut journaled: Journaled) -> Result<(Journaled, Ending), LiveFault>
     ensures first { IfOk result (λ both. both.0.first ≡ journaled.first) }
     ensures ending { IfOk result (λ both. ending_of (world_after both.0) ≡ Some both.1) }
-    ensures memory { (left : Recording) → result ≡ Err (LiveFault.Memory left) → left.first ≡ journaled.first }
-    ensures machine { (result ≢ Err LiveFault.NoMachine) × (result ≢ Err LiveFault.Spawn) }
+    ensures left { IfErr result (HasLeft journaled.first) }
+    ensures spawn { result ≢ Err LiveFault.Spawn }
 {
     loop {
         if let Some(ending) = journaled.ending() {
@@ -134,22 +122,30 @@ fn play_on(mut journaled: Journaled) -> Result<(Journaled, Ending), LiveFault>
         }
         journaled.each_record_is_a_replay();
         if journaled.take_next().is_err() {
-            return Err(LiveFault::Memory(journaled));
+            return Err(out_of_memory(journaled));
         }
     }
+}
+
+/// What is told where memory ran out.
+fn out_of_memory(journaled: Journaled) -> LiveFault
+    ensures left { HasLeft journaled.first result }
+    ensures spawn { result ≢ LiveFault.Spawn }
+{
+    let (schedule, _) = journaled.into_parts();
+    LiveFault::Memory(schedule)
 }
 
 /// What the workers left, once all have ended.
 fn end<O: Origin>(live: Live<O>) -> Result<(Journaled, Ending), LiveFault>
     ensures first { IfOk result (λ both. both.0.first ≡ O.first) }
     ensures ending { IfOk result (λ both. ending_of (world_after both.0) ≡ Some both.1) }
-    ensures memory { (left : Recording) → result ≡ Err (LiveFault.Memory left) → left.first ≡ O.first }
+    ensures left { IfErr result (HasLeft O.first) }
     ensures spawn { (result ≡ Err LiveFault.Spawn) ↔ (live.broken ≡ Some Break.Spawn) }
-    ensures machine { result ≢ Err LiveFault.NoMachine }
 {
     match live.broken {
         None => play_on(live.journaled),
-        Some(Break::Memory) => Err(LiveFault::Memory(live.journaled)),
+        Some(Break::Memory) => Err(out_of_memory(live.journaled)),
         Some(Break::Spawn) => Err(LiveFault::Spawn),
     }
 }
@@ -163,8 +159,7 @@ fn run_of<O: Origin + Send + Sync, R: Threads + Wait + Sync, G: Gate + Sync>(
     requires { journaled.first ≡ O.first }
     ensures first { IfOk result (λ both. both.0.first ≡ O.first) }
     ensures ending { IfOk result (λ both. ending_of (world_after both.0) ≡ Some both.1) }
-    ensures memory { (left : Recording) → result ≡ Err (LiveFault.Memory left) → left.first ≡ O.first }
-    ensures machine { result ≢ Err LiveFault.NoMachine }
+    ensures left { IfErr result (HasLeft O.first) }
 {
     let count = journaled.thread_count() as u8;
     let lock = Mutex::new(Live::<O>::new(journaled));
@@ -177,15 +172,15 @@ fn run_of<O: Origin + Send + Sync, R: Threads + Wait + Sync, G: Gate + Sync>(
 fn first_record(alloc: Global, program: Loaded, limit: u32) -> Result<Journaled, LiveFault>
     requires { limit ≤ 1000000000 }
     ensures first { IfOk result (λ journaled. journaled.first ≡ first_world program limit) }
-    ensures machine { IfErr result (λ fault. fault ≡ LiveFault.NoMachine) }
+    ensures left { IfErr result (HasLeft (first_world program limit)) }
 {
     match Journaled::new(alloc, program, limit) {
         Ok(journaled) => Ok(journaled),
-        Err(_) => Err(LiveFault::NoMachine),
+        Err(_) => Err(LiveFault::Memory(Vec::new(alloc))),
     }
 }
 
-/// The run of a machine that is there. So want of memory leaves a record, from here on.
+/// The run of a machine that is there.
 fn recorded<R: Threads + Wait + Sync, G: Gate + Sync>(
     rt: &R,
     journaled: Journaled,
@@ -193,76 +188,27 @@ fn recorded<R: Threads + Wait + Sync, G: Gate + Sync>(
 ) -> Result<(Journaled, Ending), LiveFault>
     ensures first { IfOk result (λ both. both.0.first ≡ journaled.first) }
     ensures ending { IfOk result (λ both. ending_of (world_after both.0) ≡ Some both.1) }
-    ensures memory { (left : Recording) → result ≡ Err (LiveFault.Memory left) → left.first ≡ journaled.first }
-    ensures machine { result ≢ Err LiveFault.NoMachine }
+    ensures left { IfErr result (HasLeft journaled.first) }
 {
     run_of::<Brand, R, G>(rt, journaled, gate)
 }
 
-/// The record of a run that has ended.
-fn record_of(journaled: Journaled, ending: Ending) -> LiveRecord
+/// A record whose run has ended.
+fn ended(journaled: Journaled, ending: Ending) -> LiveRun
     requires { ending_of (world_after journaled) ≡ Some ending }
-    ensures replay { IsReplay (record { first = journaled.first; choices = choices_of result.runs.items })
-        (world_of result.machine) }
-    ensures runs { All IsRun result.runs.items }
+    ensures record { IsRecordOf journaled.first result.schedule.items (world_of result.machine) }
     ensures ending { ending_of (world_of result.machine) ≡ Some result.ending }
 {
-    let (runs, machine) = journaled.into_parts();
-    LiveRecord {
-        runs,
-        machine,
-        ending,
-    }
-}
-
-/// The same, its choices as text.
-fn written(alloc: Global, journaled: Journaled, ending: Ending) -> Result<LiveRun, LiveFault>
-    requires { ending_of (world_after journaled) ≡ Some ending }
-    ensures replay { IfOk result (λ run. IsReplayOfText journaled.first (string_bytes run.schedule) (world_of run.machine)) }
-    ensures ending { IfOk result (λ run. ending_of (world_of run.machine) ≡ Some run.ending) }
-    ensures memory { (left : Recording) → result ≡ Err (LiveFault.Memory left) → left.first ≡ journaled.first }
-    ensures machine { (result ≢ Err LiveFault.NoMachine) × (result ≢ Err LiveFault.Spawn) }
-{
-    let schedule = match journaled.schedule(alloc) {
-        Ok(schedule) => schedule,
-        Err(_) => return Err(LiveFault::Memory(journaled)),
-    };
-    let (_, machine) = journaled.into_parts();
-    Ok(LiveRun {
+    let (schedule, machine) = journaled.into_parts();
+    LiveRun {
         schedule,
         machine,
         ending,
-    })
-}
-
-/// Plays a program by a real thread for each of its threads, until the run is over; at most `limit` steps. Each worker
-/// takes its own thread's steps, as it comes to have the lock. Out of memory it answers what was played, or that there was
-/// no machine.
-pub fn record_live<R: Threads + Wait + Sync, G: Gate + Sync>(
-    rt: &R,
-    alloc: Global,
-    program: Loaded,
-    limit: u32,
-    gate: &G,
-) -> Result<LiveRecord, LiveFault>
-    requires { limit ≤ 1000000000 }
-    ensures replay { IfOk result (λ run. IsReplay (record {
-      first = first_world program limit;
-      choices = choices_of run.runs.items;
-    }) (world_of run.machine)) }
-    ensures runs { IfOk result (λ run. All IsRun run.runs.items) }
-    ensures ending { IfOk result (λ run. ending_of (world_of run.machine) ≡ Some run.ending) }
-    ensures memory { (left : Recording) → result ≡ Err (LiveFault.Memory left)
-        → left.first ≡ first_world program limit }
-{
-    let journaled = first_record(alloc, program, limit)?;
-    match recorded(rt, journaled, gate) {
-        Ok((journaled, ending)) => Ok(record_of(journaled, ending)),
-        Err(fault) => Err(fault),
     }
 }
 
-/// The same, the record of its choices as a schedule.
+/// Plays a program by a real thread for each of its threads, until the run is over; at most `limit` steps. Each worker
+/// takes its own thread's steps, as it comes to have the lock. The schedule is made as they are taken.
 pub fn run_live<R: Threads + Wait + Sync, G: Gate + Sync>(
     rt: &R,
     alloc: Global,
@@ -271,15 +217,15 @@ pub fn run_live<R: Threads + Wait + Sync, G: Gate + Sync>(
     gate: &G,
 ) -> Result<LiveRun, LiveFault>
     requires { limit ≤ 1000000000 }
-    ensures replay { IfOk result (λ run.
-        IsReplayOfText (first_world program limit) (string_bytes run.schedule) (world_of run.machine)) }
+    ensures record { IfOk result (λ run.
+        IsRecordOf (first_world program limit) run.schedule.items (world_of run.machine)) }
+    ensures few { IfOk result (λ run. length run.schedule.items ≤ 4 * limit) }
     ensures ending { IfOk result (λ run. ending_of (world_of run.machine) ≡ Some run.ending) }
-    ensures memory { (left : Recording) → result ≡ Err (LiveFault.Memory left)
-        → left.first ≡ first_world program limit }
+    ensures left { IfErr result (HasLeft (first_world program limit)) }
 {
     let journaled = first_record(alloc, program, limit)?;
     match recorded(rt, journaled, gate) {
-        Ok((journaled, ending)) => written(alloc, journaled, ending),
+        Ok((journaled, ending)) => Ok(ended(journaled, ending)),
         Err(fault) => Err(fault),
     }
 }

@@ -4,7 +4,8 @@ ghost use Rattle.loader.specs.Fault.{first_fault};
 ghost use Rattle.loader.specs.Program.{IsProgramOf};
 ghost use Rattle.loader.specs.declared.load_fault.LoadFault.{LoadFault};
 ghost use Rattle.schedule_reader.specs.Schedule.{IsRun, choices_of};
-ghost use Rattle.thread_machine.specs.World.{first_world, world_of};
+ghost use Rattle.thread_machine.specs.World.{World, first_world};
+ghost use Rattle.thread_runner.specs.declared.ending.Ending.{Ending};
 ghost use Rattle.thread_runner.specs.Endings.{ending_of};
 ghost use Rattle.thread_runner.specs.Replay.{IsReplay};
 ghost use Rattle.trace_compare.specs.RunText.{HasWrittenTheSame};
@@ -24,10 +25,11 @@ use crate::program_file::program_in;
 use byte_ports::{Sink, Source};
 use loader::{LoadFault, Loaded, load};
 use row_code::Image;
+use schedule_reader::{Run, read_schedule};
 use std::alloc::Global;
 use std::sync::Wait;
 use std::thread::Threads;
-use thread_runner::{Gate, LiveFault, LiveRecord, NoGate, record_live};
+use thread_runner::{Gate, LiveFault, NoGate, run_live};
 use trace_compare::loaded::run_loaded;
 use trace_compare::{PlayFault, RunEnd};
 
@@ -132,11 +134,11 @@ fn play_live<R: Threads + Wait + Sync, G: Gate + Sync, K: Sink>(
         Ok(again) => again,
         Err(_) => return Err(Fault::Memory),
     };
-    let run = match recorded(rt, alloc, limit, gate, program) {
-        Ok(run) => run,
+    let runs = match recorded(rt, alloc, limit, gate, program) {
+        Ok(runs) => runs,
         Err(fault) => return Err(fault),
     };
-    match run_loaded(alloc, again, run.runs.as_slice(), output) {
+    match run_loaded(alloc, again, runs.as_slice(), output) {
         Ok(end) => Ok(end),
         Err(PlayFault::Memory) => Err(Fault::Memory),
         Err(PlayFault::Write) => Err(Fault::Write),
@@ -157,26 +159,29 @@ fn loaded(alloc: Global, image: Image) -> Result<Loaded, Fault>
     }
 }
 
-/// The record of a run of a loaded program on real threads.
+/// The choices that were recorded of a run of a loaded program on real threads.
 fn recorded<R: Threads + Wait + Sync, G: Gate + Sync>(
     rt: &R,
     alloc: Global,
     limit: u32,
     gate: &G,
     program: Loaded,
-) -> Result<LiveRecord, Fault>
+) -> Result<Vec<Run>, Fault>
     requires { limit ≤ 1000000000 }
-    ensures replay { IfOk result (λ run. IsReplay (record {
+    ensures replay { IfOk result (λ runs. (world : World) × ((ending : Ending) × (IsReplay (record {
       first = first_world program limit;
-      choices = choices_of run.runs.items;
-    }) (world_of run.machine)) }
-    ensures runs { IfOk result (λ run. All IsRun run.runs.items) }
-    ensures ending { IfOk result (λ run. ending_of (world_of run.machine) ≡ Some run.ending) }
+      choices = choices_of runs.items;
+    }) world × (ending_of world ≡ Some ending)))) }
+    ensures runs { IfOk result (λ runs. All IsRun runs.items) }
     ensures fault { IfErr result (λ fault. (fault ≡ Fault.Memory) ⊎ (fault ≡ Fault.Spawn)) }
 {
-    match record_live(rt, alloc, program, limit, gate) {
-        Ok(run) => Ok(run),
-        Err(LiveFault::Memory(_) | LiveFault::NoMachine) => Err(Fault::Memory),
-        Err(LiveFault::Spawn) => Err(Fault::Spawn),
+    let run = match run_live(rt, alloc, program, limit, gate) {
+        Ok(run) => run,
+        Err(LiveFault::Memory(_)) => return Err(Fault::Memory),
+        Err(LiveFault::Spawn) => return Err(Fault::Spawn),
+    };
+    match read_schedule(alloc, run.schedule.as_slice()) {
+        Ok(runs) => Ok(runs),
+        Err(_) => Err(Fault::Memory),
     }
 }

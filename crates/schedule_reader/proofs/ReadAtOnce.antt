@@ -1,10 +1,10 @@
--- The runs that a reader made of a whole schedule.
-use Rattle.std.proofs.Common.{◌≡◌, ◌∙◌, List, [], ◌++◌, Option, Some, None, Result, Ok, Err, refl, ap, ap₂, sym, subst, append-nil, ℕ, Bool, true, false, ◌↔◌}
+-- The runs that a reader makes of a whole schedule.
+use Rattle.std.proofs.Common.{◌≡◌, ◌∙◌, List, [], ◌++◌, Option, Some, None, Result, Ok, Err, refl, ap, ap₂, sym, append-nil, ℕ, Bool, true, false, ◌↔◌}
 use Rattle.std.proofs.Common.{◌⊎◌, inl, inr}
 use Rattle.schedule_reader.specs.declared.run.Run.{Run}
 use Rattle.schedule_reader.specs.declared.fault.ScheduleFault.{ScheduleFault}
 use Rattle.schedule_reader.specs.declared.fault.ScheduleFault.TheVariants as fault
-use Rattle.schedule_reader.specs.Schedule.{Schedule, open_schedule, finished_schedule}
+use Rattle.schedule_reader.specs.Schedule.{open_schedule, finished_schedule}
 use Rattle.schedule_reader.specs.Reading.{Adds, answer_of, answer_by}
 
 no_fault : (fault : Option ScheduleFault) → answer_by fault ≡ Ok tt → fault ≡ None
@@ -47,14 +47,11 @@ runs_read bytes first last before middle end nothing some fed more is answer =
     ∙ ap (λ m. middle ++ (more.added ++ m)) whole ∙ ap (λ a. middle ++ a) (append-nil more.added) ∙ sym more.list in
     ap₂ (λ rs f. record { runs = rs; fault = f }) runs none
 
-pub fault_read : (bytes : List ℕ) (last : Result (Unit {0}) ScheduleFault) (why told : ScheduleFault) → last ≡ Err why
-    → told ≡ why → (why ≡ fault.Memory → ⊥)
+pub fault_read : (bytes : List ℕ) (last : Result (Unit {0}) ScheduleFault) (why : ScheduleFault) → last ≡ Err why
     → (last ≡ Err fault.Memory) ⊎ (last ≡ answer_of (finished_schedule bytes))
-    → ((finished_schedule bytes).fault ≡ Some told) × (told ≡ fault.Memory → ⊥)
-fault_read bytes last why told is same other (inl memory) =
-    let wrong : why ≡ fault.Memory = cc (sym is ∙ memory) in absurd (other wrong)
-fault_read bytes last why told is same other (inr answer) =
-    (some_fault (finished_schedule bytes).fault why (sym answer ∙ is) ∙ ap Some (sym same), λ memory. other (sym same ∙ memory))
+    → (why ≡ fault.Memory) ⊎ ((finished_schedule bytes).fault ≡ Some why)
+fault_read bytes last why is (inl memory) = inl (cc (sym is ∙ memory))
+fault_read bytes last why is (inr answer) = inr (some_fault (finished_schedule bytes).fault why (sym answer ∙ is))
 
 pub not_refused : (refused : Bool) (told : Result (Unit {0}) ScheduleFault) → ((refused ≡ true) ↔ (told ≡ Err fault.Memory))
     → refused ≡ false → told ≡ Err fault.Memory → ⊥

@@ -1,0 +1,18 @@
+-- The text of choices that are recorded as they are made.
+use Rattle.std.specs.Prelude.{◌≤◌, ℕ, List, map}
+use Rattle.thread_machine.specs.declared.choice.Choice.{Choice}
+use Rattle.schedule_reader.specs.declared.run.Run.{Run}
+use Rattle.schedule_reader.specs.Schedule.{run_of}
+use Rattle.schedule_reader.specs.Text.{schedule_text}
+
+-- a choice that a token can name
+abbrev pub IsNamed : Choice → Type 0
+IsNamed choice = choice.thread ≤ 63
+
+-- each choice by itself
+abbrev pub once_each : List Choice → List Run
+once_each choices = map (λ choice. run_of choice 1) choices
+
+-- a token for each choice, one space between them
+abbrev pub record_text : List Choice → List ℕ
+record_text choices = schedule_text (once_each choices)
