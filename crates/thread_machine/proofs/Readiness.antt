@@ -1,14 +1,15 @@
 -- Which choices are idle, and whether some choice may take a step.
 use Rattle.std.proofs.Common.{◌≡◌, ◌∙◌, ◌+◌, ◌<◌, ℕ, Bool, true, false, get_or, arith, refl, sym, ap, subst}
-use Rattle.std.specs.Prelude.{length, Option, Some, None, is_some}
+use Rattle.std.specs.Prelude.{◌||◌, length, Option, Some, None, is_some, IfSome}
 use Rattle.std.specs.List.{range_with_len}
 use Rattle.std.proofs.lemmas.List.FromFn.{length-range_with_len, get_or-range_with_len}
 use Rattle.std.proofs.lemmas.List.Folds.{list_any_at, list_any_none}
 use Rattle.loader.specs.Program.{Program}
 use Rattle.machine_scene.specs.Scene.{Scene, Outcome}
+use Rattle.machine_scene.specs.Outcomes.{is_ready}
 use Rattle.thread_machine.specs.declared.choice.Choice.{Choice}
 use Rattle.thread_machine.specs.World.{World}
-use Rattle.thread_machine.specs.Ready.{outcome_of_choice, is_choice_ready, can_go_on, some_ready}
+use Rattle.thread_machine.specs.Ready.{outcome_of_choice, is_choice_ready, can_expire, can_go_on, some_ready}
 use Rattle.thread_machine.specs.Step.{played, played_by, idled}
 
 none_by : (outcome : Option Outcome) → is_some outcome ≡ false → outcome ≡ None
@@ -50,3 +51,24 @@ none_ready program scene none =
     list_any_none (can_go_on program scene) (range_with_len 0 many) (λ k d within.
     let there : k < many = subst (λ n. k < n) (length-range_with_len 0 many) within in
     ap (can_go_on program scene) (nth many k d there) ∙ none k there)
+
+-- a thread whose turn is ready
+pub ready_some : (program : Program) (scene : Scene) (told : Option ℕ) → is_some told ≡ true → IfSome told (λ t. t < length scene.threads)
+    → IfSome told (λ t. is_ready t program scene ≡ true) → some_ready program scene ≡ true
+ready_some program scene None is there ready = absurd (cc is)
+ready_some program scene (Some t) is there ready = one_ready program t scene there (ap (λ (x : Bool). x || can_expire t program scene) ready)
+
+-- nobody is told of
+pub nobody_told : (told : Option ℕ) → is_some told ≡ false → told ≡ None
+nobody_told None is = refl
+nobody_told (Some t) is = absurd (cc is)
+
+-- a thread whose wait can run out
+pub by_expiry : (ready expires : Bool) → expires ≡ true → (ready || expires) ≡ true
+by_expiry true expires is = refl
+by_expiry false expires is = is
+
+-- one that has neither
+pub neither : (ready expires : Bool) → ready ≡ false → expires ≡ false → (ready || expires) ≡ false
+neither true expires first second = absurd (cc first)
+neither false expires first second = second

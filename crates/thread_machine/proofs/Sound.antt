@@ -1,8 +1,10 @@
 -- A machine stays one.
-use Rattle.std.proofs.Common.{◌≡◌, ◌+◌, ◌<◌, ◌≤◌, ℕ, arith, sym, subst}
-use Rattle.tier_tree.specs.Stored.{IsStored}
+use Rattle.std.proofs.Common.{◌≡◌, ◌∙◌, ap, List, map, replicate, pos, ◌+◌, ◌<◌, ◌≤◌, ℕ, arith, sym, subst}
+use Rattle.tier_tree.specs.Stored.{Stored, phasers_of, IsStored}
+use Rattle.cyclic_barrier.specs.Barrier.{BarrierState}
+use Rattle.thread_state.specs.Thread.{ThreadState}
 use Rattle.loader.specs.Program.{Program, IsProgram}
-use Rattle.machine_scene.specs.Scene.{Scene, StoredScene, scene_of, first_scene}
+use Rattle.machine_scene.specs.Scene.{Scene, StoredScene, scene_of, starting, first_scene}
 use Rattle.machine_scene.specs.Sound.{IsSound}
 use Rattle.machine_scene.specs.ReadySet.{KnowsReady}
 use Rattle.machine_scene.proofs.Start.{sound_start}
@@ -30,6 +32,19 @@ one_step_more program limit choices steps before after machine left more sound r
       limit = most;
       choices = omega (arith, more);
     }
+
+-- a scene of the parts that a program begins with
+pub first_parts : (program : Program) (steps : ℕ) (threads : List ThreadState) (phasers : List Stored) (barriers : List BarrierState)
+    → IsSound program steps (first_scene program) → threads ≡ map starting program.threads → phasers ≡ program.phasers
+    → barriers ≡ program.barriers
+    → let scene : Scene = record { cells = replicate 32 (pos 0); threads = threads; phasers = phasers_of phasers; barriers = barriers } in
+    IsSound program steps scene
+first_parts program steps threads phasers barriers sound same_threads same_phasers same_barriers =
+    let first = first_scene program in
+    subst (λ (scene : Scene). IsSound program steps scene) (sym (
+    ap (λ (xs : List ThreadState). record first { threads = xs; phasers = phasers_of phasers; barriers = barriers }) same_threads
+    ∙ ap (λ (xs : List Stored). record first { phasers = phasers_of xs; barriers = barriers }) same_phasers
+    ∙ ap (λ (xs : List BarrierState). record first { barriers = xs }) same_barriers)) sound
 
 -- before the first choice
 scene_starts : (program : Program) (scene : StoredScene) → IsProgram program → IsStored program.phasers

@@ -9,4 +9,4 @@ invariant_of-self c =
     let left = subst (λ (w : StoredWorld). w.steps < w.limit) (sym c.self.view_is) c.requires.steps in
     let more = subst (λ (w : StoredWorld). w.choices < 1000000000000) (sym c.self.view_is) c.requires.choices in
     one_step_more inside.program inside.limit inside.choices inside.steps inside.stage c.turn.new.self c.self.invariant
-    left more (λ few. c.in-Ok.ensures.ok.sound inside.steps (omega (arith, few))) c.turn.ensures.known
+    left more (λ few. c.in-Ok.ensures.ok.sound inside.steps (omega (arith, few))) c.in-Ok.ensures.known
