@@ -3,8 +3,8 @@ use Rattle.std.specs.Prelude.{◌≡◌, ℕ, List, [], ◌++◌, Option}
 use Rattle.std.specs.Io.KnownBytes.{Appends}
 use Rattle.row_code.specs.declared.image.Image.{Image}
 use Rattle.trace_compare.specs.Compare.{HasCompared}
-use Rattle.trace_compare.specs.declared.compare.Verdict.{Verdict}
-use Rattle.trace_compare.specs.declared.compare.Verdict.TheVariants as verdict
+use Rattle.trace_compare.specs.declared.comparison.Verdict.{Verdict}
+use Rattle.trace_compare.specs.declared.comparison.Verdict.TheVariants as verdict
 use Rattle.workbench.specs.Compare.{verdict_line}
 use Rattle.workbench.specs.Run.{GivesProgram}
 

@@ -8,7 +8,7 @@ ghost use Rattle.schedule_reader.specs.declared.fault.ScheduleFault.{ScheduleFau
 ghost use Rattle.trace_compare.specs.Compare.{HasCompared};
 ghost use Rattle.trace_compare.specs.RunText.{GivesOnAndOn};
 ghost use Rattle.trace_compare.specs.Start.{IsRefused};
-ghost use Rattle.trace_compare.specs.declared.compare.Verdict.{Verdict};
+ghost use Rattle.trace_compare.specs.declared.comparison.Verdict.{Verdict};
 ghost use Rattle.workbench.specs.declared.fault.Fault.{Fault};
 ghost use Rattle.workbench.specs.declared.fault.PictureKind.{PictureKind};
 ghost use Rattle.workbench.specs.Compare.{verdict_line};
@@ -22,7 +22,7 @@ use crate::shown::shown;
 use byte_ports::{Sink, Source};
 use row_code::Image;
 use std::alloc::Global;
-use trace_compare::compare::{CompareFault, Judged, Verdict, compare_shown};
+use trace_compare::{CompareFault, Judged, Verdict, compare_shown};
 use workbench::compare::push_verdict;
 use workbench::fault::Fault;
 use workbench::program_file::read_program;

@@ -1,10 +1,10 @@
 //! What follows a verdict.
 ghost use Rattle.std.specs.Prelude.{◌≡◌, [], IfOk};
-ghost use Rattle.trace_compare.specs.declared.compare.Verdict.{Verdict};
+ghost use Rattle.trace_compare.specs.declared.comparison.Verdict.{Verdict};
 
 use crate::lines_seen::LinesSeen;
 use std::alloc::{AllocError, Global};
-use trace_compare::compare::{Judged, Verdict};
+use trace_compare::{Judged, Verdict};
 
 /// What a line of a trace has to be.
 const WANTED: &[u8] =

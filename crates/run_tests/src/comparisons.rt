@@ -2,7 +2,7 @@ use assembler::assemble;
 use byte_ports::MemorySource;
 use std::alloc::Global;
 use std::test::Fail;
-use trace_compare::compare::{CompareFault, Verdict, compare};
+use trace_compare::{CompareFault, Verdict, compare};
 
 /// A thread that waits for another one's arrival, which never comes; a thread of its own puts nothing out.
 const LONELY: &str = ".phaser p 2\n.thread a main\nmain: paaa r0 p\nhalt\n";

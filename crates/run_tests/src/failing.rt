@@ -3,8 +3,7 @@ use crate::programs::{MEETING, image_of};
 use byte_ports::{MemorySink, MemorySource};
 use std::alloc::{AllocError, Global};
 use std::test::Fail;
-use trace_compare::compare::{CompareFault, Verdict, compare};
-use trace_compare::run::{RunFault, run_text};
+use trace_compare::{CompareFault, RunFault, Verdict, compare, run_text};
 
 /// A thread that goes round for ever.
 const ROUND: &str = ".thread a m\nm: jmp m\n";

@@ -11,8 +11,8 @@ use Rattle.std.proofs.lemmas.List.Sums.{sum_by-append, sum_by-cons}
 use Rattle.line_reader.specs.Words.{is_line_end}
 use Rattle.thread_machine.specs.declared.choice.Choice.{Choice}
 use Rattle.thread_machine.specs.World.{World}
-use Rattle.trace_compare.specs.declared.compare.Verdict.{Verdict}
-use Rattle.trace_compare.specs.declared.compare.Verdict.TheVariants as verdict
+use Rattle.trace_compare.specs.declared.comparison.Verdict.{Verdict}
+use Rattle.trace_compare.specs.declared.comparison.Verdict.TheVariants as verdict
 use Rattle.trace_compare.specs.Comparing.{StandsFrom, line_ends}
 use Rattle.trace_compare.specs.Trace.{Plays}
 use Rattle.trace_compare.proofs.OwnTrace.{own-line}

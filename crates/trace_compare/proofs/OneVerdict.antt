@@ -15,8 +15,8 @@ use Rattle.thread_machine.specs.declared.standing.Standing.TheVariants as standi
 use Rattle.thread_machine.specs.Ready.{all_finished, has_ended, outcome_of_choice}
 use Rattle.thread_machine.specs.Step.{Played, played, played_by, refusal_of}
 use Rattle.thread_machine.specs.Execution.{Execution, execution, execution_by}
-use Rattle.trace_compare.specs.declared.compare.Verdict.{Verdict}
-use Rattle.trace_compare.specs.declared.compare.Verdict.TheVariants as verdict
+use Rattle.trace_compare.specs.declared.comparison.Verdict.{Verdict}
+use Rattle.trace_compare.specs.declared.comparison.Verdict.TheVariants as verdict
 use Rattle.trace_compare.specs.Compare.{IsFoundTheSame, choice_in, choice_verdict, is_state_line, is_too_long, lines_verdict, state_verdict, verdict_of}
 use Rattle.trace_compare.specs.Lines.{event_text}
 use Rattle.trace_compare.specs.Start.{Begins}

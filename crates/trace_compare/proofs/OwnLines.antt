@@ -20,9 +20,9 @@ use Rattle.thread_machine.specs.declared.fault.StepFault.TheVariants.{NoSuchThre
 use Rattle.thread_machine.specs.Step.{Played, is_used_up, played}
 use Rattle.thread_machine.specs.World.{World, world_of}
 use Rattle.thread_machine.specs.Execution.{execution}
-use Rattle.trace_compare.specs.declared.compare.Comparison.{Comparison}
-use Rattle.trace_compare.specs.declared.compare.Verdict.{Verdict}
-use Rattle.trace_compare.specs.declared.compare.Verdict.TheVariants as verdict
+use Rattle.trace_compare.specs.declared.comparison.Comparison.{Comparison}
+use Rattle.trace_compare.specs.declared.comparison.Verdict.{Verdict}
+use Rattle.trace_compare.specs.declared.comparison.Verdict.TheVariants as verdict
 use Rattle.trace_compare.specs.Compare.{choice_in, choice_verdict, is_space, is_state_line, is_too_long, lines_verdict}
 use Rattle.trace_compare.specs.Comparing.{BeginsWithName, NamesBehind, bytes_left, lines_left}
 use Rattle.trace_compare.specs.Lines.{choice_text, event_text}

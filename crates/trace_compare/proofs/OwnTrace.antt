@@ -15,7 +15,7 @@ use Rattle.thread_machine.specs.World.{World}
 use Rattle.thread_machine.specs.Ready.{outcome_of_choice}
 use Rattle.thread_machine.specs.Step.{Played, is_used_up, played, played_by, refusal_of}
 use Rattle.thread_machine.specs.Execution.{execution, execution_by}
-use Rattle.trace_compare.specs.declared.compare.Verdict.TheVariants as verdict
+use Rattle.trace_compare.specs.declared.comparison.Verdict.TheVariants as verdict
 use Rattle.trace_compare.specs.Brief.{IsBrief}
 use Rattle.trace_compare.specs.Compare.{HasNoLongLine, choice_verdict, is_state_line, is_too_long, lines_verdict, state_verdict}
 use Rattle.trace_compare.specs.Lines.{event_text}

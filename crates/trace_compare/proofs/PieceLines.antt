@@ -5,8 +5,8 @@ use Rattle.std.specs.List.{position_or_len}
 use Rattle.std.proofs.lemmas.Bool.Decides.{nat_tests}
 use Rattle.std.proofs.lemmas.List.Sums.{fails_before_first, passes_at_first}
 use Rattle.line_reader.specs.Words.{is_line_end}
-use Rattle.trace_compare.specs.declared.compare.Comparison.{Comparison}
-use Rattle.trace_compare.specs.declared.compare.Verdict.{Verdict}
+use Rattle.trace_compare.specs.declared.comparison.Comparison.{Comparison}
+use Rattle.trace_compare.specs.declared.comparison.Verdict.{Verdict}
 use Rattle.trace_compare.specs.Comparing.{IsOpen, bytes_left, decided, lines_left}
 use Rattle.trace_compare.proofs.Verdicts.{byte-ends}
 

@@ -12,7 +12,7 @@ use Rattle.thread_machine.specs.Standing.{standing_of}
 use Rattle.thread_machine.specs.World.{World}
 use Rattle.thread_machine.specs.declared.choice.Choice.{Choice}
 use Rattle.thread_machine.specs.Execution.{execution}
-use Rattle.trace_compare.specs.declared.compare.Verdict.TheVariants.{Same}
+use Rattle.trace_compare.specs.declared.comparison.Verdict.TheVariants.{Same}
 use Rattle.trace_compare.specs.Compare.{HasNoLongLine, verdict_of}
 use Rattle.trace_compare.proofs.NamedThreads.{named-runs, named-threads}
 use Rattle.trace_compare.proofs.OneVerdict.{found-same}

@@ -1,7 +1,7 @@
 -- The verdict on lines that are the run's.
 use Rattle.std.proofs.Common.{◌≡◌, ◌∙◌, ◌↔◌, ◌+◌, ◌-◌, ◌<◌, ◌≤◌, ◌&&◌, ℕ, Bool, true, false, List, [], ◌∷◌, ◌++◌, length, drop, Option, Some, None, IsTrue, ◌==◌, zero, suc, refl, ap, sym, subst, arith, is_none, not, cond}
 use Rattle.std.specs.Prelude.{Result, Ok, Err, IfOk}
-use Rattle.trace_compare.specs.declared.compare.Comparison.{Comparison}
+use Rattle.trace_compare.specs.declared.comparison.Comparison.{Comparison}
 use Rattle.trace_compare.specs.Comparing.{HasLeft, IsOpen, bytes_left, decided, lines_left}
 use Rattle.std.proofs.Common.{inl, inr, take, min}
 use Rattle.std.proofs.Common.{append_assoc, append-nil, length-append}
@@ -24,9 +24,9 @@ use Rattle.thread_machine.specs.declared.choice.Choice.{Choice}
 use Rattle.thread_machine.specs.declared.fault.StepFault.{StepFault}
 use Rattle.thread_machine.specs.World.{StoredWorld, World, world_of}
 use Rattle.thread_machine.specs.Execution.{execution}
-use Rattle.trace_compare.specs.declared.compare.Verdict.{Verdict}
-use Rattle.trace_compare.specs.declared.compare.Judged.{Judged}
-use Rattle.trace_compare.specs.declared.compare.Verdict.TheVariants as verdict
+use Rattle.trace_compare.specs.declared.comparison.Verdict.{Verdict}
+use Rattle.trace_compare.specs.declared.comparison.Judged.{Judged}
+use Rattle.trace_compare.specs.declared.comparison.Verdict.TheVariants as verdict
 use Rattle.trace_compare.specs.Compare.{HasCompared, HasVerdict, verdict_of, choice_verdict, first_line, after_line, state_verdict, lines_verdict, is_too_long, is_state_line, choice_in}
 use Rattle.trace_compare.specs.Trace.{Plays, lines_of}
 

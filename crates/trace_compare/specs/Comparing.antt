@@ -6,9 +6,9 @@ use Rattle.std.specs.List.{count_by, slice_split}
 use Rattle.line_reader.specs.Words.{is_line_end}
 use Rattle.thread_machine.specs.World.{world_of}
 use Rattle.thread_machine.specs.declared.choice.Choice.{Choice}
-use Rattle.trace_compare.specs.declared.compare.Comparison.{Comparison}
-use Rattle.trace_compare.specs.declared.compare.Verdict.{Verdict}
-use Rattle.trace_compare.specs.declared.compare.Verdict.TheVariants as verdict
+use Rattle.trace_compare.specs.declared.comparison.Comparison.{Comparison}
+use Rattle.trace_compare.specs.declared.comparison.Verdict.{Verdict}
+use Rattle.trace_compare.specs.declared.comparison.Verdict.TheVariants as verdict
 use Rattle.trace_compare.specs.Compare.{lines_verdict, state_verdict}
 
 -- no digit

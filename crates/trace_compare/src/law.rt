@@ -8,7 +8,7 @@ ghost use Rattle.trace_compare.specs.Compare.{HasNoLongLine, choices_of_trace, v
 ghost use Rattle.trace_compare.specs.Start.{Begins};
 ghost use Rattle.trace_compare.specs.State.{state_text};
 ghost use Rattle.trace_compare.specs.Trace.{trace_of};
-ghost use Rattle.trace_compare.specs.declared.compare.Verdict.TheVariants.{Same};
+ghost use Rattle.trace_compare.specs.declared.comparison.Verdict.TheVariants.{Same};
 
 /// A trace whose verdict is `Same` is, byte for byte, the trace of the choices that its lines name.
 pub fn what_is_the_same_is_the_trace_of_its_choices()

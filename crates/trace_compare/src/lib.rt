@@ -4,7 +4,7 @@
 //! the choices that a trace's lines name, and answers the first line that isn't the run's.
 #![tactic(auto)]
 
-pub mod compare;
+pub mod comparison;
 mod digits;
 mod kept_line;
 mod law;
@@ -20,11 +20,18 @@ pub mod start;
 pub mod state;
 pub mod trace_line;
 
+pub use comparison::{CompareFault, Judged, Verdict, compare, compare_shown};
 pub use kept_line::KeptLine;
 pub use law::{
     every_trace_of_an_accepted_program_is_the_same, the_trace_of_any_choices_is_the_same,
     what_is_the_same_is_the_trace_of_its_choices,
 };
+pub use line::{event_line, refusal_line};
 pub use line_end::LineEnd;
+pub use loaded::run_loaded;
 pub use play::{PlayFault, line_of_choice};
+pub use run::{RunFault, run_text, run_to_end};
 pub use run_end::RunEnd;
+pub use start::{StartFault, first_machine};
+pub use state::state_text;
+pub use trace_line::{choice_in, is_state_line};

@@ -4,7 +4,7 @@ ghost use Rattle.line_reader.specs.declared.asm_fault.AsmFault.{AsmFault};
 ghost use Rattle.row_code.specs.declared.image_fault.ImageFault.{ImageFault};
 ghost use Rattle.loader.specs.declared.load_fault.LoadFault.{LoadFault};
 ghost use Rattle.schedule_reader.specs.declared.fault.ScheduleFault.{ScheduleFault};
-ghost use Rattle.trace_compare.specs.declared.compare.Verdict.{Verdict};
+ghost use Rattle.trace_compare.specs.declared.comparison.Verdict.{Verdict};
 ghost use Rattle.trace_compare.specs.Compare.{HasCompared};
 ghost use Rattle.trace_compare.specs.RunText.{GivesOnAndOn};
 ghost use Rattle.trace_compare.specs.Start.{IsRefused};
@@ -22,7 +22,7 @@ use crate::program_file::read_program;
 use byte_ports::{Failed, Sink, Source};
 use row_code::Image;
 use std::alloc::Global;
-use trace_compare::compare::{CompareFault, Verdict, compare};
+use trace_compare::{CompareFault, Verdict, compare};
 
 /// Compares the trace in `trace` with the run of the program in `file`, an image or a text, under the choices that the
 /// trace names, and writes one line to `output`: `same`, `differs LINE` or `not a trace LINE`. Answers the exit status: 0
