@@ -1,3 +1,4 @@
 pub mod Counting
 pub mod Reports
 pub mod Reported
+pub mod Shown
