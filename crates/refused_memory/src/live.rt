@@ -2,7 +2,7 @@
 
 use crate::marks::{self, Refusal};
 use crate::programs::{MEETING, program_of};
-use crate::records::{is_record, leads_to};
+use crate::records::{is_played, leads_to};
 use crate::trial::{Answer, memory_if, right_if};
 use std::alloc::{AllocError, Global};
 use std::io;
@@ -10,11 +10,10 @@ use std::sync::Wait;
 use std::thread::Threads;
 use thread_runner::{LiveFault, LiveRun, NoGate, run_live};
 
-/// What a run that was broken off left: a record of its machine, where there is one.
+/// What a run that was broken off left: a schedule that was played.
 fn fault_answer(alloc: Global, fault: LiveFault) -> Result<Answer, AllocError> {
     Ok(match fault {
-        LiveFault::Memory(left) => memory_if(is_record(alloc, MEETING, &left)?),
-        LiveFault::NoMachine => Answer::Memory,
+        LiveFault::Memory(left) => memory_if(is_played(alloc, MEETING, left.as_slice())?),
         LiveFault::Spawn => Answer::Memory,
     })
 }
@@ -22,7 +21,7 @@ fn fault_answer(alloc: Global, fault: LiveFault) -> Result<Answer, AllocError> {
 /// What a run left: its schedule leads to its machine.
 fn live_answer(alloc: Global, answered: Result<LiveRun, LiveFault>) -> Result<Answer, AllocError> {
     match answered {
-        Ok(run) => Ok(right_if(leads_to(alloc, MEETING, run.schedule.as_bytes(), &run.machine)?)),
+        Ok(run) => Ok(right_if(leads_to(alloc, MEETING, run.schedule.as_slice(), &run.machine)?)),
         Err(fault) => fault_answer(alloc, fault),
     }
 }

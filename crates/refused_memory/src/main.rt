@@ -114,7 +114,6 @@ fn tell_threads(rt: &HostRuntime, alloc: Global) -> io::Result<()> {
     tell(rt, alloc, "Journaled::new", &records::Recording)?;
     tell(rt, alloc, "take_step at out", &records::OUT)?;
     tell(rt, alloc, "take_expiry", &records::EXPIRY)?;
-    tell(rt, alloc, "Journaled::schedule", &records::Telling)?;
     tell(rt, alloc, "SharedPhaser::new", &shared::Sharing)
 }
 

@@ -26,10 +26,19 @@ pub fn leads_to(
     Ok(output.bytes().ends_with(state.as_slice()))
 }
 
-/// Whether a record is that of its machine.
-pub fn is_record(alloc: Global, program: &[u8], record: &Journaled) -> Result<bool, AllocError> {
-    let schedule = record.schedule(alloc)?;
-    leads_to(alloc, program, schedule.as_bytes(), record.machine())
+/// Whether each choice of a schedule is taken and is a step.
+pub fn is_played(alloc: Global, program: &[u8], schedule: &[u8]) -> Result<bool, AllocError> {
+    let mut source = MemorySource::new(schedule, None);
+    let mut output = MemorySink::new(alloc, 2000, None)?;
+    if run_text(alloc, image_of(alloc, program)?, &mut source, &mut output).is_err() {
+        return Ok(false);
+    }
+    for line in output.bytes().split(|byte| *byte == b'\n') {
+        if line.ends_with(b" idle") || line.ends_with(b" none") || line.ends_with(b" limit") {
+            return Ok(false);
+        }
+    }
+    Ok(true)
 }
 
 /// Takes a thread's step, or lets its wait run out, where there is such a thread.
@@ -90,21 +99,20 @@ pub static OUT: Taking = Taking {
     behind: b"t0 t1 t0 t1",
 };
 
-/// The end of a timed wait, behind as many runs of choices as the record has room for at first.
+/// The end of a timed wait, for which the record has no room yet.
 pub static EXPIRY: Taking = Taking {
-    program: b".phaser p 2\n.thread a m\n.thread b n\nm: ldi r2 1\npawaitt r0 p r1 r2\nhalt\nn: ldi r0 1\nhalt\n",
-    turns: &[0, 1, 0, 1],
+    program: b".phaser p 2\n.thread a m\n.thread b n\nm: ldi r2 1\npawaitt r0 p r1 r2\nhalt\nn: ldi r0 1\nldi r0 1\nhalt\n",
+    turns: &[0, 1, 0, 1, 1],
     thread: 0,
     expiry: true,
-    before: b"t0 t1 t0 t1",
-    behind: b"t0 t1 t0 t1 x0",
+    before: b"t0 t1 t0 t1 t1",
+    behind: b"t0 t1 t0 t1 t1 x0",
 };
 
 impl Taking {
     /// Whether the record is this text, and its machine what the text leads to.
     fn has(&self, alloc: Global, record: &Journaled, text: &[u8]) -> Result<bool, AllocError> {
-        let schedule = record.schedule(alloc)?;
-        if schedule.as_bytes() != text {
+        if record.schedule() != text {
             return Ok(false);
         }
         leads_to(alloc, self.program, text, record.machine())
@@ -131,22 +139,6 @@ impl Trial for Taking {
             Ok(_) => right_if(self.has(alloc, &record, self.behind)?),
             Err(TakeFault::Memory) => memory_if(self.stands(alloc, &mut record)?),
             Err(_) => Answer::Wrong,
-        })
-    }
-}
-
-/// `Journaled::schedule`: the record stands.
-pub struct Telling;
-
-impl Trial for Telling {
-    fn tried(&self, alloc: Global, refusal: Refusal) -> Result<Answer, AllocError> {
-        let record = record_after(alloc, OUT.program, OUT.turns)?;
-        marks::begin(alloc, refusal);
-        let result = record.schedule(alloc);
-        marks::end(alloc);
-        Ok(match result {
-            Ok(text) => right_if(text.as_bytes() == OUT.before),
-            Err(_) => memory_if(OUT.has(alloc, &record, OUT.before)?),
         })
     }
 }

@@ -1,4 +1,3 @@
 mod Escapes
-mod Schedules
 mod Showings
 mod WhatIfs

@@ -1,4 +1,4 @@
-ghost use Rattle.std.specs.Prelude.{◌≡◌, ◌≢◌, ◌↔◌, ◌≤◌, ◌<◌, ◌++◌, ◌⊎◌, length, replicate, true, Some, None, Err, IfErr, IfOk, OnOk};
+ghost use Rattle.std.specs.Prelude.{◌≡◌, ◌≢◌, ◌≤◌, ◌<◌, ◌++◌, ◌⊎◌, length, replicate, Some, None, Err, IfErr, IfOk, OnOk};
 ghost use Rattle.run_page.specs.Page.{AreChoicesOf, most_choices};
 ghost use Rattle.run_page.specs.declared.page.PageFault.{PageFault};
 ghost use Rattle.schedule_reader.specs.declared.fault.ScheduleFault.{ScheduleFault};
@@ -7,7 +7,7 @@ ghost use Rattle.loader.specs.declared.load_fault.LoadFault.{LoadFault};
 
 use crate::page::PageFault;
 use loader::LoadFault;
-use schedule_reader::{Reader, Run, ScheduleFault};
+use schedule_reader::{Run, ScheduleFault, read_schedule};
 use std::alloc::Global;
 use thread_machine::Choice;
 
@@ -26,13 +26,6 @@ fn fault_of(fault: ScheduleFault) -> PageFault
     }
 }
 
-/// Whether a reader was refused memory.
-fn is_refused(told: Result<(), ScheduleFault>) -> bool
-    ensures { (result ≡ true) ↔ (told ≡ Err ScheduleFault.Memory) }
-{
-    matches!(told, Err(ScheduleFault::Memory))
-}
-
 /// The runs of a schedule that has no fault.
 fn runs_in(alloc: Global, schedule: &[u8]) -> Result<Vec<Run>, PageFault>
     requires { length schedule.now < 9223372036854775807 }
@@ -41,14 +34,8 @@ fn runs_in(alloc: Global, schedule: &[u8]) -> Result<Vec<Run>, PageFault>
         → ((finished_schedule schedule.now).fault ≡ Some fault) × (fault ≢ ScheduleFault.Memory) }
     ensures others { ((fault : LoadFault) → result ≢ Err (PageFault.Load fault)) × (result ≢ Err PageFault.Choices) }
 {
-    let mut reader = Reader::new();
-    let mut runs = Vec::new(alloc);
-    if is_refused(reader.feed(schedule, &mut runs)) {
-        return Err(PageFault::Memory);
-    }
-    let told = reader.finish(&mut runs);
-    match told {
-        Ok(()) => Ok(runs),
+    match read_schedule(alloc, schedule) {
+        Ok(runs) => Ok(runs),
         Err(fault) => Err(fault_of(fault)),
     }
 }

@@ -13,6 +13,8 @@ mod limits;
 #[cfg(test)]
 mod lines;
 #[cfg(test)]
+mod lives;
+#[cfg(test)]
 mod names;
 #[cfg(test)]
 mod orders;

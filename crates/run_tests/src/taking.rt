@@ -2,10 +2,12 @@
 use crate::programs::{MEETING, program_of};
 use std::alloc::Global;
 use std::test::Fail;
+use thread_machine::What;
 use thread_runner::{Ending, Journaled, TakeFault};
 
 /// A program, its limit of steps, what is taken in order, the record as text, and how the run has ended then. A turn or an
-/// expiry is its token; behind it stands `!` where it isn't ready and `#` where the limit is reached.
+/// expiry is its token; behind it stands `!` where it isn't ready, `#` where the limit is reached, and `~` where the thread
+/// begins to wait.
 type Row = (
     &'static str,
     u32,
@@ -29,22 +31,28 @@ const BOTH_TIMED: &str = ".phaser p 3\n.thread a main\n.thread b main\n\
 main: ldi r2 1\npawaitt r0 p r1 r2\nhalt\n";
 
 static ROWS: [Row; 9] = [
-    (LONELY, 10, "t0 t0! x0!", "t0", Some(Ending::Stuck)),
+    (LONELY, 10, "t0~ t0! x0!", "t0", Some(Ending::Stuck)),
     (
         ".thread a m\nm: jmp m\n",
         3,
         "t0 t0 t0 t0#",
-        "t0*3",
+        "t0 t0 t0",
         Some(Ending::Limit),
     ),
     (
         TIMED,
         10,
         "x0! t0 t0 t0 t0! x0 x0! t0 t0! x0!",
-        "t0*3 x0 t0",
+        "t0 t0 t0 x0 t0",
         Some(Ending::AllEnded),
     ),
-    (TIMED, 3, "t0 t0 t0 t0! x0#", "t0*3", Some(Ending::Limit)),
+    (
+        TIMED,
+        3,
+        "t0 t0 t0 t0! x0#",
+        "t0 t0 t0",
+        Some(Ending::Limit),
+    ),
     (
         ".thread a m\nm: halt\n",
         1,
@@ -52,20 +60,20 @@ static ROWS: [Row; 9] = [
         "t0",
         Some(Ending::AllEnded),
     ),
-    (MEETING, 10, "t0 t1 t0 t0", "t0 t1 t0*2", None),
+    (MEETING, 10, "t0 t1 t0 t0", "t0 t1 t0 t0", None),
     (BROKEN, 10, "t0 x0! x1! t1", "t0 t1", None),
     (
         BREAKING,
         10,
         "t1 t1 x1! t0 x0! x1 t0 t0 t1",
-        "t1*2 t0 x1 t0*2 t1",
+        "t1 t1 t0 x1 t0 t0 t1",
         Some(Ending::AllEnded),
     ),
     (
         BOTH_TIMED,
         20,
         "t0 t0 x0! t1 t1 x1! x0 x1! t0 x1 t1",
-        "t0*2 t1*2 x0 t0 x1 t1",
+        "t0 t0 t1 t1 x0 t0 x1 t1",
         Some(Ending::AllEnded),
     ),
 ];
@@ -87,6 +95,10 @@ fn takes(journaled: &mut Journaled, token: &str) -> bool {
     match rest {
         [] => taken.is_ok(),
         [b'!'] => taken == Err(TakeFault::NotReady),
+        [b'~'] => match taken {
+            Ok(event) => event.what == What::Waits,
+            Err(_) => false,
+        },
         _ => taken == Err(TakeFault::StepLimit),
     }
 }
@@ -100,8 +112,7 @@ fn holds(alloc: Global, row: &Row) -> Result<bool, Fail> {
             return Ok(false);
         }
     }
-    let recorded = journaled.schedule(alloc)?;
-    Ok(recorded.as_str() == schedule && journaled.ending() == ending)
+    Ok(journaled.schedule() == schedule.as_bytes() && journaled.ending() == ending)
 }
 
 #[test]
