@@ -57,7 +57,7 @@ use trouble::Trouble;
 use until_failure::UntilFailure;
 use workbench::asm::asm;
 use workbench::compare::{compared, done_by};
-use workbench::done::{Done, as_asked};
+use workbench::done::{Done, as_asked, settled};
 use workbench::fault::Fault;
 use workbench::input::read_all;
 use workbench::list::list;
@@ -414,7 +414,7 @@ fn answer<R: Threads + Wait + Sync>(threads: &R, rt: &HostRuntime, words: &[Stri
     };
     let files = Files::of(&request);
     match done(threads, rt, request) {
-        Ok(done) => done.status(),
+        Ok(done) => settled(Ok(done), &mut WritePort::new(rt.stderr())),
         Err(trouble) => trouble.tell(rt, words, files),
     }
 }

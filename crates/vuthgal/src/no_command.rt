@@ -40,83 +40,82 @@ impl<'a> From<AllocError> for NoCommand<'a> {
     }
 }
 
+/// The status of what there is before a command, whose line is told where it is a fault.
+fn ended(rt: &HostRuntime, answer: Result<Done, Fault>) -> u8 {
+    settled(answer, &mut WritePort::new(rt.stderr()))
+}
+
 /// Tells a fault that comes before a command.
 fn told(rt: &HostRuntime, fault: Fault) -> u8 {
-    settled(Err(fault), &mut WritePort::new(rt.stderr()))
+    ended(rt, Err(fault))
+}
+
+/// Prints the help that the words ask for. Answers the status.
+fn print_help(rt: &HostRuntime, help: &WordsError) -> u8 {
+    let printed = match help.print(rt) {
+        Ok(()) => Ok(Done::AsAsked),
+        Err(_) => Err(Fault::Write),
+    };
+    ended(rt, printed)
+}
+
+/// Tells what is wrong with the words, if there was memory for it. Answers the status.
+fn push_wrong(rt: &HostRuntime, text: Result<String, AllocError>) -> u8 {
+    match text {
+        Ok(text) => {
+            push_text(rt, Ok(text));
+            WRONG_WORDS
+        }
+        Err(_) => told(rt, Fault::Memory),
+    }
+}
+
+/// Tells why the words ask for nothing, or the help that they ask for. Answers the status.
+fn tell_words(rt: &HostRuntime, error: &WordsError, words: &[String]) -> u8 {
+    if error.kind() == ErrorKind::OutOfMemory {
+        return told(rt, Fault::Memory);
+    }
+    if !error.use_stderr() {
+        return print_help(rt, error);
+    }
+    let status = push_wrong(rt, usage::told(rt, error));
+    if status == WRONG_WORDS && error.kind() == ErrorKind::InvalidSubcommand {
+        push_file_hint(rt, words);
+    }
+    status
 }
 
 impl<'a> NoCommand<'a> {
-    /// The exit status: of what a command would tell too, that command's.
-    fn status(&self) -> u8 {
+    /// Tells on a terminal which file a fault is of, and why.
+    fn push_reason(&self, rt: &HostRuntime, fault: Fault) {
         match self {
-            NoCommand::NotText => WRONG_WORDS,
-            NoCommand::Memory => Fault::Memory.status(),
-            NoCommand::Words(error) if error.kind() == ErrorKind::OutOfMemory =>
-                Fault::Memory.status(),
-            NoCommand::Words(error) if error.use_stderr() => WRONG_WORDS,
-            NoCommand::Words(_) => Done::AsAsked.status(),
-            NoCommand::Unread(_, _) => Fault::Read.status(),
-            NoCommand::Unwritten(_, _) | NoCommand::OneFile(_) => Fault::Write.status(),
-        }
-    }
-
-    /// Prints the help that the words ask for. Answers the status.
-    fn print_help(&self, rt: &HostRuntime, help: &WordsError) -> u8 {
-        match help.print(rt) {
-            Ok(()) => self.status(),
-            Err(_) => told(rt, Fault::Write),
-        }
-    }
-
-    /// Tells what is wrong with the words, if there was memory for it. Answers the status.
-    fn push_wrong(&self, rt: &HostRuntime, text: Result<String, AllocError>) -> u8 {
-        match text {
-            Ok(text) => {
-                push_text(rt, Ok(text));
-                self.status()
-            }
-            Err(_) => told(rt, Fault::Memory),
-        }
-    }
-
-    /// Tells why the words ask for nothing, or the help that they ask for. Answers the status.
-    fn tell_words(&self, rt: &HostRuntime, error: &WordsError, words: &[String]) -> u8 {
-        if error.kind() == ErrorKind::OutOfMemory {
-            return told(rt, Fault::Memory);
-        }
-        if !error.use_stderr() {
-            return self.print_help(rt, error);
-        }
-        let status = self.push_wrong(rt, usage::told(rt, error));
-        if status == WRONG_WORDS && error.kind() == ErrorKind::InvalidSubcommand {
-            push_file_hint(rt, words);
-        }
-        status
-    }
-
-    /// Tells a fault in its one line, and on a terminal which file it is of. Answers the status.
-    fn tell_fault(&self, rt: &HostRuntime) -> u8 {
-        let _ = eprintln!(rt; "{self}");
-        match self {
-            NoCommand::Unread(path, error) => push_reason(rt, Fault::Read, path, error),
-            NoCommand::Unwritten(path, error) => push_reason(rt, Fault::Write, path, error),
+            NoCommand::Unread(path, error) => push_reason(rt, fault, path, error),
+            NoCommand::Unwritten(path, error) => push_reason(rt, fault, path, error),
             NoCommand::OneFile(path) => push_reason(
                 rt,
-                Fault::Write,
+                fault,
                 path,
                 &"it is the file that is read",
             ),
             _ => {}
         }
-        self.status()
+    }
+
+    /// Tells a fault in its one line, and on a terminal which file it is of. Answers the status.
+    fn tell_fault(&self, rt: &HostRuntime, fault: Fault) -> u8 {
+        let status = told(rt, fault);
+        self.push_reason(rt, fault);
+        status
     }
 
     /// Tells it in its one line; wrong words with the usage, or the help, as the commands' table has them. Answers the status.
     pub fn tell(&self, rt: &HostRuntime, words: &[String]) -> u8 {
         match self {
-            NoCommand::Words(error) => self.tell_words(rt, error, words),
-            NoCommand::NotText => self.push_wrong(rt, usage::with_usage(rt, NOT_TEXT)),
-            _ => self.tell_fault(rt),
+            NoCommand::Words(error) => tell_words(rt, error, words),
+            NoCommand::NotText => push_wrong(rt, usage::with_usage(rt, NOT_TEXT)),
+            NoCommand::Memory => told(rt, Fault::Memory),
+            NoCommand::Unread(_, _) => self.tell_fault(rt, Fault::Read),
+            NoCommand::Unwritten(_, _) | NoCommand::OneFile(_) => self.tell_fault(rt, Fault::Write),
         }
     }
 }
