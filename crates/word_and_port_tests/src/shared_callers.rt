@@ -140,14 +140,65 @@ fn a_routine_is_refused(rt: HostRuntime) {
     assert_eq!(rt; fault, Some(NewFault::RoutinePolicy));
 }
 
+/// A phaser as it is made, and calls one after the other, with what each answers and leaves.
+type Session = (u16, i32, Policy, &'static [(Call, Reply, u64)]);
+
+/// A termination stays; and of a phaser that goes on without parties nobody is left to arrive.
+static SESSIONS: [Session; 2] = [
+    (
+        2,
+        3,
+        Policy::Default,
+        &[
+            (Force, Dead(-2147483645), 0x8000000300020002),
+            (Force, Dead(-2147483645), 0x8000000300020002),
+            (Arrive(false), Dead(-2147483645), 0x8000000300020002),
+        ],
+    ),
+    (
+        1,
+        0,
+        Policy::Never,
+        &[
+            (Arrive(true), Counted(0), 0x100000001),
+            (Arrive(false), Reply::NotThere, 0x100000001),
+        ],
+    ),
+];
+
+/// Whether each of these calls answers so, in one try.
+fn go_on(phaser: &SharedPhaser, party: &mut Party, calls: &[(Call, Reply, u64)]) -> bool
+    requires { phaser_of party.old ≡ phaser.now }
+{
+    let Some((first, rest)) = calls.split_first() else {
+        return true;
+    };
+    let (call, reply, word) = *first;
+    tried(phaser, party, call) == Some(reply)
+        && phaser.look(party).raw() == word
+        && go_on(phaser, party, rest)
+}
+
+/// Whether the calls of a session do.
+fn goes_so(alloc: Global, session: &Session) -> Result<bool, Fail> {
+    let (parties, phase, policy, calls) = *session;
+    let (phaser, mut party) = SharedPhaser::new(alloc, parties, policy, Phase::prevailing(phase))?;
+    Ok(go_on(&phaser, &mut party, calls))
+}
+
+#[test]
+fn calls_in_a_row(rt: HostRuntime) -> Result<(), Fail> {
+    for session in &SESSIONS {
+        assert!(rt; goes_so(rt.alloc(), session)?);
+    }
+    Ok(())
+}
+
 /// Whether each call on a phaser that was terminated in phase 0 answers so.
 fn stays_terminated<R: Wait>(rt: &R, phaser: &SharedPhaser, party: &mut Party) -> bool
     requires { phaser_of party.old ≡ phaser.now }
 {
-    let dead = Ok(Reply::Dead(-2147483648));
-    phaser.force_within(party, 1) == dead
-        && phaser.force_within(party, 1) == dead
-        && phaser.arrive_within(party, false, 1) == dead
+    phaser.force_within(party, 1) == Ok(Reply::Dead(-2147483648))
         && phaser.await_advance(rt, party, 0) == -2147483648
         && phaser.arrive_and_await_advance(rt, party) == Ok(-2147483648)
 }

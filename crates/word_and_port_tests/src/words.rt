@@ -5,12 +5,13 @@ use packed_phaser::{Arrived, Registered, Word};
 use phase_number::Phase;
 
 /// A word; its view, parties, arrived and unarrived; terminated, empty, turned.
-const WORDS: [(u64, (i32, u16, u16, u16), (bool, bool, bool)); 10] = [
+const WORDS: [(u64, (i32, u16, u16, u16), (bool, bool, bool)); 11] = [
     (0x0000000000000000, (0, 0, 0, 0), (false, false, true)),
     (0x0000000000000001, (0, 0, 0, 0), (false, true, false)),
     (0x0000000000020002, (0, 2, 0, 2), (false, false, false)),
     (0x0000000000020001, (0, 2, 1, 1), (false, false, false)),
     (0x0000000000020000, (0, 2, 2, 0), (false, false, true)),
+    (0x0000000100000001, (1, 0, 0, 0), (false, true, false)),
     (0x0000000100020002, (1, 2, 0, 2), (false, false, false)),
     (
         0x8000000300020001,
