@@ -1,0 +1,76 @@
+//! The calls of `shared_phaser`.
+ghost use Rattle.std.specs.Prelude.{◌≡◌, ◌<◌};
+ghost use Rattle.shared_phaser.specs.Known.{phaser_of};
+
+use packed_phaser::{Policy, Word};
+use phase_number::Phase;
+use shared_phaser::{NewFault, NotThere, Party, Raced, Reply, SharedPhaser};
+use std::alloc::Global;
+use std::sync::Wait;
+
+/// Whether another policy would do.
+pub fn is_refused(fault: NewFault) -> bool {
+    match fault {
+        NewFault::RoutinePolicy => true,
+        NewFault::Memory => false,
+    }
+}
+
+/// What a call is told.
+pub fn number_of(reply: Reply) -> Option<i32> {
+    match reply {
+        Reply::Counted(phase) => Some(phase),
+        Reply::Dead(view) => Some(view),
+        Reply::TooMany => None,
+        Reply::NotThere => None,
+    }
+}
+
+/// The calls that wait for nobody.
+pub fn within(phaser: &SharedPhaser, party: &mut Party, tries: u32) -> Result<Word, Raced>
+    requires tries { 0 < tries }
+    requires phaser { phaser_of party.old ≡ phaser.now }
+    ensures { phaser_of party.new ≡ phaser.now }
+{
+    let _: Result<Reply, Raced> = phaser.register_within(party, 1u32, tries);
+    let _: Result<Reply, Raced> = phaser.arrive_within(party, true, tries);
+    let forced: Result<Reply, Raced> = phaser.force_within(party, tries);
+    if let Err(Raced { tries, word }) = forced {
+        return Err(Raced { tries, word });
+    }
+    let word: Word = phaser.look(party);
+    Ok(word)
+}
+
+/// Those that may wait.
+pub fn waiting<R: Wait>(rt: &R, phaser: &SharedPhaser, party: &mut Party) -> Result<i32, NotThere>
+    requires { phaser_of party.old ≡ phaser.now }
+    ensures { phaser_of party.new ≡ phaser.now }
+{
+    let _: Reply = phaser.register(rt, party, 1u32);
+    let _: Reply = phaser.arrive(rt, party);
+    let _: Reply = phaser.arrive_and_deregister(rt, party);
+    let _: Reply = phaser.force(rt, party);
+    let _: i32 = phaser.await_advance(rt, party, 0i32);
+    let met: Result<i32, NotThere> = phaser.arrive_and_await_advance(rt, party);
+    met
+}
+
+/// A phaser from its first word to its last.
+pub fn closed<R: Wait>(
+    rt: &R,
+    alloc: Global,
+    policy: Policy,
+    phase: Phase,
+) -> Result<Word, NewFault> {
+    let made: Result<(SharedPhaser, Party), NewFault> = SharedPhaser::new(
+        alloc, 2u16, policy, phase,
+    );
+    let (phaser, mut first): (SharedPhaser, Party) = made?;
+    let mut second: Party = phaser.split(&mut first);
+    let _: Result<Word, Raced> = within(&phaser, &mut second, 1);
+    let _: Result<i32, NotThere> = waiting(rt, &phaser, &mut second);
+    phaser.join(&mut first, second);
+    let word: Word = phaser.close(first);
+    Ok(word)
+}

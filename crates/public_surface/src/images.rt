@@ -1,0 +1,52 @@
+//! The calls of `row_code`.
+use byte_ports::Sink;
+use instruction_table::Row;
+use row_code::{
+    Barriers, Image, ImageFault, Phasers, Rows, Threads, WriteFault, decode, encode, read_image,
+    write_image,
+};
+use std::alloc::Global;
+
+/// What is said of bytes that are no image.
+pub fn place_of(fault: ImageFault) -> Option<usize> {
+    match fault {
+        ImageFault::Short => None,
+        ImageFault::Magic => None,
+        ImageFault::Count => None,
+        ImageFault::Field(at) => Some(at),
+        ImageFault::Row(number) => Some(usize::from(number)),
+        ImageFault::Extra => None,
+        ImageFault::Memory => None,
+        ImageFault::Version => None,
+    }
+}
+
+/// A row's bytes, and the row again.
+pub fn row_again(row: Row) -> Option<Row> {
+    let bytes: [u8; 8] = encode(row);
+    let again: Option<Row> = decode(bytes);
+    again
+}
+
+/// The parts of an image.
+pub fn parts(image: Image) -> (Phasers, Barriers, Threads, Rows) {
+    let Image {
+        phasers,
+        barriers,
+        threads,
+        rows,
+    } = image;
+    (phasers, barriers, threads, rows)
+}
+
+/// An image that is read and written.
+pub fn copied<K: Sink>(
+    alloc: Global,
+    bytes: &[u8],
+    sink: &mut K,
+) -> Result<Result<(), WriteFault>, ImageFault> {
+    let read: Result<Image, ImageFault> = read_image(alloc, bytes);
+    let image: Image = read?;
+    let written: Result<(), WriteFault> = write_image(&image, sink);
+    Ok(written)
+}

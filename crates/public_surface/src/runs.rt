@@ -1,0 +1,76 @@
+//! The calls of `thread_runner`.
+ghost use Rattle.std.specs.Prelude.{◌≤◌};
+
+use loader::Loaded;
+use std::alloc::{AllocError, Global};
+use std::sync::Wait;
+use std::thread::Threads;
+use thread_machine::{Event, Machine};
+use thread_runner::{Ending, Gate, Journaled, LiveFault, LiveRun, NoGate, TakeFault, run_live};
+
+/// A gate of one's own.
+pub struct Open;
+
+impl Gate for Open {
+    fn pass(&self, _thread: u8, _step: u32) {}
+}
+
+/// Whether a choice may be taken later.
+pub fn is_early(fault: TakeFault) -> bool {
+    match fault {
+        TakeFault::NotReady => true,
+        TakeFault::StepLimit => false,
+        TakeFault::Memory => false,
+    }
+}
+
+/// Whether all threads came to their end.
+pub fn is_whole(ending: Ending) -> bool {
+    match ending {
+        Ending::AllEnded => true,
+        Ending::Stuck => false,
+        Ending::Limit => false,
+    }
+}
+
+/// What a run that was broken off leaves.
+pub fn left(fault: LiveFault) -> Option<Vec<u8>> {
+    match fault {
+        LiveFault::Memory(schedule) => Some(schedule),
+        LiveFault::Spawn => None,
+    }
+}
+
+/// A machine that keeps a record.
+pub fn recorded(alloc: Global, program: Loaded, thread: u8) -> Result<usize, AllocError> {
+    let made: Result<Journaled, AllocError> = Journaled::new(alloc, program, 1000u32);
+    let mut journaled: Journaled = made?;
+    let machine: &Machine = journaled.machine();
+    if usize::from(thread) < machine.thread_count() {
+        let _: Result<Event, TakeFault> = journaled.take_step(thread);
+        let _: Result<Event, TakeFault> = journaled.take_expiry(thread);
+    }
+    let schedule: &[u8] = journaled.schedule();
+    Ok(schedule.len())
+}
+
+/// A live run, through a gate of its own and through none.
+pub fn live<R: Threads + Wait + Sync>(
+    rt: &R,
+    alloc: Global,
+    program: Loaded,
+    other: Loaded,
+    limit: u32,
+) -> Result<(Vec<u8>, Machine, Ending), LiveFault>
+    requires { limit ≤ 1000000000 }
+{
+    let gated: Result<LiveRun, LiveFault> = run_live(rt, alloc, program, limit, &Open);
+    gated?;
+    let run: LiveRun = run_live(rt, alloc, other, limit, &NoGate)?;
+    let LiveRun {
+        schedule,
+        machine,
+        ending,
+    } = run;
+    Ok((schedule, machine, ending))
+}

@@ -1,0 +1,55 @@
+//! The calls of `debugger`.
+ghost use Rattle.std.specs.Prelude.{◌≤◌, ◌<◌};
+
+use byte_ports::Sink;
+use debugger::{CommandFault, Debugger, NoHistory, Stop};
+use schedule_reader::Run;
+use std::alloc::{AllocError, Global};
+use thread_machine::{Choice, Event, Machine, StepFault};
+
+/// How many choices were played.
+pub fn played(stop: Stop) -> (u64, Option<StepFault>) {
+    match stop {
+        Stop::Break(count) => (count, None),
+        Stop::End(count) => (count, None),
+        Stop::Fault(count, fault) => (count, Some(fault)),
+    }
+}
+
+/// Whether a reply stands in part.
+pub fn is_cut(fault: CommandFault) -> bool {
+    match fault {
+        CommandFault::Memory => false,
+        CommandFault::Write => true,
+    }
+}
+
+/// A debugger of a machine.
+pub fn debugger(alloc: Global, machine: Machine, kept: u16) -> Result<Debugger, AllocError>
+    requires some { 0 < kept }
+    requires few { kept ≤ 4096 }
+{
+    let made: Result<Debugger, AllocError> = Debugger::new(alloc, machine, kept);
+    made
+}
+
+/// What a debugger does.
+pub fn session<K: Sink>(
+    debugger: &mut Debugger,
+    choice: Choice,
+    runs: &[Run],
+    line: &[u8],
+    output: &mut K,
+) -> Result<bool, CommandFault> {
+    let _: &Machine = debugger.machine();
+    let _: Result<Event, StepFault> = debugger.step(choice);
+    let back: Result<(), NoHistory> = debugger.back();
+    if let Err(NoHistory) = back {
+        return Ok(true);
+    }
+    let _: bool = debugger.set_break(0u16);
+    let _: bool = debugger.clear_break(0u16);
+    let _: Stop = debugger.go(runs);
+    let goes_on: Result<bool, CommandFault> = debugger.command(line, output);
+    goes_on
+}

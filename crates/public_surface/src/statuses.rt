@@ -1,0 +1,51 @@
+//! The calls of `workbench`: each command, and its exit status.
+ghost use Rattle.std.specs.Prelude.{◌≤◌};
+
+use byte_ports::{Sink, Source};
+use std::alloc::Global;
+use std::sync::Wait;
+use std::thread::Threads;
+use workbench::{asm_cmd, both_cmd, compare_cmd, debug_cmd, list_cmd, live_cmd, race_cmd, run_cmd};
+
+/// The commands of one input.
+pub fn of_one<F: Source, K: Sink, E: Sink>(
+    alloc: Global,
+    file: &mut F,
+    output: &mut K,
+    errors: &mut E,
+) -> [u8; 3] {
+    let both: u8 = both_cmd(alloc, file, output, errors);
+    let asm: u8 = asm_cmd(alloc, file, output, errors);
+    let list: u8 = list_cmd(alloc, file, output, errors);
+    [both, asm, list]
+}
+
+/// The commands of two inputs.
+pub fn of_two<F: Source, S: Source, K: Sink, E: Sink>(
+    alloc: Global,
+    file: &mut F,
+    other: &mut S,
+    output: &mut K,
+    errors: &mut E,
+) -> [u8; 3] {
+    let run: u8 = run_cmd(alloc, file, other, output, errors);
+    let debug: u8 = debug_cmd(alloc, file, other, output, errors);
+    let compare: u8 = compare_cmd(alloc, file, other, output, errors);
+    [run, debug, compare]
+}
+
+/// The commands that start threads.
+pub fn of_threads<R: Threads + Wait + Sync, F: Source, K: Sink, E: Sink>(
+    rt: &R,
+    alloc: Global,
+    limit: u32,
+    file: &mut F,
+    output: &mut K,
+    errors: &mut E,
+) -> [u8; 2]
+    requires { limit ≤ 1000000000 }
+{
+    let live: u8 = live_cmd(rt, alloc, limit, file, output, errors);
+    let race: u8 = race_cmd(rt, alloc, 2u16, 1000u32, output, errors);
+    [live, race]
+}

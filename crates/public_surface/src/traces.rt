@@ -1,0 +1,75 @@
+//! The calls of `trace_compare`.
+use byte_ports::{Sink, Source};
+use loader::LoadFault;
+use row_code::Image;
+use schedule_reader::ScheduleFault;
+use std::alloc::{AllocError, Global};
+use thread_machine::{Choice, Event, Machine};
+use trace_compare::{
+    CompareFault, RunFault, Verdict, compare, event_line, refusal_line, run_text, state_text,
+};
+
+/// Why a run isn't written.
+pub fn of_run(fault: RunFault) -> (Option<LoadFault>, Option<ScheduleFault>) {
+    match fault {
+        RunFault::Load(fault) => (Some(fault), None),
+        RunFault::Schedule(fault) => (None, Some(fault)),
+        RunFault::Memory => (None, None),
+        RunFault::Read => (None, None),
+        RunFault::Write => (None, None),
+    }
+}
+
+/// Why a trace isn't compared.
+pub fn of_comparison(fault: CompareFault) -> Option<LoadFault> {
+    match fault {
+        CompareFault::Load(fault) => Some(fault),
+        CompareFault::Memory => None,
+        CompareFault::Read => None,
+    }
+}
+
+/// The line that is told.
+pub fn line_of(verdict: Verdict) -> Option<u64> {
+    match verdict {
+        Verdict::Same => None,
+        Verdict::Differs { line } => Some(line),
+        Verdict::NotATrace { line } => Some(line),
+    }
+}
+
+/// Single lines, and the state.
+pub fn lines(
+    alloc: Global,
+    text: &mut Vec<u8>,
+    choice: Choice,
+    event: &Event,
+    machine: &Machine,
+) -> Result<Vec<u8>, AllocError> {
+    let step: u64 = machine.choices();
+    let written: Result<(), AllocError> = event_line(text, step, choice, 0u16, event);
+    written?;
+    let limit: Result<(), AllocError> = refusal_line(text, step, choice, Some(0u16));
+    limit?;
+    let none: Result<(), AllocError> = refusal_line(text, step, choice, None);
+    none?;
+    let state: Result<Vec<u8>, AllocError> = state_text(alloc, machine);
+    state
+}
+
+/// A run's trace.
+pub fn run<S: Source, K: Sink>(
+    alloc: Global,
+    image: Image,
+    schedule: &mut S,
+    output: &mut K,
+) -> Result<(), RunFault> {
+    let written: Result<(), RunFault> = run_text(alloc, image, schedule, output);
+    written
+}
+
+/// What is said of a trace.
+pub fn verdict<S: Source>(alloc: Global, image: Image, trace: &mut S) -> Option<u64> {
+    let compared: Result<Verdict, CompareFault> = compare(alloc, image, trace);
+    line_of(compared.ok()?)
+}
