@@ -21,35 +21,36 @@ const NONE_1: Verdict = Verdict::NotATrace { line: 1 };
 
 const NONE_2: Verdict = Verdict::NotATrace { line: 2 };
 
-/// What stands in front of these three lines, and what stands behind them.
-const STATE: &str = "state 1 1 stuck\nt0 0 waits 0 regs 0 0 0 0 0 0 0 0 stack out\np0 0 2 1 1";
+/// What stands in front of these three lines, of which the last lacks its last number, and what stands behind them.
+const STATE: &str = "state 1 1 stuck\nt0 0 waits 0 regs 0 0 0 0 0 0 0 0 stack out\np0 0 2 1 ";
 
-const CASES: [(&str, &str, Verdict); 25] = [
-    ("1 t0 0 wait\n", "\n", Verdict::Same),
-    ("1 t0 0 wait\n", "", DIFFERS_4),
-    ("1 t0 0 wait\n", "\n\n", DIFFERS_5),
-    ("1 t0 0 wait\n", "\nc0 1\n", DIFFERS_5),
+const CASES: [(&str, &str, Verdict); 26] = [
+    ("1 t0 0 wait\n", "1\n", Verdict::Same),
+    ("1 t0 0 wait\n", "1", DIFFERS_4),
+    ("1 t0 0 wait\n", "1\n\n", DIFFERS_5),
+    ("1 t0 0 wait\n", "1\nc0 1\n", DIFFERS_5),
     ("1 t0 0 wait\n", "2\n", DIFFERS_4),
-    ("1 t0 0 wait\n", "\r\n", DIFFERS_4),
-    ("1 t0 0 wait\r\n", "\n", DIFFERS_1),
-    ("1 t0 0 idle\n", "\n", DIFFERS_1),
-    ("2 t0 0 wait\n", "\n", DIFFERS_1),
-    ("1 t05 0 wait\n", "\n", DIFFERS_1),
-    ("1 t0\n", "\n", DIFFERS_1),
-    ("1 x0 0 wait\n", "\n", DIFFERS_1),
-    ("1  t0 0 wait\n", "\n", NONE_1),
-    (" 1 t0 0 wait\n", "\n", NONE_1),
-    ("1 t64 0 wait\n", "\n", NONE_1),
-    ("1 t005 0 wait\n", "\n", NONE_1),
-    ("12345678901234 t0 0 wait\n", "\n", NONE_1),
-    ("1 y0 0 wait\n", "\n", NONE_1),
-    ("\n", "\n", NONE_1),
-    ("", "\n", DIFFERS_1),
-    ("1 t0 0 wait\n ", "\n", NONE_2),
-    ("1 t0 0 wait\n2 t0 0 idle\n", "\n", DIFFERS_3),
-    ("1 t1 - none\n", "\n", DIFFERS_2),
-    ("1 t1 - none\n2 t0 0 wait\n", "\n", DIFFERS_2),
-    ("1 t1 - none\n2 t 0 wait\n", "\n", NONE_2),
+    ("1 t0 0 wait\n", "12\n", DIFFERS_4),
+    ("1 t0 0 wait\n", "1\r\n", DIFFERS_4),
+    ("1 t0 0 wait\r\n", "1\n", DIFFERS_1),
+    ("1 t0 0 idle\n", "1\n", DIFFERS_1),
+    ("2 t0 0 wait\n", "1\n", DIFFERS_1),
+    ("1 t05 0 wait\n", "1\n", DIFFERS_1),
+    ("1 t0\n", "1\n", DIFFERS_1),
+    ("1 x0 0 wait\n", "1\n", DIFFERS_1),
+    ("1  t0 0 wait\n", "1\n", NONE_1),
+    (" 1 t0 0 wait\n", "1\n", NONE_1),
+    ("1 t64 0 wait\n", "1\n", NONE_1),
+    ("1 t005 0 wait\n", "1\n", NONE_1),
+    ("12345678901234 t0 0 wait\n", "1\n", NONE_1),
+    ("1 y0 0 wait\n", "1\n", NONE_1),
+    ("\n", "1\n", NONE_1),
+    ("", "1\n", DIFFERS_1),
+    ("1 t0 0 wait\n ", "1\n", NONE_2),
+    ("1 t0 0 wait\n2 t0 0 idle\n", "1\n", DIFFERS_3),
+    ("1 t1 - none\n", "1\n", DIFFERS_2),
+    ("1 t1 - none\n2 t0 0 wait\n", "1\n", DIFFERS_2),
+    ("1 t1 - none\n2 t 0 wait\n", "1\n", NONE_2),
 ];
 
 fn verdict_on(alloc: Global, trace: &[u8]) -> Result<Result<Verdict, CompareFault>, Fail> {

@@ -9,6 +9,8 @@ mod comparisons;
 #[cfg(test)]
 mod failing;
 #[cfg(test)]
+mod images;
+#[cfg(test)]
 mod limits;
 #[cfg(test)]
 mod lines;
