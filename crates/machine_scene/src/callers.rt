@@ -12,11 +12,7 @@ use std::alloc::AllocError;
 use thread_state::Event;
 
 // A turn is played, and taken back.
-pub fn turn_and_back(
-    stage: &mut Stage,
-    program: &Loaded,
-    t: usize,
-) -> Result<Event, AllocError>
+pub fn turn_and_back(stage: &mut Stage, program: &Loaded, t: usize) -> Result<Event, AllocError>
     requires sound { IsSound program.now most_before (scene_of stage.old) }
     requires known { KnowsReady program.now stage.old }
     requires thread { t < length stage.old.threads }

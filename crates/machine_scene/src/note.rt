@@ -61,7 +61,10 @@ impl SceneNote {
             number: 0,
             own: ThreadNote::new(),
             beside: Touched::Nothing,
-            ready: ReadySet { turns: 0, registering: 0 },
+            ready: ReadySet {
+                turns: 0,
+                registering: 0,
+            },
         }
     }
 }

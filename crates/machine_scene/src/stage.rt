@@ -5,7 +5,7 @@ ghost use Rattle.instruction_table.specs.LocalRows.{is_local_row};
 ghost use Rattle.tier_tree.specs.Stored.{phasers_of};
 ghost use Rattle.loader.specs.Program.{row_at};
 ghost use Rattle.thread_state.specs.Thread.{ThreadState, is_finished, top_of};
-ghost use Rattle.machine_scene.specs.Scene.{Scene, scene_of, thread_at, cell_at, barrier_at};
+ghost use Rattle.machine_scene.specs.Scene.{scene_of, thread_at, cell_at, barrier_at};
 ghost use Rattle.machine_scene.specs.DataRows.{runs, may_grow};
 ghost use Rattle.machine_scene.specs.Group.{group_of};
 ghost use Rattle.machine_scene.specs.Outcomes.{outcome_in, outcome_of, outcome_of_row, outcome_of_expiry, is_ready};
@@ -99,12 +99,12 @@ impl Stage {
     ) -> Stage
         requires threads { length threads.items ≤ 64 }
         requires barriers { length barriers.items ≤ 64 }
-        requires sound { let scene : Scene = record {
+        requires sound { IsSound program.now most_after (record {
           cells = replicate 32 (pos 0);
           threads = threads.items;
           phasers = phasers_of phasers;
           barriers = barriers.items;
-        } in IsSound program.now most_after scene }
+        }) }
         ensures stage { result ≡ record {
           cells = replicate 32 (pos 0);
           threads = threads.items;

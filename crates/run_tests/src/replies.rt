@@ -78,12 +78,10 @@ fn is_told(
     whole: &[u8],
 ) -> Result<bool, Fail> {
     let mut output = MemorySink::new(alloc, 1000, Some(call))?;
-    Ok(
-        match debugger.command(line.as_bytes(), &mut output) {
-            Ok(_) => output.bytes() == whole,
-            Err(fault) => fault == CommandFault::Write && whole.starts_with(output.bytes()),
-        },
-    )
+    Ok(match debugger.command(line.as_bytes(), &mut output) {
+        Ok(_) => output.bytes() == whole,
+        Err(fault) => fault == CommandFault::Write && whole.starts_with(output.bytes()),
+    })
 }
 
 /// Whether the command of this number, told so, is carried out.

@@ -48,6 +48,17 @@ pub(super) fn set_at(set: u64, thread: usize, within: bool) -> u64
     }
 }
 
+/// The set with this thread, which isn't in it yet, where it is to be.
+#[inline(always)]
+#[tactic(auto, using(crate::proofs::ThreadSets::added_to))]
+fn added(set: u64, thread: usize, within: bool) -> u64
+    requires thread { thread < 64 }
+    requires without { has set thread ≡ false }
+    ensures { IsSetAt thread within set result }
+{
+    if within { set | (1 << thread) } else { set }
+}
+
 /// Whether the row is a registration.
 #[inline(always)]
 fn is_registration(row: Row) -> bool
@@ -161,6 +172,21 @@ impl Stage {
         }
     }
 
+    /// The sets with a thread looked at that is in neither.
+    #[inline(always)]
+    fn first_looked(&self, program: &Loaded, before: ReadySet, t: usize) -> ReadySet
+        requires sound { IsSound program.now most_after (scene_of self.now) }
+        requires thread { t < length self.now.threads }
+        requires turns { has before.turns t ≡ false }
+        requires registering { has before.registering t ≡ false }
+        ensures { IsLooked program.now t before result (scene_of self.now) }
+    {
+        ReadySet {
+            turns: added(before.turns, t, self.goes_on(program, t)),
+            registering: added(before.registering, t, self.is_registering(program, t)),
+        }
+    }
+
     /// A thread is looked at anew.
     #[inline(never)]
     pub(super) fn look(&mut self, program: &Loaded, t: usize)
@@ -183,7 +209,7 @@ impl Stage {
             registering: 0,
         };
         for u in 0..self.threads.len() {
-            set = self.looked(program, set, u);
+            set = self.first_looked(program, set, u);
         }
         set
     }
