@@ -69,7 +69,7 @@ stands-flag flag b p s = record {
 }
 
 -- the runner
-stands-runner :
+pub stands-runner :
     (runner : Option ℕ) (b : BarrierState) (p : PlainBarrier) → StandsFor b p → StandsFor (record b { runner = runner }) (record p { runner = runner })
 stands-runner runner b p s = record {
   parties = s.parties;
@@ -175,7 +175,7 @@ stands-arrive thread interrupted no_wait b p there none s =
     (stands-arrive_last thread b p s)
     (either Agrees no_wait no_wait refl (record { barrier = stands-break b p s; answer = refl }) (stands-add thread b p there none s))))
 
-stands-beside :
+pub stands-beside :
     (r q : Option ℕ) (thread : ℕ) (interrupted no_wait : Bool) (b : BarrierState) (p : PlainBarrier) → q ≡ r → thread < length b.waits →
     wait_at b.waits thread ≡ None → StandsFor b p →
     Agrees (now.enter_beside r thread interrupted no_wait b) (plain.enter_beside q thread interrupted no_wait p)
@@ -185,7 +185,7 @@ stands-beside (Some x) None thread interrupted no_wait b p e there none s = cc
 stands-beside (Some x) (Some y) thread interrupted no_wait b p e there none s =
     let same : y ≡ x = cc in record { barrier = s; answer = ap (λ r. cond (r == thread) entered.Own entered.Busy) same }
 
-stands-end_action : (returned : Bool) (b : BarrierState) (p : PlainBarrier) → StandsFor b p → StandsFor (now.end_action returned b) (plain.end_action returned p)
+pub stands-end_action : (returned : Bool) (b : BarrierState) (p : PlainBarrier) → StandsFor b p → StandsFor (now.end_action returned b) (plain.end_action returned p)
 stands-end_action returned b p s =
     let rested : StandsFor (record b { runner = None }) (record p { runner = None }) = stands-runner None b p s in
     either StandsFor returned returned refl (stands-end plain.tripped _ _ rested) (stands-break _ _ rested)
@@ -196,7 +196,7 @@ gone_or_released (Some state.Waiting) e = cc
 gone_or_released (Some state.Tripped) e = cc
 gone_or_released (Some state.Broken) e = cc
 
-stands-interrupt :
+pub stands-interrupt :
     (thread : ℕ) (b : BarrierState) (p : PlainBarrier) → thread < length b.waits → StandsFor b p → StandsFor (now.interrupt thread b) (plain.interrupt thread p)
 stands-interrupt thread b p there s = stands-leave thread _ _ (rw (length-map b.waits (released state.Broken)) there) (λ e. gone_or_released _ (sym (wait_at-release state.Broken b.waits thread) ∙ e)) (stands-break b p s)
 
@@ -208,7 +208,7 @@ none_released (Some state.Waiting ∷ waits) e = absurd (omega (arith, sum_by-co
 none_released (Some state.Tripped ∷ waits) e = ap (λ ws. Some state.Tripped ∷ ws) (none_released waits e)
 none_released (Some state.Broken ∷ waits) e = ap (λ ws. Some state.Broken ∷ ws) (none_released waits e)
 
-stands-reset : (b : BarrierState) (p : PlainBarrier) → StandsFor b p → StandsFor (now.reset b) (plain.reset p)
+pub stands-reset : (b : BarrierState) (p : PlainBarrier) → StandsFor b p → StandsFor (now.reset b) (plain.reset p)
 stands-reset b p s = stands-flag false (record b { waits = release state.Broken b.waits }) (cond (0 == plain.number_waiting p) p (end_generation plain.broken p))
     (elim (cases_eq 0 (plain.number_waiting p)) as (λ _. StandsFor (record b { waits = release state.Broken b.waits }) (cond (0 == plain.number_waiting p) p (end_generation plain.broken p))) [
       | inl e ↦ rw (eq-eqb _ _ e, none_released b.waits (sym (e ∙ s.number_waiting))) s

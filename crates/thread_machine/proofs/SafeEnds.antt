@@ -152,7 +152,7 @@ goes_by (Some outcome) world choice origin other goes is there left stands =
 goes_by None world choice origin other goes is there left stands =
     record { sound = goes.sound; steps = goes.steps; limit = goes.limit; stands = stands }
 
-goes_keeps : (world : World) (choice : Choice) (origin : Origin) → Goes world origin → refusal_of world choice ≡ None
+pub goes_keeps : (world : World) (choice : Choice) (origin : Origin) → Goes world origin → refusal_of world choice ≡ None
     → Keeps world choice (played world choice).world origin
 goes_keeps world choice origin goes is =
     let most = goes.limit in
@@ -179,7 +179,7 @@ goes_through_by None world choice choices origin goes is rest =
     let after = (played world choice).world in
     rest after (counts_after world choice after origin) (goes_on world choice origin goes is)
 
-goes_through : (choices : List Choice) (world : World) (origin : Origin) → Goes world origin
+pub goes_through : (choices : List Choice) (world : World) (origin : Origin) → Goes world origin
     → Goes (execution world choices).world (counts_through world choices origin)
 goes_through [] world origin goes = goes
 goes_through (choice ∷ choices) world origin goes =
