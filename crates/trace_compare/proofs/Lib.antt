@@ -20,15 +20,3 @@ pub mod StoredOtherwise
 pub mod OneVerdict
 pub mod OneTrace
 pub mod Starting
-pub mod Ints
-pub mod IntForests
-pub mod IntBarriers
-pub mod IntTurns
-pub mod IntScenes
-pub mod IntPhaserRows
-pub mod IntBarrierRows
-pub mod IntOwnRows
-pub mod IntCallRows
-pub mod IntWaits
-pub mod IntRows
-pub mod IntRuns

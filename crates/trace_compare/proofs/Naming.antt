@@ -1,5 +1,5 @@
 -- What a choice's own line names.
-use Rattle.std.proofs.Common.{◌≡◌, ◌∙◌, ◌+◌, ◌/◌, ◌%◌, ◌^◌, ◌<◌, ◌≤◌, ◌==◌, ◌&&◌, not, ℕ, zero, suc, Bool, true, false, List, [], ◌∷◌, ◌++◌, length, take, drop, cond, if◌then◌else◌, Option, Some, None, codes, decimal, refl, ap, sym, subst, arith, append_assoc, ℤ}
+use Rattle.std.proofs.Common.{◌≡◌, ◌∙◌, ◌+◌, ◌/◌, ◌%◌, ◌^◌, ◌<◌, ◌≤◌, ◌==◌, ◌&&◌, not, ℕ, zero, suc, Bool, true, false, List, [], ◌∷◌, ◌++◌, length, take, drop, cond, if◌then◌else◌, Option, Some, None, codes, decimal, refl, ap, sym, subst, arith, append_assoc, length-append, ℤ}
 use Rattle.std.specs.Fmt.{signed_decimal}
 use Rattle.std.specs.Fmt.{digits, digits_onto, digit_glyph}
 use Rattle.std.specs.Char.{is_ascii_digit}
@@ -213,7 +213,7 @@ pub record IsOwnLine (choice : Choice) (text : List ℕ) : Type 0 where
   pub names : choice_in line ≡ Some choice
   pub no_state : is_state_line line ≡ false
 
-own_line : (step : ℕ) (choice : Choice) (n : ℕ) (rest : List ℕ) → n ≤ 400 → step < 10 ^ 13 → choice.thread ≤ 63
+own_line : (step : ℕ) (choice : Choice) (n : ℕ) (rest : List ℕ) → n ≤ 276 → step < 10 ^ 13 → choice.thread ≤ 63
     → IsLine n rest [] → IsOwnLine choice (choice_text step choice ++ rest)
 own_line step choice n rest short few there p =
     let q = Line-after 131 n (choice_text step choice) rest [] (choice-part step choice) p in
@@ -226,21 +226,45 @@ own_line step choice n rest short few there p =
       no_state = line-no_state step choice p.line;
     }
 
-pub event-own : (step : ℕ) (choice : Choice) (pc : ℕ) (event : Event) → step < 10 ^ 13 → choice.thread ≤ 63
-    → IsOwnLine choice (event_text step choice pc event)
-event-own step choice pc event few there =
-    own_line step choice 276 _ (omega arith) few there
-    (Line-after 64 212 (decimal pc) _ [] (decimal-part pc)
+-- what stands behind a choice's name
+event-line : (pc : ℕ) (event : Event)
+    → IsLine 276 (decimal pc ++ (codes " " ++ (what_text event.what ++ (mark_text event.mark ++ codes "\n")))) []
+event-line pc event =
+    Line-after 64 212 (decimal pc) _ [] (decimal-part pc)
     (Line-after 1 211 (codes " ") _ [] (record { within = refl; few = omega arith })
     (Line-after 71 140 (what_text event.what) _ [] (what-part event.what)
-    (Line-after 140 0 (mark_text event.mark) _ [] (mark-part event.mark) (Line-end [])))))
+    (Line-after 140 0 (mark_text event.mark) _ [] (mark-part event.mark) (Line-end []))))
+
+none-line : IsLine 6 (codes "- none\n") []
+none-line = record { line = codes "- none"; part = record { within = refl; few = omega arith }; is = refl }
+
+limit-line : (pc : ℕ) → IsLine 70 (decimal pc ++ codes " limit\n") []
+limit-line pc =
+    Line-after 64 6 (decimal pc) (codes " limit\n") [] (decimal-part pc)
+    (record { line = codes " limit"; part = record { within = refl; few = omega arith }; is = refl })
+
+pub event-own : (step : ℕ) (choice : Choice) (pc : ℕ) (event : Event) → step < 10 ^ 13 → choice.thread ≤ 63
+    → IsOwnLine choice (event_text step choice pc event)
+event-own step choice pc event few there = own_line step choice 276 _ (omega arith) few there (event-line pc event)
 
 pub refusal-own : (step : ℕ) (choice : Choice) (pc : Option ℕ) → step < 10 ^ 13 → choice.thread ≤ 63
     → IsOwnLine choice (refusal_text step choice pc)
-refusal-own step choice None few there =
-    own_line step choice 6 (codes "- none\n") (omega arith) few there
-    (record { line = codes "- none"; part = record { within = refl; few = omega arith }; is = refl })
+refusal-own step choice None few there = own_line step choice 6 (codes "- none\n") (omega arith) few there none-line
 refusal-own step choice (Some pc) few there =
-    own_line step choice 70 (decimal pc ++ codes " limit\n") (omega arith) few there
-    (Line-after 64 6 (decimal pc) (codes " limit\n") [] (decimal-part pc)
-    (record { line = codes " limit"; part = record { within = refl; few = omega arith }; is = refl }))
+    own_line step choice 70 (decimal pc ++ codes " limit\n") (omega arith) few there (limit-line pc)
+
+-- whatever its numbers are, the line of a choice isn't long
+text-few : (step : ℕ) (choice : Choice) (n : ℕ) (rest : List ℕ) → n ≤ 276 → IsLine n rest []
+    → length (choice_text step choice ++ rest) ≤ 408
+text-few step choice n rest few p =
+    let first = choice-part step choice in
+    let name = first.few in
+    let others = p.part.few in
+    omega (arith, length-append (choice_text step choice) rest, name, others, ap length p.is, length-append p.line (10 ∷ []), few)
+
+pub event-few : (step : ℕ) (choice : Choice) (pc : ℕ) (event : Event) → length (event_text step choice pc event) ≤ 408
+event-few step choice pc event = text-few step choice 276 _ (omega arith) (event-line pc event)
+
+pub refusal-few : (step : ℕ) (choice : Choice) (pc : Option ℕ) → length (refusal_text step choice pc) ≤ 408
+refusal-few step choice None = text-few step choice 6 (codes "- none\n") (omega arith) none-line
+refusal-few step choice (Some pc) = text-few step choice 70 (decimal pc ++ codes " limit\n") (omega arith) (limit-line pc)

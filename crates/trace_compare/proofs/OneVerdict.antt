@@ -17,7 +17,7 @@ use Rattle.thread_machine.specs.Step.{Played, played, played_by, refusal_of}
 use Rattle.thread_machine.specs.Execution.{Execution, execution, execution_by}
 use Rattle.trace_compare.specs.declared.comparison.Verdict.{Verdict}
 use Rattle.trace_compare.specs.declared.comparison.Verdict.TheVariants as verdict
-use Rattle.trace_compare.specs.Compare.{IsFoundTheSame, choice_in, choice_verdict, is_state_line, is_too_long, lines_verdict, state_verdict, verdict_of}
+use Rattle.trace_compare.specs.Compare.{IsFoundTheSame, choice_in, choice_verdict, is_state_line, lines_verdict, otherwise, state_verdict, verdict_of}
 use Rattle.trace_compare.specs.Lines.{event_text}
 use Rattle.trace_compare.specs.Start.{Begins}
 use Rattle.trace_compare.specs.State.{state_text}
@@ -97,7 +97,7 @@ choice-same phasers (Some choice) accepted world n line rest same =
     let refusal = refusal_of world choice in
     let other = stored phasers world in
     let lines = lines_of world (choice ∷ []) in
-    let ended = λ (text : List ℕ) (then : Verdict). cond (accepted && bytes_eq (line ++ (10 ∷ [])) text) then (verdict.Differs n) in
+    let ended = λ (text : List ℕ) (then : Verdict). cond (accepted && bytes_eq (line ++ (10 ∷ [])) text) then (otherwise n line) in
     let after = one_by refusal world choice in
     ap (λ why. ended (lines_by why other choice (λ later. [])) (rest (is_none (one_by why other choice).refusal) (one_by why other choice).world))
     (refusal-same phasers world choice)
@@ -112,10 +112,10 @@ lines-same : (phasers : List Stored) (lines : List (List ℕ)) (accepted : Bool)
 lines-same phasers [] accepted world n = refl
 lines-same phasers (line ∷ lines) accepted world n =
     let rest = λ (all : Bool) (after : World). lines_verdict all after (n + 1) lines in
-    ap (λ text. cond (is_too_long line) (verdict.NotATrace n) (cond (is_state_line line) (state_verdict text n (line ∷ lines))
-    (choice_verdict (choice_in line) accepted (stored phasers world) n line rest)))
+    ap (λ text. cond (is_state_line line) (state_verdict text n (line ∷ lines))
+    (choice_verdict (choice_in line) accepted (stored phasers world) n line rest))
     (state-same phasers world)
-    ∙ ap (λ v. cond (is_too_long line) (verdict.NotATrace n) (cond (is_state_line line) (state_verdict (state_text world) n (line ∷ lines)) v))
+    ∙ ap (λ v. cond (is_state_line line) (state_verdict (state_text world) n (line ∷ lines)) v)
     (choice-same phasers (choice_in line) accepted world n line rest (λ all after. lines-same phasers lines all after (n + 1)))
 
 -- a world in which the program of an image begins is the image's first, stored otherwise

@@ -23,7 +23,7 @@ use Rattle.thread_machine.specs.Execution.{execution}
 use Rattle.trace_compare.specs.declared.comparison.Comparison.{Comparison}
 use Rattle.trace_compare.specs.declared.comparison.Verdict.{Verdict}
 use Rattle.trace_compare.specs.declared.comparison.Verdict.TheVariants as verdict
-use Rattle.trace_compare.specs.Compare.{choice_in, choice_verdict, is_space, is_state_line, is_too_long, lines_verdict}
+use Rattle.trace_compare.specs.Compare.{choice_in, choice_verdict, is_space, is_state_line, lines_verdict, otherwise}
 use Rattle.trace_compare.specs.Comparing.{BeginsWithName, NamesBehind, bytes_left, lines_left}
 use Rattle.trace_compare.specs.Lines.{choice_text, event_text}
 use Rattle.trace_compare.specs.Trace.{Plays, lines_by, lines_of}
@@ -31,7 +31,7 @@ use Rattle.trace_compare.proofs.LineEnds.{two_digits}
 use Rattle.trace_compare.proofs.Naming.{choice-part, line_names, line-no_state}
 use Rattle.trace_compare.proofs.OwnTrace.{choice-same, own-line}
 use Rattle.trace_compare.proofs.PieceLines.{line-and_rest, line-with_lf, none-before}
-use Rattle.trace_compare.proofs.Verdicts.{left-lines, line_and_more, lines-choice, long_line, split_some}
+use Rattle.trace_compare.proofs.Verdicts.{choice-other, left-lines, line_and_more, lines-choice, split_some}
 use Rattle.trace_compare.proofs.WholeLines.{no_end}
 
 -- bytes begin as the line of a choice with this number does
@@ -102,16 +102,13 @@ other_line bytes more line text lines is few other =
     other (ap (λ n. take n bytes) (sym count) ∙ first_of bytes more line lines is (omega (arith, count, few)) ∙ text_is))
 
 -- a line that names a choice and isn't the run's
-named_otherwise : (accepted : Bool) (world : World) (n : ℕ) (line : List ℕ) (lines : List (List ℕ)) (choice : Choice) (long : Bool)
-    → is_too_long line ≡ long → is_state_line line ≡ false → choice_in line ≡ Some choice
+named_otherwise : (accepted : Bool) (world : World) (n : ℕ) (line : List ℕ) (lines : List (List ℕ)) (choice : Choice)
+    → is_state_line line ≡ false → choice_in line ≡ Some choice
     → (accepted && bytes_eq (line ++ (10 ∷ [])) (lines_of world (choice ∷ []))) ≡ false
-    → lines_verdict accepted world n (line ∷ lines) ≡ cond long (verdict.NotATrace n) (verdict.Differs n)
-named_otherwise accepted world n line lines choice true long state named other = long_line accepted world n line lines long
-named_otherwise accepted world n line lines choice false long state named other =
-    let rest = λ (a : Bool) (after : World). lines_verdict a after (n + 1) lines in
-    lines-choice accepted world n line lines _ _ refl refl long state
-    ∙ ap (λ c. choice_verdict c accepted world n line rest) named
-    ∙ ap (λ b. cond b (rest (is_none (execution world (choice ∷ [])).refusal) (execution world (choice ∷ [])).world) (verdict.Differs n)) other
+    → lines_verdict accepted world n (line ∷ lines) ≡ otherwise n line
+named_otherwise accepted world n line lines choice state named other =
+    lines-choice accepted world n line lines state
+    ∙ choice-other (choice_in line) choice accepted world n line (λ a after. lines_verdict a after (n + 1) lines) named other
 
 -- the bytes begin with a line of the choice that isn't the run's
 missed : (before after : Comparison) (choice : Choice) (text bytes more : List ℕ)
@@ -138,9 +135,9 @@ missed before after choice text bytes more state accepted still none same few (t
     ap (λ a. a && bytes_eq (line ++ (10 ∷ [])) (lines_of (world_of after.machine) (choice ∷ []))) none in
     ap (lines_left before) split_is
     ∙ left-lines before (line ∷ lines) state
-    ∙ named_otherwise before.accepted world before.number line lines choice (is_too_long line) refl no_state named differs
-    ∙ ap (λ n. cond (is_too_long line) (verdict.NotATrace n) (verdict.Differs n)) (sym same)
-    ∙ sym (named_otherwise after.accepted (world_of after.machine) after.number line lines choice (is_too_long line) refl no_state named refused)
+    ∙ named_otherwise before.accepted world before.number line lines choice no_state named differs
+    ∙ ap (λ n. otherwise n line) (sym same)
+    ∙ sym (named_otherwise after.accepted (world_of after.machine) after.number line lines choice no_state named refused)
     ∙ sym (left-lines after (line ∷ lines) still)
     ∙ sym (ap (lines_left after) split_is)
 
@@ -330,19 +327,18 @@ other_number world choice all line rest is other =
     ∙ ap (take n) whole ∙ take-append-le n number name (omega arith) ∙ take_all n number (omega arith)))
 
 -- what is made of a line that is no state line and not the run's
-abbrev named_verdict : Option Choice → Bool → ℕ → Verdict
-named_verdict (Some choice) long n = cond long (verdict.NotATrace n) (verdict.Differs n)
-named_verdict None long n = verdict.NotATrace n
+abbrev named_verdict : Option Choice → ℕ → List ℕ → Verdict
+named_verdict (Some choice) n line = otherwise n line
+named_verdict None n line = verdict.NotATrace n
 
-by_name : (found : Option Choice) (accepted : Bool) (world : World) (n : ℕ) (line : List ℕ) (lines : List (List ℕ)) (long : Bool)
-    → is_too_long line ≡ long → is_state_line line ≡ false → choice_in line ≡ found
+by_name : (found : Option Choice) (accepted : Bool) (world : World) (n : ℕ) (line : List ℕ) (lines : List (List ℕ))
+    → is_state_line line ≡ false → choice_in line ≡ found
     → ((choice : Choice) → (accepted && bytes_eq (line ++ (10 ∷ [])) (lines_of world (choice ∷ []))) ≡ false)
-    → lines_verdict accepted world n (line ∷ lines) ≡ named_verdict found long n
-by_name (Some choice) accepted world n line lines long long_is state named other =
-    named_otherwise accepted world n line lines choice long long_is state named (other choice)
-by_name None accepted world n line lines true long_is state named other = long_line accepted world n line lines long_is
-by_name None accepted world n line lines false long_is state named other =
-    lines-choice accepted world n line lines _ _ long_is state refl refl
+    → lines_verdict accepted world n (line ∷ lines) ≡ named_verdict found n line
+by_name (Some choice) accepted world n line lines state named other =
+    named_otherwise accepted world n line lines choice state named (other choice)
+by_name None accepted world n line lines state named other =
+    lines-choice accepted world n line lines state
     ∙ ap (λ c. choice_verdict c accepted world n line (λ more after. lines_verdict more after (n + 1) lines)) named
 
 -- the bytes don't begin with the next choice's number
@@ -363,10 +359,10 @@ no_number before after bytes more state accepted still none same some letter few
     (λ begins. other (sym (take-append-le (length number) bytes more few) ∙ begins)) in
     ap (lines_left before) split
     ∙ left-lines before (line ∷ lines) state
-    ∙ by_name (choice_in line) before.accepted world before.number line lines (is_too_long line) refl no_state refl
+    ∙ by_name (choice_in line) before.accepted world before.number line lines no_state refl
     (λ choice. ap (λ a. a && bytes_eq (line ++ (10 ∷ [])) (lines_of world (choice ∷ []))) accepted ∙ others choice)
-    ∙ ap (named_verdict (choice_in line) (is_too_long line)) (sym same)
-    ∙ sym (by_name (choice_in line) after.accepted (world_of after.machine) after.number line lines (is_too_long line) refl no_state refl
+    ∙ ap (λ n. named_verdict (choice_in line) n line) (sym same)
+    ∙ sym (by_name (choice_in line) after.accepted (world_of after.machine) after.number line lines no_state refl
     (λ choice. ap (λ a. a && bytes_eq (line ++ (10 ∷ [])) (lines_of (world_of after.machine) (choice ∷ []))) none))
     ∙ sym (left-lines after (line ∷ lines) still)
     ∙ sym (ap (lines_left after) split)

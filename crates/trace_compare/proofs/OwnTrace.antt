@@ -1,6 +1,6 @@
 -- The trace of any choices has the verdict `Same`.
 use Rattle.std.proofs.Common.{◌≡◌, ◌∙◌, ◌+◌, ◌<◌, ◌≤◌, ◌==◌, ◌||◌, ℕ, Bool, true, false, List, [], ◌∷◌, ◌++◌, length, cond, Option, Some, None, is_none, refl, ap, sym, subst, arith, append_assoc, append-nil, All, ◌≢◌, nat_le}
-use Rattle.std.proofs.lemmas.Bool.{ltb-false, eqb-false}
+use Rattle.std.proofs.lemmas.Bool.{eqb-false}
 use Rattle.std.proofs.lemmas.List.Elements.{All-head, All-tail}
 use Rattle.std.proofs.lemmas.Slice.Eq.{bytes_eq-Decides}
 use Rattle.std.specs.List.{slice_split}
@@ -17,19 +17,15 @@ use Rattle.thread_machine.specs.Step.{Played, is_used_up, played, played_by, ref
 use Rattle.thread_machine.specs.Execution.{execution, execution_by}
 use Rattle.trace_compare.specs.declared.comparison.Verdict.TheVariants as verdict
 use Rattle.trace_compare.specs.Brief.{IsBrief}
-use Rattle.trace_compare.specs.Compare.{HasNoLongLine, choice_verdict, is_state_line, is_too_long, lines_verdict, state_verdict}
+use Rattle.trace_compare.specs.Compare.{choice_verdict, is_state_line, lines_verdict, otherwise, state_verdict}
 use Rattle.trace_compare.specs.Lines.{event_text}
 use Rattle.trace_compare.specs.State.{state_text}
 use Rattle.trace_compare.specs.Trace.{lines_by, lines_of, trace_of}
 use Rattle.trace_compare.proofs.Naming.{IsOwnLine, event-own, refusal-own}
-use Rattle.trace_compare.proofs.Plays.{goes_on, stops}
 use Rattle.trace_compare.proofs.SameTrace.{after_choice, left_by}
 use Rattle.trace_compare.proofs.StateLines.{parts_text, state-is_state, state-line, state-whole}
 use Rattle.trace_compare.proofs.Verdicts.{state-same}
 use Rattle.trace_compare.proofs.WholeLines.{AllWithin, IsWhole, after_line-is, first_line-is, split-line, whole}
-
-abbrev IsShort : List ℕ → Type 0
-IsShort line = is_too_long line ≡ false
 
 -- a thread that a line may name
 abbrev pub IsNamed : Choice → Type 0
@@ -40,26 +36,21 @@ some_text [] rest = omega arith
 some_text (x ∷ line) rest = omega arith
 
 -- the lines of a text against the same text
-state-own : (lines : List (List ℕ)) (n : ℕ) → AllWithin lines → HasNoLongLine (whole lines)
+state-own : (lines : List (List ℕ)) (n : ℕ) → AllWithin lines
     → state_verdict (whole lines) n (slice_split is_line_end (whole lines)) ≡ verdict.Same
-state-own [] n within short = refl
-state-own (line ∷ lines) n within short =
+state-own [] n within = refl
+state-own (line ∷ lines) n within =
     let rest = whole lines in
     let text = whole (line ∷ lines) in
-    let split : slice_split is_line_end text ≡ line ∷ slice_split is_line_end rest = split-line line rest within.0 in
-    let each = subst (λ ls. All IsShort ls) split short in
-    let few : length line ≤ 65536 = ltb-false 65536 (length line) (All-head IsShort line (slice_split is_line_end rest) each) in
-    ap (state_verdict text n) split
-    ∙ state-same text n line (slice_split is_line_end rest) (some_text line rest) few (sym (first_line-is line rest within.0))
+    ap (state_verdict text n) (split-line line rest within.0)
+    ∙ state-same text n line (slice_split is_line_end rest) (some_text line rest) (sym (first_line-is line rest within.0))
     ∙ ap (λ t. state_verdict t (n + 1) (slice_split is_line_end rest)) (after_line-is line rest within.0)
-    ∙ state-own lines (n + 1) within.1 (All-tail IsShort line (slice_split is_line_end rest) each)
+    ∙ state-own lines (n + 1) within.1
 
 -- a state against its own text
-state_again : (brief : Type 0) (text : List ℕ) (n : ℕ) → IsWhole brief text → HasNoLongLine text
+state_again : (brief : Type 0) (text : List ℕ) (n : ℕ) → IsWhole brief text
     → state_verdict text n (slice_split is_line_end text) ≡ verdict.Same
-state_again brief text n p short =
-    ap (λ t. state_verdict t n (slice_split is_line_end t)) p.is
-    ∙ state-own p.lines n p.within (subst HasNoLongLine p.is short)
+state_again brief text n p = ap (λ t. state_verdict t n (slice_split is_line_end t)) p.is ∙ state-own p.lines n p.within
 
 -- a line up to the state line
 cond-no : {A : Type 0} (b : Bool) (x y : A) → b ≡ false → cond b x y ≡ y
@@ -68,21 +59,19 @@ cond-no b x y is = ap (λ c. cond c x y) is
 cond-yes : {A : Type 0} (b : Bool) (x y : A) → b ≡ true → cond b x y ≡ x
 cond-yes b x y is = ap (λ c. cond c x y) is
 
-states-same : (accepted : Bool) (world : World) (n : ℕ) → HasNoLongLine (state_text world)
+states-same : (accepted : Bool) (world : World) (n : ℕ)
     → lines_verdict accepted world n (slice_split is_line_end (state_text world)) ≡ verdict.Same
-states-same accepted world n short =
+states-same accepted world n =
     let text = state_text world in
     let first = state-line world in
     let rest = parts_text world in
     let is : text ≡ (first.line ++ 10 ∷ []) ++ rest = first.is ∙ sym (append_assoc first.line (10 ∷ []) rest) in
     let split : slice_split is_line_end text ≡ first.line ∷ slice_split is_line_end rest =
     ap (slice_split is_line_end) is ∙ split-line first.line rest first.part.within in
-    let each = subst (λ ls. All IsShort ls) split short in
     ap (lines_verdict accepted world n) split
-    ∙ cond-no (is_too_long first.line) (verdict.NotATrace n) _ (All-head IsShort first.line (slice_split is_line_end rest) each)
     ∙ cond-yes (is_state_line first.line) (state_verdict text n (first.line ∷ slice_split is_line_end rest)) _ (state-is_state world)
     ∙ ap (state_verdict text n) (sym split)
-    ∙ state_again (All IsBrief world.scene.threads) text n (state-whole world) short
+    ∙ state_again (All IsBrief world.scene.threads) text n (state-whole world)
 
 -- a choice's line, by whether there is no such thread and whether nothing is left for it
 line_by : (missing used : Bool) (world : World) (choice : Choice) → world.choices ≤ 1000000000000 → choice.thread ≤ 63
@@ -116,10 +105,9 @@ choice-same world choice rest n own =
     let same : bytes_eq (line ++ (10 ∷ [])) text ≡ true = (bytes_eq-Decides (line ++ (10 ∷ [])) text).1 (sym own.is) in
     ap (λ t. lines_verdict true world n (slice_split is_line_end (t ++ rest))) own.is
     ∙ ap (lines_verdict true world n) (split-line line rest own.within)
-    ∙ cond-no (is_too_long line) (verdict.NotATrace n) _ own.short
     ∙ cond-no (is_state_line line) (state_verdict (state_text world) n (line ∷ lines)) _ own.no_state
     ∙ ap (λ named. choice_verdict named true world n line more) own.names
-    ∙ cond-yes (bytes_eq (line ++ (10 ∷ [])) text) _ (verdict.Differs n) same
+    ∙ cond-yes (bytes_eq (line ++ (10 ∷ [])) text) _ (otherwise n line) same
 
 -- an accepted choice is counted
 played-choices : (outcome : Option Outcome) (world : World) → (played_by outcome world).world.choices ≡ world.choices + 1
@@ -158,26 +146,21 @@ counted world choice few none =
 -- what follows a choice's line, by whether the choice was refused
 rest_by : (refusal : Option StepFault) (world : World) (choice : Choice) (choices : List Choice) (n : ℕ)
     → (execution world (choice ∷ [])).refusal ≡ refusal → world.choices ≤ 1000000000000
-    → HasNoLongLine (state_text (execution world (choice ∷ choices)).world)
-    → ((after : World) → after.choices ≤ 1000000000000 → HasNoLongLine (state_text (execution after choices).world)
+    → ((after : World) → after.choices ≤ 1000000000000
     → lines_verdict true after n (slice_split is_line_end (trace_of after choices)) ≡ verdict.Same)
     → lines_verdict (is_none refusal) (execution world (choice ∷ [])).world n
     (slice_split is_line_end (left_by (is_none refusal) (execution world (choice ∷ [])).world choices)) ≡ verdict.Same
-rest_by None world choice choices n is few short rest =
-    rest (execution world (choice ∷ [])).world (counted world choice few is)
-    (subst (λ (w : World). HasNoLongLine (state_text w)) (goes_on (choice ∷ []) world choices is).1 short)
-rest_by (Some fault) world choice choices n is few short rest =
-    states-same false (execution world (choice ∷ [])).world n
-    (subst (λ (w : World). HasNoLongLine (state_text w)) (stops (choice ∷ []) world choices fault is).1 short)
+rest_by None world choice choices n is few rest = rest (execution world (choice ∷ [])).world (counted world choice few is)
+rest_by (Some fault) world choice choices n is few rest = states-same false (execution world (choice ∷ [])).world n
 
 pub own-trace : (choices : List Choice) (world : World) (n : ℕ) → world.choices ≤ 1000000000000
-    → All IsNamed choices → HasNoLongLine (state_text (execution world choices).world)
+    → All IsNamed choices
     → lines_verdict true world n (slice_split is_line_end (trace_of world choices)) ≡ verdict.Same
-own-trace [] world n few there short = states-same true world n short
-own-trace (choice ∷ choices) world n few there short =
+own-trace [] world n few there = states-same true world n
+own-trace (choice ∷ choices) world n few there =
     let refusal = (execution world (choice ∷ [])).refusal in
     let rest = left_by (is_none refusal) (execution world (choice ∷ [])).world choices in
     ap (λ t. lines_verdict true world n (slice_split is_line_end t)) (sym (after_choice world choice choices refusal refl))
     ∙ choice-same world choice rest n (own-line world choice few (All-head IsNamed choice choices there))
-    ∙ rest_by refusal world choice choices (n + 1) refl few short
-    (λ after more later. own-trace choices after (n + 1) more (All-tail IsNamed choice choices there) later)
+    ∙ rest_by refusal world choice choices (n + 1) refl few
+    (λ after more. own-trace choices after (n + 1) more (All-tail IsNamed choice choices there))

@@ -12,7 +12,7 @@ use Rattle.thread_machine.specs.World.{World}
 use Rattle.thread_machine.specs.Execution.{execution}
 use Rattle.trace_compare.specs.declared.comparison.Verdict.{Verdict}
 use Rattle.trace_compare.specs.declared.comparison.Verdict.TheVariants as verdict
-use Rattle.trace_compare.specs.Compare.{after_line, choice_in, choice_verdict, choices_in, choices_of_trace, first_line, is_state_line, is_too_long, lines_verdict, state_verdict, verdict_of, with_choice}
+use Rattle.trace_compare.specs.Compare.{after_line, choice_in, choice_verdict, choices_in, choices_of_trace, first_line, is_state_line, is_too_long, lines_verdict, otherwise, state_verdict, verdict_of, with_choice}
 use Rattle.trace_compare.specs.State.{state_text}
 use Rattle.trace_compare.specs.Trace.{lines_of, trace_of}
 use Rattle.trace_compare.proofs.Plays.{goes_on, stops}
@@ -27,15 +27,14 @@ joined-line line [] some = absurd (omega (arith, some))
 joined-line line (next ∷ lines) some = sym (append_assoc line (10 ∷ []) (joined (next ∷ lines)))
 
 -- a line that passed
-passed : (long same : Bool) (n : ℕ) (rest : Verdict)
-    → cond long (verdict.NotATrace n) (cond same rest (verdict.Differs n)) ≡ verdict.Same → (same ≡ true) × (rest ≡ verdict.Same)
-passed true same n rest e = let no : ⊥ = cc in absurd no
-passed false true n rest e = (refl, e)
-passed false false n rest e = let no : ⊥ = cc in absurd no
-
 refuted : {P : Type 0} (long : Bool) (n : ℕ) → cond long (verdict.NotATrace n) (verdict.Differs n) ≡ verdict.Same → P
 refuted true n e = let no : ⊥ = cc in absurd no
 refuted false n e = let no : ⊥ = cc in absurd no
+
+passed : (same : Bool) (n : ℕ) (line : List ℕ) (rest : Verdict) → cond same rest (otherwise n line) ≡ verdict.Same
+    → (same ≡ true) × (rest ≡ verdict.Same)
+passed true n line rest e = (refl, e)
+passed false n line rest e = refuted (is_too_long line) n e
 
 -- something is left where the state text is due
 some_state : (text : List ℕ) (n : ℕ) (lines : List (List ℕ)) → state_verdict text n lines ≡ verdict.Same → 0 < length lines
@@ -57,7 +56,7 @@ state-joined ([] ∷ next ∷ lines) [] n e = let no : ⊥ = cc in absurd no
 state-joined ((x ∷ line) ∷ lines) [] n e = refuted (is_too_long (x ∷ line)) n e
 state-joined (line ∷ lines) (byte ∷ text) n e =
     let whole = byte ∷ text in
-    let p = passed (is_too_long line) (bytes_eq (line ++ (10 ∷ [])) (first_line whole)) n (state_verdict (after_line whole) (n + 1) lines) e in
+    let p = passed (bytes_eq (line ++ (10 ∷ [])) (first_line whole)) n line (state_verdict (after_line whole) (n + 1) lines) e in
     joined-line line lines (some_state (after_line whole) (n + 1) lines p.1)
     ∙ ap (λ bytes. bytes ++ joined lines) ((bytes_eq-Decides (line ++ (10 ∷ [])) (first_line whole)).0 p.0)
     ∙ ap (λ bytes. first_line whole ++ bytes) (state-joined lines (after_line whole) (n + 1) p.1)
@@ -89,19 +88,18 @@ after_choice world choice choices (Some fault) is =
     ∙ ap (λ (w : World). lines_of world (choice ∷ choices) ++ state_text w) (sym end.1)
 
 -- one line more
-line-joined : (long state : Bool) (named : Option Choice) (accepted : Bool) (world : World) (n : ℕ) (line : List ℕ) (lines : List (List ℕ))
+line-joined : (state : Bool) (named : Option Choice) (accepted : Bool) (world : World) (n : ℕ) (line : List ℕ) (lines : List (List ℕ))
     → ((a : Bool) (w : World) → lines_verdict a w (n + 1) lines ≡ verdict.Same → joined lines ≡ left_by a w (choices_in lines))
-    → cond long (verdict.NotATrace n) (cond state (state_verdict (state_text world) n (line ∷ lines))
-    (choice_verdict named accepted world n line (λ a w. lines_verdict a w (n + 1) lines))) ≡ verdict.Same
+    → cond state (state_verdict (state_text world) n (line ∷ lines))
+    (choice_verdict named accepted world n line (λ a w. lines_verdict a w (n + 1) lines)) ≡ verdict.Same
     → joined (line ∷ lines) ≡ left_by accepted world (cond state [] (with_choice named (choices_in lines)))
-line-joined true state named accepted world n line lines rest e = let no : ⊥ = cc in absurd no
-line-joined false true named accepted world n line lines rest e =
+line-joined true named accepted world n line lines rest e =
     state-joined (line ∷ lines) (state_text world) n e ∙ left_by-none accepted world
-line-joined false false None accepted world n line lines rest e = let no : ⊥ = cc in absurd no
-line-joined false false (Some choice) false world n line lines rest e = let no : ⊥ = cc in absurd no
-line-joined false false (Some choice) true world n line lines rest e =
+line-joined false None accepted world n line lines rest e = let no : ⊥ = cc in absurd no
+line-joined false (Some choice) false world n line lines rest e = refuted (is_too_long line) n e
+line-joined false (Some choice) true world n line lines rest e =
     let played = execution world (choice ∷ []) in
-    let p = passed false (bytes_eq (line ++ (10 ∷ [])) (lines_of world (choice ∷ []))) n
+    let p = passed (bytes_eq (line ++ (10 ∷ [])) (lines_of world (choice ∷ []))) n line
     (lines_verdict (is_none played.refusal) played.world (n + 1) lines) e in
     joined-line line lines (some_lines (is_none played.refusal) played.world (n + 1) lines p.1)
     ∙ ap (λ bytes. bytes ++ joined lines) ((bytes_eq-Decides (line ++ (10 ∷ [])) (lines_of world (choice ∷ []))).0 p.0)
@@ -112,7 +110,7 @@ lines-joined : (lines : List (List ℕ)) (accepted : Bool) (world : World) (n : 
     → joined lines ≡ left_by accepted world (choices_in lines)
 lines-joined [] accepted world n e = let no : ⊥ = cc in absurd no
 lines-joined (line ∷ lines) accepted world n e =
-    line-joined (is_too_long line) (is_state_line line) (choice_in line) accepted world n line lines
+    line-joined (is_state_line line) (choice_in line) accepted world n line lines
     (λ a w same. lines-joined lines a w (n + 1) same) e
 
 pub same-trace : (world : World) (trace : List ℕ) → verdict_of world trace ≡ verdict.Same → trace ≡ trace_of world (choices_of_trace trace)

@@ -13,7 +13,7 @@ use Rattle.thread_machine.specs.World.{World}
 use Rattle.thread_machine.specs.declared.choice.Choice.{Choice}
 use Rattle.thread_machine.specs.Execution.{execution}
 use Rattle.trace_compare.specs.declared.comparison.Verdict.TheVariants.{Same}
-use Rattle.trace_compare.specs.Compare.{HasNoLongLine, verdict_of}
+use Rattle.trace_compare.specs.Compare.{verdict_of}
 use Rattle.trace_compare.proofs.NamedThreads.{named-runs, named-threads}
 use Rattle.trace_compare.proofs.OneVerdict.{found-same}
 use Rattle.trace_compare.proofs.OwnTrace.{IsNamed, own-trace}
@@ -83,10 +83,9 @@ end_of first last choices all end old new plays (standing, text, refused) = (
 -- the lines, and then the state that they leave
 traced_by : (end : RunEnd) (first last : World) (choices : List Choice) (all : Bool) (old between new : Option (List ℕ))
     → Plays first last choices all old between → TellsEnd last all end → Appends between new (state_text last)
-    → HasNoLongLine (state_text last) → AreTraced first choices end old new
-traced_by end first last choices all old between new plays tells appends short =
+    → AreTraced first choices end old new
+traced_by end first last choices all old between new plays tells appends =
     let state = λ (world : World). state_text world in (
-      subst (λ (world : World). HasNoLongLine (state_text world)) plays.world short,
       end_of first last choices all end old between plays tells,
       subst (λ text. Appends old new (lines_of first choices ++ text)) (ap state plays.world)
           (Appends-trans old between new _ (state_text last) plays.lines appends),
@@ -95,20 +94,19 @@ traced_by end first last choices all old between new plays tells appends short =
 pub are_traced : {E : Type 0} (result : Result RunEnd E) (first last : World) (choices : List Choice) (all : Bool)
     (old between new : Option (List ℕ)) → Plays first last choices all old between
     → IfOk result (TellsEnd last all) → OnOk result (Appends between new (state_text last))
-    → OnOk result (HasNoLongLine (state_text last)) → IfOk result (λ end. AreTraced first choices end old new)
-are_traced (Ok end) first last choices all old between new plays tells appends short =
-    traced_by end first last choices all old between new plays tells appends short
-are_traced (Err e) first last choices all old between new plays tells appends short = appends
+    → IfOk result (λ end. AreTraced first choices end old new)
+are_traced (Ok end) first last choices all old between new plays tells appends =
+    traced_by end first last choices all old between new plays tells appends
+are_traced (Err e) first last choices all old between new plays tells appends = appends
 
 -- the same of a whole schedule
 pub traced-all : {E : Type 0} (result : Result RunEnd E) (first last : World) (all : Bool)
     (schedule_before schedule_after old between new : Option (List ℕ))
     → HasPlayedAll first last all schedule_before schedule_after old between
     → IfOk result (TellsEnd last all) → OnOk result (Appends between new (state_text last))
-    → OnOk result (HasNoLongLine (state_text last))
     → IfOk result (λ end. HasTraced first end schedule_before schedule_after old new)
 traced-all (Ok end) first last all schedule_before schedule_after old between new
-    (bytes, (runs, (consumed, at_end, is, plays))) tells appends short = (
+    (bytes, (runs, (consumed, at_end, is, plays))) tells appends = (
       bytes,
       (
         runs,
@@ -116,29 +114,29 @@ traced-all (Ok end) first last all schedule_before schedule_after old between ne
           consumed,
           at_end,
           is,
-          traced_by end first last (choices_of runs) all old between new plays tells appends short,
+          traced_by end first last (choices_of runs) all old between new plays tells appends,
         ),
       ),
     )
-traced-all (Err e) first last all schedule_before schedule_after old between new played tells appends short = appends
+traced-all (Err e) first last all schedule_before schedule_after old between new played tells appends = appends
 
 -- the verdict on a trace, beside the program that it is of
-begun-verdict : (image : Image) (world : World) (choices : List Choice) → Begins image world → All IsNamed choices
-    → HasNoLongLine (state_text (execution world choices).world) → verdict_of world (trace_of world choices) ≡ Same
-begun-verdict image world choices (loads, first) named short =
-    own-trace choices world 1 (omega (arith, ap (λ (w : World). w.choices) first)) named short
+pub begun-verdict : (image : Image) (world : World) (choices : List Choice) → Begins image world → All IsNamed choices
+    → verdict_of world (trace_of world choices) ≡ Same
+begun-verdict image world choices (loads, first) named =
+    own-trace choices world 1 (omega (arith, ap (λ (w : World). w.choices) first)) named
 
 -- a comparison finds the trace of runs the same that a token can spell
 pub traced-same : {E : Type 0} (result : Result RunEnd E) (image : Image) (world : World) (runs : List Run)
     (old new : Option (List ℕ)) → Begins image world → All IsRun runs
     → IfOk result (λ end. AreTraced world (choices_of runs) end old new) → OnOk result (HasWrittenTheSame image old new)
-traced-same (Ok end) image world runs old new begins are (short, ends, appends) =
+traced-same (Ok end) image world runs old new begins are (ends, appends) =
     let trace = trace_of world (choices_of runs) in (
       trace,
       (
         appends,
         found-same image world trace begins
-            (begun-verdict image world (choices_of runs) begins (named-runs runs are) short),
+            (begun-verdict image world (choices_of runs) begins (named-runs runs are)),
       ),
     )
 traced-same (Err e) image world runs old new begins are traced = traced
@@ -149,7 +147,7 @@ pub begun : {E : Type 0} (result : Result RunEnd E) (image : Image) (world : Wor
     → IfOk result (λ end. HasTraced world end schedule_before schedule_after old new)
     → OnOk result (HasRun image schedule_before schedule_after old new)
 begun (Ok end) image world schedule_before schedule_after old new begins p =
-    let (bytes, (runs, (consumed, at_end, is, (short, ends, appends)))) = p in
+    let (bytes, (runs, (consumed, at_end, is, (ends, appends)))) = p in
     (bytes, (trace_of world (choices_of runs), (consumed, at_end, (world, (runs, (begins, is, refl))), appends)))
 begun (Err e) image world schedule_before schedule_after old new begins p = p
 
@@ -159,7 +157,7 @@ pub begun-ends : {E : Type 0} (result : Result RunEnd E) (image : Image) (world 
     → IfOk result (λ end. HasTraced world end schedule_before schedule_after old new)
     → IfOk result (λ end. EndsAs image end schedule_before schedule_after)
 begun-ends (Ok end) image world schedule_before schedule_after old new begins p =
-    let (bytes, (runs, (consumed, at_end, is, (short, ends, appends)))) = p in
+    let (bytes, (runs, (consumed, at_end, is, (ends, appends)))) = p in
     (bytes, (world, (runs, (consumed, at_end, begins, is, ends))))
 begun-ends (Err e) image world schedule_before schedule_after old new begins p = p
 
@@ -169,9 +167,9 @@ pub begun-same : {E : Type 0} (result : Result RunEnd E) (image : Image) (world 
     → IfOk result (λ end. HasTraced world end schedule_before schedule_after old new)
     → OnOk result (HasWrittenTheSame image old new)
 begun-same (Ok end) image world schedule_before schedule_after old new begins p =
-    let (bytes, (runs, (consumed, at_end, is, (short, ends, appends)))) = p in
+    let (bytes, (runs, (consumed, at_end, is, (ends, appends)))) = p in
     let trace = trace_of world (choices_of runs) in
-    (trace, (appends, found-same image world trace begins (begun-verdict image world (choices_of runs) begins (named-threads bytes runs None is) short)))
+    (trace, (appends, found-same image world trace begins (begun-verdict image world (choices_of runs) begins (named-threads bytes runs None is))))
 begun-same (Err e) image world schedule_before schedule_after old new begins p = p
 
 pub begun_part : (image : Image) (world : World) (schedule_before schedule_after old new : Option (List ℕ)) → Begins image world

@@ -11,10 +11,10 @@ use Rattle.std.proofs.lemmas.Bool.{cases_lt, lt-ltb}
 use Rattle.std.proofs.lemmas.Bool.Decides.{nat_tests}
 use Rattle.std.proofs.lemmas.List.Elements.{All-append, All-cons, All-head, All-tail}
 use Rattle.std.proofs.lemmas.List.Splits.{slice_split_at, slice_split_none, slice_split-cons_no, length-slice_split}
-use Rattle.std.proofs.lemmas.List.{drop_all, take_all, drop-drop}
+use Rattle.std.proofs.lemmas.List.{drop_all, length-take, take_all, drop-drop}
 use Rattle.std.specs.List.{position_or_len, slice_split, onto_first}
 use Rattle.std.specs.Str.{bytes_eq}
-use Rattle.std.proofs.lemmas.Bool.{le-ltb}
+use Rattle.std.proofs.lemmas.Bool.{false_from_ne_true}
 use Rattle.std.proofs.lemmas.Slice.Eq.{bytes_eq-Decides}
 use Rattle.std.specs.Io.KnownBytes.{Consumes}
 use Rattle.row_code.specs.declared.image.Image.{Image}
@@ -22,13 +22,21 @@ use Rattle.trace_compare.specs.Start.{Begins}
 use Rattle.line_reader.specs.Words.{is_line_end}
 use Rattle.thread_machine.specs.declared.choice.Choice.{Choice}
 use Rattle.thread_machine.specs.declared.fault.StepFault.{StepFault}
+use Rattle.thread_machine.specs.declared.fault.StepFault.TheVariants.{Memory, NoSuchThread, StepLimit}
 use Rattle.thread_machine.specs.World.{StoredWorld, World, world_of}
 use Rattle.thread_machine.specs.Execution.{execution}
 use Rattle.trace_compare.specs.declared.comparison.Verdict.{Verdict}
 use Rattle.trace_compare.specs.declared.comparison.Judged.{Judged}
 use Rattle.trace_compare.specs.declared.comparison.Verdict.TheVariants as verdict
-use Rattle.trace_compare.specs.Compare.{HasCompared, HasVerdict, verdict_of, choice_verdict, first_line, after_line, state_verdict, lines_verdict, is_too_long, is_state_line, choice_in}
-use Rattle.trace_compare.specs.Trace.{Plays, lines_of}
+use Rattle.trace_compare.specs.Compare.{HasCompared, HasNoLongLine, HasVerdict, verdict_of, choice_verdict, first_line, after_line, state_verdict, lines_verdict, otherwise, is_state_line, choice_in}
+use Rattle.trace_compare.specs.Lines.{event_text}
+use Rattle.trace_compare.specs.State.{state_text}
+use Rattle.trace_compare.specs.Trace.{Plays, lines_by, lines_of}
+use Rattle.machine_scene.specs.Scene.{thread_at}
+use Rattle.thread_machine.specs.Step.{Played, played, refusal_of}
+use Rattle.trace_compare.proofs.Naming.{event-few, refusal-few}
+use Rattle.trace_compare.proofs.StateLines.{parts_text, state-line}
+use Rattle.trace_compare.proofs.WholeLines.{first-is}
 
 of_not : (b : Bool) → not b ≡ false → b ≡ true
 of_not true is = refl
@@ -41,21 +49,32 @@ same_bytes xs ys same = (bytes_eq-Decides xs ys).1 same
 pub found_same : (xs ys : List ℕ) (differ : Bool) → differ ≡ not (bytes_eq xs ys) → differ ≡ false → xs ≡ ys
 found_same xs ys differ is none = (bytes_eq-Decides xs ys).0 (of_not (bytes_eq xs ys) (sym is ∙ none))
 
-pub short_line : (line : List ℕ) → length line ≤ 65536 → is_too_long line ≡ false
-short_line line few = le-ltb 65536 (length line) few
+-- a line that isn't the run's, and is too long
+long-otherwise : (n : ℕ) (line : List ℕ) → 65536 < length line → otherwise n line ≡ verdict.NotATrace n
+long-otherwise n line many = ap (λ long. cond long (verdict.NotATrace n) (verdict.Differs n)) (lt-ltb 65536 (length line) many)
 
 -- a line of the state text
-state-same_by : (byte : ℕ) (text : List ℕ) (n : ℕ) (line : List ℕ) (lines : List (List ℕ)) (long same : Bool)
-    → is_too_long line ≡ long → bytes_eq (line ++ (10 ∷ [])) (first_line (byte ∷ text)) ≡ same → long ≡ false → same ≡ true
-    → state_verdict (byte ∷ text) n (line ∷ lines) ≡ state_verdict (after_line (byte ∷ text)) (n + 1) lines
-state-same_by byte text n line lines long same long_is same_is a b = rw (long_is ∙ a, same_is ∙ b) refl
+state-by : (byte : ℕ) (text : List ℕ) (n : ℕ) (line : List ℕ) (lines : List (List ℕ)) (same : Bool)
+    → bytes_eq (line ++ (10 ∷ [])) (first_line (byte ∷ text)) ≡ same
+    → state_verdict (byte ∷ text) n (line ∷ lines) ≡ cond same (state_verdict (after_line (byte ∷ text)) (n + 1) lines) (otherwise n line)
+state-by byte text n line lines same is =
+    ap (λ b. cond b (state_verdict (after_line (byte ∷ text)) (n + 1) lines) (otherwise n line)) is
 
-pub state-same : (text : List ℕ) (n : ℕ) (line : List ℕ) (lines : List (List ℕ)) → 0 < length text → length line ≤ 65536
+pub state-same : (text : List ℕ) (n : ℕ) (line : List ℕ) (lines : List (List ℕ)) → 0 < length text
     → line ++ (10 ∷ []) ≡ first_line text
     → state_verdict text n (line ∷ lines) ≡ state_verdict (after_line text) (n + 1) lines
-state-same [] n line lines some few same = absurd (omega (arith, some))
-state-same (byte ∷ text) n line lines some few same =
-    state-same_by byte text n line lines _ _ refl refl (short_line line few) (same_bytes (line ++ (10 ∷ [])) _ same)
+state-same [] n line lines some same = absurd (omega (arith, some))
+state-same (byte ∷ text) n line lines some same =
+    state-by byte text n line lines true (same_bytes (line ++ (10 ∷ [])) _ same)
+
+-- where another one is due, or nothing
+state-other : (text : List ℕ) (n : ℕ) (line : List ℕ) (lines : List (List ℕ)) → 0 < length text + (length line + length lines)
+    → (0 < length text → bytes_eq (line ++ (10 ∷ [])) (first_line text) ≡ false)
+    → state_verdict text n (line ∷ lines) ≡ otherwise n line
+state-other [] n [] [] due_or_left other = absurd (omega (arith, due_or_left))
+state-other [] n [] (next ∷ lines) due_or_left other = refl
+state-other [] n (x ∷ line) lines due_or_left other = refl
+state-other (byte ∷ text) n line lines due_or_left other = state-by byte text n line lines false (other (omega arith))
 
 -- whether no choice was refused
 none_by : (refusal : Option StepFault) (all : Bool) → (IsTrue all ↔ (refusal ≡ None)) → is_none refusal ≡ all
@@ -89,13 +108,13 @@ drop_up_to bytes n m is =
     ]
 
 pub state-further : (text due : List ℕ) (at first end n : ℕ) (line whole part : List ℕ) (lines : List (List ℕ))
-    → due ≡ drop at text → 0 < length due → length line ≤ 65536 → first ≡ position_or_len is_line_end due
+    → due ≡ drop at text → 0 < length due → first ≡ position_or_len is_line_end due
     → end ≡ min (first + 1) (length due) → whole ≡ line ++ (10 ∷ []) → whole ≡ part → part ≡ take end due
     → state_verdict (drop at text) n (line ∷ lines) ≡ state_verdict (drop (at + end) text) (n + 1) lines
-state-further text due at first end n line whole part lines due_is some few first_is end_is whole_is part_is taken =
+state-further text due at first end n line whole part lines due_is some first_is end_is whole_is part_is taken =
     let size : end ≡ min (position_or_len is_line_end due + 1) (length due) = end_is ∙ ap (λ k. min (k + 1) (length due)) first_is in
     ap (λ d. state_verdict d n (line ∷ lines)) (sym due_is)
-    ∙ state-same due n line lines some few (sym whole_is ∙ part_is ∙ taken ∙ take_up_to due end _ size)
+    ∙ state-same due n line lines some (sym whole_is ∙ part_is ∙ taken ∙ take_up_to due end _ size)
     ∙ ap (λ d. state_verdict d (n + 1) lines)
     (sym (drop_up_to due end _ size) ∙ ap (drop end) due_is ∙ drop-drop end at text)
 
@@ -110,23 +129,34 @@ pub left-lines : (now : Comparison) (lines : List (List ℕ)) → now.is_state �
 left-lines now lines is =
     ap (λ b. cond b (state_verdict (drop now.at now.text.items) now.number lines) (lines_verdict now.accepted (world_of now.machine) now.number lines)) is
 
-pub lines-choice : (accepted : Bool) (world : World) (n : ℕ) (line : List ℕ) (lines : List (List ℕ)) (long state : Bool)
-    → is_too_long line ≡ long → is_state_line line ≡ state → long ≡ false → state ≡ false
+pub lines-choice : (accepted : Bool) (world : World) (n : ℕ) (line : List ℕ) (lines : List (List ℕ)) → is_state_line line ≡ false
     → lines_verdict accepted world n (line ∷ lines)
     ≡ choice_verdict (choice_in line) accepted world n line (λ accepted after. lines_verdict accepted after (n + 1) lines)
-lines-choice accepted world n line lines long state long_is state_is a b = rw (long_is ∙ a, state_is ∙ b) refl
+lines-choice accepted world n line lines is =
+    ap (λ b. cond b (state_verdict (state_text world) n (line ∷ lines))
+    (choice_verdict (choice_in line) accepted world n line (λ accepted after. lines_verdict accepted after (n + 1) lines))) is
+
+-- a line that names a choice and isn't the run's
+pub choice-other : (named : Option Choice) (choice : Choice) (accepted : Bool) (world : World) (n : ℕ) (line : List ℕ)
+    (rest : Bool → World → Verdict) → named ≡ Some choice
+    → (accepted && bytes_eq (line ++ (10 ∷ [])) (lines_of world (choice ∷ []))) ≡ false
+    → choice_verdict named accepted world n line rest ≡ otherwise n line
+choice-other named choice accepted world n line rest named_is other =
+    ap (λ c. choice_verdict c accepted world n line rest) named_is
+    ∙ ap (λ b. cond b (rest (is_none (execution world (choice ∷ [])).refusal) (execution world (choice ∷ [])).world) (otherwise n line))
+    other
 
 pub line-choice : {E : Type 0} (result : Result (Option Verdict) E) (before after : Comparison) (line : List ℕ) (lines : List (List ℕ))
-    → before.is_state ≡ false → after.is_state ≡ before.is_state → length line ≤ 65536 → is_state_line line ≡ false
+    → before.is_state ≡ false → after.is_state ≡ before.is_state → is_state_line line ≡ false
     → IfOk result (λ v. choice_verdict (choice_in line) before.accepted (world_of before.machine) before.number line
     (λ accepted world. lines_verdict accepted world (before.number + 1) lines)
     ≡ decided v (lines_verdict after.accepted (world_of after.machine) after.number lines))
     → IfOk result (λ v. lines_left before (line ∷ lines) ≡ decided v (lines_left after lines))
-line-choice (Ok v) before after line lines is same few no_state q =
+line-choice (Ok v) before after line lines is same no_state q =
     left-lines before (line ∷ lines) is
-    ∙ lines-choice before.accepted (world_of before.machine) before.number line lines _ _ refl refl (short_line line few) no_state
+    ∙ lines-choice before.accepted (world_of before.machine) before.number line lines no_state
     ∙ q ∙ ap (decided v) (sym (left-lines after lines (same ∙ is)))
-line-choice (Err e) before after line lines is same few no_state q = q
+line-choice (Err e) before after line lines is same no_state q = q
 
 -- not all has come
 pub more_to_come : (state came : Bool) (due line : ℕ) → came ≡ (state && ((due == 0) && (line == 0))) → came ≡ false
@@ -185,37 +215,82 @@ line_and_more (x ∷ xs) ys one =
       ),
     )
 
--- a line that is too long
-long_state : (text : List ℕ) (n : ℕ) (line : List ℕ) (lines : List (List ℕ)) → is_too_long line ≡ true
-    → state_verdict text n (line ∷ lines) ≡ verdict.NotATrace n
-long_state [] n [] lines is = let no : ⊥ = cc in absurd no
-long_state [] n (x ∷ line) lines is = rw is refl
-long_state (byte ∷ text) n line lines is = rw is refl
-
-pub long_line : (accepted : Bool) (world : World) (n : ℕ) (line : List ℕ) (lines : List (List ℕ)) → is_too_long line ≡ true
-    → lines_verdict accepted world n (line ∷ lines) ≡ verdict.NotATrace n
-long_line accepted world n line lines is = rw is refl
-
+-- by whether it is of the state
 long_by : (state : Bool) (x y v : Verdict) → x ≡ v → y ≡ v → cond state x y ≡ v
 long_by true x y v a b = a
 long_by false x y v a b = b
+
+-- a line that is longer than the one that is due
+longer : (line text : List ℕ) → length text ≤ length line → bytes_eq (line ++ (10 ∷ [])) text ≡ false
+longer line text less =
+    false_from_ne_true _ (λ same. absurd (omega (
+      arith,
+      less,
+      length-append line (10 ∷ []),
+      ap length ((bytes_eq-Decides (line ++ (10 ∷ [])) text).0 same),
+    )))
+
+-- a line that is too long isn't the run's: not in the state
+long_state : (text : List ℕ) (n : ℕ) (line : List ℕ) (lines : List (List ℕ)) → position_or_len is_line_end text ≤ 65536
+    → 65536 < length line → state_verdict text n (line ∷ lines) ≡ verdict.NotATrace n
+long_state text n line lines few many =
+    state-other text n line lines (omega (arith, many))
+    (λ some. longer line (first_line text)
+    (omega (arith, length-take (position_or_len is_line_end text + 1) text, few, many)))
+    ∙ long-otherwise n line many
+
+-- nor of a choice
+own-few_by : (refusal : Option StepFault) (world : World) (choice : Choice) → length (lines_by refusal world choice (λ after. [])) ≤ 408
+own-few_by (Some NoSuchThread) world choice = refusal-few (world.choices + 1) choice None
+own-few_by (Some StepLimit) world choice = refusal-few (world.choices + 1) choice (Some (thread_at world.scene choice.thread).pc)
+own-few_by (Some Memory) world choice = omega arith
+own-few_by None world choice =
+    let pc = (thread_at world.scene choice.thread).pc in
+    let play : Played = played world choice in
+    let few = event-few (world.choices + 1) choice pc play.event in
+    omega (arith, few, ap length (append-nil (event_text (world.choices + 1) choice pc play.event)))
+
+long_choice : (named : Option Choice) (accepted : Bool) (world : World) (n : ℕ) (line : List ℕ) (rest : Bool → World → Verdict)
+    → 65536 < length line → choice_verdict named accepted world n line rest ≡ verdict.NotATrace n
+long_choice None accepted world n line rest many = refl
+long_choice (Some choice) accepted world n line rest many =
+    let few : length (lines_of world (choice ∷ [])) ≤ 408 = own-few_by (refusal_of world choice) world choice in
+    choice-other (Some choice) choice accepted world n line rest refl
+    (ap (λ b. accepted && b) (longer line (lines_of world (choice ∷ [])) (omega (arith, few, many))) ∙ never accepted)
+    ∙ long-otherwise n line many
+  where
+    never : (b : Bool) → (b && false) ≡ false
+    never true = refl
+    never false = refl
+
+long_line : (accepted : Bool) (world : World) (n : ℕ) (line : List ℕ) (lines : List (List ℕ)) → 65536 < length line
+    → lines_verdict accepted world n (line ∷ lines) ≡ verdict.NotATrace n
+long_line accepted world n line lines many =
+    let first = state-line world in
+    let size = first.part.few in
+    let end : position_or_len is_line_end (state_text world) ≡ length first.line =
+    ap (position_or_len is_line_end) first.is ∙ first-is first.line (parts_text world) first.part.within in
+    long_by (is_state_line line) _ _ (verdict.NotATrace n)
+    (long_state (state_text world) n line lines (omega (arith, end, size)) many)
+    (long_choice (choice_in line) accepted world n line (λ accepted after. lines_verdict accepted after (n + 1) lines) many)
 
 no_line_end : (byte : ℕ) → (byte ≡ 10 → ⊥) → is_line_end byte ≡ false
 no_line_end byte other = grind (arith, nat_tests, other)
 
 pub byte-too_many : (now : Comparison) (line rest : List ℕ) (byte : ℕ) → All (λ b. is_line_end b ≡ false) line → (byte ≡ 10 → ⊥)
-    → length line ≡ 65536 → bytes_left now line (byte ∷ rest) ≡ verdict.NotATrace now.number
-byte-too_many now line rest byte one other many =
+    → HasNoLongLine now.text.items → length line ≡ 65536
+    → bytes_left now line (byte ∷ rest) ≡ verdict.NotATrace now.number
+byte-too_many now line rest byte one other short many =
     let longer = All-append (λ b. is_line_end b ≡ false) line (byte ∷ []) one
     (All-cons (λ b. is_line_end b ≡ false) byte [] (no_line_end byte other) (λ k d there. absurd (omega (arith, there)))) in
     let (h, (t, is)) = line_and_more (line ++ byte ∷ []) rest longer in
     let long = (line ++ byte ∷ []) ++ h in
-    let too_long : is_too_long long ≡ true =
-    lt-ltb 65536 (length long) (omega (arith, length-append (line ++ byte ∷ []) h, length-append line (byte ∷ []), many)) in
+    let too_long : 65536 < length long =
+    omega (arith, length-append (line ++ byte ∷ []) h, length-append line (byte ∷ []), many) in
     ap (λ bytes. lines_left now (slice_split is_line_end bytes)) (sym (append_assoc line (byte ∷ []) rest))
     ∙ ap (lines_left now) is
     ∙ long_by now.is_state _ _ (verdict.NotATrace now.number)
-    (long_state (drop now.at now.text.items) now.number long t too_long)
+    (long_state (drop now.at now.text.items) now.number long t (short now.at) too_long)
     (long_line now.accepted (world_of now.machine) now.number long t too_long)
 
 -- the last line has no LF

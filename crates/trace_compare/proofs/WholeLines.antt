@@ -2,14 +2,14 @@
 use Rattle.std.proofs.Common.{◌≡◌, ◌∙◌, ◌+◌, ◌/◌, ◌%◌, ◌≤◌, ◌==◌, not, ℕ, zero, suc, Bool, true, false, List, [], ◌∷◌, ◌++◌, length, take, drop, cond, codes, decimal, refl, ap, sym, subst, arith, append_assoc, length-append, All, flat_map, ℤ, pos, negsuc}
 use Rattle.std.specs.List.{slice_split, list_all, position_or_len}
 use Rattle.std.specs.Fmt.{digits, digits_onto, digit_glyph, signed_decimal}
-use Rattle.std.proofs.lemmas.List.Elements.{All-cons, All-nil}
+use Rattle.std.proofs.lemmas.List.{drop_all}
 use Rattle.std.proofs.lemmas.List.Folds.{list_all-append}
-use Rattle.std.proofs.lemmas.Bool.{and_from, le-ltb, ne_eqb, and_parts, not-true}
+use Rattle.std.proofs.lemmas.Bool.{and_from, ne_eqb, and_parts, not-true}
 use Rattle.std.proofs.lemmas.List.Sums.{AllPass-from_list_all}
 use Rattle.std.proofs.lemmas.List.Splits.{slice_split_at}
 use Rattle.std.proofs.Math.Seq.{take-append_seam, drop-append_seam}
 use Rattle.line_reader.specs.Words.{is_line_end}
-use Rattle.trace_compare.specs.Compare.{HasNoLongLine, after_line, first_line, is_too_long}
+use Rattle.trace_compare.specs.Compare.{HasNoLongLine, after_line, first_line}
 
 -- a byte within a line
 abbrev pub is_within : ℕ → Bool
@@ -141,17 +141,26 @@ Whole-append short xs ys p q = record {
 pub Whole-where : (short more : Type 0) (text : List ℕ) → (more → short) → IsWhole short text → IsWhole more text
 Whole-where short more text so p = record { lines = p.lines; within = p.within; few = λ s. p.few (so s); is = p.is }
 
-is_short : (line : List ℕ) → length line ≤ 65536 → is_too_long line ≡ false
-is_short line few = le-ltb 65536 (length line) few
+-- from any place of them on, an LF stands within as many bytes
+none-short : (at : ℕ) → position_or_len is_line_end (drop at []) ≤ 65536
+none-short at =
+    let none : position_or_len is_line_end [] ≡ 0 = refl in
+    omega (arith, ap (position_or_len is_line_end) (drop_all at [] (omega arith)), none)
+
+line-short : (line rest : List ℕ) → list_all is_within line ≡ true → length line ≤ 65536 → HasNoLongLine rest
+    → (at : ℕ) → position_or_len is_line_end (drop at (line ++ 10 ∷ rest)) ≤ 65536
+line-short [] rest within few more zero = let none : position_or_len is_line_end (10 ∷ rest) ≡ 0 = refl in omega (arith, none)
+line-short [] rest within few more (suc at) = more at
+line-short (x ∷ xs) rest within few more zero = omega (arith, first-is (x ∷ xs) rest within, few)
+line-short (x ∷ xs) rest within few more (suc at) = line-short xs rest (and_parts _ _ within).1 (omega (arith, few)) more at
 
 lines-short : (lines : List (List ℕ)) → AllWithin lines → AllFew lines → HasNoLongLine (whole lines)
-lines-short [] within few = All-cons (λ line. is_too_long line ≡ false) [] [] refl (All-nil (λ line. is_too_long line ≡ false))
+lines-short [] within few = none-short
 lines-short (line ∷ lines) within few =
-    subst (All (λ l. is_too_long l ≡ false)) (sym (split-line line (whole lines) within.0))
-    (All-cons (λ l. is_too_long l ≡ false) line (slice_split is_line_end (whole lines)) (is_short line few.0)
-    (lines-short lines within.1 few.1))
+    subst HasNoLongLine (sym (append_assoc line (10 ∷ []) (whole lines)))
+    (line-short line (whole lines) within.0 few.0 (lines-short lines within.1 few.1))
 
--- a comparison reads all lines of such a text
+-- a comparison can hold all lines of such a text
 pub Whole-short : (short : Type 0) (text : List ℕ) → IsWhole short text → short → HasNoLongLine text
 Whole-short short text p s = subst HasNoLongLine (sym p.is) (lines-short p.lines p.within (p.few s))
 

@@ -1,5 +1,5 @@
 -- What a comparison of a trace with the run that it names says.
-use Rattle.std.specs.Prelude.{◌≡◌, ◌⊎◌, ℕ, ◌+◌, ◌-◌, ◌*◌, ◌==◌, ◌&&◌, ◌≤◌, ◌<◌, nat_lt, nat_le, All, if◌then◌else◌, Bool, true, false, List, [], ◌∷◌, ◌++◌, length, take, drop, codes, Option, Some, None, is_none}
+use Rattle.std.specs.Prelude.{◌≡◌, ◌⊎◌, ℕ, ◌+◌, ◌-◌, ◌*◌, ◌==◌, ◌&&◌, ◌≤◌, ◌<◌, nat_lt, nat_le, if◌then◌else◌, Bool, true, false, List, [], ◌∷◌, ◌++◌, length, take, drop, codes, Option, Some, None, is_none}
 use Rattle.std.specs.Char.{is_ascii_digit}
 use Rattle.std.specs.Io.KnownBytes.{Consumes, IsAtEnd}
 use Rattle.std.specs.List.{count_by, slice_split, before_first, after_first, list_all, position_or_len}
@@ -55,9 +55,13 @@ is_state_line line = bytes_eq (before_first is_space line) (codes "state")
 abbrev pub is_too_long : List ℕ → Bool
 is_too_long line = nat_lt 65536 (length line)
 
--- no line of a text has more
+-- no line of a text has more: from any place on, no more bytes stand before an LF
 abbrev pub HasNoLongLine : List ℕ → Type 0
-HasNoLongLine text = All (λ line. is_too_long line ≡ false) (slice_split is_line_end text)
+HasNoLongLine text = (at : ℕ) → position_or_len is_line_end (drop at text) ≤ 65536
+
+-- the verdict on a line that isn't the run's own: only such a line is asked for its length
+abbrev pub otherwise : ℕ → List ℕ → Verdict
+otherwise n line = if is_too_long line then verdict.NotATrace n else verdict.Differs n
 
 -- a text's first line with its LF
 abbrev pub first_line : List ℕ → List ℕ
@@ -73,12 +77,11 @@ abbrev pub state_verdict : List ℕ → ℕ → List (List ℕ) → Verdict
 state_verdict [] n [] = verdict.Differs (n - 1)
 state_verdict (byte ∷ text) n [] = verdict.Differs n
 state_verdict [] n ([] ∷ []) = verdict.Same
-state_verdict [] n (line ∷ lines) = if is_too_long line then verdict.NotATrace n else verdict.Differs n
+state_verdict [] n (line ∷ lines) = otherwise n line
 state_verdict (byte ∷ text) n (line ∷ lines) =
-    if is_too_long line then verdict.NotATrace n
-    else (if bytes_eq (line ++ (10 ∷ [])) (first_line (byte ∷ text))
+    if bytes_eq (line ++ (10 ∷ [])) (first_line (byte ∷ text))
     then state_verdict (after_line (byte ∷ text)) (n + 1) lines
-    else verdict.Differs n)
+    else otherwise n line
 
 -- a line that names this choice, if it names one: it has to be the run's own line, and no choice may have been refused
 -- before it
@@ -88,15 +91,14 @@ choice_verdict (Some choice) accepted world n line rest =
     let played = execution world (choice ∷ []) in
     if accepted && bytes_eq (line ++ (10 ∷ [])) (lines_of world (choice ∷ []))
     then rest (is_none played.refusal) played.world
-    else verdict.Differs n
+    else otherwise n line
 
 -- the lines up to the state line, of which the first has this number, and the state behind them
 abbrev pub lines_verdict : Bool → World → ℕ → List (List ℕ) → Verdict
 lines_verdict accepted world n [] = verdict.NotATrace n
 lines_verdict accepted world n (line ∷ lines) =
-    if is_too_long line then verdict.NotATrace n
-    else (if is_state_line line then state_verdict (state_text world) n (line ∷ lines)
-    else choice_verdict (choice_in line) accepted world n line (λ accepted after. lines_verdict accepted after (n + 1) lines))
+    if is_state_line line then state_verdict (state_text world) n (line ∷ lines)
+    else choice_verdict (choice_in line) accepted world n line (λ accepted after. lines_verdict accepted after (n + 1) lines)
 
 -- a choice before others, where a line names one
 abbrev pub with_choice : Option Choice → List Choice → List Choice

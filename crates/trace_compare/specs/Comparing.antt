@@ -9,7 +9,7 @@ use Rattle.thread_machine.specs.declared.choice.Choice.{Choice}
 use Rattle.trace_compare.specs.declared.comparison.Comparison.{Comparison}
 use Rattle.trace_compare.specs.declared.comparison.Verdict.{Verdict}
 use Rattle.trace_compare.specs.declared.comparison.Verdict.TheVariants as verdict
-use Rattle.trace_compare.specs.Compare.{lines_verdict, state_verdict}
+use Rattle.trace_compare.specs.Compare.{HasNoLongLine, lines_verdict, state_verdict}
 
 -- no digit
 abbrev pub is_no_digit : ℕ → Bool
@@ -59,11 +59,12 @@ BeginsWithName bytes choice =
 abbrev pub NamesBehind : List ℕ → ℕ → Choice → Type 0
 NamesBehind bytes count choice = (get_or bytes 0 0 ≢ 115) × BeginsWithName (drop count bytes) choice
 
--- these bytes are those of one line, and not too many
+-- these bytes are those of one line, and not too many, and no line of the state text has more
 pub record IsReading (now : Comparison) (line : List ℕ) : Type 0 where
   pub one_line : All (λ byte. is_line_end byte ≡ false) line
   pub few : length line ≤ 65536
   pub within : now.at ≤ length now.text.items
+  pub short : HasNoLongLine now.text.items
 
 -- these bytes reach a verdict: the trace ends with them, or whatever comes after them makes no difference
 abbrev pub HasLeft : Comparison → List ℕ → Option (List ℕ) → Verdict → Type 0

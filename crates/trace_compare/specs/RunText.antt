@@ -9,7 +9,7 @@ use Rattle.thread_machine.specs.declared.choice.Choice.{Choice}
 use Rattle.thread_machine.specs.World.{World}
 use Rattle.thread_machine.specs.Standing.{standing_of}
 use Rattle.thread_machine.specs.Execution.{Execution, execution}
-use Rattle.trace_compare.specs.Compare.{HasNoLongLine, IsFoundTheSame}
+use Rattle.trace_compare.specs.Compare.{IsFoundTheSame}
 use Rattle.trace_compare.specs.declared.run_end.RunEnd.{RunEnd}
 use Rattle.trace_compare.specs.Start.{Begins}
 use Rattle.trace_compare.specs.State.{state_text}
@@ -35,11 +35,10 @@ IsEndOf done end =
     (end.standing ≡ standing_of done.world) × (end.state.items ≡ state_text done.world)
     × (is_some end.refused ≡ is_some done.refusal)
 
--- the trace of these choices was written, of which no line of the state is too long to be compared, and this is its end
+-- the trace of these choices was written, and this is its end
 abbrev pub AreTraced : World → List Choice → RunEnd → Option (List ℕ) → Option (List ℕ) → Type 0
 AreTraced first choices end old new =
-    HasNoLongLine (state_text (execution first choices).world) × IsEndOf (execution first choices) end
-    × Appends old new (trace_of first choices)
+    IsEndOf (execution first choices) end × Appends old new (trace_of first choices)
 
 -- the schedule was read to its end, and its run ends so
 abbrev pub EndsAs : Image → RunEnd → Option (List ℕ) → Option (List ℕ) → Type 0

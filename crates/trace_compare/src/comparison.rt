@@ -5,7 +5,7 @@ ghost use Rattle.line_reader.specs.Words.{is_line_end};
 ghost use Rattle.thread_machine.specs.World.{world_of};
 ghost use Rattle.trace_compare.specs.RunText.{GivesOnAndOn};
 ghost use Rattle.trace_compare.specs.Start.{IsRefused, is_want_of_memory};
-ghost use Rattle.trace_compare.specs.Compare.{HasCompared, IsReadNoFurther, choice_in, choice_verdict, is_state_line, lines_verdict, state_verdict};
+ghost use Rattle.trace_compare.specs.Compare.{HasCompared, HasNoLongLine, IsReadNoFurther, choice_in, choice_verdict, is_state_line, lines_verdict, state_verdict};
 ghost use Rattle.trace_compare.specs.Comparing.{HasCounted, HasLeft, IsOpen, IsReading, StandsFrom, bytes_left, decided, line_ends, lines_left};
 
 use crate::digits::Digits;
@@ -88,6 +88,7 @@ impl Comparison {
         ensures machine { result.machine ≡ machine }
         ensures start { (result.accepted ≡ true) × (result.is_state ≡ false) }
         ensures text { (result.text.items ≡ []) × (result.at ≡ 0) }
+        ensures short { HasNoLongLine result.text.items }
         ensures number { result.number ≡ 1 }
     {
         Comparison {
@@ -113,6 +114,7 @@ impl Comparison {
     fn take_choice(&mut self, line: &[u8], whole: &[u8]) -> Result<Option<Verdict>, AllocError>
         requires whole { whole.now ≡ line.now ++ (10 ∷ []) }
         requires number { self.old.number < 9223372036854775807 }
+        requires few { length line.now ≤ 65536 }
         ensures verdict { (lines : List (List ℕ)) → IfOk result (λ verdict. choice_verdict
             (choice_in line.now) self.old.accepted (world_of self.old.machine) self.old.number line.now
             (λ accepted after. lines_verdict accepted after (self.old.number + 1) lines)
@@ -150,6 +152,7 @@ impl Comparison {
             → 0 < length (drop self.old.at self.old.text.items) + (length line.now + length lines)
             → state_verdict (drop self.old.at self.old.text.items) self.old.number (line.now ∷ lines)
             ≡ decided result (state_verdict (drop self.new.at self.new.text.items) self.new.number lines) }
+        ensures text { self.new.text ≡ self.old.text }
         ensures at { self.new.at ≤ length self.new.text.items }
         ensures stage { self.new.is_state ≡ self.old.is_state }
         ensures number { self.new.number ≤ self.old.number + 1 }
@@ -181,6 +184,7 @@ impl Comparison {
             → IfOk result (λ verdict. lines_left self.old (line.now ∷ lines)
             ≡ decided verdict (lines_left self.new lines)) }
         ensures at { self.new.at ≤ length self.new.text.items }
+        ensures short { HasNoLongLine self.old.text.items → HasNoLongLine self.new.text.items }
         ensures number { self.new.number ≤ self.old.number + 1 }
         ensures counted { IfOk result (λ verdict. HasCounted self.old.number 1 self.new.number verdict) }
     {
@@ -496,6 +500,7 @@ fn take_whole_line(
         bytes_left now.old [] (bytes.now ++ more)
         ≡ decided verdict (bytes_left now.new [] (drop (end + 1) bytes.now ++ more))) }
     ensures at { now.new.at ≤ length now.new.text.items }
+    ensures short { HasNoLongLine now.old.text.items → HasNoLongLine now.new.text.items }
     ensures number { now.new.number ≤ now.old.number + 1 }
     ensures counted { IfOk result (λ verdict. HasCounted now.old.number (line_ends (take (end + 1) bytes.now)) now.new.number verdict) }
 {
@@ -621,6 +626,7 @@ fn compare_stream<S: Source>(
     requires line { line.old.items ≡ [] }
     requires number { now.old.number ≡ 1 }
     requires at { now.old.at ≤ length now.old.text.items }
+    requires short { HasNoLongLine now.old.text.items }
     ensures verdict { IfOk result (λ verdict. (bytes : List ℕ)
         × (Consumes (S.left trace.old) (S.left trace.new) bytes
         × HasLeft now.old bytes (S.left trace.new) verdict)) }
@@ -659,6 +665,7 @@ fn compare_all<S: Source>(
 ) -> Result<Verdict, CompareFault>
     requires number { now.old.number ≡ 1 }
     requires at { now.old.at ≤ length now.old.text.items }
+    requires short { HasNoLongLine now.old.text.items }
     ensures verdict { IfOk result (λ verdict. (bytes : List ℕ)
         × (Consumes (S.left trace.old) (S.left trace.new) bytes
         × HasLeft now.old bytes (S.left trace.new) verdict)) }

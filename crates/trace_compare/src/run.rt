@@ -3,7 +3,6 @@ ghost use Rattle.std.specs.Io.KnownBytes.{Appends};
 ghost use Rattle.schedule_reader.specs.Schedule.{choices_of, finished_schedule, open_schedule};
 ghost use Rattle.thread_machine.specs.World.{World, world_of};
 ghost use Rattle.thread_machine.specs.Standing.{standing_of};
-ghost use Rattle.trace_compare.specs.Compare.{HasNoLongLine};
 ghost use Rattle.trace_compare.specs.Playing.{HasPlayedAll, HasPlayedInPart, HasPlayedSoFar, HasPlayedToFault, HasTraced, IsUpTo, PlaysOn, WritesOn, WritesPartOn};
 ghost use Rattle.trace_compare.specs.RunText.{EndsAs, GivesOnAndOn, HasRun, HasRunInPart, HasRunSoFar, HasRunToFault, HasWrittenTheSame, faulty_after};
 ghost use Rattle.trace_compare.specs.Start.{IsRefused, is_want_of_memory};
@@ -248,7 +247,6 @@ fn end_run<W: Sink>(
         × (end.state.items ≡ state_text (world_of machine.now)) × (end.refused ≡ refused)) }
     ensures state { OnOk result (Appends (W.written output.old) (W.written output.new)
         (state_text (world_of machine.now))) }
-    ensures lines { OnOk result (HasNoLongLine (state_text (world_of machine.now))) }
     ensures memory { result ≡ Err RunFault.Memory → W.written output.new ≡ W.written output.old }
     ensures write { result ≡ Err RunFault.Write → IsTrue (W.has_failed output.new) }
     ensures others { IfErr result (λ fault. (fault ≡ RunFault.Memory) ⊎ (fault ≡ RunFault.Write)) }

@@ -2,7 +2,6 @@ ghost use Rattle.std.specs.Prelude.{◌≡◌, IfOk, IsTrue, OnOk, is_some, not}
 ghost use Rattle.std.specs.Io.KnownBytes.{Appends};
 ghost use Rattle.thread_machine.specs.World.{world_of};
 ghost use Rattle.thread_machine.specs.Standing.{standing_of};
-ghost use Rattle.trace_compare.specs.Compare.{HasNoLongLine};
 ghost use Rattle.trace_compare.specs.State.{state_text};
 
 use crate::kept_line::KeptLine;
@@ -40,7 +39,6 @@ pub fn push_end<W: Sink>(
         × (end.state.items ≡ state_text (world_of machine.now)) × (end.refused ≡ refused)) }
     ensures state { OnOk result (Appends (W.written output.old) (W.written output.new)
         (state_text (world_of machine.now))) }
-    ensures lines { OnOk result (HasNoLongLine (state_text (world_of machine.now))) }
     ensures memory { result ≡ Err PlayFault.Memory → W.written output.new ≡ W.written output.old }
     ensures write { result ≡ Err PlayFault.Write → IsTrue (W.has_failed output.new) }
 {

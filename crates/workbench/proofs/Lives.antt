@@ -55,7 +55,7 @@ is_recorded limit file program choices known = (
 pub lived : (limit : ℕ) (file : List ℕ) (program : Program) (choices : List Choice) (end : RunEnd) (old new : Option (List ℕ))
     → Known limit file program choices → AreTraced (first_world program 1000000000) choices end old new
     → IsLived limit file end old new
-lived limit file program choices end old new known (short, ends, appends) = (
+lived limit file program choices end old new known (ends, appends) = (
   known.image,
   (
     choices,

@@ -5,7 +5,7 @@ use Rattle.trace_compare.proofs.comparison.take_byte.Goals as goal
 pub returns-then-length-eq-MOST_BYTES-clause-verdict : goal.returns-then-length-eq-MOST_BYTES-clause-verdict
 returns-then-length-eq-MOST_BYTES-clause-verdict c = λ rest.
     byte-too_many c.args.now.now c.args.line.now.items rest c.args.byte c.requires.reading.one_line c.if-byte-ne10.true
-    (ap length (sym c.as_slice-length.ensures.value) ∙ c.if-length-eq-MOST_BYTES.true)
+    c.requires.reading.short (ap length (sym c.as_slice-length.ensures.value) ∙ c.if-length-eq-MOST_BYTES.true)
 
 pub returns-clause-verdict : goal.returns-clause-verdict
 returns-clause-verdict c = λ rest.

@@ -13,7 +13,7 @@ returns-in-Ok-play_stream-clause-done g c =
     let all = c.in-Ok-play_stream.accepted in
     traced-all c.end_run.result _ last all _ _ _ _ _ c.in-Ok-play_stream.ensures.done
     (tells_end c.end_run.result last all _ c.refused_in.ensures c.end_run.ensures.tells)
-    c.end_run.ensures.state c.end_run.ensures.lines
+    c.end_run.ensures.state
 
 pub returns-in-Ok-play_stream-clause-memory : goal.returns-in-Ok-play_stream-clause-memory
 returns-in-Ok-play_stream-clause-memory g c = λ want.

@@ -9,6 +9,6 @@ returns-clause-verdict c = λ lines more.
     state-further self.text.items due self.at c.length_before.result c.min-end.result self.number c.args.line.now c.args.whole.now
     c.first_bytes.result.now lines
     (c.rest_of-due.ensures.rest ∙ ap (drop self.at) c.as_slice-text.ensures.value)
-    (not_empty (length due) c.is_empty.result c.is_empty.ensures c.if-is_empty.false) c.requires.few
+    (not_empty (length due) c.is_empty.result c.is_empty.ensures c.if-is_empty.false)
     c.length_before.ensures.length c.min-end.ensures c.requires.whole
     (found_same c.args.whole.now c.first_bytes.result.now c.ne.result c.ne.ensures c.if-ne.false) c.first_bytes.ensures
