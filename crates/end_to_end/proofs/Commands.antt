@@ -1,5 +1,5 @@
 -- What the commands have written, in the words of their promise.
-use Rattle.std.proofs.Common.{◌≡◌, ◌∙◌, ◌++◌, ℕ, List, [], None, Some, refl, ap, sym, subst, append-nil, inl, inr}
+use Rattle.std.proofs.Common.{◌≡◌, ◌∙◌, ◌++◌, ℕ, List, None, Some, refl, ap, sym, subst, append-nil, inl, inr}
 use Rattle.std.specs.Prelude.{Option, Result, Ok, Err, IfOk, OnOk}
 use Rattle.std.specs.Io.KnownBytes.{Appends}
 use Rattle.row_code.specs.declared.image.Image.{Image}
@@ -99,7 +99,7 @@ live-shown limit end file_before file_after output_before output_after (
       (
         gives,
         (is, (file_image file image is, loads)),
-        (first, (last, (begun, replay))),
+        (first, (last, (ending, (begun, replay, over)))),
         subst (Appends output_before output_after) (trace-first image 1000000000 world choices begins) appends,
       ),
     ),

@@ -1,11 +1,16 @@
 -- FROM END TO END. What a command shows of an accepted program is the headline's machine (headline/specs/Headline.antt), from
--- the bytes that it reads to the bytes that it writes: without arguments, and in `run`, `debug` and `live`, wherever it doesn't
--- refuse its input. Behind each name of a `use` line stands the file that defines it.
+-- the bytes that it reads to the bytes that it writes: without arguments, and in `run`, `debug` without `--at` and `live`
+-- without `--runs`, wherever it doesn't refuse its input. Behind each name of a `use` line stands the file that defines it.
 --
 -- An input or an output is the bytes that a port still gives or has got. Ports over memory tell them. Ports over files, pipes
--- and terminals tell none (`None`): there these lines say that some bytes were read and some written for which they hold, and
--- not which.
-use Rattle.std.specs.Prelude.{◌≡◌, ℕ, List, Option, None}
+-- and terminals tell none (`None`): of these the lines below say only that there are bytes for which they hold. That these are
+-- the bytes that came and went out, a reader concludes from the functions (src/shown.rt, src/lived.rt). They are generic in
+-- their ports: one body for all of them, that meets a port in `Source::pull` and `Sink::push` alone (byte_ports). No body can
+-- ask which port it has, since `left` and `written` are ghosts, which nothing that runs sees. So what it does can't rest on
+-- whether its ports tell their bytes; and of ports that tell them the lines hold, in whatever pieces the bytes come. Left to
+-- believe is what lies behind a port: that std's `read` gives what the file holds, in its order, and that its `write` hands on
+-- what it is given.
+use Rattle.std.specs.Prelude.{◌≡◌, ℕ, List, Option, Some, None}
 use Rattle.std.specs.Io.KnownBytes.{Appends, Consumes, IsAtEnd}
 use Rattle.row_code.specs.declared.image.Image.{Image}
 use Rattle.assembler.specs.Meaning.{StandsFor}
@@ -14,6 +19,8 @@ use Rattle.thread_machine.specs.World.{World, StoredWorld, IsFirstOf, world_of}
 use Rattle.schedule_reader.specs.declared.run.Run.{Run}
 use Rattle.schedule_reader.specs.Schedule.{finished_schedule, choices_of}
 use Rattle.trace_compare.specs.Trace.{trace_of}
+use Rattle.thread_runner.specs.declared.ending.Ending.{Ending}
+use Rattle.thread_runner.specs.Endings.{ending_of}
 use Rattle.thread_runner.specs.Replay.{IsReplay}
 use Rattle.headline.specs.Headline.{Accepted, start}
 use Rattle.workbench.specs.Debug.{Finished, HasConversed, first_session}
@@ -60,11 +67,17 @@ HasDebuggedFile file_before file_after commands_before commands_after output_bef
     × IsFirstOf image 1000000000 (world_of world)
     × HasConversed Finished (first_session world) commands_before commands_after output_before output_after)))
 
--- `live`: a file's program was played on real threads, for at most so many steps. There is a record of their choices, of which
--- none was refused and each did something, and what was written is the trace of this record.
+-- A run on real threads: from the program's first world these choices, of which none was refused and each did something, led
+-- to an end (`ending_of`): all threads have ended or died, none can go on, or so many steps were taken. Where steps may be
+-- taken at all, no program is over before its first choice: `a_live_run_chooses` (src/law.rt).
+abbrev pub IsLiveRun : ℕ → Image → List Choice → Type 0
+IsLiveRun limit image choices =
+    (first : World) × ((last : World) × ((ending : Ending) × (IsFirstOf image limit first
+    × IsReplay (record { first = first; choices = choices }) last × (ending_of last ≡ Some ending))))
+
+-- `live`: a file's program was played on real threads, and what was written is the trace of the choices that they made.
 abbrev pub HasShownLive : ℕ → (file_before file_after output_before output_after : Option (List ℕ)) → Type 0
 HasShownLive limit file_before file_after output_before output_after =
     (file : List ℕ) × ((image : Image) × ((choices : List Choice) × (GivesAll file_before file_after file
-    × AcceptedFile file image × ((first : World) × ((last : World) × (IsFirstOf image limit first
-    × IsReplay (record { first = first; choices = choices }) last)))
+    × AcceptedFile file image × IsLiveRun limit image choices
     × Appends output_before output_after (trace_of (start image) choices))))

@@ -1,3 +1,6 @@
 pub mod Backs
+pub mod BarrierCalls
+pub mod BarrierRows
+pub mod Pasts
 pub mod PhaseEnds
 pub mod Scenes

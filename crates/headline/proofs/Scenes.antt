@@ -1,25 +1,49 @@
 -- What choices leave of the world, one after another and however the program's phasers are stored.
-use Rattle.std.proofs.Common.{◌≡◌, ◌∙◌, ℕ, ◌+◌, ◌<◌, Bool, true, false, List, ◌∷◌, drop, get_or, length, ap, refl, sym, subst, Option, Some, None}
+use Rattle.std.proofs.Common.{◌≡◌, ◌∙◌, ℕ, ◌+◌, ◌<◌, Bool, true, false, List, [], ◌∷◌, drop, get_or, length, ap, refl, sym, subst, Option, Some, None}
 use Rattle.std.specs.Prelude.{is_some}
 use Rattle.std.proofs.lemmas.List.{drop_more}
 use Rattle.row_code.specs.declared.image.Image.{Image}
+use Rattle.loader.specs.Program.{Program, without_words}
 use Rattle.thread_state.specs.declared.event.Event.{Event}
+use Rattle.machine_scene.specs.Scene.{Outcome}
 use Rattle.thread_machine.specs.declared.choice.Choice.{Choice}
 use Rattle.thread_machine.specs.declared.fault.StepFault.{StepFault}
 use Rattle.thread_machine.specs.World.{World, StoredWorld, IsFirstOf, first_of, world_of}
-use Rattle.thread_machine.specs.Step.{Played, played, refusal_of}
-use Rattle.thread_machine.specs.Execution.{execution, execution_by}
+use Rattle.thread_machine.specs.Ready.{outcome_of_choice}
+use Rattle.thread_machine.specs.Step.{Played, played, played_by, refusal_of}
+use Rattle.thread_machine.specs.Execution.{Execution, execution, execution_by}
 use Rattle.headline.specs.Playing.{Leaves}
 use Rattle.trace_compare.proofs.OneTrace.{left-same}
 use Rattle.trace_compare.proofs.OneVerdict.{as-stored}
 
+-- no choice changes the program
+played_program : (outcome : Option Outcome) (world : World) → (played_by outcome world).world.program ≡ world.program
+played_program (Some outcome) world = refl
+played_program None world = refl
+
+program_by : (refusal : Option StepFault) (world : World) (choice : Choice) (rest : World → Execution)
+    → ((after : World) → (rest after).world.program ≡ after.program)
+    → (execution_by refusal world choice rest).world.program ≡ world.program
+program_by (Some fault) world choice rest same = refl
+program_by None world choice rest same =
+    same (played world choice).world ∙ played_program (outcome_of_choice world.program choice world.scene) world
+
+program_stays : (choices : List Choice) (world : World) → (execution world choices).world.program ≡ world.program
+program_stays [] world = refl
+program_stays (choice ∷ choices) world =
+    program_by (refusal_of world choice) world choice (λ after. execution after choices) (λ after. program_stays choices after)
+
 -- the program of an image leaves what the image's first world leaves
-pub scene_left : (image : Image) (limit : ℕ) (first left : World) (choices : List Choice) → IsFirstOf image limit first
-    → left ≡ (execution first choices).world → left.scene ≡ (execution (first_of image limit) choices).world.scene
-scene_left image limit first left choices is played =
-    ap (λ (w : World). w.scene) played
-    ∙ ap (λ w. (execution w choices).world.scene) (as-stored image limit first is)
-    ∙ ap (λ (w : World). w.scene) (left-same choices first.program.phasers (first_of image limit))
+pub world_left : (image : Image) (limit : ℕ) (first left : World) (choices : List Choice) → IsFirstOf image limit first
+    → left ≡ (execution first choices).world
+    → record left { program = without_words left.program } ≡ (execution (first_of image limit) choices).world
+world_left image limit first left choices is played =
+    let last : World = (execution (first_of image limit) choices).world in
+    ap (λ (w : World). record w { program = without_words w.program })
+    (played ∙ ap (λ w. (execution w choices).world) (as-stored image limit first is)
+    ∙ left-same choices first.program.phasers (first_of image limit))
+    ∙ ap (λ phasers. record last { program = record last.program { phasers = phasers } })
+    (sym (ap (λ (p : Program). p.phasers) (program_stays choices (first_of image limit))))
 
 -- an accepted choice, and a refused one, as a machine's step tells them
 pub led_on : (before after : World) (choice : Choice) (event : Event) → record { world = after; event = event } ≡ played before choice

@@ -1,33 +1,43 @@
 -- THE HEADLINE. For every accepted program and every list of choices:
---   1. the registers, cells, phasers, barriers, exceptions and waiting threads of the machine that plays them are what the rows
---      of the instruction table give, applied in that order (GivesTheRows);
+--   1. the machine that plays them is what the rows of the instruction table give, applied in that order: its registers, cells,
+--      phasers, barriers, exceptions and waiting threads, its counts of choices and of steps, and its limit (GivesTheRows);
 --   2. no phase ends while a registered party has neither arrived nor left, unless an unregistered party has ever arrived in
---      that tree of phasers; a forced termination ends no phase (EndsNoPhaseEarly);
---   3. each step back restores the state before (BackRestores).
--- 1 is what `play` leaves (src/machine.rt); 2 and 3 are laws (src/law.rt). Behind each name of a `use` line stands the file that
--- defines it: who believes this page has to read those too. Beside it stands what lies below: a tree whose words lag, and the
--- word that real threads share. That commands show this of what they read is said by end_to_end/specs/EndToEnd.antt.
+--      that tree of phasers; a forced termination ends no phase (EndsNoPhaseEarly). A phaser comes into the phase of another
+--      number only where a phase of its tree ends (NumbersChangeAtEnds);
+--   3. each step back restores the state before (BackRestores);
+--   4. each barrier has one past, of which each state of the run is the record, so that whoever waits there meets the end of
+--      its own generation (BarriersHavePasts).
+-- 1 is what `play` leaves (src/machine.rt); 2 and 4 are laws (src/law.rt); 3 is what `step_and_back` does to a machine, and
+-- `steps_and_backs` to a debugging session (src/back.rt). Behind each name of a `use` line stands the file that defines it: who
+-- believes this page has to read those too. Beside it stands what lies below: a tree whose words lag, and the word that real
+-- threads share. That commands show this of what they read is said by end_to_end/specs/EndToEnd.antt.
+--
+-- The program calls none of these functions. Its runs step by `Machine::step`, its debugger by `Machine::step_into` and
+-- `Debugger::back`: their contracts say the same of each choice (thread_machine/src/machine.rt, debugger/src/session.rt).
 --
 -- Trusted are Rattle's checker and its two compilers, LLVM, the C library and the system below them.
-use Rattle.std.specs.Prelude.{◌≡◌, ◌≤◌, ℕ, List, length, None, ◌++◌}
+use Rattle.std.specs.Prelude.{◌≡◌, ℕ, List, None, ◌++◌}
 use Rattle.row_code.specs.declared.image.Image.{Image}
 use Rattle.row_code.specs.Image.{IsImage}
 use Rattle.loader.specs.Declarations.{declared_origin}
 use Rattle.loader.specs.Fault.{first_fault}
+use Rattle.loader.specs.Program.{without_words}
+use Rattle.cyclic_barrier.specs.Barrier.{BarrierState}
+use Rattle.cyclic_barrier.specs.PlainBarrier.{fresh}
+use Rattle.machine_scene.specs.Scene.{barrier_at}
 use Rattle.thread_state.specs.declared.event.Event.{Event}
 use Rattle.thread_machine.specs.declared.choice.Choice.{Choice}
 use Rattle.thread_machine.specs.World.{World, StoredWorld, first_of, world_of}
-use Rattle.thread_machine.specs.Step.{played}
-use Rattle.thread_machine.specs.Execution.{execution}
-use Rattle.thread_machine.specs.DirectCounts.{NoPhaseEndsEarlyFrom}
-use Rattle.debugger.specs.Session.{Session}
-use Rattle.debugger.specs.Moves.{AreSteps, backs}
+use Rattle.thread_machine.specs.Step.{played, refusal_of}
+use Rattle.thread_machine.specs.Execution.{Execution, execution}
+use Rattle.thread_machine.specs.DirectCounts.{NoPhaseEndsEarlyFrom, NumbersStay}
 use Rattle.shared_phaser.specs.declared.history.Call.{Call}
 use Rattle.shared_phaser.specs.declared.history.Answer.{Answer}
 use Rattle.shared_phaser.specs.declared.history.Entry.{Entry}
 use Rattle.shared_phaser.specs.declared.history.Known.{Known}
 use Rattle.shared_phaser.specs.History.{IsLegal}
 use Rattle.shared_phaser.specs.Known.{Owns, making}
+use Rattle.headline.specs.Pasts.{RecordsOnePast}
 
 -- accepted: each list of the program is within its limits, and no check of the loader finds a fault in it
 abbrev pub Accepted : Image → Type 0
@@ -37,22 +47,37 @@ Accepted image = IsImage image × (first_fault image ≡ None)
 abbrev pub start : Image → World
 start image = first_of image 1000000000
 
--- 1. What the rows act on is what they leave: for each choice what the row of its thread gives in the world that the choices
--- before it leave, up to the first that is refused.
+-- 1. The whole world is what they leave: for each choice what the row of its thread gives in the world that the choices before
+-- it leave, up to the first that is refused. Only how the program's phasers are stored (`without_words`) is no part of it.
 abbrev pub GivesTheRows : Image → List Choice → World → Type 0
-GivesTheRows image choices left = left.scene ≡ (execution (start image) choices).world.scene
+GivesTheRows image choices left =
+    record left { program = without_words left.program } ≡ (execution (start image) choices).world
 
 -- 2. Whatever is chosen from the start on, no choice that isn't refused ends a phase early. Each party that a phaser is
 -- declared with is registered with it and has not arrived; from there on the rows count who is registered and has arrived.
 abbrev pub EndsNoPhaseEarly : Type 0
 EndsNoPhaseEarly = (image : Image) → Accepted image → NoPhaseEndsEarlyFrom (start image) (declared_origin image.phasers)
 
--- 3. Choices lead from one state of a debugging session to another; as many steps back, if they are no more than the session
--- keeps at most (`kept`), restore its machine to the bit. Breakpoints are no part of it.
-abbrev pub BackRestores : Type 0
-BackRestores =
-    (before after : Session) (choices : List Choice) → length choices ≤ before.kept → AreSteps before choices after
-    → (backs (length choices) after).machine ≡ before.machine
+-- Nor does any bring a phaser into the phase of another number where it ends no phase of the phaser's tree.
+abbrev pub NumbersChangeAtEnds : Type 0
+NumbersChangeAtEnds =
+    (image : Image) → Accepted image → (choices : List Choice) (choice : Choice)
+    → let now : World = (execution (start image) choices).world in
+    refusal_of now choice ≡ None → NumbersStay now.scene.phasers (played now choice).world.scene.phasers
+
+-- 3. These choices were played, none was refused, and their events are those of the rows; then as many steps were taken back,
+-- and all is as before, to the stored word.
+abbrev pub BackRestores : StoredWorld → List Choice → List Event → StoredWorld → Type 0
+BackRestores before choices events after =
+    let done : Execution = execution (world_of before) choices in
+    (done.refusal ≡ None) × (done.events ≡ events) × (after ≡ before)
+
+-- 4. It begins without a generation that has ended, and each choice that isn't refused leaves it as it is or is one call there.
+abbrev pub BarriersHavePasts : Type 0
+BarriersHavePasts =
+    (image : Image) → Accepted image → (choices : List Choice) (b : ℕ)
+    → let first : BarrierState = barrier_at (start image).scene b in
+    RecordsOnePast b (fresh first.parties first.action) (start image) choices
 
 -- Below: the words in which a tree of phasers is stored may be behind the state that they stand for (`world_of`); a step gives
 -- what the row gives in that state.

@@ -1,8 +1,8 @@
 //! What the whole project promises of a program's machine and of the shared phaser, on one page (`specs/Headline.antt`), and
 //! the functions that keep it.
 //!
-//! `play` leaves what the rows give; `law` says what holds whatever is chosen; `beneath` is for a tree whose words lag and for
-//! the word that threads share.
+//! `play` leaves what the rows give; `law` says what holds whatever is chosen; `back` takes back what it has played; `beneath`
+//! is for a tree whose words lag and for the word that threads share.
 #![tactic(auto)]
 
 // What a program's choices leave.
@@ -10,6 +10,9 @@ pub mod machine;
 
 // What holds whatever is chosen.
 pub mod law;
+
+// Choices that are played and taken back.
+pub mod back;
 
 // What lies below.
 pub mod beneath;

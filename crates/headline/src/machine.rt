@@ -40,7 +40,7 @@ fn play_all(machine: &mut Machine, choices: &[Choice]) -> Result<(), StartFault>
 
 /// Loads a program and plays these choices in order, up to the first that is refused: the machine that is left. An accepted
 /// program is refused for want of memory alone.
-#[tactic(auto, using(crate::proofs::Scenes::scene_left))]
+#[tactic(auto, using(crate::proofs::Scenes::world_left))]
 pub fn play(alloc: Global, image: Image, choices: &[Choice]) -> Result<Machine, StartFault>
     ensures accepted { OnOk result (first_fault image ≡ None) }
     ensures played { IfOk result (λ machine. GivesTheRows image choices.now (world_of machine)) }

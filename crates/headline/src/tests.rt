@@ -1,4 +1,6 @@
+use crate::back::{step_and_back, steps_and_backs};
 use crate::play;
+use debugger::Debugger;
 use loader::LoadFault;
 use row_code::{Image, read_image};
 use std::alloc::Global;
@@ -17,14 +19,19 @@ fn image(alloc: Global, bytes: &[u8]) -> Result<Image, Fail> {
     Ok(read_image(alloc, bytes).ok().ok_or("no image")?)
 }
 
+/// A thread's turn.
+fn turn(thread: u8) -> Choice {
+    Choice {
+        thread,
+        expiry: false,
+    }
+}
+
 /// The machine of the meeting after a turn of each of these threads.
 fn met(alloc: Global, threads: &[u8]) -> Result<Machine, Fail> {
     let mut choices = Vec::new(alloc);
     for thread in threads {
-        choices.push(Choice {
-            thread: *thread,
-            expiry: false,
-        })?;
+        choices.push(turn(*thread))?;
     }
     let machine = play(alloc, image(alloc, MEETING)?, choices.as_slice());
     Ok(machine.ok().ok_or("refused")?)
@@ -58,5 +65,30 @@ fn a_program_with_a_fault_is_not_played(rt: HostRuntime) -> Result<(), Fail> {
     let image = image(rt.alloc(), b"PBW1\0\0\0\0\0\0\x01\0\0\0\0\0\0\0\0\0")?;
     let refused = play(rt.alloc(), image, &[]).err();
     assert!(rt; refused == Some(StartFault::Load(LoadFault::NoThread)));
+    Ok(())
+}
+
+/// One thread waits; the other's arrival ends the phase, and is taken back.
+#[test]
+fn an_arrival_is_taken_back(rt: HostRuntime) -> Result<(), Fail> {
+    let mut machine = met(rt.alloc(), &[0])?;
+    let before = state_text(rt.alloc(), &machine)?;
+    assert!(rt; step_and_back(&mut machine, turn(1)).is_ok());
+    let after = state_text(rt.alloc(), &machine)?;
+    assert!(rt; after.as_slice() == before.as_slice());
+    Ok(())
+}
+
+/// The whole meeting, and back to where the first thread waits.
+#[test]
+fn a_meeting_is_taken_back(rt: HostRuntime) -> Result<(), Fail> {
+    let alloc = rt.alloc();
+    let mut debugger = Debugger::new(alloc, met(alloc, &[0])?, 6)?;
+    let before = state_text(alloc, debugger.machine())?;
+    let choices = [turn(1), turn(0), turn(0), turn(0), turn(1), turn(1)];
+    let events = steps_and_backs(alloc, &mut debugger, &choices);
+    assert!(rt; events.ok().ok_or("refused")?.len() == 6);
+    let after = state_text(alloc, debugger.machine())?;
+    assert!(rt; after.as_slice() == before.as_slice());
     Ok(())
 }

@@ -1,4 +1,4 @@
-use Rattle.std.proofs.Common.{◌∙◌, sym}
+use Rattle.std.proofs.Common.{◌∙◌}
 use Rattle.headline.proofs.Scenes.{choices-drop, left_last, left_next}
 use Rattle.headline.proofs.machine.play_all.Goals as goal
 

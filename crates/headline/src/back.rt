@@ -1,0 +1,65 @@
+//! Choices that are played and taken back.
+ghost use Rattle.std.specs.Prelude.{◌≡◌, ◌≤◌, ◌∷◌, [], length, None, IfOk};
+ghost use Rattle.thread_machine.specs.World.{world_of};
+ghost use Rattle.thread_machine.specs.Execution.{execution};
+ghost use Rattle.debugger.specs.Moves.{AreSteps, backs};
+ghost use Rattle.headline.specs.Headline.{BackRestores};
+
+use debugger::Debugger;
+use std::alloc::Global;
+use thread_machine::{Choice, Event, Machine, StepFault};
+
+/// Plays a choice on a machine, and takes it back.
+pub fn step_and_back(machine: &mut Machine, choice: Choice) -> Result<Event, StepFault>
+    ensures restores { IfOk result (λ event. BackRestores machine.old (choice ∷ []) (event ∷ []) machine.new) }
+{
+    let (event, undo) = machine.step_noting(choice)?;
+    machine.back(undo);
+    Ok(event)
+}
+
+/// Plays these choices in order, and answers their events.
+fn steps(
+    alloc: Global,
+    debugger: &mut Debugger,
+    choices: &[Choice],
+) -> Result<Vec<Event>, StepFault>
+    ensures steps { IfOk result (λ events. AreSteps debugger.old choices.now debugger.new) }
+    ensures accepted { IfOk result (λ events. (execution (world_of debugger.old.machine) choices.now).refusal ≡ None) }
+    ensures events { IfOk result (λ events. (execution (world_of debugger.old.machine) choices.now).events ≡ events.items) }
+{
+    let mut events = Vec::new(alloc);
+    for choice in choices {
+        let event = debugger.step(*choice)?;
+        match events.push(event) {
+            Ok(()) => {}
+            Err(_) => return Err(StepFault::Memory),
+        }
+    }
+    Ok(events)
+}
+
+/// Takes back so many of the last choices.
+fn backs(debugger: &mut Debugger, count: usize)
+    ensures { debugger.new ≡ backs count debugger.old }
+{
+    for _ in 0..count {
+        let _ = debugger.back();
+    }
+}
+
+/// Plays these choices in a session, no more than it keeps, and takes as many back. Where one is refused, it stays where that
+/// one has found it.
+pub fn steps_and_backs(
+    alloc: Global,
+    debugger: &mut Debugger,
+    choices: &[Choice],
+) -> Result<Vec<Event>, StepFault>
+    requires { length choices.now ≤ debugger.old.kept }
+    ensures restores { IfOk result (λ events.
+        BackRestores debugger.old.machine choices.now events.items debugger.new.machine) }
+{
+    let events = steps(alloc, debugger, choices)?;
+    backs(debugger, choices.len());
+    Ok(events)
+}
