@@ -82,7 +82,7 @@ fn program_file<'a>(name: &'a str, bytes: &'a [u8]) -> ProgramFile<'a> {
 
 /// Shows where a fault is, and says what it means. Nobody need be told why a pipe took no more: who read it has gone.
 pub fn push_help(rt: &HostRuntime, fault: Fault, files: Files<'_>) {
-    if !rt.stderr().is_terminal() || (fault == Fault::Write && writes_to_pipe(rt)) {
+    if !rt.stderr().is_terminal() || (matches!(fault, Fault::Write) && writes_to_pipe(rt)) {
         return;
     }
     let program = contents(rt, files.program);
