@@ -1,9 +1,13 @@
 -- What is expected of the state that a run ends in.
-use Rattle.std.specs.Prelude.{ℕ, ◌||◌, ◌&&◌, not, nat_lt, Bool, false, if◌then◌else◌, List, Option, Some, None, codes, drop, is_none, is_some, length}
+use Rattle.std.specs.Prelude.{ℕ, ◌==◌, ◌||◌, ◌&&◌, not, nat_lt, nat_le, Bool, false, if◌then◌else◌, List, [], ◌∷◌, Option, Some, None, codes, drop, is_none, is_some, length}
 use Rattle.std.specs.Global.{Vec}
 use Rattle.std.specs.List.{before_first, list_all, position_or_len}
 use Rattle.std.specs.Str.{bytes_eq}
-use Rattle.expected_end.specs.Line.{has_died, has_words, is_blank, line_of, starts_with}
+use Rattle.expected_end.specs.Line.{has_died, has_whole, is_blank, line_of}
+
+-- a digit, as a byte
+abbrev is_digit : ℕ → Bool
+is_digit byte = nat_le 48 byte && nat_le byte 57
 
 -- what a word for how a run ends wants in the line `state`, with the blank before it
 abbrev pub end_words : List ℕ → Option (List ℕ)
@@ -25,19 +29,26 @@ words_of text = drop (position_or_len is_blank text) text
 abbrev pub is_expectation : List ℕ → Bool
 is_expectation text = is_some (end_words text) || (nat_lt 0 (length (subject_of text)) && nat_lt 1 (length (words_of text)))
 
--- whether a line, if there is one, has these words in a row
+-- whether a line, if there is one, has these words in a row, and of a list the whole
 abbrev pub has_in_line : List ℕ → Option (List ℕ) → Bool
 has_in_line words None = false
-has_in_line words (Some line) = has_words words line
+has_in_line words (Some line) = has_whole words line
 
 -- whether the line of a state that begins with this word has these words in a row
 abbrev pub says : List ℕ → List ℕ → List ℕ → Bool
 says state subject words = has_in_line words (line_of state subject)
 
+-- the word of a cell: `c` and its number, 0 to 31
+abbrev pub is_cell : List ℕ → Bool
+is_cell (letter ∷ units ∷ []) = letter == 99 && is_digit units
+is_cell (letter ∷ tens ∷ units ∷ []) =
+    letter == 99 && (((tens == 49 || tens == 50) && is_digit units) || (tens == 51 && (units == 48 || units == 49)))
+is_cell _ = false
+
 -- whether 0 is expected of a cell that has no line: a cell that is 0 has none
 abbrev pub is_zero_cell : List ℕ → List ℕ → List ℕ → Bool
 is_zero_cell state subject words =
-    bytes_eq words (codes " 0") && (starts_with subject (codes "c") && is_none (line_of state subject))
+    bytes_eq words (codes " 0") && (is_cell subject && is_none (line_of state subject))
 
 -- whether every thread has ended, and none has died
 abbrev pub have_ended : List ℕ → Bool

@@ -1,5 +1,5 @@
 -- The lines of a state, and the words in them.
-use Rattle.std.specs.Prelude.{ℕ, ◌==◌, ◌||◌, ◌&&◌, Bool, true, false, if◌then◌else◌, List, [], ◌∷◌, Option, Some, None, codes, drop, length, take}
+use Rattle.std.specs.Prelude.{ℕ, ◌==◌, ◌||◌, ◌&&◌, not, Bool, true, false, if◌then◌else◌, List, [], ◌∷◌, Option, Some, None, codes, drop, length, take}
 use Rattle.std.specs.List.{before_first}
 use Rattle.std.specs.Str.{bytes_eq}
 
@@ -26,6 +26,24 @@ begins words text = starts_with text words && ends_a_word (drop (length words) t
 abbrev pub has_words : List ℕ → List ℕ → Bool
 has_words words [] = false
 has_words words (byte ∷ rest) = begins words (byte ∷ rest) || has_words words rest
+
+-- whether a list of a thread's line (its registers, its stack, what it put out) begins among these words
+abbrev pub names_a_list : List ℕ → Bool
+names_a_list words = has_words (codes " regs") words || (has_words (codes " stack") words || has_words (codes " out") words)
+
+-- whether such a list ends where this follows it: at the end of the line, or where the next list begins
+abbrev pub ends_a_list : List ℕ → Bool
+ends_a_list [] = true
+ends_a_list (byte ∷ rest) = begins (codes " stack") (byte ∷ rest) || begins (codes " out") (byte ∷ rest)
+
+-- whether a text begins with these words, and where a list is among them with the whole of it
+abbrev pub begins_whole : List ℕ → List ℕ → Bool
+begins_whole words text = begins words text && (not (names_a_list words) || ends_a_list (drop (length words) text))
+
+-- whether these words stand so in a line
+abbrev pub has_whole : List ℕ → List ℕ → Bool
+has_whole words [] = false
+has_whole words (byte ∷ rest) = begins_whole words (byte ∷ rest) || has_whole words rest
 
 -- the line that a text begins with
 abbrev pub first_line : List ℕ → List ℕ

@@ -1,17 +1,29 @@
 //! Whether a state is as expected.
 ghost use Rattle.std.specs.Prelude.{◌≡◌};
-ghost use Rattle.expected_end.specs.Expectation.{are_met, have_ended, is_met, is_zero_cell, says};
+ghost use Rattle.expected_end.specs.Expectation.{are_met, have_ended, is_cell, is_met, is_zero_cell, says};
 
 use crate::form::{end_words, subject_of, words_of};
-use crate::state_line::{has_died, has_words, line_of};
+use crate::state_line::{has_died, has_whole, line_of};
 
-/// Whether the line of a state that begins with this word has these words in a row.
+/// Whether the line of a state that begins with this word has these words in a row, and of a list the whole.
 fn says(state: &[u8], subject: &[u8], words: &[u8]) -> bool
     ensures { result ≡ says state.now subject.now words.now }
 {
     match line_of(state, subject) {
-        Some(line) => has_words(words, line),
+        Some(line) => has_whole(words, line),
         None => false,
+    }
+}
+
+/// Whether this is the word of a cell, `c` and its number, 0 to 31.
+fn is_cell(word: &[u8]) -> bool
+    ensures { result ≡ is_cell word.now }
+{
+    match word {
+        [b'c', units] => units.is_ascii_digit(),
+        [b'c', b'1' | b'2', units] => units.is_ascii_digit(),
+        [b'c', b'3', b'0' | b'1'] => true,
+        _ => false,
     }
 }
 
@@ -19,7 +31,7 @@ fn says(state: &[u8], subject: &[u8], words: &[u8]) -> bool
 fn is_zero_cell(state: &[u8], subject: &[u8], words: &[u8]) -> bool
     ensures { result ≡ is_zero_cell state.now subject.now words.now }
 {
-    words == b" 0".as_slice() && subject.starts_with(b"c") && line_of(state, subject).is_none()
+    words == b" 0".as_slice() && is_cell(subject) && line_of(state, subject).is_none()
 }
 
 /// Whether every thread has ended, and none has died.

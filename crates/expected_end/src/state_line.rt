@@ -1,7 +1,7 @@
 //! The lines of a state, and the words in them.
 ghost use Rattle.std.specs.Prelude.{◌≡◌, List, ℕ, option_map};
 ghost use Rattle.std.specs.Borrow.{Bor};
-ghost use Rattle.expected_end.specs.Line.{begins, ends_a_word, first_line, has_died, has_words, later_line, line_of};
+ghost use Rattle.expected_end.specs.Line.{begins, begins_whole, ends_a_list, ends_a_word, first_line, has_died, has_whole, has_words, later_line, line_of, names_a_list};
 
 use crate::place::length_before;
 
@@ -23,12 +23,47 @@ fn begins(words: &[u8], text: &[u8]) -> bool
 }
 
 /// Whether these words, with the blank before them, stand in a line, in a row.
-pub fn has_words(words: &[u8], line: &[u8]) -> bool
+fn has_words(words: &[u8], line: &[u8]) -> bool
     ensures { result ≡ has_words words.now line.now }
 {
     let mut rest = line;
     while !rest.is_empty() {
         if begins(words, rest) {
+            return true;
+        }
+        rest = &rest[1..];
+    }
+    false
+}
+
+/// Whether a list begins among these words, as in the line of a thread: its registers, its stack, or what it put out.
+fn names_a_list(words: &[u8]) -> bool
+    ensures { result ≡ names_a_list words.now }
+{
+    has_words(b" regs", words) || has_words(b" stack", words) || has_words(b" out", words)
+}
+
+/// Whether such a list ends where this follows it.
+fn ends_a_list(rest: &[u8]) -> bool
+    ensures { result ≡ ends_a_list rest.now }
+{
+    rest.is_empty() || begins(b" stack", rest) || begins(b" out", rest)
+}
+
+/// Whether a text begins with these words, and where a list is among them with the whole of it.
+fn begins_whole(words: &[u8], text: &[u8]) -> bool
+    ensures { result ≡ begins_whole words.now text.now }
+{
+    begins(words, text) && (!names_a_list(words) || ends_a_list(&text[words.len()..]))
+}
+
+/// Whether these words, with the blank before them, stand in a line, in a row, and where a list is among them the whole of it.
+pub fn has_whole(words: &[u8], line: &[u8]) -> bool
+    ensures { result ≡ has_whole words.now line.now }
+{
+    let mut rest = line;
+    while !rest.is_empty() {
+        if begins_whole(words, rest) {
             return true;
         }
         rest = &rest[1..];

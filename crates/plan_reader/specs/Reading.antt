@@ -107,12 +107,16 @@ abbrev pub named_by : List Name → Name → Option ℕ → Said Chosen
 named_by names name (Some thread) = Ok (record { thread = thread; expiry = false })
 named_by names name None = expiry_named names name
 
--- whose choice: `t3` and `x3` are numbers, whatever the threads are called; then come the names; then `x` and a name
+-- by a number, where nothing is called so
+abbrev pub or_numbered : Said Chosen → ℕ → Name → Said Chosen
+or_numbered (Ok chosen) count name = Ok chosen
+or_numbered (Err why) count name =
+    if is_numbered 116 name then numbered_by count false (number_in 2 63 (drop 1 name))
+    else (if is_numbered 120 name then numbered_by count true (number_in 2 63 (drop 1 name)) else Err why)
+
+-- whose choice: a name first, then `x` and a name; `t3` and `x3` are numbers where no thread is called so
 abbrev pub chosen_by : List Name → Name → Said Chosen
-chosen_by names name =
-    if is_numbered 116 name then numbered_by (length names) false (number_in 2 63 (drop 1 name))
-    else (if is_numbered 120 name then numbered_by (length names) true (number_in 2 63 (drop 1 name))
-    else named_by names name (thread_named names name))
+chosen_by names name = or_numbered (named_by names name (thread_named names name)) (length names) name
 
 -- this choice, so many times
 abbrev pub make : Option ℕ → Chosen → Said Word

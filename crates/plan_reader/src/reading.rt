@@ -3,7 +3,7 @@ ghost use Rattle.std.specs.List.{after_first, before_first, position_or_len};
 ghost use Rattle.line_reader.specs.Names.{is_name};
 ghost use Rattle.line_reader.specs.Seen.{name_seen};
 ghost use Rattle.plan_reader.specs.Numbers.{are_digits, count_in, number_in, seed_in};
-ghost use Rattle.plan_reader.specs.Reading.{alone, before_dot, begins_expiry, chosen_by, expiry_by, expiry_named, has_dot, has_star, is_alone, is_closing, is_numbered, is_opening, is_seeded, is_spelled, is_star, is_turn_about, make, may_repeat, meaning, named_by, numbered_by, or_once, seeded_by, stem_of, thread_named, times_by, times_in, word_of};
+ghost use Rattle.plan_reader.specs.Reading.{alone, before_dot, begins_expiry, chosen_by, expiry_by, expiry_named, has_dot, has_star, is_alone, is_closing, is_numbered, or_numbered, is_opening, is_seeded, is_spelled, is_star, is_turn_about, make, may_repeat, meaning, named_by, numbered_by, or_once, seeded_by, stem_of, thread_named, times_by, times_in, word_of};
 
 use crate::fault::PlanFaultKind;
 use crate::number::{are_digits, count_in, number_in, seed_in};
@@ -185,18 +185,28 @@ fn named(names: &[&[u8]], name: &[u8]) -> Result<Chosen, PlanFaultKind>
     }
 }
 
-/// Whose choice, by a number or a name.
+/// The choice that a number names, among so many threads, where it is none for this reason by name.
+fn or_numbered(why: PlanFaultKind, count: usize, name: &[u8]) -> Result<Chosen, PlanFaultKind>
+    ensures { result ≡ or_numbered (Err why) count name.now }
+{
+    if is_numbered(b't', name) {
+        return numbered(count, false, behind_first(name));
+    }
+    if is_numbered(b'x', name) {
+        return numbered(count, true, behind_first(name));
+    }
+    Err(why)
+}
+
+/// Whose choice, by a name, or else by a number.
 fn chosen_by(names: &[&[u8]], name: &[u8]) -> Result<Chosen, PlanFaultKind>
     requires { length names.now ≤ 64 }
     ensures { result ≡ chosen_by (map name_seen names.now) name.now }
 {
-    if is_numbered(b't', name) {
-        return numbered(names.len(), false, behind_first(name));
+    match named(names, name) {
+        Ok(chosen) => Ok(chosen),
+        Err(why) => or_numbered(why, names.len(), name),
     }
-    if is_numbered(b'x', name) {
-        return numbered(names.len(), true, behind_first(name));
-    }
-    named(names, name)
 }
 
 /// This choice, so many times.

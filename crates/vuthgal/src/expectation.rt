@@ -31,22 +31,9 @@ fn letter_of(kind: OperandKind) -> Option<&'static [u8]> {
     }
 }
 
-/// Whether a word numbers a thing, as `t0` does.
-fn is_numbered(word: &[u8]) -> bool {
-    match word {
-        [b't' | b'p' | b'b' | b'c', digits @ ..] => {
-            !digits.is_empty() && digits.iter().all(|byte| byte.is_ascii_digit())
-        }
-        _ => false,
-    }
-}
-
-/// Adds the word with which the line of the thing of this name begins; the name itself where nothing has it, and where it numbers a
-/// thing: the number goes before the name, as in a plan.
+/// Adds the word with which the line of the thing of this name begins, or the name itself where nothing has it: a declared name
+/// goes before a number, so that `t0` is the thread 0 only where nothing else is called so.
 fn push_subject(text: &mut Vec<u8>, symbols: &Symbols<'_>, name: &[u8]) -> Result<(), AllocError> {
-    if is_numbered(name) {
-        return text.extend_from_slice(name);
-    }
     for index in 0..symbols.len() {
         let Some(symbol) = symbols.get(index) else {
             break;

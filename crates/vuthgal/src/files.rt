@@ -2,7 +2,7 @@
 
 use crate::no_command::NoCommand;
 use std::fs::{self, File, Metadata, OpenOptions};
-use std::os::unix::fs::MetadataExt;
+use std::os::unix::fs::{FileTypeExt, MetadataExt};
 
 /// A file to read from, from its beginning.
 pub fn read<'a>(rt: &HostRuntime, path: &'a str) -> Result<File, NoCommand<'a>> {
@@ -14,6 +14,14 @@ pub fn size(file: &File) -> u64 {
     match file.metadata() {
         Ok(metadata) if metadata.is_file() => metadata.len(),
         _ => 0,
+    }
+}
+
+/// Whether standard output is a pipe, so that another program shows or uses what is written.
+pub fn writes_to_pipe(rt: &HostRuntime) -> bool {
+    match fs::metadata(rt, "/dev/stdout") {
+        Ok(metadata) => metadata.file_type().is_fifo(),
+        Err(_) => false,
     }
 }
 

@@ -1,5 +1,6 @@
 //! The words that follow what is told, where standard error is a terminal: a person's help alone.
 
+use crate::files::writes_to_pipe;
 use crate::missing::missing;
 use crate::printable;
 use byte_ports::{Sink, WritePort};
@@ -79,9 +80,9 @@ fn program_file<'a>(name: &'a str, bytes: &'a [u8]) -> ProgramFile<'a> {
     }
 }
 
-/// Shows where a fault is, and says what it means.
+/// Shows where a fault is, and says what it means. Nobody need be told why a pipe took no more: who read it has gone.
 pub fn push_help(rt: &HostRuntime, fault: Fault, files: Files<'_>) {
-    if !rt.stderr().is_terminal() {
+    if !rt.stderr().is_terminal() || (matches!(fault, Fault::Write) && writes_to_pipe(rt)) {
         return;
     }
     let program = contents(rt, files.program);

@@ -1,13 +1,15 @@
 //! How far a long run has come, for a person who waits for it.
 //!
-//! It is shown where standard error is a terminal and standard output isn't, about once a second, in one line that is written
-//! over; of many live runs, which write at their end alone, wherever standard error is a terminal. Nothing else changes by it.
+//! It is shown where standard error is a terminal and standard output goes to a file, about once a second, in one line that is
+//! written over; of many live runs, which write at their end alone, wherever standard error is a terminal. Nothing else changes
+//! by it.
 ghost use Rattle.std.specs.Io.{WritesAtMost};
 ghost use Rattle.std.specs.Io.KnownBytes.{WriteAppends};
 ghost use Rattle.std.specs.Prelude.{◌≡◌, ◌≤◌, ◌+◌, IfOk, length};
 ghost use Rattle.std.specs.Io.KnownBytes.{ReadConsumes};
 ghost use Rattle.byte_ports.specs.Port.{FailsForGood};
 
+use crate::files::writes_to_pipe;
 use byte_ports::{BlockPort, Failed, Source, WritePort};
 use race::Pace;
 use std::alloc::AllocError;
@@ -25,9 +27,10 @@ fn began(rt: &HostRuntime) -> Option<Instant> {
     Instant::now(rt).ok()
 }
 
-/// The same where standard output goes elsewhere, so that what is shown doesn't stand among it.
+/// The same where standard output goes elsewhere, so that what is shown doesn't stand among it, nor over what another program
+/// makes of it.
 fn began_beside_output(rt: &HostRuntime) -> Option<Instant> {
-    if rt.stdout().is_terminal() {
+    if rt.stdout().is_terminal() || writes_to_pipe(rt) {
         return None;
     }
     began(rt)
