@@ -1,4 +1,4 @@
-ghost use Rattle.std.specs.Prelude.{◌≡◌, ◌≤◌, IfOk, length, map};
+ghost use Rattle.std.specs.Prelude.{◌≡◌, ◌≢◌, ◌≤◌, Err, IfErr, IfOk, length, map};
 ghost use Rattle.line_reader.specs.Seen.{name_seen};
 ghost use Rattle.plan_reader.specs.Plan.{AnswersPlan, AnswersSaid, draft_closed, draft_open, draft_opened, finished, lines_behind, no_words, said_behind, word_behind, words_behind, words_in_lines, words_in_plan};
 ghost use Rattle.plan_reader.specs.Drafts.{draft_of};
@@ -25,7 +25,8 @@ struct Reading {
 impl Reading {
     /// Opens a parenthesis in this line.
     fn open(&mut self, line: u64) -> Result<(), PlanFaultKind>
-        ensures { AnswersSaid (λ _. draft_of self.new) result (draft_opened line (draft_of self.old)) }
+        ensures opened { AnswersSaid (λ _. draft_of self.new) result (draft_opened line (draft_of self.old)) }
+        ensures other { result ≢ Err PlanFaultKind.Memory }
     {
         if self.depth >= DEEPEST {
             return Err(PlanFaultKind::TooDeep);
@@ -39,7 +40,8 @@ impl Reading {
 
     /// Closes one.
     fn close(&mut self) -> Result<(), PlanFaultKind>
-        ensures { AnswersSaid (λ _. draft_of self.new) result (draft_closed (draft_of self.old)) }
+        ensures closed { AnswersSaid (λ _. draft_of self.new) result (draft_closed (draft_of self.old)) }
+        ensures other { result ≢ Err PlanFaultKind.Memory }
     {
         if self.depth == 0 {
             return Err(PlanFaultKind::NotOpened);
@@ -50,7 +52,8 @@ impl Reading {
 
     /// What a word in this line does to the parentheses.
     fn nest(&mut self, line: u64, word: Word) -> Result<(), PlanFaultKind>
-        ensures { AnswersSaid (λ _. draft_of self.new) result (draft_open line (draft_of self.old) word) }
+        ensures nested { AnswersSaid (λ _. draft_of self.new) result (draft_open line (draft_of self.old) word) }
+        ensures other { result ≢ Err PlanFaultKind.Memory }
     {
         match word {
             Word::Step(_) => Ok(()),
@@ -143,7 +146,8 @@ impl Reading {
 
     /// The words, where no parenthesis is open.
     fn finished(self) -> Result<Vec<Word>, PlanFault>
-        ensures { AnswersPlan (λ words. words.items) result (finished (draft_of self)) }
+        ensures finished { AnswersPlan (λ words. words.items) result (finished (draft_of self)) }
+        ensures other { IfErr result (λ fault. fault.kind ≢ PlanFaultKind.Memory) }
     {
         if self.depth == 0 {
             return Ok(self.words);
