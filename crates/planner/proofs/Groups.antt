@@ -8,7 +8,7 @@ use Rattle.plan_reader.specs.declared.word.Word.TheVariants as word
 use Rattle.plan_reader.specs.Tree.{Plan, Done, Then, Group, words_of_plan}
 use Rattle.planner.specs.Progress.{Progress}
 use Rattle.planner.specs.Play.{plays, repeated, step_played}
-use Rattle.planner.proofs.Progresses.{settles}
+use Rattle.planner.proofs.Progresses.{repeated_same, settles}
 use Rattle.planner.specs.Groups.{IsEnd, Played, HasPlayed, PlayedGroup, HasPlayedGroup, HasPlayedAgain}
 
 -- behind so many words this plan is left, and playing it makes of one progress what the whole makes of the first
@@ -176,3 +176,14 @@ pub settled_pass : (body : Plan) (before after : Progress) → after ≡ plays b
 settled_pass body before after is same =
     let left : (plays body before).left ≡ before.left = ap (λ (p : Progress). p.left) (sym is) ∙ same in
     ap (plays body) is ∙ settles body before left ∙ sym is
+
+-- a group whose first pass made no choice is played
+pub settled_group : (words : List Word) (count : ℕ) (before after : Progress) → HasPlayed words count before after
+    → after.left ≡ before.left → HasPlayedGroup words (count + 1) before after
+settled_group words count before after played same body times rest whole =
+    let pass = played body (word.Close times ∷ rest) whole tt in
+    record {
+      count = ap (λ n. n + 1) pass.count;
+      after = sym (repeated_same (times - 1) (λ p. plays body p) after (settled_pass body before after pass.after same))
+          ∙ ap (repeated (times - 1) (λ p. plays body p)) pass.after;
+    }

@@ -45,15 +45,20 @@ impl Player {
         Ok(at)
     }
 
-    /// Plays a group behind its first parenthesis. Its answer is how many words it has with its second.
+    /// Plays a group behind its first parenthesis, once where that makes no choice. Its answer is how many words it has with its
+    /// second.
     #[cycle(words)]
     fn play_group(&mut self, alloc: Global, words: &[Word]) -> Result<usize, AllocError>
         ensures played { IfOk result (λ count. HasPlayedGroup words.now count self.old self.new) }
         ensures within { IfOk result (λ count. count ≤ length words.now) }
     {
+        let left = self.left();
         let count = self.play_words(alloc, words)?;
         if count == words.len() {
             return Ok(count);
+        }
+        if self.left() == left {
+            return Ok(count + 1);
         }
         if let Word::Close(times) = words[count] {
             self.play_again(alloc, words_before(words, count), times)?;

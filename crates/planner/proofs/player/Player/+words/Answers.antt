@@ -3,7 +3,7 @@ use Rattle.plan_reader.specs.declared.word.Word.{Word}
 use Rattle.plan_reader.specs.Tree.{words_of_plan}
 use Rattle.planner.specs.Play.{plays}
 use Rattle.planner.specs.Groups.{HasPlayedGroup}
-use Rattle.planner.proofs.Groups.{step_left, open_left, close_left, end_left, pass_played, settled_pass}
+use Rattle.planner.proofs.Groups.{step_left, open_left, close_left, end_left, pass_played, settled_group, settled_pass}
 use Rattle.planner.proofs.Repeats.{next_repeated, settled_repeated, all_repeated}
 use Rattle.planner.proofs.player.Player.+words.Goals as goal
 
@@ -55,3 +55,8 @@ pub play_words-returns-clause-played : goal.play_words-returns-clause-played
 play_words-returns-clause-played t c =
     let all : length c.args.words.now ≤ c.loop-at.at = search (rules, arith) in
     end_left c.args.words.now c.loop-at.at c.args.self.now c.loop-at.self all c.loop-at.invariant.1
+
+pub play_group-returns-then-left-clause-played : goal.play_group-returns-then-left-clause-played
+play_group-returns-then-left-clause-played t c =
+    settled_group c.args.words.now c.in_ok-count.count c.args.self.now c.play_words.new.self c.in_ok-count.ensures.played
+    (sym c.left.ensures.left ∙ c.if-left.true ∙ c.left-left.ensures.left)
