@@ -1,4 +1,5 @@
 pub mod Digits
 pub mod Names
+pub mod Pieces
 pub mod Behind
 pub mod Nesting

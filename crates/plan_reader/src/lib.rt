@@ -4,11 +4,11 @@
 //! plays is the matter of `planner`.
 #![tactic(auto)]
 
+mod cutting;
 mod draft;
 pub mod fault;
 mod number;
 mod reading;
-mod spread;
 #[cfg(test)]
 mod tests;
 pub mod word;
