@@ -2,4 +2,5 @@ pub mod Digits
 pub mod Names
 pub mod Pieces
 pub mod Behind
+pub mod Storing
 pub mod Nesting

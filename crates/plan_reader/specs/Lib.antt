@@ -6,3 +6,4 @@ pub mod Reading
 pub mod Plan
 pub mod Drafts
 pub mod Tree
+pub mod Parts

@@ -11,6 +11,7 @@ use crate::cutting::{before, from, word_length};
 use crate::fault::{PlanFault, PlanFaultKind};
 use crate::reading::word_of;
 use crate::word::Word;
+use crate::words::Words;
 use line_reader::words::{before_comment, length_before};
 use std::alloc::Global;
 
@@ -20,7 +21,7 @@ const DEEPEST: u8 = 16;
 /// The words so far, how many parentheses are open, and the line of the outermost of them.
 #[derive(Drop)]
 struct Reading {
-    words: Vec<Word>,
+    words: Words,
     depth: u8,
     opened: u64,
 }
@@ -135,8 +136,8 @@ impl Reading {
     }
 
     /// The words, where no parenthesis is open.
-    fn finished(self) -> Result<Vec<Word>, PlanFault>
-        ensures finished { AnswersPlan (λ words. words.items) result (finished (draft_of self)) }
+    fn finished(self) -> Result<Words, PlanFault>
+        ensures finished { AnswersPlan (λ words. words) result (finished (draft_of self)) }
         ensures other { IfErr result (λ fault. fault.kind ≢ PlanFaultKind.Memory) }
     {
         if self.depth == 0 {
@@ -151,13 +152,13 @@ impl Reading {
 
 /// Reads a plan for a program whose threads have these names, in order of number. Its answer is the words of the text, or
 /// the first fault; a parenthesis that is never closed is told only where nothing else is wrong.
-pub fn read_plan(alloc: Global, text: &[u8], names: &[&[u8]]) -> Result<Vec<Word>, PlanFault>
+pub fn read_plan(alloc: Global, text: &[u8], names: &[&[u8]]) -> Result<Words, PlanFault>
     requires { length names.now ≤ 64 }
-    ensures read { AnswersPlan (λ words. words.items) result (words_in_plan (map name_seen names.now) text.now) }
-    ensures nested { IfOk result (λ words. IsPlan words.items) }
+    ensures read { AnswersPlan (λ words. words) result (words_in_plan (map name_seen names.now) text.now) }
+    ensures nested { IfOk result (λ words. IsPlan words) }
 {
     let mut reading = Reading {
-        words: Vec::new(alloc),
+        words: Words::new(alloc),
         depth: 0,
         opened: 0,
     };

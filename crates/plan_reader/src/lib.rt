@@ -8,9 +8,11 @@ mod cutting;
 mod draft;
 pub mod fault;
 mod number;
+mod part;
 mod reading;
 #[cfg(test)]
 mod tests;
 pub mod word;
+pub mod words;
 
 pub use draft::read_plan;
