@@ -84,8 +84,20 @@ def plan_word(chance, names):
     return chance.choice([name, f"{name}.", f"{name}{count}", f"{name}.", f"x{name}", rule + (count or "*30")])
 
 
+def nest(chance, names):
+    """Groups in groups of a plan, each to be played often; many of their passes make no choice."""
+    words = ["(", *chance.choices(["..", "?7", f"{chance.choice(names)}."], k=chance.randint(0, 2)), ")"]
+    for _ in range(chance.choice([2, 15, 15, chance.randint(1, 16)])):
+        beside = [plan_word(chance, names) if chance.random() < 0.05 else "..", "()*1000000"]
+        words[-1] += f"*{chance.choice([2, 9, 1_000_000, 1_000_000])}"
+        words = ["(", *chance.choices(beside, k=chance.choice([0, 0, 1])), *words, *chance.choices(beside, k=chance.choice([0, 0, 1])), ")"]
+    return " ".join(words)
+
+
 def plan(chance, names):
     """A plan, of which most are faultless."""
+    if chance.random() < 0.3:
+        return " ".join([chance.choice(["", ".."]), nest(chance, names), plan_word(chance, names)]).encode()
     words, depth = [], 0
     for _ in range(chance.randint(0, 20)):
         words.append(plan_word(chance, names))

@@ -26,7 +26,7 @@ use instruction_table::OperandKind;
 use loader::{Loaded, load};
 use plan_reader::fault::{PlanFault, PlanFaultKind};
 use plan_reader::read_plan;
-use plan_reader::word::Word;
+use plan_reader::words::Words;
 use planner::plan_runs::plan_runs;
 use planner::planned::Planned;
 use schedule_reader::write_schedule;
@@ -81,10 +81,10 @@ pub fn loaded_program(alloc: Global, file: &[u8]) -> Result<(Loaded, Vec<&[u8]>)
 }
 
 /// The words of a plan.
-fn plan_words(alloc: Global, plan: &[u8], names: &[&[u8]]) -> Result<Vec<Word>, Unplanned>
+fn plan_words(alloc: Global, plan: &[u8], names: &[&[u8]]) -> Result<Words, Unplanned>
     requires { length names.now ≤ 64 }
-    ensures words { IfOk result (λ words. words_in_plan (map name_seen names.now) plan.now ≡ Ok words.items) }
-    ensures whole { IfOk result (λ words. IsPlan words.items) }
+    ensures words { IfOk result (λ words. words_in_plan (map name_seen names.now) plan.now ≡ Ok words) }
+    ensures whole { IfOk result (λ words. IsPlan words) }
     ensures refused { (f : PlanFault) → result ≡ Err (Unplanned.Plan f)
         → words_in_plan (map name_seen names.now) plan.now ≡ Err f }
     ensures other { (f : Fault) → result ≡ Err (Unplanned.Fault f) → f ≡ Fault.Memory }
@@ -115,7 +115,7 @@ fn planned_in(alloc: Global, file: &[u8], plan: &[u8]) -> Result<Planned, Unplan
         Ok(words) => words,
         Err(reason) => return Err(reason),
     };
-    match plan_runs(alloc, program, words.as_slice()) {
+    match plan_runs(alloc, program, &words.all()) {
         Ok(planned) => Ok(planned),
         Err(_) => Err(Unplanned::Fault(Fault::Memory)),
     }

@@ -1,15 +1,14 @@
 -- The words that are read are those of a plan.
-use Rattle.std.proofs.Common.{◌≡◌, ◌∙◌, ◌+◌, ◌-◌, ◌<◌, ◌==◌, ℕ, zero, suc, Bool, true, false, List, [], ◌∷◌, ◌++◌, ap, sym, refl, subst, arith, append_assoc, add-one}
+use Rattle.std.proofs.Common.{◌≡◌, ◌∙◌, ◌+◌, ◌-◌, ◌==◌, ℕ, zero, suc, Bool, true, false, List, [], ◌∷◌, ◌++◌, ap, sym, refl, subst, arith, append_assoc, add-one}
 use Rattle.std.specs.Prelude.{IfOk, Result, Ok, Err, if◌then◌else◌, nat_le}
 use Rattle.std.proofs.lemmas.List.{append-nil}
 use Rattle.row_code.specs.Answers.{◌>>=◌}
 use Rattle.plan_reader.specs.declared.fault.PlanFault.{PlanFault}
-use Rattle.plan_reader.specs.declared.fault.PlanFaultKind.{PlanFaultKind}
 use Rattle.plan_reader.specs.declared.fault.PlanFaultKind.TheVariants as fault
 use Rattle.plan_reader.specs.declared.word.Step.{Step}
 use Rattle.plan_reader.specs.declared.word.Word.{Word}
 use Rattle.plan_reader.specs.declared.word.Word.TheVariants as word
-use Rattle.plan_reader.specs.Plan.{AnswersPlan, Draft, no_words, draft_open, with_word, placed, said_behind, word_behind, words_behind, lines_behind, finished, words_in_lines}
+use Rattle.plan_reader.specs.Plan.{AnswersPlan, Draft, no_words, draft_open, with_word, placed, word_behind, words_behind, lines_behind, finished, words_in_lines}
 use Rattle.plan_reader.specs.Reading.{Name, Said, word_of}
 use Rattle.plan_reader.specs.Tree.{Plan, Done, Then, Group, words_of_plan, IsPlan}
 use Rattle.plan_reader.specs.Words.{words_of}

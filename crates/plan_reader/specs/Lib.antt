@@ -1,7 +1,9 @@
 pub mod FaultNumber
 pub mod Numbers
 pub mod Words
+pub mod Cutting
 pub mod Reading
 pub mod Plan
 pub mod Drafts
 pub mod Tree
+pub mod Parts

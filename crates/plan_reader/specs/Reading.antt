@@ -1,14 +1,12 @@
 -- What one word of a plan says.
-use Rattle.std.specs.Prelude.{ℕ, ◌+◌, ◌-◌, ◌==◌, ◌||◌, ◌&&◌, not, nat_lt, if◌then◌else◌, Bool, true, false, List, [], ◌∷◌, length, take, drop, codes, slice_index, position, bytes_eq, Option, Some, None, Result, Ok, Err}
+use Rattle.std.specs.Prelude.{ℕ, ◌-◌, ◌==◌, ◌||◌, ◌&&◌, not, nat_lt, if◌then◌else◌, Bool, true, false, List, length, take, drop, codes, slice_index, position, bytes_eq, Option, Some, None, Result, Ok, Err}
 use Rattle.std.specs.List.{after_first, before_first, position_or_len}
 use Rattle.row_code.specs.Answers.{◌>>=◌}
 use Rattle.line_reader.specs.Names.{is_name}
 use Rattle.plan_reader.specs.declared.fault.PlanFaultKind.{PlanFaultKind}
 use Rattle.plan_reader.specs.declared.fault.PlanFaultKind.TheVariants as fault
 use Rattle.plan_reader.specs.declared.word.Chosen.{Chosen}
-use Rattle.plan_reader.specs.declared.word.Rule.{Rule}
 use Rattle.plan_reader.specs.declared.word.Rule.TheVariants as rule
-use Rattle.plan_reader.specs.declared.word.Step.{Step}
 use Rattle.plan_reader.specs.declared.word.Step.TheVariants as step
 use Rattle.plan_reader.specs.declared.word.Word.{Word}
 use Rattle.plan_reader.specs.declared.word.Word.TheVariants as word

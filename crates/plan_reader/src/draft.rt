@@ -1,14 +1,18 @@
-ghost use Rattle.std.specs.Prelude.{◌≡◌, ◌≤◌, IfOk, length, map};
+ghost use Rattle.std.specs.Prelude.{◌≡◌, ◌≢◌, ◌≤◌, Err, IfErr, IfOk, length, map};
+ghost use Rattle.std.specs.List.{slice_split};
 ghost use Rattle.line_reader.specs.Seen.{name_seen};
+ghost use Rattle.line_reader.specs.Words.{is_line_end};
 ghost use Rattle.plan_reader.specs.Plan.{AnswersPlan, AnswersSaid, draft_closed, draft_open, draft_opened, finished, lines_behind, no_words, said_behind, word_behind, words_behind, words_in_lines, words_in_plan};
 ghost use Rattle.plan_reader.specs.Drafts.{draft_of};
 ghost use Rattle.plan_reader.specs.Tree.{IsPlan};
 ghost use Rattle.plan_reader.specs.Words.{words_of};
 
+use crate::cutting::{before, from, word_length};
 use crate::fault::{PlanFault, PlanFaultKind};
 use crate::reading::word_of;
-use crate::spread::{split_lines, split_words, spread_line};
 use crate::word::Word;
+use crate::words::Words;
+use line_reader::words::{before_comment, length_before};
 use std::alloc::Global;
 
 /// How many parentheses stand open at once at most.
@@ -17,7 +21,7 @@ const DEEPEST: u8 = 16;
 /// The words so far, how many parentheses are open, and the line of the outermost of them.
 #[derive(Drop)]
 struct Reading {
-    words: Vec<Word>,
+    words: Words,
     depth: u8,
     opened: u64,
 }
@@ -25,7 +29,8 @@ struct Reading {
 impl Reading {
     /// Opens a parenthesis in this line.
     fn open(&mut self, line: u64) -> Result<(), PlanFaultKind>
-        ensures { AnswersSaid (λ _. draft_of self.new) result (draft_opened line (draft_of self.old)) }
+        ensures opened { AnswersSaid (λ _. draft_of self.new) result (draft_opened line (draft_of self.old)) }
+        ensures other { result ≢ Err PlanFaultKind.Memory }
     {
         if self.depth >= DEEPEST {
             return Err(PlanFaultKind::TooDeep);
@@ -39,7 +44,8 @@ impl Reading {
 
     /// Closes one.
     fn close(&mut self) -> Result<(), PlanFaultKind>
-        ensures { AnswersSaid (λ _. draft_of self.new) result (draft_closed (draft_of self.old)) }
+        ensures closed { AnswersSaid (λ _. draft_of self.new) result (draft_closed (draft_of self.old)) }
+        ensures other { result ≢ Err PlanFaultKind.Memory }
     {
         if self.depth == 0 {
             return Err(PlanFaultKind::NotOpened);
@@ -50,7 +56,8 @@ impl Reading {
 
     /// What a word in this line does to the parentheses.
     fn nest(&mut self, line: u64, word: Word) -> Result<(), PlanFaultKind>
-        ensures { AnswersSaid (λ _. draft_of self.new) result (draft_open line (draft_of self.old) word) }
+        ensures nested { AnswersSaid (λ _. draft_of self.new) result (draft_open line (draft_of self.old) word) }
+        ensures other { result ≢ Err PlanFaultKind.Memory }
     {
         match word {
             Word::Step(_) => Ok(()),
@@ -85,65 +92,53 @@ impl Reading {
         }
     }
 
-    /// Adds the words of a line.
-    fn add_words(&mut self, names: &[&[u8]], line: u64, words: &[&[u8]]) -> Result<(), PlanFault>
-        requires { length names.now ≤ 64 }
-        ensures { AnswersPlan (λ _. draft_of self.new) result
-            (words_behind (map name_seen names.now) line (draft_of self.old) (map name_seen words.now)) }
-    {
-        for word in words {
-            match self.add_word(names, line, *word) {
-                Ok(()) => {}
-                Err(fault) => return Err(fault),
-            }
-        }
-        Ok(())
-    }
-
     /// Adds what a line says.
-    fn add_line(
-        &mut self,
-        alloc: Global,
-        names: &[&[u8]],
-        line: u64,
-        bytes: &[u8],
-    ) -> Result<(), PlanFault>
+    fn add_line(&mut self, names: &[&[u8]], line: u64, bytes: &[u8]) -> Result<(), PlanFault>
         requires { length names.now ≤ 64 }
         ensures { AnswersPlan (λ _. draft_of self.new) result
             (words_behind (map name_seen names.now) line (draft_of self.old) (words_of bytes.now)) }
     {
-        let Ok(spread) = spread_line(alloc, bytes) else {
-            return Err(no_memory(line));
-        };
-        let Ok(words) = split_words(alloc, spread.as_slice()) else {
-            return Err(no_memory(line));
-        };
-        self.add_words(names, line, words.as_slice())
-    }
-
-    /// Adds what these lines say, the first of number 1.
-    fn add_lines(
-        &mut self,
-        alloc: Global,
-        names: &[&[u8]],
-        lines: &[&[u8]],
-    ) -> Result<(), PlanFault>
-        requires { length names.now ≤ 64 }
-        ensures { AnswersPlan (λ _. draft_of self.new) result
-            (lines_behind (map name_seen names.now) 1 (draft_of self.old) (map name_seen lines.now)) }
-    {
-        for (place, bytes) in lines.iter().enumerate() {
-            match self.add_line(alloc, names, place as u64 + 1, *bytes) {
-                Ok(()) => {}
-                Err(fault) => return Err(fault),
+        let mut rest = before_comment(bytes);
+        while !rest.is_empty() {
+            let length = word_length(rest);
+            if length == 0 {
+                rest = from(rest, 1);
+            } else {
+                match self.add_word(names, line, before(rest, length)) {
+                    Ok(()) => rest = from(rest, length),
+                    Err(fault) => return Err(fault),
+                }
             }
         }
         Ok(())
     }
 
+    /// Adds what the lines of a text say.
+    fn add_lines(&mut self, names: &[&[u8]], text: &[u8]) -> Result<(), PlanFault>
+        requires { length names.now ≤ 64 }
+        ensures { AnswersPlan (λ _. draft_of self.new) result
+            (lines_behind (map name_seen names.now) 1 (draft_of self.old) (slice_split is_line_end text.now)) }
+    {
+        let mut rest = text;
+        let mut line = 1;
+        loop {
+            let length = length_before(b'\n', rest);
+            match self.add_line(names, line, before(rest, length)) {
+                Ok(()) => {}
+                Err(fault) => return Err(fault),
+            }
+            if length == rest.len() {
+                return Ok(());
+            }
+            rest = from(rest, length + 1);
+            line += 1;
+        }
+    }
+
     /// The words, where no parenthesis is open.
-    fn finished(self) -> Result<Vec<Word>, PlanFault>
-        ensures { AnswersPlan (λ words. words.items) result (finished (draft_of self)) }
+    fn finished(self) -> Result<Words, PlanFault>
+        ensures finished { AnswersPlan (λ words. words) result (finished (draft_of self)) }
+        ensures other { IfErr result (λ fault. fault.kind ≢ PlanFaultKind.Memory) }
     {
         if self.depth == 0 {
             return Ok(self.words);
@@ -155,39 +150,18 @@ impl Reading {
     }
 }
 
-fn no_memory(line: u64) -> PlanFault
-    ensures { result ≡ record { line = line; kind = PlanFaultKind.Memory } }
-{
-    PlanFault {
-        line,
-        kind: PlanFaultKind::Memory,
-    }
-}
-
-/// The words of the lines.
-fn words_in_lines(alloc: Global, names: &[&[u8]], lines: &[&[u8]]) -> Result<Vec<Word>, PlanFault>
+/// Reads a plan for a program whose threads have these names, in order of number. Its answer is the words of the text, or
+/// the first fault; a parenthesis that is never closed is told only where nothing else is wrong.
+pub fn read_plan(alloc: Global, text: &[u8], names: &[&[u8]]) -> Result<Words, PlanFault>
     requires { length names.now ≤ 64 }
-    ensures { AnswersPlan (λ words. words.items) result
-        (words_in_lines (map name_seen names.now) (map name_seen lines.now)) }
+    ensures read { AnswersPlan (λ words. words) result (words_in_plan (map name_seen names.now) text.now) }
+    ensures nested { IfOk result (λ words. IsPlan words) }
 {
     let mut reading = Reading {
-        words: Vec::new(alloc),
+        words: Words::new(alloc),
         depth: 0,
         opened: 0,
     };
-    reading.add_lines(alloc, names, lines)?;
+    reading.add_lines(names, text)?;
     reading.finished()
-}
-
-/// Reads a plan for a program whose threads have these names, in order of number. Its answer is the words of the text, or
-/// the first fault; a parenthesis that is never closed is told only where nothing else is wrong.
-pub fn read_plan(alloc: Global, text: &[u8], names: &[&[u8]]) -> Result<Vec<Word>, PlanFault>
-    requires { length names.now ≤ 64 }
-    ensures read { AnswersPlan (λ words. words.items) result (words_in_plan (map name_seen names.now) text.now) }
-    ensures nested { IfOk result (λ words. IsPlan words.items) }
-{
-    let Ok(lines) = split_lines(alloc, text) else {
-        return Err(no_memory(1));
-    };
-    words_in_lines(alloc, names, lines.as_slice())
 }

@@ -4,13 +4,15 @@
 //! plays is the matter of `planner`.
 #![tactic(auto)]
 
+mod cutting;
 mod draft;
 pub mod fault;
 mod number;
+mod part;
 mod reading;
-mod spread;
 #[cfg(test)]
 mod tests;
 pub mod word;
+pub mod words;
 
 pub use draft::read_plan;

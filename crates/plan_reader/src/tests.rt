@@ -45,27 +45,52 @@ fn turn(thread: u8, times: u32) -> Word {
     })
 }
 
-fn expiry(thread: u8) -> Word {
+fn rule(rule: Rule, most: Option<u32>) -> Word {
+    Word::Step(Step::Follow { rule, most })
+}
+
+fn expiry(thread: u8, times: u32) -> Word {
     Word::Step(Step::Make {
         chosen: Chosen {
             thread,
             expiry: true,
         },
-        times: 1,
+        times,
     })
 }
 
 #[test]
 fn words(rt: HostRuntime) -> Result<(), Fail> {
     let names: [&[u8]; 3] = [b"ann", b"xavier", b"bob"];
-    let text = b"(t2 ann*3)*2 bob. xavier xann x2;x9\r\n\t..*5 ?7";
+    let text = b"(t2 ann*3)*2 bob. xavier xann x2;x9\r\n\t..*5 ?7()?256*9 ..(x1*1000000)*1 ?255*2\n?18446744073709551615*1";
+    let wanted = [
+        Word::Open,
+        turn(2, 1),
+        turn(0, 3),
+        Word::Close(2),
+        rule(Rule::Alone(2), None),
+        turn(1, 1),
+        expiry(0, 1),
+        expiry(2, 1),
+        rule(Rule::TurnAbout, Some(5)),
+        rule(Rule::BySeed(7), None),
+        Word::Open,
+        Word::Close(1),
+        rule(Rule::BySeed(256), Some(9)),
+        rule(Rule::TurnAbout, None),
+        Word::Open,
+        expiry(1, 1_000_000),
+        Word::Close(1),
+        rule(Rule::BySeed(255), Some(2)),
+        rule(Rule::BySeed(u64::MAX), Some(1)),
+    ];
     match read_plan(rt.alloc(), text, &names) {
         Ok(words) => {
-            let wanted = [Word::Open, turn(2, 1), turn(0, 3), Word::Close(2)];
-            assert_eq!(rt; words.len(), 4 + 6);
-            assert_eq!(rt; &words[..4], wanted.as_slice());
-            assert_eq!(rt; words[5], turn(1, 1));
-            assert_eq!(rt; words[6], expiry(0));
+            let mut left = words.all();
+            for wanted in wanted.iter() {
+                assert_eq!(rt; left.next(), Some(*wanted));
+            }
+            assert!(rt; left.next().is_none());
         }
         Err(_) => assert!(rt; false),
     }

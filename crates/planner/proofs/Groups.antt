@@ -1,6 +1,6 @@
 -- What is left of a plan behind some of its words.
-use Rattle.std.proofs.Common.{◌≡◌, ◌∙◌, ◌+◌, ◌-◌, ◌<◌, ◌≤◌, ◌++◌, ℕ, zero, suc, List, [], ◌∷◌, length, take, drop, refl, sym, ap, subst, arith, append_assoc, add-one, length-append}
-use Rattle.std.specs.Prelude.{slice_index_or}
+use Rattle.std.proofs.Common.{◌≡◌, ◌∙◌, ◌-◌, ◌++◌, ℕ, List, [], ◌∷◌, refl, sym, ap, append_assoc}
+use Rattle.std.specs.Prelude.{Option, Some, None}
 use Rattle.std.proofs.lemmas.List.{append-nil}
 use Rattle.plan_reader.specs.declared.word.Step.{Step}
 use Rattle.plan_reader.specs.declared.word.Word.{Word}
@@ -8,166 +8,102 @@ use Rattle.plan_reader.specs.declared.word.Word.TheVariants as word
 use Rattle.plan_reader.specs.Tree.{Plan, Done, Then, Group, words_of_plan}
 use Rattle.planner.specs.Progress.{Progress}
 use Rattle.planner.specs.Play.{plays, repeated, step_played}
-use Rattle.planner.proofs.Progresses.{settles}
+use Rattle.planner.proofs.Progresses.{repeated_same, settles}
 use Rattle.planner.specs.Groups.{IsEnd, Played, HasPlayed, PlayedGroup, HasPlayedGroup, HasPlayedAgain}
 
--- behind so many words this plan is left, and playing it makes of one progress what the whole makes of the first
-pub record Left (words : List Word) (at : ℕ) (plan : Plan) (rest : List Word) (first now : Progress) : Type 0 where
+-- this plan is left, and playing it makes of one progress what the whole makes of the first
+pub record Left (here : List Word) (plan : Plan) (tail : List Word) (first now : Progress) : Type 0 where
   pub remaining : Plan
-  pub here : drop at words ≡ words_of_plan remaining ++ rest
-  pub count : at + length (words_of_plan remaining) ≡ length (words_of_plan plan)
+  pub words : here ≡ words_of_plan remaining ++ tail
   pub played : plays remaining now ≡ plays plan first
 
-abbrev pub IsLeft : List Word → ℕ → Progress → Progress → Type 0
-IsLeft words at first now = (plan : Plan) (rest : List Word) → words ≡ words_of_plan plan ++ rest → IsEnd rest → Left words at plan rest first now
+abbrev pub IsLeft : List Word → List Word → Progress → Progress → Type 0
+IsLeft words here first now = (plan : Plan) (tail : List Word) → words ≡ words_of_plan plan ++ tail → IsEnd tail → Left here plan tail first now
 
-pub all_left : (words : List Word) (first : Progress) → IsLeft words 0 first first
-all_left words first plan rest is end = record { remaining = plan; here = is; count = omega arith; played = refl }
-
--- the words from a place on
-pub from_here : (words : List Word) (at : ℕ) (d : Word) → at < length words → drop at words ≡ slice_index_or words at d ∷ drop (at + 1) words
-from_here [] at d there = absurd (omega (arith, there))
-from_here (one ∷ words) zero d there = refl
-from_here (one ∷ words) (suc at) d there =
-    from_here words at d (omega (arith, there)) ∙ ap (λ k. slice_index_or words at d ∷ drop k words) (add-one at)
-    ∙ ap (λ k. slice_index_or words at d ∷ drop k (one ∷ words)) (sym (add-one (suc at)))
-
-drop_all : (words : List Word) (at : ℕ) → length words ≤ at → drop at words ≡ []
-drop_all [] zero all = refl
-drop_all [] (suc at) all = refl
-drop_all (one ∷ words) zero all = absurd (omega (arith, all))
-drop_all (one ∷ words) (suc at) all = drop_all words at (omega (arith, all))
-
-abbrev no_words : List Word
-no_words = []
-
-drop_nothing : (n : ℕ) → no_words ≡ drop n no_words
-drop_nothing zero = refl
-drop_nothing (suc n) = refl
-
-drop_more : (words : List Word) (at more : ℕ) → drop (at + more) words ≡ drop more (drop at words)
-drop_more words zero more = ap (λ k. drop k words) (omega arith)
-drop_more [] (suc at) more =
-    let next : suc at + more ≡ suc (at + more) = omega arith in
-    ap (λ k. drop k no_words) next ∙ drop_nothing more
-drop_more (one ∷ words) (suc at) more =
-    let next : suc at + more ≡ suc (at + more) = omega arith in
-    ap (λ k. drop k (one ∷ words)) next ∙ drop_more words at more
-
--- behind a part and what closes it
-drop_part : (part : List Word) (one : Word) (rest : List Word) → drop (length part + 1) (part ++ one ∷ rest) ≡ rest
-drop_part [] one rest = refl
-drop_part (first ∷ part) one rest =
-    let next : length (first ∷ part) + 1 ≡ suc (length part + 1) = omega arith in
-    ap (λ k. drop k (first ∷ (part ++ one ∷ rest))) next ∙ drop_part part one rest
-
-take_part : (part rest : List Word) → take (length part) (part ++ rest) ≡ part
-take_part [] rest = refl
-take_part (first ∷ part) rest = ap (λ ws. first ∷ ws) (take_part part rest)
-
-index_part : (part : List Word) (one d : Word) (rest : List Word) → slice_index_or (part ++ one ∷ rest) (length part) d ≡ one
-index_part [] one d rest = refl
-index_part (first ∷ part) one d rest = index_part part one d rest
+pub all_left : (words here : List Word) (first : Progress) → here ≡ words → IsLeft words here first first
+all_left words here first same plan tail is end = record { remaining = plan; words = same ∙ is; played = refl }
 
 -- a step
-step_left_by : (words : List Word) (at : ℕ) (step : Step) (remaining plan : Plan) (rest : List Word) (first now after : Progress)
-    → word.Step step ∷ drop (at + 1) words ≡ words_of_plan remaining ++ rest → IsEnd rest
-    → at + length (words_of_plan remaining) ≡ length (words_of_plan plan) → plays remaining now ≡ plays plan first
-    → after ≡ step_played step now → Left words (at + 1) plan rest first after
+step_left_by : (behind : List Word) (step : Step) (remaining plan : Plan) (tail : List Word) (first now after : Progress)
+    → word.Step step ∷ behind ≡ words_of_plan remaining ++ tail → IsEnd tail → plays remaining now ≡ plays plan first
+    → after ≡ step_played step now → Left behind plan tail first after
 unfolding plays
-step_left_by words at step Done plan [] first now after is end count played next = absurd (cc is)
-step_left_by words at step Done plan (word.Step one ∷ rest) first now after is end count played next = absurd end
-step_left_by words at step Done plan (word.Open ∷ rest) first now after is end count played next = absurd end
-step_left_by words at step Done plan (word.Close times ∷ rest) first now after is end count played next = absurd (cc is)
-step_left_by words at step (Then one remaining) plan rest first now after is end count played next =
+step_left_by behind step Done plan [] first now after is end played next = absurd (cc is)
+step_left_by behind step Done plan (word.Step one ∷ tail) first now after is end played next = absurd end
+step_left_by behind step Done plan (word.Open ∷ tail) first now after is end played next = absurd end
+step_left_by behind step Done plan (word.Close times ∷ tail) first now after is end played next = absurd (cc is)
+step_left_by behind step (Then one remaining) plan tail first now after is end played next =
     let same : step ≡ one = cc is in
-    let here : drop (at + 1) words ≡ words_of_plan remaining ++ rest = cc is in
+    let words : behind ≡ words_of_plan remaining ++ tail = cc is in
     record {
       remaining = remaining;
-      here = here;
-      count = omega (arith, count);
+      words = words;
       played = ap (plays remaining) (next ∙ ap (λ s. step_played s now) same) ∙ played;
     }
-step_left_by words at step (Group body times remaining) plan rest first now after is end count played next = absurd (cc is)
+step_left_by behind step (Group body times remaining) plan tail first now after is end played next = absurd (cc is)
 
-pub step_left : (words : List Word) (at : ℕ) (d : Word) (step : Step) (first now after : Progress) → at < length words
-    → slice_index_or words at d ≡ word.Step step → after ≡ step_played step now
-    → IsLeft words at first now → IsLeft words (at + 1) first after
-step_left words at d step first now after there is next left plan rest whole end =
-    let before = left plan rest whole end in
-    step_left_by words at step before.remaining plan rest first now after
-    (ap (λ w. w ∷ drop (at + 1) words) (sym is) ∙ sym (from_here words at d there) ∙ before.here) end before.count before.played next
+pub step_left : (words here behind : List Word) (step : Step) (first now after : Progress) → here ≡ word.Step step ∷ behind
+    → after ≡ step_played step now → IsLeft words here first now → IsLeft words behind first after
+step_left words here behind step first now after is next left plan tail whole end =
+    let before = left plan tail whole end in
+    step_left_by behind step before.remaining plan tail first now after (sym is ∙ before.words) end before.played next
 
 -- a group
-open_left_by : (words : List Word) (at count : ℕ) (remaining plan : Plan) (rest : List Word) (first now after : Progress)
-    → word.Open ∷ drop (at + 1) words ≡ words_of_plan remaining ++ rest → IsEnd rest
-    → at + length (words_of_plan remaining) ≡ length (words_of_plan plan) → plays remaining now ≡ plays plan first
-    → HasPlayedGroup (drop (at + 1) words) count now after → Left words (at + 1 + count) plan rest first after
+open_left_by : (behind rest : List Word) (remaining plan : Plan) (tail : List Word) (first now after : Progress)
+    → word.Open ∷ behind ≡ words_of_plan remaining ++ tail → IsEnd tail → plays remaining now ≡ plays plan first
+    → HasPlayedGroup behind rest now after → Left rest plan tail first after
 unfolding plays
-open_left_by words at count Done plan [] first now after is end counted played group = absurd (cc is)
-open_left_by words at count Done plan (word.Step one ∷ rest) first now after is end counted played group = absurd end
-open_left_by words at count Done plan (word.Open ∷ rest) first now after is end counted played group = absurd end
-open_left_by words at count Done plan (word.Close times ∷ rest) first now after is end counted played group = absurd (cc is)
-open_left_by words at count (Then one remaining) plan rest first now after is end counted played group = absurd (cc is)
-open_left_by words at count (Group body times remaining) plan rest first now after is end counted played group =
-    let inner : drop (at + 1) words ≡ (words_of_plan body ++ word.Close times ∷ words_of_plan remaining) ++ rest = cc is in
-    let shape : drop (at + 1) words ≡ words_of_plan body ++ word.Close times ∷ (words_of_plan remaining ++ rest) =
-    inner ∙ append_assoc (words_of_plan body) (word.Close times ∷ words_of_plan remaining) rest in
-    let done = group body times (words_of_plan remaining ++ rest) shape in
-    let long = length-append (words_of_plan body) (word.Close times ∷ words_of_plan remaining) in
-    record {
-      remaining = remaining;
-      here = drop_more words (at + 1) count ∙ ap (λ k. drop k (drop (at + 1) words)) done.count
-          ∙ ap (drop (length (words_of_plan body) + 1)) shape
-          ∙ drop_part (words_of_plan body) (word.Close times) (words_of_plan remaining ++ rest);
-      count = omega (arith, counted, done.count, long);
-      played = ap (plays remaining) done.after ∙ played;
-    }
+open_left_by behind rest Done plan [] first now after is end played group = absurd (cc is)
+open_left_by behind rest Done plan (word.Step one ∷ tail) first now after is end played group = absurd end
+open_left_by behind rest Done plan (word.Open ∷ tail) first now after is end played group = absurd end
+open_left_by behind rest Done plan (word.Close times ∷ tail) first now after is end played group = absurd (cc is)
+open_left_by behind rest (Then one remaining) plan tail first now after is end played group = absurd (cc is)
+open_left_by behind rest (Group body times remaining) plan tail first now after is end played group =
+    let inner : behind ≡ (words_of_plan body ++ word.Close times ∷ words_of_plan remaining) ++ tail = cc is in
+    let shape : behind ≡ words_of_plan body ++ word.Close times ∷ (words_of_plan remaining ++ tail) =
+    inner ∙ append_assoc (words_of_plan body) (word.Close times ∷ words_of_plan remaining) tail in
+    let done = group body times (words_of_plan remaining ++ tail) shape in
+    record { remaining = remaining; words = done.behind; played = ap (plays remaining) done.after ∙ played }
 
-pub open_left : (words : List Word) (at count : ℕ) (d : Word) (first now after : Progress) → at < length words
-    → slice_index_or words at d ≡ word.Open → HasPlayedGroup (drop (at + 1) words) count now after
-    → IsLeft words at first now → IsLeft words (at + 1 + count) first after
-open_left words at count d first now after there is group left plan rest whole end =
-    let before = left plan rest whole end in
-    open_left_by words at count before.remaining plan rest first now after
-    (ap (λ w. w ∷ drop (at + 1) words) (sym is) ∙ sym (from_here words at d there) ∙ before.here) end before.count before.played group
+pub open_left : (words here behind rest : List Word) (first now after : Progress) → here ≡ word.Open ∷ behind
+    → HasPlayedGroup behind rest now after → IsLeft words here first now → IsLeft words rest first after
+open_left words here behind rest first now after is group left plan tail whole end =
+    let before = left plan tail whole end in
+    open_left_by behind rest before.remaining plan tail first now after (sym is ∙ before.words) end before.played group
 
 -- nothing is left before what closes
-close_left_by : (at times : ℕ) (tail : List Word) (remaining plan : Plan) (rest : List Word) (first now : Progress)
-    → word.Close times ∷ tail ≡ words_of_plan remaining ++ rest
-    → at + length (words_of_plan remaining) ≡ length (words_of_plan plan) → plays remaining now ≡ plays plan first
-    → Played plan at first now
+close_left_by : (times : ℕ) (behind : List Word) (remaining plan : Plan) (tail : List Word) (first now : Progress)
+    → word.Close times ∷ behind ≡ words_of_plan remaining ++ tail → plays remaining now ≡ plays plan first
+    → Played plan tail (Some times) behind first now
 unfolding plays
-close_left_by at times tail Done plan rest first now is count played = record { count = omega (arith, count); after = played }
-close_left_by at times tail (Then one remaining) plan rest first now is count played = absurd (cc is)
-close_left_by at times tail (Group body more remaining) plan rest first now is count played = absurd (cc is)
+close_left_by times behind Done plan tail first now is played = record { ended = sym is; after = played }
+close_left_by times behind (Then one remaining) plan tail first now is played = absurd (cc is)
+close_left_by times behind (Group body more remaining) plan tail first now is played = absurd (cc is)
 
-pub close_left : (words : List Word) (at times : ℕ) (d : Word) (first now : Progress) → at < length words
-    → slice_index_or words at d ≡ word.Close times → IsLeft words at first now → HasPlayed words at first now
-close_left words at times d first now there is left plan rest whole end =
-    let before = left plan rest whole end in
-    close_left_by at times (drop (at + 1) words) before.remaining plan rest first now
-    (ap (λ w. w ∷ drop (at + 1) words) (sym is) ∙ sym (from_here words at d there) ∙ before.here) before.count before.played
+pub close_left : (words here behind : List Word) (times : ℕ) (first now : Progress) → here ≡ word.Close times ∷ behind
+    → IsLeft words here first now → HasPlayed words (Some times) behind first now
+close_left words here behind times first now closes left plan tail whole end =
+    let before = left plan tail whole end in
+    close_left_by times behind before.remaining plan tail first now (sym closes ∙ before.words) before.played
 
 -- or at the end
-end_left_by : (at : ℕ) (remaining plan : Plan) (rest : List Word) (first now : Progress) → [] ≡ words_of_plan remaining ++ rest
-    → at + length (words_of_plan remaining) ≡ length (words_of_plan plan) → plays remaining now ≡ plays plan first
-    → Played plan at first now
+end_left_by : (remaining plan : Plan) (tail rest : List Word) (first now : Progress) → [] ≡ words_of_plan remaining ++ tail
+    → plays remaining now ≡ plays plan first → Played plan tail None rest first now
 unfolding plays
-end_left_by at Done plan rest first now is count played = record { count = omega (arith, count); after = played }
-end_left_by at (Then one remaining) plan rest first now is count played = absurd (cc is)
-end_left_by at (Group body times remaining) plan rest first now is count played = absurd (cc is)
+end_left_by Done plan tail rest first now is played = record { ended = sym is; after = played }
+end_left_by (Then one remaining) plan tail rest first now is played = absurd (cc is)
+end_left_by (Group body more remaining) plan tail rest first now is played = absurd (cc is)
 
-pub end_left : (words : List Word) (at : ℕ) (first now : Progress) → length words ≤ at → IsLeft words at first now
-    → HasPlayed words at first now
-end_left words at first now all left plan rest whole end =
-    let before = left plan rest whole end in
-    end_left_by at before.remaining plan rest first now (sym (drop_all words at all) ∙ before.here) before.count before.played
+pub end_left : (words here rest : List Word) (first now : Progress) → here ≡ [] → IsLeft words here first now
+    → HasPlayed words None rest first now
+end_left words here rest first now none left plan tail whole end =
+    let before = left plan tail whole end in
+    end_left_by before.remaining plan tail rest first now (sym none ∙ before.words) before.played
 
--- a pass over the words of a plan
-pub pass_played : (words : List Word) (count : ℕ) (before after : Progress) (body : Plan) → HasPlayed words count before after
-    → words ≡ words_of_plan body → after ≡ plays body before
-pass_played words count before after body played is =
+-- a pass over all the words of a plan
+pub pass_played : (words rest : List Word) (times : Option ℕ) (before after : Progress) (body : Plan)
+    → HasPlayed words times rest before after → words ≡ words_of_plan body → after ≡ plays body before
+pass_played words rest times before after body played is =
     (played body [] (is ∙ sym (append-nil (words_of_plan body))) tt).after
 
 -- that made no choice
@@ -176,3 +112,29 @@ pub settled_pass : (body : Plan) (before after : Progress) → after ≡ plays b
 settled_pass body before after is same =
     let left : (plays body before).left ≡ before.left = ap (λ (p : Progress). p.left) (sym is) ∙ same in
     ap (plays body) is ∙ settles body before left ∙ sym is
+
+-- the first pass of a group, and those behind it
+pub again_group : (words rest : List Word) (times : ℕ) (before once after : Progress) → HasPlayed words (Some times) rest before once
+    → HasPlayedAgain words times once after → HasPlayedGroup words rest before after
+again_group words rest times before once after played again body more tail whole =
+    let pass = played body (word.Close more ∷ tail) whole tt in
+    let same : times ≡ more = cc pass.ended in
+    record {
+      behind = cc pass.ended;
+      after = again body (word.Close more ∷ tail) whole tt
+          ∙ ap (λ n. repeated (n - 1) (λ p. plays body p) once) same
+          ∙ ap (repeated (more - 1) (λ p. plays body p)) pass.after;
+    }
+
+-- a first pass that made no choice is the last
+pub settled_again : (words rest : List Word) (times : ℕ) (before once : Progress) → HasPlayed words (Some times) rest before once
+    → once.left ≡ before.left → HasPlayedAgain words times once once
+settled_again words rest times before once played same body tail whole closed =
+    let pass = played body tail whole closed in
+    sym (repeated_same (times - 1) (λ p. plays body p) once (settled_pass body before once pass.after same))
+
+-- a group that isn't closed is none
+pub no_group : (words rest : List Word) (before after : Progress) → HasPlayed words None rest before after → HasPlayedGroup words rest before after
+no_group words rest before after played body times tail whole =
+    let none : word.Close times ∷ tail ≡ [] = (played body (word.Close times ∷ tail) whole tt).ended in
+    absurd (cc none)

@@ -1,75 +1,63 @@
-ghost use Rattle.std.specs.Prelude.{◌≡◌, ◌≤◌, IfOk, OnOk, drop, length, take};
-ghost use Rattle.planner.specs.Groups.{IsEnd, HasPlayed, HasPlayedGroup, HasPlayedAgain};
+ghost use Rattle.std.specs.Prelude.{◌≤◌, IfOk, OnOk, length};
+ghost use Rattle.planner.specs.Groups.{HasPlayed, HasPlayedGroup, HasPlayedAgain};
 
 use crate::player::Player;
 use plan_reader::word::Word;
+use plan_reader::words::WordsFrom;
 use std::alloc::{AllocError, Global};
 
-/// The words from a place on.
-fn words_from(words: &[Word], at: usize) -> &[Word]
-    requires { at ≤ length words.now }
-    ensures { result.now ≡ drop at words.now }
-{
-    &words[at..]
-}
-
-/// The words before a place.
-fn words_before(words: &[Word], at: usize) -> &[Word]
-    requires { at ≤ length words.now }
-    ensures { result.now ≡ take at words.now }
-{
-    &words[..at]
-}
-
 impl Player {
-    /// Plays words up to the parenthesis that closes their group, or to their end. Its answer is how many they are.
+    /// Plays words up to the parenthesis that closes their group, and takes that too, or to their end. Its answer is how often
+    /// the group is to be played.
     #[cycle(words)]
-    pub fn play_words(&mut self, alloc: Global, words: &[Word]) -> Result<usize, AllocError>
-        ensures played { IfOk result (λ count. HasPlayed words.now count self.old self.new) }
-        ensures within { IfOk result (λ count. count ≤ length words.now) }
+    pub fn play_words(
+        &mut self,
+        alloc: Global,
+        words: &mut WordsFrom<'_>,
+    ) -> Result<Option<u32>, AllocError>
+        ensures played { IfOk result (λ times. HasPlayed words.old times words.new self.old self.new) }
+        ensures within { length words.new ≤ length words.old }
     {
-        let mut at = 0;
-        while at < words.len() {
-            match words[at] {
-                Word::Step(step) => {
-                    self.play_step(alloc, step)?;
-                    at += 1;
-                }
-                Word::Open => {
-                    let count = self.play_group(alloc, words_from(words, at + 1))?;
-                    at = at + 1 + count;
-                }
-                Word::Close(_) => return Ok(at),
+        loop {
+            match words.next() {
+                Some(Word::Step(step)) => self.play_step(alloc, step)?,
+                Some(Word::Open) => self.play_group(alloc, words)?,
+                Some(Word::Close(times)) => return Ok(Some(times)),
+                None => return Ok(None),
             }
         }
-        Ok(at)
     }
 
-    /// Plays a group behind its first parenthesis. Its answer is how many words it has with its second.
+    /// Plays a group behind its first parenthesis, once where that makes no choice.
     #[cycle(words)]
-    fn play_group(&mut self, alloc: Global, words: &[Word]) -> Result<usize, AllocError>
-        ensures played { IfOk result (λ count. HasPlayedGroup words.now count self.old self.new) }
-        ensures within { IfOk result (λ count. count ≤ length words.now) }
+    fn play_group(&mut self, alloc: Global, words: &mut WordsFrom<'_>) -> Result<(), AllocError>
+        ensures played { OnOk result (HasPlayedGroup words.old words.new self.old self.new) }
+        ensures within { length words.new ≤ length words.old }
     {
-        let count = self.play_words(alloc, words)?;
-        if count == words.len() {
-            return Ok(count);
+        let left = self.left();
+        let start = words.again();
+        if let Some(times) = self.play_words(alloc, words)? {
+            if self.left() != left {
+                self.play_again(alloc, &start, times)?;
+            }
         }
-        if let Word::Close(times) = words[count] {
-            self.play_again(alloc, words_before(words, count), times)?;
-        }
-        Ok(count + 1)
+        Ok(())
     }
 
     /// Plays words that were played once again, until they were played so many times: no more often where a pass makes no
     /// choice.
     #[cycle(words)]
-    fn play_again(&mut self, alloc: Global, words: &[Word], times: u32) -> Result<(), AllocError>
+    fn play_again(
+        &mut self,
+        alloc: Global,
+        words: &WordsFrom<'_>,
+        times: u32,
+    ) -> Result<(), AllocError>
         ensures { OnOk result (HasPlayedAgain words.now times self.old self.new) }
     {
         for done in 1..times {
             let left = self.left();
-            self.play_words(alloc, words)?;
+            self.play_words(alloc, &mut words.again())?;
             if self.left() == left {
                 return Ok(());
             }

@@ -46,7 +46,7 @@ fn holds(alloc: Global, row: Row) -> Result<bool, Fail> {
     let loaded = load(alloc, image).ok().ok_or("no program")?;
     let names: [&[u8]; 2] = [b"ann", b"bob"];
     let words = read_plan(alloc, plan, &names).ok().ok_or("no plan")?;
-    let planned = plan_runs(alloc, loaded, words.as_slice())?;
+    let planned = plan_runs(alloc, loaded, &words.all())?;
     let schedule = write_schedule(alloc, planned.runs.as_slice())?;
     Ok(schedule.as_str() == wanted && planned.stopped == stopped)
 }

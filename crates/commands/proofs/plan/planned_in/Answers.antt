@@ -11,7 +11,7 @@ returns-in-Err-clause-refused c =
 pub returns-in-Ok-plan_runs-clause-planned : goal.returns-in-Ok-plan_runs-clause-planned
 returns-in-Ok-plan_runs-clause-planned c =
     let same : c.as_slice.result.now ≡ c.in_ok-program.names.items = search rules in
-    let also : c.as_slice-2.result.now ≡ c.in-Ok.words.items = search rules in
+    let also : c.all.result ≡ c.in-Ok.words = search rules in
     plan_played c.args.file.now c.args.plan.now c.in_ok-program.program c.in-Ok-plan_runs.planned c.in_ok-program.names.items
-    c.as_slice.result.now c.in-Ok.words.items c.as_slice-2.result.now c.in_ok-program.ensures.program same c.in-Ok.ensures.words
+    c.as_slice.result.now c.in-Ok.words c.all.result c.in_ok-program.ensures.program same c.in-Ok.ensures.words
     c.in-Ok.ensures.whole also c.in-Ok-plan_runs.ensures.planned

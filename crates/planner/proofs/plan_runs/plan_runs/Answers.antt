@@ -7,7 +7,7 @@ use Rattle.planner.proofs.plan_runs.plan_runs.Goals as goal
 pub returns-clause-planned : goal.returns-clause-planned
 returns-clause-planned c = λ plan whole.
     let all : c.play_words.new.self ≡ plays plan (begun c.args.program) =
-    pass_played c.args.words.now c.in_ok-play_words.field-0 c.in_ok-player.player c.play_words.new.self plan c.in_ok-play_words.ensures.played (sym whole)
+    pass_played c.again.result _ _ c.in_ok-player.player c.play_words.new.self plan c.in_ok-play_words.ensures.played (c.again.ensures ∙ sym whole)
     ∙ ap (plays plan) c.in_ok-player.ensures in
     record {
       choices = c.into_planned.ensures.choices ∙ ap (λ (p : Progress). p.choices) all;

@@ -1,11 +1,18 @@
-use Rattle.std.proofs.Common.{◌≡◌, ◌+◌, drop, map}
+use Rattle.std.proofs.Common.{◌≡◌, ◌+◌, ◌≤◌, length, map}
+use Rattle.std.specs.List.{slice_split}
 use Rattle.line_reader.specs.Seen.{name_seen}
+use Rattle.line_reader.specs.Words.{is_line_end}
 use Rattle.plan_reader.specs.Drafts.{draft_of}
 use Rattle.plan_reader.specs.Plan.{lines_behind}
 use Rattle.plan_reader.proofs.draft.Reading.add_lines.Given as goal
 
--- behind the lines so far the rest of them stands as behind none
-abbrev pub invariant-loop-place : goal.invariant-loop-place
-invariant-loop-place l =
-    lines_behind (map name_seen l.names) (l.place + 1) (draft_of l.self) (drop l.place (map name_seen l.lines))
-    ≡ lines_behind (map name_seen l.names) 1 (draft_of l.initial.self) (map name_seen l.lines)
+-- behind the lines so far the rest of the text stands as all of it behind none
+abbrev pub invariant-loop-fault : goal.invariant-loop-fault
+invariant-loop-fault l = record {
+  few : l.line + length l.rest ≤ length l.text + 1;
+  lines : lines_behind (map name_seen l.names) l.line (draft_of l.self) (slice_split is_line_end l.rest)
+      ≡ lines_behind (map name_seen l.names) 1 (draft_of l.initial.self) (slice_split is_line_end l.text);
+}
+
+abbrev pub decreases-loop-fault : goal.decreases-loop-fault
+decreases-loop-fault l = length l.rest

@@ -1,57 +1,70 @@
-use Rattle.std.proofs.Common.{◌≡◌, ◌∙◌, ◌+◌, ◌-◌, ◌<◌, ◌≤◌, length, length-drop, ap, sym, subst, rules, arith}
-use Rattle.plan_reader.specs.declared.word.Word.{Word}
-use Rattle.plan_reader.specs.Tree.{words_of_plan}
+use Rattle.std.proofs.Common.{◌≡◌, ◌∙◌, ◌<◌, ◌≤◌, [], ◌∷◌, length, ap, sym, subst, rules, arith}
+use Rattle.plan_reader.specs.declared.word.Word.TheVariants as word
 use Rattle.planner.specs.Play.{plays}
-use Rattle.planner.specs.Groups.{HasPlayedGroup}
-use Rattle.planner.proofs.Groups.{step_left, open_left, close_left, end_left, pass_played, settled_pass}
+use Rattle.planner.specs.Groups.{HasPlayed}
+use Rattle.planner.proofs.Groups.{step_left, open_left, close_left, end_left, again_group, no_group, settled_again, settled_pass}
 use Rattle.planner.proofs.Repeats.{next_repeated, settled_repeated, all_repeated}
 use Rattle.planner.proofs.player.Player.+words.Goals as goal
 
 pub play_again-returns-then-left : goal.play_again-returns-then-left
-play_again-returns-then-left t c = λ body whole.
+play_again-returns-then-left t c = λ body tail whole end.
     let there : c.loop-done.done < c.args.times = search (rules, arith) in
-    let pass = pass_played c.args.words.now c.in_ok-play_words.field-0 c.loop-done.self c.play_words.new.self body c.in_ok-play_words.ensures.played whole in
+    let pass = (c.in_ok-play_words.ensures.played body tail (c.again.ensures ∙ whole) end).after in
     let same : c.play_words.new.self.left ≡ c.loop-done.self.left = sym c.left.ensures.left ∙ c.if-left.true ∙ c.left-left.ensures.left in
     settled_repeated (λ p. plays body p) c.loop-done.done c.args.times c.loop-done.self c.play_words.new.self _ there
-    (c.loop-done.invariant body whole) pass (settled_pass body c.loop-done.self c.play_words.new.self pass same)
+    (c.loop-done.invariant body tail whole end) pass (settled_pass body c.loop-done.self c.play_words.new.self pass same)
 
 pub play_again-loop-done-preserved : goal.play_again-loop-done-preserved
-play_again-loop-done-preserved t c = λ body whole.
+play_again-loop-done-preserved t c = λ body tail whole end.
     let there : c.loop-done.done < c.args.times = search (rules, arith) in
     next_repeated (λ p. plays body p) c.loop-done.done c.args.times c.loop-done.self c.play_words.new.self _ there
-    (c.loop-done.invariant body whole)
-    (pass_played c.args.words.now c.in_ok-play_words.field-0 c.loop-done.self c.play_words.new.self body c.in_ok-play_words.ensures.played whole)
+    (c.loop-done.invariant body tail whole end) (c.in_ok-play_words.ensures.played body tail (c.again.ensures ∙ whole) end).after
 
 pub play_again-returns : goal.play_again-returns
-play_again-returns t c = λ body whole.
+play_again-returns t c = λ body tail whole end.
     let enough : c.args.times ≤ c.loop-done.done = search (rules, arith) in
-    all_repeated (λ p. plays body p) c.loop-done.done c.args.times c.loop-done.self _ enough (c.loop-done.invariant body whole)
+    all_repeated (λ p. plays body p) c.loop-done.done c.args.times c.loop-done.self _ enough (c.loop-done.invariant body tail whole end)
 
-pub play_words-loop-at-preserved-in-Step : goal.play_words-loop-at-preserved-in-Step
-play_words-loop-at-preserved-in-Step t c =
-    let there : c.loop-at.at < length c.args.words.now = search (rules, arith) in (
-      omega (arith, there),
-      step_left c.args.words.now c.loop-at.at _ c.in-Step.step c.args.self.now c.loop-at.self c.play_step.new.self there
-          c.in-Step.is c.in_ok-play_step-in-Step.ensures c.loop-at.invariant.1,
+pub play_group-returns-else-left-clause-played : goal.play_group-returns-else-left-clause-played
+play_group-returns-else-left-clause-played t c =
+    let words = c.args.words.now in
+    let rest = c.play_words.new.words in
+    let before = c.args.self.now in
+    let once = c.play_words.new.self in
+    let same : once.left ≡ before.left = sym c.left.ensures.left ∙ c.if-left.false ∙ c.left-left.ensures.left in
+    let first = subst (λ times. HasPlayed words times rest before once) c.in-Some.is c.in_ok-times.ensures.played in
+    again_group words rest c.in-Some.times before once once first (settled_again words rest c.in-Some.times before once first same)
+
+pub play_words-loop-step-preserved-in-Continue-1 : goal.play_words-loop-step-preserved-in-Continue-1
+play_words-loop-step-preserved-in-Continue-1 t c =
+    let here : c.loop-step.words ≡ word.Step c.in-Some-Step.step ∷ c.next.new.self = search rules in
+    let long = ap length here in (
+      omega (arith, long, c.loop-step.invariant.0),
+      step_left c.args.words.now c.loop-step.words c.next.new.self c.in-Some-Step.step c.args.self.now c.loop-step.self c.play_step.new.self
+          here c.in_ok-play_step-in-Some-Step.ensures c.loop-step.invariant.1,
     )
 
-pub play_words-loop-at-preserved : goal.play_words-loop-at-preserved
-play_words-loop-at-preserved t c =
-    let there : c.loop-at.at < length c.args.words.now = search (rules, arith) in
-    let group = subst (λ ws. HasPlayedGroup ws c.in_ok-count-in-Open.count c.loop-at.self c.play_group.new.self) c.words_from.ensures c.in_ok-count-in-Open.ensures.played in
-    let long : length c.words_from.result.now ≡ length c.args.words.now - (c.loop-at.at + 1) =
-    ap length c.words_from.ensures ∙ length-drop (c.loop-at.at + 1) c.args.words.now in (
-      omega (arith, there, long, c.in_ok-count-in-Open.ensures.within),
-      open_left c.args.words.now c.loop-at.at c.in_ok-count-in-Open.count _ c.args.self.now c.loop-at.self c.play_group.new.self there
-          c.in-Open.is group c.loop-at.invariant.1,
+pub play_words-loop-step-preserved : goal.play_words-loop-step-preserved
+play_words-loop-step-preserved t c =
+    let here : c.loop-step.words ≡ word.Open ∷ c.next.new.self = search rules in
+    let long = ap length here in (
+      omega (arith, long, c.in_ok-play_group-in-Some-Open.ensures.within, c.loop-step.invariant.0),
+      open_left c.args.words.now c.loop-step.words c.next.new.self c.play_group.new.words c.args.self.now c.loop-step.self
+          c.play_group.new.self here c.in_ok-play_group-in-Some-Open.ensures.played c.loop-step.invariant.1,
     )
 
-pub play_words-returns-in-Close-clause-played : goal.play_words-returns-in-Close-clause-played
-play_words-returns-in-Close-clause-played t c =
-    let there : c.loop-at.at < length c.args.words.now = search (rules, arith) in
-    close_left c.args.words.now c.loop-at.at c.in-Close.field-0 _ c.args.self.now c.loop-at.self there c.in-Close.is c.loop-at.invariant.1
+pub play_words-returns-in-Some-Close-clause-played : goal.play_words-returns-in-Some-Close-clause-played
+play_words-returns-in-Some-Close-clause-played t c =
+    let here : c.loop-step.words ≡ word.Close c.in-Some-Close.times ∷ c.next.new.self = search rules in
+    close_left c.args.words.now c.loop-step.words c.next.new.self c.in-Some-Close.times c.args.self.now c.loop-step.self here
+    c.loop-step.invariant.1
 
-pub play_words-returns-clause-played : goal.play_words-returns-clause-played
-play_words-returns-clause-played t c =
-    let all : length c.args.words.now ≤ c.loop-at.at = search (rules, arith) in
-    end_left c.args.words.now c.loop-at.at c.args.self.now c.loop-at.self all c.loop-at.invariant.1
+pub play_words-returns-in-None-clause-played : goal.play_words-returns-in-None-clause-played
+play_words-returns-in-None-clause-played t c =
+    end_left c.args.words.now c.loop-step.words c.next.new.self c.args.self.now c.loop-step.self (c.next.ensures.none c.in-None.is)
+    c.loop-step.invariant.1
+
+pub play_words-returns-in-None-clause-within : goal.play_words-returns-in-None-clause-within
+play_words-returns-in-None-clause-within t c =
+    let none = ap length (c.next.ensures.end c.in-None.is) in
+    omega (arith, none)
