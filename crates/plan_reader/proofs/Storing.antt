@@ -1,11 +1,11 @@
 -- One word more is stored behind those before it.
-use Rattle.std.proofs.Common.{◌≡◌, ◌∙◌, ◌+◌, ℕ, zero, suc, Bool, true, false, cond, List, [], ◌∷◌, ◌++◌, length, drop, refl, sym, ap, arith}
+use Rattle.std.proofs.Common.{◌≡◌, ◌∙◌, ◌+◌, ℕ, Bool, true, false, cond, List, [], ◌∷◌, ◌++◌, length, refl, sym, ap, arith}
 use Rattle.std.specs.List.{count_by}
 use Rattle.std.proofs.lemmas.List.Sums.{sum_by-cons}
 use Rattle.plan_reader.specs.declared.part.Part.{Part}
 use Rattle.plan_reader.specs.declared.part.Stored.{Stored}
 use Rattle.plan_reader.specs.declared.word.Word.{Word}
-use Rattle.plan_reader.specs.Parts.{Holds, first_of, left_of, put_of, taken_of, takes_number, takes_seed, word_with, words_of_parts}
+use Rattle.plan_reader.specs.Parts.{Holds, left_of, put_of, taken_of, takes_number, takes_seed, word_with, words_of_parts}
 
 -- the numbers that some parts take are as many as those parts
 abbrev pub AreFor : (Part → Bool) → List Part → List ℕ → Type 0

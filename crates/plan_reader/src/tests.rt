@@ -62,7 +62,8 @@ fn expiry(thread: u8, times: u32) -> Word {
 #[test]
 fn words(rt: HostRuntime) -> Result<(), Fail> {
     let names: [&[u8]; 3] = [b"ann", b"xavier", b"bob"];
-    let text = b"(t2 ann*3)*2 bob. xavier xann x2;x9\r\n\t..*5 ?7()?256*9 ..(x1*1000000)*1 ?255*2\n?18446744073709551615*1";
+    let text =
+        b"(t2 ann*3)*2 bob. xavier xann x2;x9\r\n\t..*5 ?7()?256*9 ..(x1*1000000)*1 ?255*2\n?18446744073709551615*1";
     let wanted = [
         Word::Open,
         turn(2, 1),

@@ -1,5 +1,5 @@
 -- What is left of a plan behind some of its words.
-use Rattle.std.proofs.Common.{◌≡◌, ◌∙◌, ◌-◌, ◌++◌, ℕ, List, [], ◌∷◌, refl, sym, ap, append_assoc}
+use Rattle.std.proofs.Common.{◌≡◌, ◌∙◌, ◌-◌, ◌++◌, ℕ, List, [], ◌∷◌, sym, ap, append_assoc}
 use Rattle.std.specs.Prelude.{Option, Some, None}
 use Rattle.std.proofs.lemmas.List.{append-nil}
 use Rattle.plan_reader.specs.declared.word.Step.{Step}
@@ -19,9 +19,6 @@ pub record Left (here : List Word) (plan : Plan) (tail : List Word) (first now :
 
 abbrev pub IsLeft : List Word → List Word → Progress → Progress → Type 0
 IsLeft words here first now = (plan : Plan) (tail : List Word) → words ≡ words_of_plan plan ++ tail → IsEnd tail → Left here plan tail first now
-
-pub all_left : (words here : List Word) (first : Progress) → here ≡ words → IsLeft words here first first
-all_left words here first same plan tail is end = record { remaining = plan; words = same ∙ is; played = refl }
 
 -- a step
 step_left_by : (behind : List Word) (step : Step) (remaining plan : Plan) (tail : List Word) (first now after : Progress)
@@ -132,9 +129,3 @@ pub settled_again : (words rest : List Word) (times : ℕ) (before once : Progre
 settled_again words rest times before once played same body tail whole closed =
     let pass = played body tail whole closed in
     sym (repeated_same (times - 1) (λ p. plays body p) once (settled_pass body before once pass.after same))
-
--- a group that isn't closed is none
-pub no_group : (words rest : List Word) (before after : Progress) → HasPlayed words None rest before after → HasPlayedGroup words rest before after
-no_group words rest before after played body times tail whole =
-    let none : word.Close times ∷ tail ≡ [] = (played body (word.Close times ∷ tail) whole tt).ended in
-    absurd (cc none)

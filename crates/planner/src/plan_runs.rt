@@ -8,7 +8,11 @@ use plan_reader::words::WordsFrom;
 use std::alloc::{AllocError, Global};
 
 /// The schedule of a plan for a program, and the machine that it leads to.
-pub fn plan_runs(alloc: Global, program: Loaded, words: &WordsFrom<'_>) -> Result<Planned, AllocError>
+pub fn plan_runs(
+    alloc: Global,
+    program: Loaded,
+    words: &WordsFrom<'_>,
+) -> Result<Planned, AllocError>
     ensures planned { IfOk result (λ planned. IsPlanOf program words.now planned) }
     ensures runs { IfOk result (λ planned. AreRuns planned.runs.items) }
 {

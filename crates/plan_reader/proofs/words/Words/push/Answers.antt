@@ -1,4 +1,4 @@
-use Rattle.std.proofs.Common.{rules, ◌≡◌, ◌∙◌, ◌++◌, [], ◌∷◌, ap, sym}
+use Rattle.std.proofs.Common.{rules, ◌≡◌, ◌∙◌, ◌++◌, [], ◌∷◌, ap}
 use Rattle.plan_reader.specs.Parts.{put_of, takes_number, takes_seed}
 use Rattle.plan_reader.proofs.Storing.{put_word}
 use Rattle.plan_reader.proofs.words.Words.push.Goals as goal

@@ -1,8 +1,8 @@
-use Rattle.std.proofs.Common.{◌≡◌, ◌∙◌, ◌<◌, ◌≤◌, [], ◌∷◌, length, ap, sym, subst, rules, arith}
+use Rattle.std.proofs.Common.{◌≡◌, ◌∙◌, ◌<◌, ◌≤◌, ◌∷◌, length, ap, sym, subst, rules, arith}
 use Rattle.plan_reader.specs.declared.word.Word.TheVariants as word
 use Rattle.planner.specs.Play.{plays}
 use Rattle.planner.specs.Groups.{HasPlayed}
-use Rattle.planner.proofs.Groups.{step_left, open_left, close_left, end_left, again_group, no_group, settled_again, settled_pass}
+use Rattle.planner.proofs.Groups.{step_left, open_left, close_left, end_left, again_group, settled_again, settled_pass}
 use Rattle.planner.proofs.Repeats.{next_repeated, settled_repeated, all_repeated}
 use Rattle.planner.proofs.player.Player.+words.Goals as goal
 
