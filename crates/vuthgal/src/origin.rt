@@ -2,4 +2,4 @@
 
 /// The version, the kit whose logic proves it, and the sum of the sources but for this file.
 pub const VERSION: &str =
-    "1.0.0\nkit rattle-kit-13f logic dac8208d650f15bf\nsources e341f7c21672f74c44af63e26acc4f04e0c72b5b1a94d3903cf16f15a8f9213a";
+    "1.1.0\nkit rattle-kit-13f logic dac8208d650f15bf\nsources a02bd3f2f98da0fa6c48028d3f2ae5839059c385b42eb05e2bcae2e1b112706f";
