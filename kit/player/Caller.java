@@ -2,7 +2,11 @@ package kit.player;
 
 /** What a choice comes to where it makes a call, enters a routine or an action, or ends one. */
 final class Caller {
-    private static final long HOUR = 3_600_000_000_000L;
+    /**
+     * The time of a wait that ends otherwise: an hour, and a little that is left of it in 32 bits, so that a port that cuts it
+     * to so many is late at once.
+     */
+    static final long HOUR = 839 * (1L << 32) + 1_000;
     /** So many questions may be asked of the real side at one choice. */
     private static final int TRIPS_OF_A_CHOICE = 8;
 
@@ -155,7 +159,7 @@ final class Caller {
             return "idle";
         }
         if (!method.waits()) {
-            scene.odd(method.word + " blocks");
+            scene.stuck(scene.real(thread), method.word + " blocks");
         } else if (method.waitsForPhase() && pending.awaited() != scene.view(scene.root(pending.object()))) {
             scene.odd(method.word + " waits for another phase");
         }

@@ -196,7 +196,7 @@ public final class Kit {
         Judge judge = judgeOf(adapter, KnownDifferences.COUNTS);
         for (Learned at : learned) {
             Verdict verdict = judge.judge(at.each(), at.plan());
-            if (verdict.kind() == Verdict.Kind.DIFFERS) {
+            if (verdict.fails()) {
                 return at.each().name() + ", line " + verdict.line();
             }
         }
@@ -208,7 +208,7 @@ public final class Kit {
         Judge judge = judgeOf(adapter, KnownDifferences.ALL);
         for (Path file : Player.programsBelow(kit.resolve("differences"))) {
             Verdict verdict = judge.judge(Case.of(vuthgal, kit.relativize(file).toString(), file));
-            if (verdict.kind() == Verdict.Kind.DIFFERS) {
+            if (verdict.fails()) {
                 return kit.relativize(file) + ", line " + verdict.line();
             }
         }
@@ -244,7 +244,7 @@ public final class Kit {
         Judge judge = new Judge(new JvmStage(new JdkFactory()), vuthgal, KnownDifferences.ALL);
         new RandomCases(vuthgal, tally, null, System.out).play(List.of(judge), 1, SCENARIOS);
         passed += tally.same();
-        failed += tally.different();
+        failed += tally.failing();
     }
 
     // ---- bursts

@@ -22,7 +22,9 @@ final class Notes {
         /** A timed wait of a phaser ran out before its choice. */
         EARLY("early"),
         /** Something that never happens where a port is right, or where the machine isn't too slow. */
-        ODD("odd");
+        ODD("odd"),
+        /** A call that has to end didn't, though nothing of the port ran any more. No machine is that slow. */
+        STUCK("odd");
 
         final String words;
 
@@ -46,7 +48,7 @@ final class Notes {
     synchronized void add(Kind kind, int step, String what) {
         counts.merge(kind, 1, Integer::sum);
         lines.add(step + " " + kind.words + ": " + what);
-        if (kind == Kind.ODD && firstOdd == 0) {
+        if ((kind == Kind.ODD || kind == Kind.STUCK) && firstOdd == 0) {
             firstOdd = step;
             firstOddWords = what;
         }

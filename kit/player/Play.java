@@ -14,12 +14,19 @@ final class Play {
     private final StringBuilder trace = new StringBuilder();
     private int effectiveSteps;
     private Breakdown breakdown;
+    private boolean stopsAtOdd;
 
     Play(Scene scene, List<Choice> schedule) {
         this.scene = scene;
         this.schedule = schedule;
         caller = new Caller(scene);
         waiter = new Waiter(scene, caller);
+    }
+
+    /** It goes no further where something odd happens. */
+    Play stopAtOdd() {
+        stopsAtOdd = true;
+        return this;
     }
 
     /** The trace; where the real side hangs it stops there. */
@@ -32,6 +39,9 @@ final class Play {
                     break;
                 }
                 playChoice(choice);
+                if (stopsAtOdd && scene.notes.firstOdd() > 0) {
+                    return trace.toString();
+                }
             }
             if (scene.first) {
                 scene.holds.finish(scene.plan);
@@ -65,6 +75,7 @@ final class Play {
         String what = choose(thread, choice.expiry());
         if (!what.equals("idle")) {
             effectiveSteps++;
+            scene.followTimes();
             if (scene.reached()) {
                 scene.followViews();
                 waiter.followReleases();

@@ -31,6 +31,7 @@ final class Scene {
     private int step;
     private String mark;
     private boolean reached;
+    private boolean early;
 
     Scene(Program program, Stage stage, Plan plan, Patience patience, KnownDifferences known, boolean first) {
         this.program = program;
@@ -100,6 +101,15 @@ final class Scene {
         return settling.comeBack(real(thread), call);
     }
 
+    /** Whether a call that has to end does, in so much time; a real side that isn't at rest gets some times as long. */
+    boolean ends(RealThread thread, Call call, long nanoseconds) {
+        boolean done = thread.done(call, nanoseconds);
+        for (int time = 1; !done && time < RealThread.TIMES_FOR_THE_BUSY && !thread.staysAtRest(); time++) {
+            done = thread.done(call, nanoseconds);
+        }
+        return done || call.done();
+    }
+
     /** How long the real side has taken of late to answer a question. */
     long roundTrip() {
         return settling.lately();
@@ -165,6 +175,21 @@ final class Scene {
         note(Notes.Kind.ODD, what);
     }
 
+    /** A call that has to end doesn't, after all this time. It is stuck if nothing of the real side runs any more. */
+    void stuck(RealThread thread, String what) {
+        note(thread.staysAtRest() ? Notes.Kind.STUCK : Notes.Kind.ODD, what + thread.state());
+    }
+
+    /** Whether a slow machine may explain a value: a time was over too soon, or a wait isn't surely one. */
+    boolean mayBeSlow() {
+        return early || settling.isUnsure();
+    }
+
+    /** After a choice: whether the time of a wait is over that the schedule lets run out later. */
+    void followTimes() {
+        early |= threads.stream().anyMatch(each -> each.pending != null && each.pending.expiredByItself());
+    }
+
     /** Asks an object, by the player's own thread. */
     int look(Method method, int object) {
         return ask(stage.thread(Stage.LOOKER), Request.of(method, object));
@@ -173,8 +198,10 @@ final class Scene {
     /** Asks a real thread, which is free, for something that has a value and never waits. */
     int ask(RealThread thread, Request request) {
         Call call = thread.tell(request);
-        if (!thread.done(call, patience.bound())) {
-            throw new Hangs("the call " + request.words() + " doesn't answer" + thread.unfinished());
+        if (!ends(thread, call, patience.bound())) {
+            String what = "the call " + request.words() + " doesn't answer";
+            stuck(thread, what);
+            throw new Hangs(what + thread.state());
         }
         if (call.answer().kind() != Answer.Kind.VALUE) {
             throw new ProtocolFault("the call " + request.words() + " has a value, and " + call.answer().told());

@@ -24,8 +24,8 @@ final class Waiter {
             pending.setOwesInterrupt(false);
             scene.real(thread).interrupt();
             scene.holds.called(scene.step());
-            if (!scene.real(thread).done(pending.call(), scene.patience.bound())) {
-                scene.odd("an interrupt doesn't end " + pending.method().word);
+            if (!scene.ends(scene.real(thread), pending.call(), scene.patience.bound())) {
+                scene.stuck(scene.real(thread), "an interrupt doesn't end " + pending.words(thread));
                 return "idle";
             }
             comesOut(thread);
@@ -57,16 +57,19 @@ final class Waiter {
         if (scene.first) {
             scene.plan.expires(thread, scene.step());
             scene.real(thread).interrupt();
-            boolean out = scene.real(thread).done(pending.call(), scene.patience.bound());
-            if (out && pending.call().answer().isThrown(Answer.INTERRUPTED)) {
+            if (!scene.ends(scene.real(thread), pending.call(), scene.patience.bound())) {
+                scene.stuck(scene.real(thread), "an interrupt doesn't end " + pending.words(thread));
+                return "idle";
+            }
+            if (pending.call().answer().isThrown(Answer.INTERRUPTED)) {
                 pending.call().finish(Answer.thrown(Answer.TIMEOUT));
             }
         } else if (!pending.expires()) {
             scene.odd("an expiry that the first play hasn't seen");
             return "idle";
         }
-        if (!scene.real(thread).done(pending.call(), pending.time() + scene.patience.bound())) {
-            scene.odd(pending.method().word + " doesn't expire");
+        if (!scene.ends(scene.real(thread), pending.call(), pending.time() + scene.patience.bound())) {
+            scene.stuck(scene.real(thread), pending.words(thread) + " doesn't expire");
             return "idle";
         }
         return caller.answer(thread, pending, false);
@@ -132,8 +135,8 @@ final class Waiter {
                 followRegistration(thread, pending);
                 return;
             }
-            if (!scene.real(thread).done(pending.call(), scene.patience.bound())) {
-                scene.odd("t" + thread.number + " is never released from " + pending.method().word);
+            if (!scene.ends(scene.real(thread), pending.call(), scene.patience.bound())) {
+                scene.stuck(scene.real(thread), "t" + thread.number + " is never released from " + pending.call().request.words());
                 pending.release();
                 return;
             }
