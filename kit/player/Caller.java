@@ -10,6 +10,14 @@ final class Caller {
     /** So many questions may be asked of the real side at one choice. */
     private static final int TRIPS_OF_A_CHOICE = 8;
 
+    /** In a transcript, which knows nothing of the machine, a time is so long for each expiry and each choice until its end. */
+    private static final long TRANSCRIBED_EXPIRY = 500_000_000;
+    private static final long TRANSCRIBED_CHOICE = 50_000_000;
+
+    /** The time that a wait really gets, and that which it has in the transcript. */
+    private record Time(long real, long transcribed) {
+    }
+
     private final Scene scene;
 
     Caller(Scene scene) {
@@ -93,11 +101,11 @@ final class Caller {
         if (method == Method.FORCE_TERMINATION && scene.first) {
             rememberCounts(scene.root(object));
         }
-        long time = method.timed() ? realTime(thread, row) : 0;
-        Pending pending = new Pending(
-            scene.real(thread).tell(new Request(method, Math.max(object, 0), row.number(thread.registers), time)), row);
+        Time time = method.timed() ? time(thread, row) : new Time(0, 0);
+        Request request = new Request(method, Math.max(object, 0), row.number(thread.registers), time.real());
+        Pending pending = new Pending(scene.tell(thread, request, time.transcribed()), row);
         scene.notes.asked();
-        pending.times(method.timed() && !scene.first && scene.plan.expiry(thread) != null, time);
+        pending.times(method.timed() && !scene.first && scene.plan.expiry(thread) != null, time.real());
         if (method.ofPhaser()) {
             boolean namesPhase = method.waitsForPhase() && !method.arrives();
             pending.awaits(namesPhase ? row.number(thread.registers) : scene.view(scene.root(object)));
@@ -135,20 +143,22 @@ final class Caller {
      * The time that a timed wait really gets: none where it has none; an hour where the schedule lets it end otherwise; and
      * where the first play saw it expire, about as long as the choices and the other expiries until then take.
      */
-    private long realTime(ProgramThread thread, Row row) {
+    private Time time(ProgramThread thread, Row row) {
         thread.timedCalls++;
         int given = row.time(thread.registers);
         if (given <= 0) {
-            return given;
+            return new Time(given, given);
         }
         Integer until = scene.first ? null : scene.plan.expiry(thread);
         if (until == null) {
-            return HOUR;
+            return new Time(HOUR, HOUR);
         }
         long settle = scene.patience.settle();
         long expiries = scene.plan.expiriesBetween(scene.step(), until);
         long choices = until - scene.step();
-        return expiries * (scene.patience.expiry() + 4 * settle) + choices * (2 * settle + TRIPS_OF_A_CHOICE * scene.roundTrip());
+        long real =
+            expiries * (scene.patience.expiry() + 4 * settle) + choices * (2 * settle + TRIPS_OF_A_CHOICE * scene.roundTrip());
+        return new Time(real, expiries * TRANSCRIBED_EXPIRY + choices * TRANSCRIBED_CHOICE);
     }
 
     private String blocked(ProgramThread thread, Pending pending) {
@@ -200,13 +210,8 @@ final class Caller {
         StackEntry entry = thread.pop();
         boolean action = entry.kind() == StackEntry.Kind.ACTION;
         Pending pending = entry.pending();
-        RealThread real = scene.real(thread);
         scene.holds.called(scene.step());
-        if (throwing) {
-            real.fail(number);
-        } else {
-            real.answer(action || number == 0 ? 0 : 1);
-        }
+        scene.end(thread, throwing, throwing ? number : action || number == 0 ? 0 : 1);
         RealThread.Outcome outcome = scene.comeBack(thread, pending.call());
         if (action) {
             scene.actionEnds(entry.number());
@@ -236,7 +241,12 @@ final class Caller {
      * thread had to wait, and another choice shows the answer.
      */
     String answer(ProgramThread thread, Pending pending, boolean atOnce) {
-        Answer given = scene.known.told(Situation.of(scene, thread, pending.row()), pending.call().answer());
+        Answer answer = pending.call().answer();
+        scene.notes.transcript.saw(thread.number, pending.call());
+        Answer given = scene.known.told(Situation.of(scene, thread, pending.row()), answer);
+        if (!given.equals(answer)) {
+            scene.notes.transcript.excuses(thread.number, answer, given);
+        }
         thread.pending = null;
         switch (given.kind()) {
             case VALUE -> {

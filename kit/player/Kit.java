@@ -64,6 +64,9 @@ public final class Kit {
         for (Port port : ports) {
             kit.checkPort(port.command());
         }
+        if (!words[2].isEmpty()) {
+            new ReplayChecks(kit.kit, words[2], kit::count).check(kit.learned.size(), ports);
+        }
         kit.checkRandom();
         kit.checkBursts(ports);
         System.out.println(kit.passed + " passed, " + kit.failed + " failed");
@@ -102,6 +105,7 @@ public final class Kit {
 
     private void checkCases() throws IOException {
         Sums sums = new Sums();
+        Transcripts transcripts = new Transcripts();
         Judge judge = new Judge(new JvmStage(new JdkFactory()), vuthgal, KnownDifferences.COUNTS).warm();
         for (Path file : Player.programsBelow(kit.resolve("cases"))) {
             String name = kit.relativize(file).toString();
@@ -110,10 +114,13 @@ public final class Kit {
             count(name, verdict.isSame() && isWholeJudged(verdict.notes()) && isTrace(each), whatFails(each, verdict));
             tellAgain(name, verdict);
             sums.add(verdict.notes());
+            transcripts.add(each, verdict);
             if (verdict.isSame()) {
                 learned.add(new Learned(each, verdict.plan()));
             }
         }
+        transcripts.compare(kit.resolve("transcripts"), (file, kept) -> count("transcripts/" + file, kept,
+            "it isn't what was played: kit/play --known --transcripts kit/transcripts kit/cases"));
         System.out.println("cases on the JDK: " + learned.size() + " the same, " + sums.line());
     }
 

@@ -33,6 +33,8 @@ final class Notes {
         }
     }
 
+    final Transcript transcript = new Transcript();
+
     private final Map<Kind, Integer> counts = new EnumMap<>(Kind.class);
     private final Map<String, Integer> differences = new TreeMap<>();
     private final List<String> lines = new ArrayList<>();

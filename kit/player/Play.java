@@ -71,7 +71,7 @@ final class Play {
     private void playChoice(Choice choice) {
         ProgramThread thread = scene.threads.get(choice.thread());
         int row = thread.row;
-        scene.beginChoice();
+        scene.beginChoice(thread);
         String what = choose(thread, choice.expiry());
         if (!what.equals("idle")) {
             effectiveSteps++;

@@ -80,9 +80,16 @@ public final class Player {
             programs.addAll(named(place));
         }
         Tally tally = new Tally(programs.size(), options.keepGoing(), System.out);
+        Transcripts transcripts = new Transcripts();
         new Jobs<>(programs, (judge, each) -> Played.of(judge, Case.of(vuthgal, each.name(), each.file())))
-            .tell(System.out::println).run(options.judges(vuthgal), tally::add);
+            .tell(System.out::println).run(options.judges(vuthgal), played -> {
+                transcripts.add(played.each(), played.verdict());
+                return tally.add(played);
+            });
         tally.tell();
+        if (options.transcripts() != null) {
+            transcripts.write(options.transcripts());
+        }
         return end(tally.report(), tally.status());
     }
 

@@ -22,7 +22,7 @@ final class Waiter {
                 return "idle";
             }
             pending.setOwesInterrupt(false);
-            scene.real(thread).interrupt();
+            scene.interrupt(thread);
             scene.holds.called(scene.step());
             if (!scene.ends(scene.real(thread), pending.call(), scene.patience.bound())) {
                 scene.stuck(scene.real(thread), "an interrupt doesn't end " + pending.words(thread));
@@ -56,7 +56,7 @@ final class Waiter {
         Pending pending = thread.pending;
         if (scene.first) {
             scene.plan.expires(thread, scene.step());
-            scene.real(thread).interrupt();
+            scene.interrupt(thread);
             if (!scene.ends(scene.real(thread), pending.call(), scene.patience.bound())) {
                 scene.stuck(scene.real(thread), "an interrupt doesn't end " + pending.words(thread));
                 return "idle";
@@ -111,7 +111,7 @@ final class Waiter {
         if (waits && pending.method().interruptible() && !actionRuns(pending)) {
             pending.setOwesInterrupt(true);
         } else {
-            scene.real(thread).interrupt();
+            scene.interrupt(thread);
         }
     }
 
@@ -171,12 +171,15 @@ final class Waiter {
     private void comesOut(ProgramThread thread) {
         Pending pending = thread.pending;
         pending.release();
+        if (!pending.expiredByItself()) {
+            scene.notes.transcript.saw(thread.number, pending.call());
+        }
         if (pending.method().waitsForPhase()) {
             pending.releasedAt(scene.look(Method.GET_PHASE, scene.root(pending.object())));
         }
         if (pending.owesInterrupt()) {
             pending.setOwesInterrupt(false);
-            scene.real(thread).interrupt();
+            scene.interrupt(thread);
         }
     }
 

@@ -1,6 +1,6 @@
 #!/usr/bin/env python3
-"""The port of kit/ports/python that now and then ends a phase and wakes nobody, as a race would. The player's clearing up
-wakes them, so that the same case passes when it is played again."""
+"""The port of kit/ports/python that at every ninth end of a phase (or every Nth: its word) wakes nobody, as a race might. The
+player's clearing up wakes them, so that the same case passes when it is played again."""
 
 import sys
 from pathlib import Path
@@ -10,7 +10,7 @@ sys.path.insert(0, str(Path(__file__).resolve().parents[2] / "ports" / "python")
 import phaser  # noqa: E402
 import port  # noqa: E402
 
-EVERY = 9
+EVERY = int((sys.argv[1:] + [9])[0])
 ends = 0
 right_end = phaser._Tree.end_phase
 
