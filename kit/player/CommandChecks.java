@@ -101,7 +101,7 @@ final class CommandChecks {
                 + "; is each line flushed?)\n", "--port", wrong + "flushes_nothing.py", one + ".asm", one + ".schedule"),
             new Check(1, "before the first case: the call getPhase 0 doesn't answer (its last line is `ok`" + stands
                 + "; is each line flushed?)\n", "--port", wrong + "flushes_nothing.py threads", one + ".asm", one + ".schedule"),
-            new Check(1, "23 same, 0 different, 2 stuck, 0 left out", "--port", wrong + "loses_wake_ups.py", folder("waiting")));
+            new Check(1, " same, 0 different, 2 stuck, 0 left out; 2 played again with more patience\n", "--port", wrong + "loses_wake_ups.py", folder("waiting")));
         checks.parallelStream().forEach(this::check);
         checkNothingIsWritten();
         checkEnd(port, "TERM");

@@ -44,7 +44,27 @@ final class ReplayChecks {
             new Check(1, "waiting/for-the-present-phase differs, at line ", faults + "'1 = 0' 'also 0 = 1\\n'", "waiting"),
             new Check(0, " left out: no it makes no barrier\n", faults + "without barrier", "tiers action"),
             new Check(2, "0 same, 0 different, ", faults + "without case", "reset")).parallelStream().forEach(this::check);
+        checkExamples(ports);
         checkWithoutJdk();
+    }
+
+    /** The examples of the port protocol are played as they stand in its page, without their remarks. */
+    private void checkExamples(List<Kit.Port> ports) throws IOException {
+        String page = Files.readString(kit.resolve("../docs/FORMATS.md"));
+        StringBuilder examples = new StringBuilder();
+        int number = 0;
+        for (String line : page.substring(page.indexOf("**Examples.** `>`"), page.indexOf("## Transcripts")).split("\n")) {
+            if (line.matches("    [><.].*")) {
+                String said = line.strip().replaceAll(" {2,}.*", "");
+                examples.append(said.equals("> case") ? "# example " + ++number + ": of the page\n" : "").append(said).append('\n');
+            }
+        }
+        Path file = Files.createTempFile("vuthgal", ".txt");
+        Files.writeString(file, examples);
+        for (Kit.Port port : ports) {
+            replay(0, number + " same, 0 different, 0 left out\n", port.command(), " " + file);
+        }
+        Files.delete(file);
     }
 
     private void check(Check check) {
@@ -52,8 +72,12 @@ final class ReplayChecks {
         for (String name : check.folders().split(" ")) {
             files.append(" transcripts/").append(name).append(".txt");
         }
-        String quoted = "'" + check.command().replace("'", "'\\''") + "'";
-        shell(check.status(), check.says(), PATIENT, "cd '" + kit + "' && " + python + " ./replay " + quoted + files);
+        replay(check.status(), check.says(), check.command(), files.toString());
+    }
+
+    private void replay(int status, String says, String command, String files) {
+        String quoted = "'" + command.replace("'", "'\\''") + "'";
+        shell(status, says, PATIENT, "cd '" + kit + "' && " + python + " ./replay " + quoted + files);
     }
 
     /** With a path on which the commands of the system stand, but no {@code javac}. */

@@ -13,12 +13,23 @@ final class Transcripts {
 
     void add(Case each, Verdict verdict) {
         if (verdict.isSame()) {
-            String folder = each.file().toAbsolutePath().normalize().getParent().getFileName().toString();
-            String name = each.file().getFileName().toString().replace(".asm", "");
-            texts.computeIfAbsent(folder + ".txt", fresh -> new StringBuilder())
-                .append("# ").append(folder).append('/').append(name).append(": ").append(each.rule()).append('\n')
-                .append(verdict.notes().transcript).append('\n');
+            texts.computeIfAbsent(folder(each) + ".txt", fresh -> new StringBuilder()).append(text(each, verdict));
         }
+    }
+
+    private static String folder(Case each) {
+        return each.file().toAbsolutePath().normalize().getParent().getFileName().toString();
+    }
+
+    private static String text(Case each, Verdict verdict) {
+        String name = each.file().getFileName().toString().replace(".asm", "");
+        return "# " + folder(each) + "/" + name + ": " + each.rule() + "\n" + verdict.notes().transcript + "\n";
+    }
+
+    /** Whether the folder keeps it so. */
+    static boolean isKept(Path kept, Case each, Verdict verdict) throws IOException {
+        Path file = kept.resolve(folder(each) + ".txt");
+        return Files.exists(file) && Files.readString(file).contains(text(each, verdict));
     }
 
     void write(Path folder) throws IOException {

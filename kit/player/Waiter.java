@@ -163,7 +163,9 @@ final class Waiter {
 
     /** A held registration goes on when a phase has ended, but another phase end may hold it again. */
     private void followRegistration(ProgramThread thread, Pending pending) {
-        if (scene.settle(thread, pending.call()) != RealThread.Outcome.DONE) {
+        if (scene.real(thread).done(pending.call(), 2 * scene.patience.expiry())) {
+            scene.notes.transcript.saw(thread.number, pending.call());
+        } else {
             pending.awaits(scene.view(scene.root(pending.object())));
         }
     }
