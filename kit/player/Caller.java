@@ -43,8 +43,7 @@ final class Caller {
         }
         KnownDifference difference = forbidding(Situation.of(scene, thread, row));
         if (difference != null) {
-            scene.notes.toldOver(difference, scene.step() + 1);
-            return thread.fail(Answer.ILLEGAL_STATE);
+            return excused(thread, row, difference);
         }
         if (method.waitsAtBarrier() && thread.stackFull() && scene.program.barriers.get(row.object()).action() >= 0) {
             return thread.fail(ProgramThread.STACK_FULL);
@@ -91,6 +90,41 @@ final class Caller {
             scene.holds.called(scene.step());
         }
         return false;
+    }
+
+    /**
+     * A call that the JDK isn't asked for. A real side that did as the JDK in such a place isn't either; any other is, and may
+     * answer as here, or do as the JDK, which ends this play.
+     */
+    private String excused(ProgramThread thread, Row row, KnownDifference difference) {
+        KnownDifferences.Excused excused = new KnownDifferences.Excused(difference, row.method());
+        if (scene.first || scene.known.isAsTheJdk(excused)) {
+            scene.notes.toldOver(difference, scene.step() + 1);
+            return thread.fail(Answer.ILLEGAL_STATE);
+        }
+        Situation at = Situation.of(scene, thread, row);
+        boolean counts = row.method().arrives();
+        int before = counts ? scene.unarrived(row.object()) : 0;
+        int given = row.method().timed() ? row.time(thread.registers) : 0;
+        long time = given > 0 ? HOUR : given;
+        Pending pending = new Pending(
+            scene.tell(thread, new Request(row.method(), row.object(), row.number(thread.registers), time), time), row);
+        scene.notes.asked();
+        RealThread.Outcome outcome = scene.settle(thread, pending.call());
+        boolean changed = counts && scene.unarrived(row.object()) != before;
+        if (!changed && outcome == RealThread.Outcome.DONE && pending.call().answer().isThrown(Answer.ILLEGAL_STATE)) {
+            scene.notes.excused(difference, scene.step() + 1, pending.words(thread) + " " + pending.call().answer().told());
+            return thread.fail(Answer.ILLEGAL_STATE);
+        }
+        if (difference.isTheirs(at, pending.call(), changed)) {
+            throw new AsTheJdk(excused);
+        }
+        pending.awaits(row.method().ofPhaser() ? at.viewBefore() : 0);
+        return switch (outcome) {
+            case ENTERED -> enter(thread, pending);
+            case BLOCKED -> blocked(thread, pending);
+            case DONE -> answer(thread, pending, true);
+        };
     }
 
     private String make(ProgramThread thread, Row row) {

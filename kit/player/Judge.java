@@ -26,7 +26,7 @@ final class Judge {
     Judge(Stage stage, Vuthgal vuthgal, KnownDifferences known, Patience... patience) {
         this.stage = stage;
         this.vuthgal = vuthgal;
-        this.known = known;
+        this.known = known.forAnother();
         this.patience = patience;
     }
 
@@ -97,6 +97,11 @@ final class Judge {
             trace = play.play();
         } finally {
             play.clear();
+        }
+        if (play.asTheJdk() != null) {
+            known.doesAsTheJdk(play.asTheJdk());
+            stage.abandon();
+            return once(asked, number, plan);
         }
         int line = line(asked, trace, play.scene.notes);
         Verdict.Kind kind = line == 0 ? Verdict.Kind.SAME : Verdict.Kind.DIFFERS;

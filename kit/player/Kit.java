@@ -4,9 +4,7 @@ import java.io.IOException;
 import java.nio.file.Files;
 import java.nio.file.Path;
 import java.util.ArrayList;
-import java.util.HashSet;
 import java.util.List;
-import java.util.Set;
 
 /**
  * What {@code kit/run} runs: the player's own words, the cases, the differences, the wrong adapters, ports, random scenarios,
@@ -189,11 +187,9 @@ public final class Kit {
 
     private void checkWrongAdapters() throws IOException {
         int found = 0;
-        Set<String> nearly = new HashSet<>();
-        KnownDifferences.ALL.list.forEach(difference -> nearly.add(difference.nearly()));
         for (String name : adapters.names()) {
             String finder = findByCases(name);
-            if (finder == null && nearly.contains(name)) {
+            if (finder == null) {
                 finder = findByDifferences(name);
             }
             count(name, finder != null, "no case finds it");

@@ -15,6 +15,8 @@ final class Notes {
         TOLD_AGAIN("told again"),
         /** A documented difference, told as Vuthgal has it. */
         TOLD_OVER("told over"),
+        /** A call for which the JDK isn't asked, and which was answered as here. */
+        EXCUSED("as here"),
         /** A part of the state text that the objects couldn't be asked for. */
         UNSEEN("unseen"),
         /** A call that was held, and was made all the same. */
@@ -37,6 +39,7 @@ final class Notes {
 
     private final Map<Kind, Integer> counts = new EnumMap<>(Kind.class);
     private final Map<String, Integer> differences = new TreeMap<>();
+    private final Map<String, Integer> excused = new TreeMap<>();
     private final List<String> lines = new ArrayList<>();
     private int asked;
     private int firstOdd;
@@ -61,6 +64,12 @@ final class Notes {
         add(Kind.TOLD_OVER, step, difference.row());
     }
 
+    /** A call for which the JDK isn't asked was answered as here. */
+    void excused(KnownDifference difference, int step, String what) {
+        excused.merge(difference.program(), 1, Integer::sum);
+        add(Kind.EXCUSED, step, what);
+    }
+
     int count(Kind kind) {
         return counts.getOrDefault(kind, 0);
     }
@@ -81,6 +90,11 @@ final class Notes {
 
     List<String> lines() {
         return lines;
+    }
+
+    /** How often a call was asked in a documented difference that the JDK isn't asked for, by the name of its program. */
+    Map<String, Integer> excused() {
+        return excused;
     }
 
     /** How often each documented difference was told over, by the name of its program. */

@@ -15,6 +15,7 @@ final class Play {
     private int effectiveSteps;
     private Breakdown breakdown;
     private boolean stopsAtOdd;
+    private KnownDifferences.Excused asTheJdk;
 
     Play(Scene scene, List<Choice> schedule) {
         this.scene = scene;
@@ -50,8 +51,15 @@ final class Play {
             }
         } catch (Breakdown down) {
             breakDown(down);
+        } catch (AsTheJdk same) {
+            asTheJdk = same.call;
         }
         return trace.toString();
+    }
+
+    /** The call with which the real side did as the JDK, so that the play ended there; else null. */
+    KnownDifferences.Excused asTheJdk() {
+        return asTheJdk;
     }
 
     private void breakDown(Breakdown down) {

@@ -15,6 +15,7 @@ final class Tally {
     private final Sums sums = new Sums();
     private final Map<String, Integer> whyLeftOut = new TreeMap<>();
     private final Map<String, Integer> differences = new TreeMap<>();
+    private final Map<String, Integer> excused = new TreeMap<>();
     private int same;
     private int different;
     private int stuck;
@@ -36,6 +37,7 @@ final class Tally {
         report.add(played);
         sums.add(verdict.notes());
         verdict.notes().differences().forEach((program, count) -> differences.merge(program, count, Integer::sum));
+        verdict.notes().excused().forEach((program, count) -> excused.merge(program, count, Integer::sum));
         again += verdict.tries() > 1 ? 1 : 0;
         switch (verdict.kind()) {
             case SAME -> same++;
@@ -64,6 +66,7 @@ final class Tally {
         whyLeftOut.forEach((why, count) -> to.println(count + " left out: " + why));
         to.println(sums.line());
         differences.forEach((program, count) -> to.println("  " + count + " told over as in differences/" + program));
+        excused.forEach((program, count) -> to.println("  " + count + " not as the JDK, but as ours, as in differences/" + program));
         if (compared() == 0) {
             to.println("nothing was compared");
         }
