@@ -66,7 +66,7 @@ public final class Kit {
             kit.checkPort(port.command());
         }
         if (!words[2].isEmpty()) {
-            new ReplayChecks(kit.kit, words[2], kit::count).check(kit.learned.size(), ports);
+            new ReplayChecks(kit.kit, words[2], kit::count).check(ports);
         }
         kit.checkRandom();
         kit.checkBursts(ports);

@@ -1,6 +1,7 @@
 package kit.player;
 
 import java.io.IOException;
+import java.nio.file.DirectoryStream;
 import java.nio.file.Files;
 import java.nio.file.Path;
 import java.util.ArrayList;
@@ -12,6 +13,7 @@ import java.util.concurrent.TimeUnit;
 final class ReplayChecks {
     /** Where all stand still, so many times as long: the machine may be busy. */
     private static final Map<String, String> PATIENT = Map.of("PATIENCE", "2");
+    private static final String RIGHT = " same, 0 different, 0 left out\n";
     private static final long LONGEST_SECONDS = 240;
 
     /** The status of a replay and what it has to say, the command of the port, and folders of cases. */
@@ -28,12 +30,14 @@ final class ReplayChecks {
         this.to = to;
     }
 
-    /** So many cases are right on each of the ports, and wrong ones are found. */
-    void check(int cases, List<Kit.Port> ports) throws IOException {
-        String right = cases + " same, 0 different, 0 left out\n";
+    /** All transcripts are right on each of the ports, those that no program makes also on the JDK, and wrong ports are found. */
+    void check(List<Kit.Port> ports) throws IOException {
         for (Kit.Port port : ports) {
-            check(new Check(0, right, port.command(), "*"));
+            check(new Check(0, transcripts("*.txt") + RIGHT, port.command(), "*"));
         }
+        String java = Path.of(System.getProperty("java.home"), "bin", "java") + " --add-opens"
+            + " java.base/java.util.concurrent=ALL-UNNAMED -cp " + System.getProperty("java.class.path") + " kit.player.JdkPort";
+        check(new Check(0, transcripts("{children,phase-numbers}.txt") + RIGHT, java, "children phase-numbers"));
         String wrong = python + " " + kit.resolve("wrong/ports") + "/";
         String faults = python + " " + kit.resolve("faults/port.py") + " ";
         List.of(
@@ -46,6 +50,17 @@ final class ReplayChecks {
             new Check(2, "0 same, 0 different, ", faults + "without case", "reset")).parallelStream().forEach(this::check);
         checkExamples(ports);
         checkWithoutJdk();
+    }
+
+    /** How many transcripts stand in these files. */
+    private long transcripts(String files) throws IOException {
+        long count = 0;
+        try (DirectoryStream<Path> all = Files.newDirectoryStream(kit.resolve("transcripts"), files)) {
+            for (Path file : all) {
+                count += Files.readString(file).lines().filter(line -> line.startsWith("# ")).count();
+            }
+        }
+        return count;
     }
 
     /** The examples of the port protocol are played as they stand in its page, without their remarks. */
@@ -62,7 +77,7 @@ final class ReplayChecks {
         Path file = Files.createTempFile("vuthgal", ".txt");
         Files.writeString(file, examples);
         for (Kit.Port port : ports) {
-            replay(0, number + " same, 0 different, 0 left out\n", port.command(), " " + file);
+            replay(0, number + RIGHT, port.command(), " " + file);
         }
         Files.delete(file);
     }

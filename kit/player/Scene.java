@@ -220,7 +220,7 @@ final class Scene {
 
     /** A call that has to end doesn't, after all this time. It is stuck if nothing of the real side runs any more. */
     void stuck(RealThread thread, String what) {
-        note(thread.staysAtRest() ? Notes.Kind.STUCK : Notes.Kind.ODD, what + thread.state());
+        note(notes.count(Notes.Kind.STUCK) > 0 || thread.staysAtRest() ? Notes.Kind.STUCK : Notes.Kind.ODD, what + thread.state());
     }
 
     /** Whether a slow machine may explain a value: a time was over too soon, or a wait isn't surely one. */

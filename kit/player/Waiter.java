@@ -4,6 +4,8 @@ package kit.player;
 final class Waiter {
     private final Scene scene;
     private final Caller caller;
+    /** Whether some thread was found stuck behind this choice. */
+    private boolean stuckNow;
 
     Waiter(Scene scene, Caller caller) {
         this.scene = scene;
@@ -115,8 +117,9 @@ final class Waiter {
         }
     }
 
-    /** After a choice: waits for all real threads that it released. */
+    /** After a choice: waits for all real threads that it released. Where one is stuck the others have had as much time. */
     void followReleases() {
+        stuckNow = false;
         for (ProgramThread thread : scene.threads) {
             Pending pending = thread.pending;
             if (pending != null && !pending.released()) {
@@ -135,7 +138,10 @@ final class Waiter {
                 followRegistration(thread, pending);
                 return;
             }
-            if (!scene.ends(scene.real(thread), pending.call(), scene.patience.bound())) {
+            boolean out = stuckNow ? pending.call().done()
+                : scene.ends(scene.real(thread), pending.call(), scene.patience.bound());
+            if (!out) {
+                stuckNow = true;
                 scene.stuck(scene.real(thread), "t" + thread.number + " is never released from " + pending.call().request.words());
                 pending.release();
                 return;
