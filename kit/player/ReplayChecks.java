@@ -14,7 +14,7 @@ final class ReplayChecks {
     /** Where all stand still, so many times as long: the machine may be busy. */
     private static final Map<String, String> PATIENT = Map.of("PATIENCE", "2");
     private static final String RIGHT = " same, 0 different, 0 left out\n";
-    private static final int WAITS = 40_000;
+    private static final int WAITS = 24_000;
     private static final long LONGEST_SECONDS = 240;
 
     /** The status of a replay and what it has to say, the command of the port, and folders of cases. */
