@@ -2,9 +2,17 @@ package kit.player;
 
 /** What a choice comes to where it makes a call, enters a routine or an action, or ends one. */
 final class Caller {
-    private static final long HOUR = 3_600_000_000_000L;
+    /**
+     * The time of a wait that ends otherwise: an hour, and a little that is left of it in 32 bits, so that a port that cuts it
+     * to so many is late at once.
+     */
+    static final long HOUR = 839 * (1L << 32) + 1_000;
     /** So many questions may be asked of the real side at one choice. */
     private static final int TRIPS_OF_A_CHOICE = 8;
+
+    /** In a transcript, which knows nothing of the machine, a time is so long for each expiry and each choice until its end. */
+    private static final long TRANSCRIBED_EXPIRY = 500_000_000;
+    private static final long TRANSCRIBED_CHOICE = 50_000_000;
 
     private final Scene scene;
 
@@ -31,8 +39,7 @@ final class Caller {
         }
         KnownDifference difference = forbidding(Situation.of(scene, thread, row));
         if (difference != null) {
-            scene.notes.toldOver(difference, scene.step() + 1);
-            return thread.fail(Answer.ILLEGAL_STATE);
+            return excused(thread, row, difference);
         }
         if (method.waitsAtBarrier() && thread.stackFull() && scene.program.barriers.get(row.object()).action() >= 0) {
             return thread.fail(ProgramThread.STACK_FULL);
@@ -81,6 +88,41 @@ final class Caller {
         return false;
     }
 
+    /**
+     * A call that the JDK isn't asked for. A real side that did as the JDK in such a place isn't either; any other is, and may
+     * answer as here, or do as the JDK, which ends this play.
+     */
+    private String excused(ProgramThread thread, Row row, KnownDifference difference) {
+        KnownDifferences.Excused excused = new KnownDifferences.Excused(difference, row.method());
+        if (scene.first || scene.known.isAsTheJdk(excused)) {
+            scene.notes.toldOver(difference, scene.step() + 1);
+            return thread.fail(Answer.ILLEGAL_STATE);
+        }
+        Situation at = Situation.of(scene, thread, row);
+        boolean counts = row.method().arrives();
+        int before = counts ? scene.unarrived(row.object()) : 0;
+        int given = row.method().timed() ? row.time(thread.registers) : 0;
+        long time = given > 0 ? HOUR : given;
+        Pending pending = new Pending(
+            scene.tell(thread, new Request(row.method(), row.object(), row.number(thread.registers), time), time), row);
+        scene.notes.asked();
+        RealThread.Outcome outcome = scene.settle(thread, pending.call());
+        boolean changed = counts && scene.unarrived(row.object()) != before;
+        if (!changed && outcome == RealThread.Outcome.DONE && pending.call().answer().isThrown(Answer.ILLEGAL_STATE)) {
+            scene.notes.excused(difference, scene.step() + 1, pending.words(thread) + " " + pending.call().answer().told());
+            return thread.fail(Answer.ILLEGAL_STATE);
+        }
+        if (difference.isTheirs(at, pending.call(), changed)) {
+            throw new AsTheJdk(excused);
+        }
+        pending.awaits(row.method().ofPhaser() ? at.viewBefore() : 0);
+        return switch (outcome) {
+            case ENTERED -> enter(thread, pending);
+            case BLOCKED -> blocked(thread, pending);
+            case DONE -> answer(thread, pending, true);
+        };
+    }
+
     private String make(ProgramThread thread, Row row) {
         Method method = row.method();
         int object = row.object();
@@ -89,11 +131,11 @@ final class Caller {
         if (method == Method.FORCE_TERMINATION && scene.first) {
             rememberCounts(scene.root(object));
         }
-        long time = method.timed() ? realTime(thread, row) : 0;
-        Pending pending = new Pending(
-            scene.real(thread).tell(new Request(method, Math.max(object, 0), row.number(thread.registers), time)), row);
+        WaitTime time = method.timed() ? time(thread, row) : WaitTime.NONE;
+        Request request = new Request(method, Math.max(object, 0), row.number(thread.registers), time.real());
+        Pending pending = new Pending(scene.tell(thread, request, time.transcribed()), row);
         scene.notes.asked();
-        pending.times(method.timed() && !scene.first && scene.plan.expiry(thread) != null, time);
+        pending.setTime(time);
         if (method.ofPhaser()) {
             boolean namesPhase = method.waitsForPhase() && !method.arrives();
             pending.awaits(namesPhase ? row.number(thread.registers) : scene.view(scene.root(object)));
@@ -128,23 +170,38 @@ final class Caller {
     }
 
     /**
-     * The time that a timed wait really gets: none where it has none; an hour where the schedule lets it end otherwise; and
-     * where the first play saw it expire, about as long as the choices and the other expiries until then take.
+     * The time that a timed wait gets: none where it has none; an hour where the schedule lets it end otherwise; and where the
+     * first play saw it expire, about as long as the choices and the other expiries until then take. It ends behind those that
+     * run out before it.
      */
-    private long realTime(ProgramThread thread, Row row) {
+    private WaitTime time(ProgramThread thread, Row row) {
         thread.timedCalls++;
         int given = row.time(thread.registers);
-        if (given <= 0) {
-            return given;
-        }
-        Integer until = scene.first ? null : scene.plan.expiry(thread);
+        Integer until = scene.first || given <= 0 ? null : scene.plan.expiry(thread);
         if (until == null) {
-            return HOUR;
+            return WaitTime.endsOtherwise(given <= 0 ? given : HOUR);
         }
+        long real = realTime(scene.step(), until);
+        long transcribed = transcribedTime(scene.step(), until);
+        for (ProgramThread each : scene.threads) {
+            WaitTime other = each.pending == null ? WaitTime.NONE : each.pending.time();
+            if (other.runsOut() && other.expiry() < until) {
+                real = Math.max(real, other.left() + realTime(other.expiry(), until));
+                transcribed = Math.max(transcribed, other.transcribed() + transcribedTime(other.expiry(), until));
+            }
+        }
+        return WaitTime.runsOut(real, transcribed, until);
+    }
+
+    /** How long the choices and the expiries after the one step take, up to the other. */
+    private long realTime(int step, int until) {
         long settle = scene.patience.settle();
-        long expiries = scene.plan.expiriesBetween(scene.step(), until);
-        long choices = until - scene.step();
-        return expiries * (scene.patience.expiry() + 4 * settle) + choices * (2 * settle + TRIPS_OF_A_CHOICE * scene.roundTrip());
+        return scene.plan.expiriesBetween(step, until) * (scene.patience.expiry() + 4 * settle)
+            + (until - step) * (2 * settle + TRIPS_OF_A_CHOICE * scene.roundTrip());
+    }
+
+    private long transcribedTime(int step, int until) {
+        return scene.plan.expiriesBetween(step, until) * TRANSCRIBED_EXPIRY + (until - step) * TRANSCRIBED_CHOICE;
     }
 
     private String blocked(ProgramThread thread, Pending pending) {
@@ -155,7 +212,7 @@ final class Caller {
             return "idle";
         }
         if (!method.waits()) {
-            scene.odd(method.word + " blocks");
+            scene.stuck(scene.real(thread), method.word + " blocks");
         } else if (method.waitsForPhase() && pending.awaited() != scene.view(scene.root(pending.object()))) {
             scene.odd(method.word + " waits for another phase");
         }
@@ -196,13 +253,8 @@ final class Caller {
         StackEntry entry = thread.pop();
         boolean action = entry.kind() == StackEntry.Kind.ACTION;
         Pending pending = entry.pending();
-        RealThread real = scene.real(thread);
         scene.holds.called(scene.step());
-        if (throwing) {
-            real.fail(number);
-        } else {
-            real.answer(action || number == 0 ? 0 : 1);
-        }
+        scene.end(thread, throwing, throwing ? number : action || number == 0 ? 0 : 1);
         RealThread.Outcome outcome = scene.comeBack(thread, pending.call());
         if (action) {
             scene.actionEnds(entry.number());
@@ -232,7 +284,12 @@ final class Caller {
      * thread had to wait, and another choice shows the answer.
      */
     String answer(ProgramThread thread, Pending pending, boolean atOnce) {
-        Answer given = scene.known.told(Situation.of(scene, thread, pending.row()), pending.call().answer());
+        Answer answer = pending.call().answer();
+        scene.notes.transcript.saw(thread.number, pending.call());
+        Answer given = scene.known.told(Situation.of(scene, thread, pending.row()), answer);
+        if (!given.equals(answer)) {
+            scene.notes.transcript.excuses(thread.number, answer, given);
+        }
         thread.pending = null;
         switch (given.kind()) {
             case VALUE -> {

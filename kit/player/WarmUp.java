@@ -1,6 +1,11 @@
 package kit.player;
 
-/** Loads the classes that a first blocking call loads: that time looks like a wait. */
+import java.util.function.Consumer;
+
+/**
+ * Loads the classes that a first blocking call loads: that time looks like a wait. What hangs here would hang wherever a case
+ * needs it, so that is told at once.
+ */
 final class WarmUp {
     private static final WarmUp[] PARTS = {
         new WarmUp("""
@@ -34,6 +39,8 @@ final class WarmUp {
             """, "t0 t1 t0*5 x0 t0 t1*5"),
     };
 
+    private static final int ROUNDS = 3;
+
     private final String program;
     private final String schedule;
 
@@ -42,43 +49,63 @@ final class WarmUp {
         this.schedule = schedule;
     }
 
-    /** Plays what the real side can play. */
-    static void play(Stage stage, Patience... tries) {
+    /** What hung before the first case; {@code counts} where that came and went, as no right real side's does. */
+    record Word(String text, boolean counts) {
+    }
+
+    /** Plays what the real side can play, and tells what hangs. */
+    static void play(Stage stage, Consumer<Word> tell, Patience... tries) {
         for (WarmUp part : PARTS) {
-            if (!part.playAgainAndAgain(stage, tries)) {
+            if (!part.playAgainAndAgain(stage, tell, tries)) {
                 return;
             }
         }
     }
 
     /** Whether the real side goes on, or can't make these objects. */
-    private boolean playAgainAndAgain(Stage stage, Patience... tries) {
+    private boolean playAgainAndAgain(Stage stage, Consumer<Word> tell, Patience... tries) {
+        Patience patient = tries[Math.min(1, tries.length - 1)].withBound(tries[0].bound());
         try {
-            boolean works = playOnce(stage, tries[Math.min(1, tries.length - 1)]);
-            for (int round = 0; works && round < 2; round++) {
-                works = playOnce(stage, tries[0]);
+            for (int round = 0; round < ROUNDS; round++) {
+                Play odd = playOnce(stage, round == 0 ? patient : tries[0]);
+                if (odd != null) {
+                    tell(odd, stage, tell, patient);
+                    return false;
+                }
             }
-            return works;
+            return true;
         } catch (Unplayable goesWithoutThem) {
             return true;
         }
     }
 
-    /** Whether nothing odd happened. */
-    private boolean playOnce(Stage stage, Patience patient) {
+    /** Tells what hung; what hung in a call of its own is tried again. */
+    private void tell(Play odd, Stage stage, Consumer<Word> tell, Patience patient) {
+        if (odd.breakdown() != null && !(odd.breakdown() instanceof Hangs)) {
+            return;     // the first case tells it
+        }
+        tell.accept(new Word("before the first case: " + odd.scene.notes.firstOddWords(), false));
+        boolean stuck = odd.breakdown() == null && odd.scene.notes.count(Notes.Kind.STUCK) > 0;
+        if (stuck && playOnce(stage, patient) == null) {
+            tell.accept(new Word("before the first case: not so when it was tried again", true));
+        }
+    }
+
+    /** The play in which something odd happened, or null. */
+    private Play playOnce(Stage stage, Patience patient) {
         Plan plan = new Plan();
         for (boolean first : new boolean[] {true, false}) {
             Scene scene = new Scene(new Program(program), stage, plan, patient, KnownDifferences.NONE, first);
-            Play play = new Play(scene, Choice.schedule(schedule));
+            Play play = new Play(scene, Choice.schedule(schedule)).stopAtOdd();
             try {
                 play.play();
             } finally {
                 play.clear();
             }
             if (scene.notes.firstOdd() != 0) {
-                return false;
+                return play;
             }
         }
-        return true;
+        return null;
     }
 }
