@@ -29,7 +29,8 @@ final class BurstReport {
         line(head(burst));
         line("  " + finding.words());
         objects(burst);
-        line("  in the order in which they began, each with its begin and its end:");
+        line("  in the order in which they began, each with its begin and its end"
+            + (history.isTimed() ? ", in nanoseconds:" : ":"));
         history.entries().forEach(this::entry);
         history.asked().forEach(where -> line("    onAdvance of phaser " + where.object() + " was asked: phase "
             + where.phase() + ", parties " + where.parties()));
@@ -56,8 +57,13 @@ final class BurstReport {
     }
 
     private void entry(BurstEntry entry) {
-        line("    " + entry.begin() + ".." + (entry.isOpen() ? "" : entry.end()) + " " + entry.words()
+        line("    " + at(entry.begin()) + ".." + (entry.isOpen() ? "" : at(entry.end())) + " " + entry.words()
             + (entry.entered().isEmpty() ? "" : ", ran the action"));
+    }
+
+    /** A moment of the history's clock, as it is told. */
+    private long at(long time) {
+        return history.isTimed() ? time - history.entries().get(0).begin() : time;
     }
 
     private void unexplained() {
@@ -65,7 +71,7 @@ final class BurstReport {
         if (first == null) {
             return;
         }
-        line("  what ended before " + first.end() + " is explained by this order:");
+        line("  what ended before " + at(first.end()) + " is explained by this order:");
         List<BurstEntry> order = new ArrayList<>(LegalHistory.orderBefore(history, first));
         Collections.reverse(order);
         List<BurstEntry> told = new ArrayList<>();

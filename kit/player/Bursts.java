@@ -77,7 +77,7 @@ final class Bursts {
     }
 
     private Burst burst(long seed, long round) {
-        return BurstKind.burst(seed, round, stage.isHere() ? UNIT_HERE : UNIT_OF_PORT);
+        return BurstKind.burst(seed, round, stage.isHere() || stage.takesLists() ? UNIT_HERE : UNIT_OF_PORT);
     }
 
     private void playOne(long seed, long round) throws IOException {
