@@ -476,6 +476,16 @@ void command_thread(const std::string& word, std::istringstream& words) {
   named.tell(word + rest);
 }
 
+/// Carries out a command for objects, and answers it.
+std::string make(const std::string& word, std::istringstream& words) {
+  try {
+    word == "case" ? begin() : word == "phaser" ? make_phaser(words) : make_barrier(words);
+    return "ok";
+  } catch (const Missing& missing) {
+    return std::string("no ") + missing.why;
+  }
+}
+
 }  // namespace
 
 /// The reader makes objects, too, so it is a thread as theirs want it.
@@ -495,8 +505,7 @@ class Reader : public Thread {
  private:
   static void read(const std::string& word, std::istringstream& words) {
     if (word == "case" || word == "phaser" || word == "barrier") {
-      word == "case" ? begin() : word == "phaser" ? make_phaser(words) : make_barrier(words);
-      say("ok");
+      say(make(word, words));
     } else if (word == "lists" || word == "so-far") {
       say((word == "lists" ? "" : so_far()) + "ok");
     } else if (word == "advance" || word == "action") {
