@@ -79,4 +79,23 @@ final class BurstKit {
         }
         System.out.println("wrong adapters that bursts have to find: " + found + " found");
     }
+
+    /** The phaser without a lock: its bursts find nothing as long as it has no fault, and each fault of the table. */
+    void checkLockFree(Path table, String command) throws IOException {
+        checkPort(new Kit.Port(command, ROUNDS_ON_THE_RIGHT_ONE));
+        int found = 0;
+        for (String line : Files.readAllLines(table)) {
+            if (line.startsWith("#")) {
+                continue;
+            }
+            String fault = line.substring(0, line.indexOf(' '));
+            Stage stage = new PortStage("FAULT=" + fault + " " + command);
+            String finding = new Bursts(stage, IMPATIENT, null, System.out).find(1, ROUNDS_TO_FIND);
+            stage.close();
+            to.take("a phaser without a lock, " + fault, finding != null, "no burst finds it");
+            found += finding == null ? 0 : 1;
+            System.out.println("  " + fault + " is found first by " + finding);
+        }
+        System.out.println("faults of a phaser without a lock: " + found + " found");
+    }
 }
