@@ -56,9 +56,10 @@ final class BurstKit {
     }
 
     private void checkRight(String name, Stage stage, int rounds) throws IOException {
-        Bursts bursts = new Bursts(stage, Bursts.PATIENT, null, System.out);
-        bursts.play(1, rounds);
-        to.take("bursts on " + name, bursts.findings() == 0, bursts.findings() + " found");
+        Bursts bursts = new Bursts(List.of(stage), Bursts.PATIENT, null, System.out);
+        bursts.play(new BurstOrder(1, BurstOrder.EACH, rounds, 0));
+        int found = bursts.count().findings();
+        to.take("bursts on " + name, found == 0, found + " found");
         System.out.print("bursts on " + name + ": ");
         bursts.tell();
     }
@@ -69,7 +70,7 @@ final class BurstKit {
         for (String name : adapters.names()) {
             Stage stage = adapters.stage(name);
             boolean right = name.equals(RIGHT);
-            String finding = new Bursts(stage, right ? Bursts.PATIENT : IMPATIENT, null, System.out)
+            String finding = new Bursts(List.of(stage), right ? Bursts.PATIENT : IMPATIENT, null, System.out)
                 .find(1, right ? ROUNDS_ON_THE_RIGHT_ONE : ROUNDS_TO_FIND);
             to.take(name, right == (finding == null), right ? "it is right, and found: " + finding : "no burst finds it");
             if (!right && finding != null) {
@@ -90,7 +91,7 @@ final class BurstKit {
             }
             String fault = line.substring(0, line.indexOf(' '));
             Stage stage = new PortStage("FAULT=" + fault + " " + command);
-            String finding = new Bursts(stage, IMPATIENT, null, System.out).find(1, ROUNDS_TO_FIND);
+            String finding = new Bursts(List.of(stage), IMPATIENT, null, System.out).find(1, ROUNDS_TO_FIND);
             stage.close();
             to.take("a phaser without a lock, " + fault, finding != null, "no burst finds it");
             found += finding == null ? 0 : 1;

@@ -15,7 +15,6 @@ final class MeetingBursts {
         new BurstKind("looks-at-a-phaser", MeetingBursts::manyLooks),
         new BurstKind("arrivals-that-nobody-awaits", MeetingBursts::arrivals),
         new BurstKind("arrivals-one-after-the-other", MeetingBursts::manyArrivals),
-        new BurstKind("looks-while-phases-end", MeetingBursts::looksAtEnds),
         new BurstKind("barging-at-a-phaser", MeetingBursts::barging));
 
     private static final int MANY = 24;
@@ -148,20 +147,6 @@ final class MeetingBursts {
         int phaser = make.root(make.between(1, 2));
         for (int thread = make.between(2, 4); thread > 0; thread--) {
             make.thread(BurstMaker.times(make.between(4, MANY), BurstMaker.call(Method.ARRIVE, phaser)));
-        }
-    }
-
-    /** One thread makes all arrivals of many phases, and others look at the counts. */
-    private static void looksAtEnds(BurstMaker make) {
-        int phaser = make.root(make.between(2, 3));
-        make.thread(BurstMaker.times(make.between(MANY / 2, 2 * MANY), BurstMaker.call(Method.ARRIVE, phaser)));
-        for (int looker = make.between(1, 3); looker > 0; looker--) {
-            List<Method> getters = List.of(Method.GET_PHASE, Method.GET_ARRIVED_PARTIES, Method.GET_UNARRIVED_PARTIES);
-            List<BurstStep> steps = new ArrayList<>();
-            for (int look = make.between(MANY / 2, 2 * MANY); look > 0; look--) {
-                steps.add(BurstMaker.call(make.any(getters), phaser));
-            }
-            make.thread(steps);
         }
     }
 
