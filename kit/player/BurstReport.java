@@ -37,7 +37,34 @@ final class BurstReport {
         if (!history.hasOpen() && !finding.overtaken()) {
             unexplained();
         }
+        if (!finding.overtaken()) {
+            core();
+        }
         return text.toString();
+    }
+
+    private void core() {
+        BurstCore core = BurstCore.of(history);
+        if (core == null) {
+            return;
+        }
+        String alone = core.isWhole() ? "alone" : "alone, or fewer of them";
+        line("  no order explains these " + alone + ", whatever the other " + core.others() + " did:");
+        core.judged().forEach(entry -> line("    " + entry.words()));
+        if (!core.needed().isEmpty()) {
+            line("  with these made, whatever they answer:");
+            core.needed().forEach(entry -> line("    " + call(entry)));
+        }
+        BurstRemedy remedy = core.remedy();
+        if (remedy != null) {
+            line("  with one other answer there is an order: " + call(remedy.entry()) + " " + remedy.answer().told());
+        } else if (!history.hasOpen()) {
+            line("  one other answer isn't enough");
+        }
+    }
+
+    private static String call(BurstEntry entry) {
+        return "thread " + entry.thread() + ": " + entry.request().words();
     }
 
     private void objects(Burst burst) {
@@ -75,8 +102,12 @@ final class BurstReport {
         List<BurstEntry> order = new ArrayList<>(LegalHistory.orderBefore(history, first));
         Collections.reverse(order);
         List<BurstEntry> told = new ArrayList<>();
-        for (BurstEntry entry : order) {
-            line("    " + entry.words() + part(entry, first, Collections.frequency(order, entry) > 1, told.contains(entry)));
+        for (int at = 0; at < order.size(); at++) {
+            BurstEntry entry = order.get(at);
+            boolean toldBefore = told.contains(entry);
+            if (!toldBefore || order.lastIndexOf(entry) == at) {
+                line("    " + entry.words() + part(entry, first, Collections.frequency(order, entry) > 1, toldBefore));
+            }
             told.add(entry);
         }
         line("  no order explains, with these, " + first.words());
