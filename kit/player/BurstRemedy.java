@@ -1,0 +1,5 @@
+package kit.player;
+
+/** A call of a burst that fails, and the answer with which there would be an order. */
+record BurstRemedy(BurstEntry entry, Answer answer) {
+}
