@@ -134,6 +134,16 @@ final class BurstByLists {
         }
     }
 
+    /** Nothing more comes: whoever has a list is inside a call of it. */
+    void takeSoFar() {
+        told.forEach(this::take);
+        for (int thread : given.keySet()) {
+            if (history.entries().stream().noneMatch(entry -> entry.thread() == thread && entry.isOpen())) {
+                throw new Hangs("thread " + name(thread) + " is in no call, and doesn't end its list");
+            }
+        }
+    }
+
     private void step(int thread, Deque<Given> list, BurstLine line) {
         Given next = list.poll();
         if (next == null || next.number() != line.number()) {

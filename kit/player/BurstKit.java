@@ -40,6 +40,53 @@ final class BurstKit {
         System.out.println("the model of the bursts played " + cases.size() + " cases and " + SCENARIOS + " random scenarios");
     }
 
+    /** What a failed burst says of itself: the few calls that no order explains, and the answer that would do. */
+    void checkCores() {
+        Request arrive = Request.of(Method.ARRIVE, 0);
+        Request look = Request.of(Method.GET_PHASE, 0);
+        String arrival = report(new Told(0, arrive, 1, 2, Answer.value(0)), new Told(1, arrive, 3, 4, Answer.value(0)),
+            new Told(2, look, 1, 9, Answer.value(0)), new Told(0, arrive, 5, 6, Answer.value(0)),
+            new Told(1, look, 7, 8, Answer.value(1)));
+        checkSays(arrival, "  no order explains these alone, whatever the other 2 did:\n    thread 0: arrive 0 = 0\n"
+            + "  with these made, whatever they answer:\n    thread 0: arrive 0\n    thread 1: arrive 0\n"
+            + "  with one other answer there is an order: thread 0: arrive 0 = 1\n");
+        String two = report(new Told(0, arrive, 1, 2, Answer.value(1)), new Told(1, look, 1, 2, Answer.value(7)));
+        checkSays(two, "  one other answer isn't enough\n");
+        Request await = new Request(Method.AWAIT_ADVANCE, 0, 0, 0);
+        String lost = report(new Told(0, arrive, 1, 2, Answer.value(0)), new Told(1, arrive, 1, 2, Answer.value(0)),
+            new Told(2, await, 1, Long.MAX_VALUE, null));
+        checkSays(lost, "    thread 2: awaitAdvance 0 0 has no answer\n  with these made, whatever they answer:\n"
+            + "    thread 0: arrive 0\n    thread 1: arrive 0\n");
+        String right = report(new Told(0, arrive, 1, 2, Answer.value(0)), new Told(2, await, 1, Long.MAX_VALUE, null));
+        to.take("a wait that has to be", !right.contains("no order explains these"), right);
+    }
+
+    /** A call as it is put into a history; it has no answer where that is null. */
+    private record Told(int thread, Request request, long begin, long end, Answer answer) {
+    }
+
+    /** Of a burst of three threads at a phaser of two parties. */
+    private static String report(Told... calls) {
+        BurstMaker make = new BurstMaker("meetings", 1, 0, 1);
+        make.root(2);
+        for (int thread = 0; thread < 3; thread++) {
+            make.thread();
+        }
+        BurstHistory history = new BurstHistory(make.burst(), true);
+        for (Told call : calls) {
+            BurstEntry entry = new BurstEntry(call.thread(), BurstStep.call(call.request()), call.begin(), call.begin());
+            history.add(entry);
+            if (call.answer() != null) {
+                entry.finish(call.answer(), call.end(), call.end());
+            }
+        }
+        return new BurstReport(history, BurstJudge.judge(history)).text();
+    }
+
+    private void checkSays(String report, String words) {
+        to.take("a failed burst", report.contains(words), "it doesn't say:\n" + words + "but:\n" + report);
+    }
+
     private void countModel(ModelCheck check, Case each) {
         String differs = check.differs(each);
         to.take(each.name() + " on the model", differs == null, differs);

@@ -44,7 +44,7 @@ final class BurstPlayer {
         }
         if (!through) {
             stage.askSoFar();
-            lists.told().forEach(lists::take);
+            lists.takeSoFar();
             stage.abandon();
         }
         return lists.history();

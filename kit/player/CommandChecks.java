@@ -64,8 +64,13 @@ final class CommandChecks {
             new Check(2, "--keep wants --random or --burst", "--keep", room.toString(), reset),
             new Check(2, "--burst" + NO_NUMBER, "--burst", "0"),
             new Check(2, "there is no ./nosuch.burst", "--burst", "./nosuch.burst"),
-            new Check(2, "with --burst go only", "--burst", "1", "--jobs", "2", "--port", "./nosuch"),
-            new Check(2, "--round wants --burst", "--round", "1", reset),
+            new Check(2, "with --burst and --for go only", "--burst", "1", "--known"),
+            new Check(2, "--round wants --burst or --for", "--round", "1", reset),
+            new Check(2, "--for" + NO_NUMBER, "--for", "0"),
+            new Check(0, " bursts of ", "--for", "1", "--burst", "1000000000"),
+            new Check(0, "round 5 didn't fail in 3 tries\n", "--burst", "3", "--round", "5"),
+            new Check(0, "<testsuite name=\"bursts\" tests=\"20\" failures=\"0\" errors=\"0\" skipped=\"0\"",
+                "--burst", "20", "--report", "/dev/stdout"),
             new Check(1, "burst 1 0 meetings\n  the port has ended before its first answer",
                 "--burst", "1", "--port", "./nosuch"),
             new Check(1, "with status 127 (no such command)", "--port", "./nosuch", reset),
@@ -88,16 +93,36 @@ final class CommandChecks {
             new Check(2, "nothing was compared\n", "--port", port + "without case", folder("reset")),
             new Check(1, "--keep FOLDER writes it\n", "--random", "1", "--port", port + "'64 = ' 'say 64 = x\\n'"),
             new Check(1, "burst 1 0 meetings\n  the port has ended, with status 3",
-                "--burst", "1", "--port", port + "'0 = ' 'exit 3'"),
-            new Check(1, "  the port wrote `0 = x`: `x` is no int\n", "--burst", "1", "--port", port + "'0 = ' 'say 0 = x\\n'"),
-            new Check(0, "15 kinds left out: it makes no barrier\n", "--burst", "37", "--port", port + "without barrier"),
-            new Check(2, "nothing was compared\n", "--burst", "37", "--port", port + "without case"));
+                "--burst", "1", "--port", port + "'0 did' 'exit 3'"),
+            burst("`x` is no int", port, "0 did 1 1 2 = x"),
+            burst("`x` is no number", port, "0 did 1 x 2 = 1"),
+            burst("a number, two times, and an answer have to follow", port, "0 did 1 1 2"),
+            burst("its times go back", port, "0 did 1 2 1 = 1"),
+            burst("that isn't the next of its list", port, "0 did 2 1 2 = 1"),
+            burst("call 1 of its list is missing", port, "0 end"),
+            burst("thread 7 has no list", port, "7 end"),
+            burst("no onAdvance or action of this call was told to throw that", port, "0 did 1 1 2 through 5"),
+            new Check(1, "  thread 0 is in no call, and doesn't end its list\n", "--burst", "1", "--patience", "0.1",
+                "--port", port + "'0 did' 'say '"),
+            new Check(0, "the port takes no lists, so its calls came one by one", "--burst", "3", "--port", port + "without lists"),
+            new Check(0, "the port takes no lists, so its calls came one by one", "--burst", "3", "--port", port + "old lists"),
+            new Check(0, "84 bursts of 42 kinds, ", "--burst", "84", "--jobs", "2", "--port", port + "nothing ''"),
+            new Check(0, "16 kinds left out: it makes no barrier\n26 of 42 bursts of 26 kinds, ",
+                "--burst", "42", "--port", port + "without barrier"),
+            new Check(2, "nothing was compared\n", "--burst", "42", "--port", port + "without case"));
         checks.parallelStream().forEach(this::check);
         checkNothingIsWritten();
+        checkStop(port);
         checkEnd(port, "TERM");
         if (!ignoresInterrupts()) {
             checkEnd(port, "INT");
         }
+    }
+
+    /** A port that tells this of its list in the first burst, in place of what it did. */
+    private static Check burst(String says, String port, String line) {
+        return new Check(1, "burst 1 0 meetings\n  the port wrote `" + line + "`: " + says + "\n", "--burst", "1",
+            "--port", port + "'0 did' 'say " + line + "\\n'");
     }
 
     private String folder(String rule) {
@@ -146,6 +171,24 @@ final class CommandChecks {
         List<ProcessHandle> left = below.stream().filter(CommandChecks::lives).toList();
         to.take("kit/play ended by SIG" + signal, played && left.isEmpty(), "of " + below + " these live on: " + left);
         left.forEach(ProcessHandle::destroyForcibly);
+        Files.delete(told);
+    }
+
+    /** Bursts that are ended by a signal which the port gets too, and sooner: they are counted, and none fails. */
+    private void checkStop(String port) throws IOException, InterruptedException {
+        Path told = Files.createTempFile("vuthgal", ".told");
+        Process player = start(told, "--burst", "1000000", "--port", port + "nothing ''");
+        for (int wait = 0; wait < 200 && player.descendants().findAny().isEmpty(); wait++) {
+            Thread.sleep(50);
+        }
+        Thread.sleep(2_000);
+        List<String> command = new ArrayList<>(List.of("kill", "-TERM"));
+        player.descendants().forEach(each -> command.add(Long.toString(each.pid())));
+        command.add(Long.toString(player.pid()));
+        new ProcessBuilder(command).start().waitFor();
+        boolean ended = player.waitFor(LONGEST_SECONDS, TimeUnit.SECONDS);
+        String text = Files.readString(told, StandardCharsets.ISO_8859_1);
+        to.take("bursts ended by SIGTERM", ended && text.startsWith("stopped by a signal\n") && text.contains(": 0 found"), text);
         Files.delete(told);
     }
 

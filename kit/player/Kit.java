@@ -252,6 +252,7 @@ public final class Kit {
     private void checkBursts(List<Port> ports, String lockFree) throws IOException {
         BurstKit bursts = new BurstKit(vuthgal, this::count);
         bursts.checkModel(learned.stream().map(Learned::each).toList());
+        bursts.checkCores();
         bursts.checkJdk();
         bursts.checkAdapters(new WrongAdapters(kit.resolve("wrong").resolve("burst"), "kit.wrong.burst"));
         for (Port port : ports) {
