@@ -57,15 +57,14 @@ def do(what, line):
         right_say(line)
 
 
-def say(line):
+def say(lines):
     global done
-    if silent:
-        return
-    if not done and line.startswith(sys.argv[1]):
-        done = True
-        do(sys.argv[2], line)
-    else:
-        right_say(line)
+    for line in lines.split("\n"):
+        if not silent and not done and line.startswith(sys.argv[1]):
+            done = True
+            do(sys.argv[2], line)
+        elif not silent:
+            right_say(line)
 
 
 def say_without(line):

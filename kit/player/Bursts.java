@@ -72,6 +72,7 @@ final class Bursts {
         }
         progress("");
         if (failed != null) {
+            told = true;
             throw failed;
         }
     }

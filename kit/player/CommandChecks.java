@@ -103,7 +103,7 @@ final class CommandChecks {
             burst("thread 7 has no list", port, "7 end"),
             burst("no onAdvance or action of this call was told to throw that", port, "0 did 1 1 2 through 5"),
             new Check(1, "  thread 0 is in no call, and doesn't end its list\n", "--burst", "1", "--patience", "0.1",
-                "--port", port + "'0 did' 'say '"),
+                "--port", port + "'0 end' 'say '"),
             new Check(0, "the port takes no lists, so its calls came one by one", "--burst", "3", "--port", port + "without lists"),
             new Check(0, "the port takes no lists, so its calls came one by one", "--burst", "3", "--port", port + "old lists"),
             new Check(0, "84 bursts of 42 kinds, ", "--burst", "84", "--jobs", "2", "--port", port + "nothing ''"),

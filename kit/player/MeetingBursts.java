@@ -154,7 +154,7 @@ final class MeetingBursts {
     private static void barging(BurstMaker make) {
         int parties = make.between(1, 3);
         int phaser = make.root(parties, make.of(50) ? Policy.DEFAULT : BurstMaker.NEVER);
-        int most = make.of(50) ? MANY : 3;
+        int most = make.of(50) ? 8 : 3;
         for (int thread = parties + make.between(1, 4); thread > 0; thread--) {
             make.thread(BurstMaker.times(make.between(1, most), meet(phaser)));
         }

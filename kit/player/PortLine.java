@@ -36,6 +36,11 @@ record PortLine(Kind kind, int thread, int[] numbers, String line) {
         return ofThread(line, thread, words);
     }
 
+    /** The words as an answer of the same thread, which stand in this line. */
+    PortLine ofThisThread(String words) {
+        return ofThread(line, thread, (thread + " " + words).split(" ", -1));
+    }
+
     private static PortLine ofThread(String line, int thread, String[] words) {
         return switch (words[1]) {
             case "=" -> of(Kind.VALUE, thread, line, words, 2, 1);
