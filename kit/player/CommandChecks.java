@@ -177,18 +177,19 @@ final class CommandChecks {
     /** Bursts that are ended by a signal which the port gets too, and sooner: they are counted, and none fails. */
     private void checkStop(String port) throws IOException, InterruptedException {
         Path told = Files.createTempFile("vuthgal", ".told");
-        Process player = start(told, "--burst", "1000000", "--port", port + "nothing ''");
-        for (int wait = 0; wait < 200 && player.descendants().findAny().isEmpty(); wait++) {
+        Process player = start(told, List.of("-Dkit.progress=true"), "--burst", "1000000", "--port", port + "nothing ''");
+        for (int wait = 0; wait < 400 && Files.size(told) == 0; wait++) {
             Thread.sleep(50);
         }
-        Thread.sleep(2_000);
         List<String> command = new ArrayList<>(List.of("kill", "-TERM"));
         player.descendants().forEach(each -> command.add(Long.toString(each.pid())));
         command.add(Long.toString(player.pid()));
         new ProcessBuilder(command).start().waitFor();
         boolean ended = player.waitFor(LONGEST_SECONDS, TimeUnit.SECONDS);
         String text = Files.readString(told, StandardCharsets.ISO_8859_1);
-        to.take("bursts ended by SIGTERM", ended && text.startsWith("stopped by a signal\n") && text.contains(": 0 found"), text);
+        boolean counted = text.contains("stopped by a signal\n") && text.contains(": 0 found\n") && !text.contains("burst 1 ");
+        to.take("bursts ended by SIGTERM", ended && counted, text);
+        to.take("bursts at a terminal", text.matches("(?s)\r[0-9]+ bursts, 0 found, [0-9]+ s\033.*"), text);
         Files.delete(told);
     }
 
@@ -213,10 +214,15 @@ final class CommandChecks {
     }
 
     private Process start(Path told, String... words) throws IOException {
+        return start(told, List.of(), words);
+    }
+
+    private Process start(Path told, List<String> ofJava, String... words) throws IOException {
         String java = Path.of(System.getProperty("java.home"), "bin", "java").toString();
         List<String> command = new ArrayList<>(List.of(java, "-XX:+UseSerialGC", "--add-opens",
-            "java.base/java.util.concurrent=ALL-UNNAMED", "-cp", System.getProperty("java.class.path"), Player.class.getName(),
-            "--vuthgal", vuthgal.toString()));
+            "java.base/java.util.concurrent=ALL-UNNAMED", "-cp", System.getProperty("java.class.path")));
+        command.addAll(ofJava);
+        command.addAll(List.of(Player.class.getName(), "--vuthgal", vuthgal.toString()));
         command.addAll(List.of(words));
         File output = told.toFile();
         return new ProcessBuilder(command).directory(room.toFile()).redirectErrorStream(true).redirectOutput(output).start();
