@@ -117,6 +117,11 @@ final class Actor extends RealThread {
         body.interrupt();
     }
 
+    @Override
+    protected boolean staysAtRest() {
+        return mayBeBlocked();
+    }
+
     /** An order that isn't taken yet leaves it parked, and that is no wait of its call. */
     @Override
     protected boolean mayBeBlocked() {

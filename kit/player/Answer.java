@@ -39,6 +39,17 @@ record Answer(Kind kind, int number, String words) {
         return new Answer(Kind.FAULT, 0, words);
     }
 
+    /** The words of the port protocol. */
+    String line() {
+        return switch (kind) {
+            case VALUE -> "= " + number;
+            case VOID -> "ok";
+            case THROWN -> "throw " + number;
+            case THROUGH -> "through " + number;
+            case FAULT -> "fault " + words;
+        };
+    }
+
     /** What the call did, in words. */
     String told() {
         return switch (kind) {

@@ -18,6 +18,11 @@ final class ArrivalInRoutine extends KnownDifference {
     }
 
     @Override
+    boolean isTheirs(Situation at, Call call, boolean changed) {
+        return changed && (!call.done() || call.answer().isValue(at.viewBefore()));
+    }
+
+    @Override
     boolean forbids(Situation at) {
         return at.insideOwnRoutine() && !at.terminatedBefore() && at.method().arrives()
             && at.scene().unarrived(at.object()) > 0;

@@ -40,6 +40,11 @@ final class Call {
         return entered != null;
     }
 
+    /** Where it entered; null where the player has taken that. */
+    Entered entered() {
+        return entered;
+    }
+
     /** Where it entered; the player takes this once for each time. */
     Entered takeEntered() {
         Entered where = entered;

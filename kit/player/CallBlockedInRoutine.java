@@ -18,6 +18,11 @@ final class CallBlockedInRoutine extends KnownDifference {
     }
 
     @Override
+    boolean isTheirs(Situation at, Call call, boolean changed) {
+        return RealThread.outcome(call) == RealThread.Outcome.BLOCKED;
+    }
+
+    @Override
     boolean forbids(Situation at) {
         if (!at.insideOwnRoutine() || at.terminatedBefore()) {
             return false;

@@ -2,9 +2,21 @@ package kit.player;
 
 /** What a choice comes to where it makes a call, enters a routine or an action, or ends one. */
 final class Caller {
-    private static final long HOUR = 3_600_000_000_000L;
+    /**
+     * The time of a wait that ends otherwise: an hour, and a little that is left of it in 32 bits, so that a port that cuts it
+     * to so many is late at once.
+     */
+    static final long HOUR = 839 * (1L << 32) + 1_000;
     /** So many questions may be asked of the real side at one choice. */
     private static final int TRIPS_OF_A_CHOICE = 8;
+
+    /** In a transcript, which knows nothing of the machine, a time is so long for each expiry and each choice until its end. */
+    private static final long TRANSCRIBED_EXPIRY = 500_000_000;
+    private static final long TRANSCRIBED_CHOICE = 50_000_000;
+
+    /** The time that a wait really gets, and that which it has in the transcript. */
+    private record Time(long real, long transcribed) {
+    }
 
     private final Scene scene;
 
@@ -31,8 +43,7 @@ final class Caller {
         }
         KnownDifference difference = forbidding(Situation.of(scene, thread, row));
         if (difference != null) {
-            scene.notes.toldOver(difference, scene.step() + 1);
-            return thread.fail(Answer.ILLEGAL_STATE);
+            return excused(thread, row, difference);
         }
         if (method.waitsAtBarrier() && thread.stackFull() && scene.program.barriers.get(row.object()).action() >= 0) {
             return thread.fail(ProgramThread.STACK_FULL);
@@ -81,6 +92,41 @@ final class Caller {
         return false;
     }
 
+    /**
+     * A call that the JDK isn't asked for. A real side that did as the JDK in such a place isn't either; any other is, and may
+     * answer as here, or do as the JDK, which ends this play.
+     */
+    private String excused(ProgramThread thread, Row row, KnownDifference difference) {
+        KnownDifferences.Excused excused = new KnownDifferences.Excused(difference, row.method());
+        if (scene.first || scene.known.isAsTheJdk(excused)) {
+            scene.notes.toldOver(difference, scene.step() + 1);
+            return thread.fail(Answer.ILLEGAL_STATE);
+        }
+        Situation at = Situation.of(scene, thread, row);
+        boolean counts = row.method().arrives();
+        int before = counts ? scene.unarrived(row.object()) : 0;
+        int given = row.method().timed() ? row.time(thread.registers) : 0;
+        long time = given > 0 ? HOUR : given;
+        Pending pending = new Pending(
+            scene.tell(thread, new Request(row.method(), row.object(), row.number(thread.registers), time), time), row);
+        scene.notes.asked();
+        RealThread.Outcome outcome = scene.settle(thread, pending.call());
+        boolean changed = counts && scene.unarrived(row.object()) != before;
+        if (!changed && outcome == RealThread.Outcome.DONE && pending.call().answer().isThrown(Answer.ILLEGAL_STATE)) {
+            scene.notes.excused(difference, scene.step() + 1, pending.words(thread) + " " + pending.call().answer().told());
+            return thread.fail(Answer.ILLEGAL_STATE);
+        }
+        if (difference.isTheirs(at, pending.call(), changed)) {
+            throw new AsTheJdk(excused);
+        }
+        pending.awaits(row.method().ofPhaser() ? at.viewBefore() : 0);
+        return switch (outcome) {
+            case ENTERED -> enter(thread, pending);
+            case BLOCKED -> blocked(thread, pending);
+            case DONE -> answer(thread, pending, true);
+        };
+    }
+
     private String make(ProgramThread thread, Row row) {
         Method method = row.method();
         int object = row.object();
@@ -89,11 +135,11 @@ final class Caller {
         if (method == Method.FORCE_TERMINATION && scene.first) {
             rememberCounts(scene.root(object));
         }
-        long time = method.timed() ? realTime(thread, row) : 0;
-        Pending pending = new Pending(
-            scene.real(thread).tell(new Request(method, Math.max(object, 0), row.number(thread.registers), time)), row);
+        Time time = method.timed() ? time(thread, row) : new Time(0, 0);
+        Request request = new Request(method, Math.max(object, 0), row.number(thread.registers), time.real());
+        Pending pending = new Pending(scene.tell(thread, request, time.transcribed()), row);
         scene.notes.asked();
-        pending.times(method.timed() && !scene.first && scene.plan.expiry(thread) != null, time);
+        pending.times(method.timed() && !scene.first && scene.plan.expiry(thread) != null, time.real());
         if (method.ofPhaser()) {
             boolean namesPhase = method.waitsForPhase() && !method.arrives();
             pending.awaits(namesPhase ? row.number(thread.registers) : scene.view(scene.root(object)));
@@ -131,20 +177,22 @@ final class Caller {
      * The time that a timed wait really gets: none where it has none; an hour where the schedule lets it end otherwise; and
      * where the first play saw it expire, about as long as the choices and the other expiries until then take.
      */
-    private long realTime(ProgramThread thread, Row row) {
+    private Time time(ProgramThread thread, Row row) {
         thread.timedCalls++;
         int given = row.time(thread.registers);
         if (given <= 0) {
-            return given;
+            return new Time(given, given);
         }
         Integer until = scene.first ? null : scene.plan.expiry(thread);
         if (until == null) {
-            return HOUR;
+            return new Time(HOUR, HOUR);
         }
         long settle = scene.patience.settle();
         long expiries = scene.plan.expiriesBetween(scene.step(), until);
         long choices = until - scene.step();
-        return expiries * (scene.patience.expiry() + 4 * settle) + choices * (2 * settle + TRIPS_OF_A_CHOICE * scene.roundTrip());
+        long real =
+            expiries * (scene.patience.expiry() + 4 * settle) + choices * (2 * settle + TRIPS_OF_A_CHOICE * scene.roundTrip());
+        return new Time(real, expiries * TRANSCRIBED_EXPIRY + choices * TRANSCRIBED_CHOICE);
     }
 
     private String blocked(ProgramThread thread, Pending pending) {
@@ -155,7 +203,7 @@ final class Caller {
             return "idle";
         }
         if (!method.waits()) {
-            scene.odd(method.word + " blocks");
+            scene.stuck(scene.real(thread), method.word + " blocks");
         } else if (method.waitsForPhase() && pending.awaited() != scene.view(scene.root(pending.object()))) {
             scene.odd(method.word + " waits for another phase");
         }
@@ -196,13 +244,8 @@ final class Caller {
         StackEntry entry = thread.pop();
         boolean action = entry.kind() == StackEntry.Kind.ACTION;
         Pending pending = entry.pending();
-        RealThread real = scene.real(thread);
         scene.holds.called(scene.step());
-        if (throwing) {
-            real.fail(number);
-        } else {
-            real.answer(action || number == 0 ? 0 : 1);
-        }
+        scene.end(thread, throwing, throwing ? number : action || number == 0 ? 0 : 1);
         RealThread.Outcome outcome = scene.comeBack(thread, pending.call());
         if (action) {
             scene.actionEnds(entry.number());
@@ -232,7 +275,12 @@ final class Caller {
      * thread had to wait, and another choice shows the answer.
      */
     String answer(ProgramThread thread, Pending pending, boolean atOnce) {
-        Answer given = scene.known.told(Situation.of(scene, thread, pending.row()), pending.call().answer());
+        Answer answer = pending.call().answer();
+        scene.notes.transcript.saw(thread.number, pending.call());
+        Answer given = scene.known.told(Situation.of(scene, thread, pending.row()), answer);
+        if (!given.equals(answer)) {
+            scene.notes.transcript.excuses(thread.number, answer, given);
+        }
         thread.pending = null;
         switch (given.kind()) {
             case VALUE -> {

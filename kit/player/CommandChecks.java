@@ -87,6 +87,9 @@ final class CommandChecks {
     /** What a port that isn't whole, or that has to be killed, comes to. */
     void checkPorts(String python) throws IOException, InterruptedException {
         String port = python + " '" + kit.resolve("faults/port.py") + "' ";
+        String wrong = python + " " + kit.resolve("wrong/ports") + "/";
+        String stands = ", and it stands still";
+        String one = folder("reset") + "/a-timed-wait";
         List<Check> checks = List.of(
             new Check(0, "2 left out: it makes no phaser\n", "--port", port + "without phaser", folder("action")),
             new Check(2, "nothing was compared\n", "--port", port + "without barrier", folder("reset")),
@@ -109,7 +112,14 @@ final class CommandChecks {
             new Check(0, "84 bursts of 42 kinds, ", "--burst", "84", "--jobs", "2", "--port", port + "nothing ''"),
             new Check(0, "16 kinds left out: it makes no barrier\n26 of 42 bursts of 26 kinds, ",
                 "--burst", "42", "--port", port + "without barrier"),
-            new Check(2, "nothing was compared\n", "--burst", "42", "--port", port + "without case"));
+            new Check(2, "nothing was compared\n", "--burst", "42", "--port", port + "without case"),
+            new Check(0, "before the first case: an interrupt doesn't end awaitAdvanceInterruptibly 0 2 " + Caller.HOUR
+                + " of t0 (its last line is `0 = 2`" + stands, "--port", wrong + "ignores_interrupts.py", folder("phase-numbers")),
+            new Check(1, "before the first case: the port doesn't answer: case (it has written nothing" + stands
+                + "; is each line flushed?)\n", "--port", wrong + "flushes_nothing.py", one + ".asm", one + ".schedule"),
+            new Check(1, "before the first case: the call getPhase 0 doesn't answer (its last line is `ok`" + stands
+                + "; is each line flushed?)\n", "--port", wrong + "flushes_nothing.py threads", one + ".asm", one + ".schedule"),
+            new Check(1, " same, 0 different, 2 stuck, 0 left out; 2 played again with more patience\n", "--port", wrong + "loses_wake_ups.py", folder("waiting")));
         checks.parallelStream().forEach(this::check);
         checkNothingIsWritten();
         checkStop(port);

@@ -9,4 +9,9 @@ record Entered(boolean ofPhaser, int object, int phase, int parties) {
     static Entered action(int barrier) {
         return new Entered(false, barrier, 0, 0);
     }
+
+    /** The words of the port protocol. */
+    String line() {
+        return ofPhaser ? "phaser " + object + " " + phase + " " + parties : "barrier " + object;
+    }
 }

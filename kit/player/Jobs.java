@@ -6,6 +6,7 @@ import java.util.concurrent.CompletableFuture;
 import java.util.concurrent.CompletionException;
 import java.util.concurrent.atomic.AtomicInteger;
 import java.util.function.BiFunction;
+import java.util.function.Consumer;
 import java.util.function.Predicate;
 
 /** Plays many cases, by so many judges at once, and hands on what came of each, in the order of the cases. */
@@ -15,6 +16,7 @@ final class Jobs<T> {
     private final List<CompletableFuture<Played>> played = new ArrayList<>();
     private final AtomicInteger begun = new AtomicInteger();
     private volatile boolean enough;
+    private Consumer<String> tell = word -> { };
 
     Jobs(List<T> cases, BiFunction<Judge, T, Played> player) {
         this.cases = cases;
@@ -22,10 +24,17 @@ final class Jobs<T> {
         cases.forEach(each -> played.add(new CompletableFuture<>()));
     }
 
+    /** Tells what hangs before the first case, of one judge. */
+    Jobs<T> tell(Consumer<String> to) {
+        tell = to;
+        return this;
+    }
+
     /** Plays until {@code goesOn} says that what it was given was enough. */
     void run(List<Judge> judges, Predicate<Played> goesOn) {
         for (Judge judge : judges) {
-            Thread worker = new Thread(() -> work(judge), "judge");
+            boolean tells = judge == judges.get(0);
+            Thread worker = new Thread(() -> work(judge, tells ? tell : word -> { }), "judge");
             worker.setDaemon(true);
             worker.start();
         }
@@ -40,9 +49,9 @@ final class Jobs<T> {
         }
     }
 
-    private void work(Judge judge) {
+    private void work(Judge judge, Consumer<String> tells) {
         try {
-            judge.warm();
+            judge.warm(tells);
             for (int number = begun.getAndIncrement(); number < cases.size() && !enough; number = begun.getAndIncrement()) {
                 played.get(number).complete(player.apply(judge, cases.get(number)));
             }

@@ -1,5 +1,9 @@
 package kit.player;
 
+import java.util.List;
+import java.util.function.Consumer;
+import java.util.regex.Pattern;
+
 /**
  * Plays cases on a real side and says whether their traces are Vuthgal's. Each is played twice: first on the JDK's classes,
  * with every documented difference told over, to learn which calls are held and which waits run out; then for the verdict.
@@ -7,6 +11,8 @@ package kit.player;
  * machine is no difference.
  */
 final class Judge {
+    private static final Pattern VALUE = Pattern.compile("^[0-9]+ [tx][0-9]+ [0-9]+ (=|throw) |^[pb][0-9]+ ");
+
     private final Stage learner = new JvmStage(new JdkFactory());
     private final Stage stage;
     private final Vuthgal vuthgal;
@@ -20,14 +26,19 @@ final class Judge {
     Judge(Stage stage, Vuthgal vuthgal, KnownDifferences known, Patience... patience) {
         this.stage = stage;
         this.vuthgal = vuthgal;
-        this.known = known;
+        this.known = known.forAnother();
         this.patience = patience;
     }
 
     /** Loads what a first call loads, so that this doesn't look like a wait. */
     Judge warm() {
-        WarmUp.play(learner, learner.patience());
-        WarmUp.play(stage, patience);
+        return warm(word -> { });
+    }
+
+    /** The same, and tells what hangs. */
+    Judge warm(Consumer<String> tell) {
+        WarmUp.play(learner, tell, learner.patience());
+        WarmUp.play(stage, tell, patience);
         return this;
     }
 
@@ -87,9 +98,38 @@ final class Judge {
         } finally {
             play.clear();
         }
+        if (play.asTheJdk() != null) {
+            known.doesAsTheJdk(play.asTheJdk());
+            stage.abandon();
+            return once(asked, number, plan);
+        }
         int line = line(asked, trace, play.scene.notes);
         Verdict.Kind kind = line == 0 ? Verdict.Kind.SAME : Verdict.Kind.DIFFERS;
-        return new Verdict(kind, line, trace, play.scene.notes, plan, play.breakdown(), 1, "", "");
+        Verdict.Flaw flaw = line == 0 ? null : flaw(asked, trace, line, play.scene);
+        return new Verdict(kind, line, trace, play.scene.notes, plan, play.breakdown(), 1, "", "", flaw);
+    }
+
+    /** What is wrong in this line that slowness doesn't explain; null where it may. */
+    private static Verdict.Flaw flaw(Case asked, String trace, int line, Scene scene) {
+        if (scene.notes.count(Notes.Kind.STUCK) > 0) {
+            return new Verdict.Flaw(Verdict.Kind.STUCK, line);
+        }
+        boolean wrongValue = !scene.mayBeSlow() && isValue(line(trace, line), line(asked.wanted(), line));
+        return wrongValue ? new Verdict.Flaw(Verdict.Kind.UNSTEADY, line) : null;
+    }
+
+    private static String line(String trace, int number) {
+        return trace.lines().skip(number - 1).findFirst().orElse("");
+    }
+
+    /** Whether two lines of traces tell a value or an exception of the same call, or the same object at the end. */
+    private static boolean isValue(String one, String other) {
+        return VALUE.matcher(one).find() && VALUE.matcher(other).find() && head(one).equals(head(other));
+    }
+
+    private static String head(String line) {
+        String[] words = line.split(" ");
+        return words[0].matches("[pb][0-9]+") ? words[0] : String.join(" ", List.of(words).subList(0, 3));
     }
 
     /** The first line that differs, or the first choice at which something odd happened; 0 if there is none. */

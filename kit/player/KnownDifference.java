@@ -15,10 +15,15 @@ abstract class KnownDifference {
     abstract String nearly();
 
     /**
-     * Whether the call isn't made at all, since it would hang or leave an object that can't be compared any more. Here it is
-     * IllegalStateException. Only the first play asks, so this may look at the objects.
+     * Whether the JDK isn't asked at all, since the call would hang or leave an object that can't be compared any more. Here it
+     * is IllegalStateException. Only the first play asks, so this may look at the objects.
      */
     boolean forbids(Situation at) {
+        return false;
+    }
+
+    /** Whether a call for which the JDK isn't asked came to what it comes to there; {@code changed} says of the object's counts. */
+    boolean isTheirs(Situation at, Call call, boolean changed) {
         return false;
     }
 

@@ -1,6 +1,8 @@
 package kit.player;
 
+import java.util.HashSet;
 import java.util.List;
+import java.util.Set;
 
 /** The documented differences that a play tells over. */
 final class KnownDifferences {
@@ -28,9 +30,28 @@ final class KnownDifferences {
     static final KnownDifferences NONE = new KnownDifferences(List.of());
 
     final List<KnownDifference> list;
+    /** The calls with which the real side did as the JDK. It isn't asked for them any more. */
+    private final Set<Excused> asTheJdk = new HashSet<>();
+
+    /** A call in a documented difference. */
+    record Excused(KnownDifference difference, Method method) {
+    }
 
     private KnownDifferences(List<KnownDifference> list) {
         this.list = list;
+    }
+
+    /** The same for a real side of which nothing is known yet. */
+    KnownDifferences forAnother() {
+        return new KnownDifferences(list);
+    }
+
+    void doesAsTheJdk(Excused call) {
+        asTheJdk.add(call);
+    }
+
+    boolean isAsTheJdk(Excused call) {
+        return asTheJdk.contains(call);
     }
 
     /** The one for which the call isn't made, or null. */

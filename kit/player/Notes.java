@@ -15,6 +15,8 @@ final class Notes {
         TOLD_AGAIN("told again"),
         /** A documented difference, told as Vuthgal has it. */
         TOLD_OVER("told over"),
+        /** A call for which the JDK isn't asked, and which was answered as here. */
+        EXCUSED("as here"),
         /** A part of the state text that the objects couldn't be asked for. */
         UNSEEN("unseen"),
         /** A call that was held, and was made all the same. */
@@ -22,7 +24,9 @@ final class Notes {
         /** A timed wait of a phaser ran out before its choice. */
         EARLY("early"),
         /** Something that never happens where a port is right, or where the machine isn't too slow. */
-        ODD("odd");
+        ODD("odd"),
+        /** A call that has to end didn't, though nothing of the port ran any more. No machine is that slow. */
+        STUCK("odd");
 
         final String words;
 
@@ -31,8 +35,11 @@ final class Notes {
         }
     }
 
+    final Transcript transcript = new Transcript();
+
     private final Map<Kind, Integer> counts = new EnumMap<>(Kind.class);
     private final Map<String, Integer> differences = new TreeMap<>();
+    private final Map<String, Integer> excused = new TreeMap<>();
     private final List<String> lines = new ArrayList<>();
     private int asked;
     private int firstOdd;
@@ -46,7 +53,7 @@ final class Notes {
     synchronized void add(Kind kind, int step, String what) {
         counts.merge(kind, 1, Integer::sum);
         lines.add(step + " " + kind.words + ": " + what);
-        if (kind == Kind.ODD && firstOdd == 0) {
+        if ((kind == Kind.ODD || kind == Kind.STUCK) && firstOdd == 0) {
             firstOdd = step;
             firstOddWords = what;
         }
@@ -55,6 +62,12 @@ final class Notes {
     void toldOver(KnownDifference difference, int step) {
         differences.merge(difference.program(), 1, Integer::sum);
         add(Kind.TOLD_OVER, step, difference.row());
+    }
+
+    /** A call for which the JDK isn't asked was answered as here. */
+    void excused(KnownDifference difference, int step, String what) {
+        excused.merge(difference.program(), 1, Integer::sum);
+        add(Kind.EXCUSED, step, what);
     }
 
     int count(Kind kind) {
@@ -77,6 +90,11 @@ final class Notes {
 
     List<String> lines() {
         return lines;
+    }
+
+    /** How often a call was asked in a documented difference that the JDK isn't asked for, by the name of its program. */
+    Map<String, Integer> excused() {
+        return excused;
     }
 
     /** How often each documented difference was told over, by the name of its program. */

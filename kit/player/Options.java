@@ -12,7 +12,7 @@ import java.util.List;
 final class Options {
     static final String USAGE = """
         kit/play [OPTION].. PROGRAM SCHEDULE [--trace FILE]
-        kit/play [OPTION].. FOLDER..
+        kit/play [OPTION].. FOLDER.. [--transcripts FOLDER]
         kit/play [OPTION].. --random N [--seed S] [--keep FOLDER]
         kit/play [OPTION].. --burst ROUNDS [--for SECONDS] [--seed S] [--round R] [--keep FOLDER]
         kit/play [OPTION].. --for SECONDS [--seed S] [--round R] [--keep FOLDER]
@@ -22,6 +22,8 @@ final class Options {
           --jobs N           starts the port so many times, and plays so many cases or bursts at once
           --known            tells documented differences over (docs/BEHAVIOUR.md, "Where the JDK differs"), and counts them
           --trace FILE       writes the trace of what was played
+          --transcripts FOLDER
+                             writes what was said to the JDK's classes and what they answered, for kit/replay
           --random N         plays N scenarios of its own, with documented differences told over
           --burst ROUNDS     plays so many bursts: several calls at once on threads that run freely
           --for SECONDS      plays bursts for so long, and no more than ROUNDS where these are given
@@ -58,6 +60,7 @@ final class Options {
     private Path schedule;
     private Path trace;
     private Path keep;
+    private Path transcripts;
     private Path report;
     private boolean known;
     private boolean firstTry;
@@ -82,6 +85,7 @@ final class Options {
                 case "--port" -> port = argument(word, at);
                 case "--jobs" -> jobs = (int) number(word, at, 1, MOST_JOBS);
                 case "--trace" -> trace = Path.of(argument(word, at));
+                case "--transcripts" -> transcripts = Path.of(argument(word, at));
                 case "--keep" -> keep = Path.of(argument(word, at));
                 case "--report" -> report = Path.of(argument(word, at));
                 case "--random" -> random = (int) number(word, at, 1, MOST_SCENARIOS);
@@ -115,6 +119,9 @@ final class Options {
         }
         if (keep != null && random == 0 && !playsBursts()) {
             throw new Wrong("--keep wants --random or --burst");
+        }
+        if (transcripts != null && (programs.isEmpty() || schedule != null)) {
+            throw new Wrong("--transcripts wants folders of cases");
         }
         if (trace != null && schedule == null) {
             throw new Wrong("--trace wants one program and its schedule");
@@ -250,6 +257,11 @@ final class Options {
     /** Where the trace is to be written; null for nowhere. */
     Path trace() {
         return trace;
+    }
+
+    /** Where transcripts are to be written; null for nowhere. */
+    Path transcripts() {
+        return transcripts;
     }
 
     /** Where scenarios that differ are kept; null for nowhere. */

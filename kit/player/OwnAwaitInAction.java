@@ -18,6 +18,12 @@ final class OwnAwaitInAction extends KnownDifference {
     }
 
     @Override
+    boolean isTheirs(Situation at, Call call, boolean changed) {
+        return RealThread.outcome(call) == RealThread.Outcome.BLOCKED
+            || call.done() && (call.answer().isThrown(Answer.TIMEOUT) || call.answer().isThrown(Answer.INTERRUPTED));
+    }
+
+    @Override
     boolean forbids(Situation at) {
         return at.method().waitsAtBarrier() && at.insideOwnAction();
     }

@@ -18,6 +18,11 @@ final class OwnResetInAction extends KnownDifference {
     }
 
     @Override
+    boolean isTheirs(Situation at, Call call, boolean changed) {
+        return call.done() && call.answer().equals(Answer.NOTHING);
+    }
+
+    @Override
     boolean forbids(Situation at) {
         return at.method() == Method.RESET && at.insideOwnAction();
     }

@@ -29,6 +29,11 @@ final class Pending {
         return row.method();
     }
 
+    /** The call, and whose it is. */
+    String words(ProgramThread thread) {
+        return call.request.words() + " of t" + thread.number;
+    }
+
     int object() {
         return row.object();
     }

@@ -14,12 +14,20 @@ final class Play {
     private final StringBuilder trace = new StringBuilder();
     private int effectiveSteps;
     private Breakdown breakdown;
+    private boolean stopsAtOdd;
+    private KnownDifferences.Excused asTheJdk;
 
     Play(Scene scene, List<Choice> schedule) {
         this.scene = scene;
         this.schedule = schedule;
         caller = new Caller(scene);
         waiter = new Waiter(scene, caller);
+    }
+
+    /** It goes no further where something odd happens. */
+    Play stopAtOdd() {
+        stopsAtOdd = true;
+        return this;
     }
 
     /** The trace; where the real side hangs it stops there. */
@@ -32,6 +40,9 @@ final class Play {
                     break;
                 }
                 playChoice(choice);
+                if (stopsAtOdd && scene.notes.firstOdd() > 0) {
+                    return trace.toString();
+                }
             }
             if (scene.first) {
                 scene.holds.finish(scene.plan);
@@ -40,8 +51,15 @@ final class Play {
             }
         } catch (Breakdown down) {
             breakDown(down);
+        } catch (AsTheJdk same) {
+            asTheJdk = same.call;
         }
         return trace.toString();
+    }
+
+    /** The call with which the real side did as the JDK, so that the play ended there; else null. */
+    KnownDifferences.Excused asTheJdk() {
+        return asTheJdk;
     }
 
     private void breakDown(Breakdown down) {
@@ -61,10 +79,11 @@ final class Play {
     private void playChoice(Choice choice) {
         ProgramThread thread = scene.threads.get(choice.thread());
         int row = thread.row;
-        scene.beginChoice();
+        scene.beginChoice(thread);
         String what = choose(thread, choice.expiry());
         if (!what.equals("idle")) {
             effectiveSteps++;
+            scene.followTimes();
             if (scene.reached()) {
                 scene.followViews();
                 waiter.followReleases();

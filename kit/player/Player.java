@@ -55,7 +55,7 @@ public final class Player {
 
     private int playOne() throws IOException, Options.Wrong {
         Path program = options.programs().get(0);
-        Judge judge = options.judges(vuthgal).get(0).warm();
+        Judge judge = options.judges(vuthgal).get(0).warm(System.out::println);
         Played played = Played.of(judge, Case.of(vuthgal, program.toString(), program, options.schedule()));
         judge.close();
         Verdict verdict = played.verdict();
@@ -67,7 +67,7 @@ public final class Player {
         }
         Report report = new Report();
         report.add(played);
-        return end(report, verdict.isSame() ? 0 : verdict.differs() ? 1 : 2);
+        return end(report, verdict.isSame() ? 0 : verdict.fails() ? 1 : 2);
     }
 
     private int playRandom() throws IOException, Options.Wrong {
@@ -83,9 +83,16 @@ public final class Player {
             programs.addAll(named(place));
         }
         Tally tally = new Tally(programs.size(), options.keepGoing(), System.out);
+        Transcripts transcripts = new Transcripts();
         new Jobs<>(programs, (judge, each) -> Played.of(judge, Case.of(vuthgal, each.name(), each.file())))
-            .run(options.judges(vuthgal), tally::add);
+            .tell(System.out::println).run(options.judges(vuthgal), played -> {
+                transcripts.add(played.each(), played.verdict());
+                return tally.add(played);
+            });
         tally.tell();
+        if (options.transcripts() != null) {
+            transcripts.write(options.transcripts());
+        }
         return end(tally.report(), tally.status());
     }
 

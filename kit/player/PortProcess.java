@@ -21,9 +21,6 @@ final class PortProcess {
     /** How long its output may be read once it has ended. */
     private static final long LONGEST_END = 30 * SECOND;
     private static final long LOOK = SECOND / 1_000;
-    /** A port that isn't at rest is waited for so many times as long. */
-    private static final int TIMES_FOR_THE_BUSY = 4;
-
     private final Process process;
     private final Thread reader = new Thread(this::read, "port reader");
     private final BurstSpread spread;
@@ -40,6 +37,9 @@ final class PortProcess {
     private volatile BlockingQueue<PortLine> ofLists;
     private volatile boolean asked;
     private volatile boolean answered;
+    private volatile boolean answeredByThreads;
+    /** The last line that tells of a call of the case's own. */
+    private volatile String lastLine;
     private volatile Breakdown breakdown;
     private long longestAnswer;
     private Tasks tasks;
@@ -88,6 +88,11 @@ final class PortProcess {
         return tasks.areAtRest();
     }
 
+    /** Whether none does for a while. */
+    boolean staysAtRest() {
+        return new Tasks(process).stayAtRest();
+    }
+
     void overrides(int phaser, Stage.Advance advance) {
         advances.put(phaser, advance);
     }
@@ -105,7 +110,7 @@ final class PortProcess {
         asked = true;
         write(command);
         Reply reply = reply();
-        for (int time = 1; reply == null && time < TIMES_FOR_THE_BUSY && !new Tasks(process).stayAtRest(); time++) {
+        for (int time = 1; reply == null && time < RealThread.TIMES_FOR_THE_BUSY && !staysAtRest(); time++) {
             reply = reply();
         }
         if (reply == null) {
@@ -113,7 +118,7 @@ final class PortProcess {
         }
         check();
         if (reply == null) {
-            throw new Hangs("the port doesn't answer: " + command + from.unfinished(), !answered);
+            throw new Hangs("the port doesn't answer: " + command + state(), !answered);
         }
         if (reply.said().kind() == PortLine.Kind.NO) {
             throw new Unplayable(Excerpt.of(reply.said().reason()));
@@ -177,9 +182,16 @@ final class PortProcess {
         }
     }
 
-    /** What has come of a line that hasn't ended, in words. */
-    String unfinished() {
-        return from.unfinished();
+    /** What can be seen of a port that owes an answer: what it wrote last, and whether it runs. */
+    String state() {
+        String wrote = lastLine == null ? "it has written nothing" : "its last line is `" + Excerpt.of(lastLine) + "`";
+        String flushed = from.unfinished().isEmpty() && !allAnswered() ? "; is each line flushed?" : "";
+        return from.unfinished() + " (" + wrote + ", and it " + (isAtRest() ? "stands still" : "runs") + flushed + ")";
+    }
+
+    /** Whether both of its sides have answered once: who makes objects, and the threads. */
+    private boolean allAnswered() {
+        return answered && answeredByThreads;
     }
 
     void kill() {
@@ -195,6 +207,7 @@ final class PortProcess {
     private Breakdown readToTheEnd() {
         try {
             for (String line = from.next(); line != null; line = from.next()) {
+                lastLine = line.startsWith(Stage.LOOKER + " ") ? lastLine : line;
                 take(PortLine.of(line));
             }
             return new PortEnded(howItEnded() + from.unfinished(), !answered);
@@ -224,6 +237,7 @@ final class PortProcess {
         if (thread == null) {
             throw said.fault("thread " + said.thread() + " was never named");
         }
+        answeredByThreads = true;
         thread.take(said);
     }
 

@@ -28,8 +28,7 @@ final class PortStage implements Stage {
         if (advance != null) {
             process.overrides(number, advance);
         }
-        String onAdvance = advance == null ? " own" : " asked";
-        process.order("phaser " + number + " " + parent + " " + parties + " " + firstPhase + onAdvance);
+        process.order(Stage.phaserWords(number, parent, parties, firstPhase, advance != null));
     }
 
     @Override
@@ -37,7 +36,7 @@ final class PortStage implements Stage {
         if (withAction) {
             process.asksAction(number);
         }
-        process.order("barrier " + number + " " + parties + (withAction ? " asked" : " none"));
+        process.order(Stage.barrierWords(number, parties, withAction));
     }
 
     @Override

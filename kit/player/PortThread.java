@@ -46,8 +46,13 @@ final class PortThread extends RealThread {
     }
 
     @Override
-    protected String unfinished() {
-        return process.unfinished();
+    protected boolean staysAtRest() {
+        return process.staysAtRest();
+    }
+
+    @Override
+    protected String state() {
+        return process.state();
     }
 
     /** The port wrote this line of it, which has to fit the call that it is inside of. */

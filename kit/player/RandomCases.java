@@ -29,7 +29,7 @@ final class RandomCases {
     void play(List<Judge> judges, long firstSeed, int count) throws IOException {
         room = Files.createTempDirectory("vuthgal");
         List<Long> seeds = LongStream.range(firstSeed, firstSeed + count).boxed().toList();
-        new Jobs<>(seeds, this::play).run(judges, this::take);
+        new Jobs<>(seeds, this::play).tell(to::println).run(judges, this::take);
         Files.deleteIfExists(room);
         tally.tell();
     }
@@ -45,7 +45,7 @@ final class RandomCases {
     private boolean take(Played played) {
         boolean goesOn = tally.add(played);
         try {
-            if (played.verdict().differs()) {
+            if (played.verdict().fails()) {
                 to.println("  " + (keep != null ? "kept as " + keep(played.each()) : "--keep FOLDER writes it"));
             }
             Files.delete(Case.beside(played.each().file(), ".schedule"));

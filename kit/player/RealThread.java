@@ -18,6 +18,9 @@ abstract class RealThread {
         BLOCKED
     }
 
+    /** A real side that isn't at rest is waited for so many times as long. */
+    static final int TIMES_FOR_THE_BUSY = 4;
+
     /** What a routine or an action throws that is still open at a case's end. */
     private static final int LEAVES = -99;
 
@@ -60,12 +63,17 @@ abstract class RealThread {
         return true;
     }
 
+    /** Whether it is so for a while. */
+    protected boolean staysAtRest() {
+        return isAtRest();
+    }
+
     /** Throws where the real side has broken down. */
     protected void check() {
     }
 
-    /** What it has begun to say and not ended, in words; empty where there is nothing. */
-    protected String unfinished() {
+    /** What can be seen of a real side that owes an answer, in words; empty where that is nothing. */
+    protected String state() {
         return "";
     }
 

@@ -18,6 +18,11 @@ final class RefusedClimb extends KnownDifference {
     }
 
     @Override
+    boolean isTheirs(Situation at, Call call, boolean changed) {
+        return changed && call.done() && call.answer().isThrown(Answer.ILLEGAL_STATE);
+    }
+
+    @Override
     boolean forbids(Situation at) {
         return at.method().arrives() && !at.insideOwnRoutine() && !at.terminatedBefore() && isRefused(at.scene(), at.object());
     }

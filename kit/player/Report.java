@@ -28,7 +28,7 @@ final class Report {
         StringBuilder text = new StringBuilder("<?xml version=\"1.0\" encoding=\"UTF-8\"?>\n<testsuites>\n");
         suites.forEach((folder, all) -> {
             text.append("  <testsuite name=\"").append(escaped(folder)).append("\" tests=\"").append(all.size());
-            text.append("\" failures=\"").append(all.stream().filter(each -> each.verdict().differs()).count());
+            text.append("\" failures=\"").append(all.stream().filter(each -> each.verdict().fails()).count());
             text.append("\" errors=\"0\" skipped=\"").append(all.stream().filter(Report::isLeftOut).count());
             text.append("\" time=\"").append(seconds(all.stream().mapToLong(Played::nanoseconds).sum())).append("\">\n");
             all.forEach(each -> text.append(test(folder, each)));
@@ -51,7 +51,7 @@ final class Report {
         return switch (verdict.kind()) {
             case SAME -> begin + "/>\n";
             case LEFT_OUT -> begin + ">\n      <skipped message=\"" + escaped(verdict.why()) + "\"/>\n    </testcase>\n";
-            case DIFFERS -> begin + ">\n      <failure message=\"" + escaped(verdict.words()) + "\">"
+            case DIFFERS, STUCK, UNSTEADY -> begin + ">\n      <failure message=\"" + escaped(verdict.words()) + "\">"
                 + escaped(failure(played)) + "</failure>\n    </testcase>\n";
         };
     }

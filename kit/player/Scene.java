@@ -31,6 +31,9 @@ final class Scene {
     private int step;
     private String mark;
     private boolean reached;
+    private boolean early;
+    /** Whose choice is played. */
+    private volatile ProgramThread chooser;
 
     Scene(Program program, Stage stage, Plan plan, Patience patience, KnownDifferences known, boolean first) {
         this.program = program;
@@ -54,15 +57,19 @@ final class Scene {
     /** Makes the real objects. */
     void build() {
         stage.begin(patience);
+        notes.transcript.makes("case");
         for (int phaser = 0; phaser < root.length; phaser++) {
             Program.PhaserDeclaration declared = program.phasers.get(phaser);
             root[phaser] = program.root(phaser);
             Stage.Advance advance = advance(phaser, declared.policy());
             stage.phaser(phaser, declared.parent(), declared.parties(), declared.firstPhase(), advance);
+            notes.transcript.makes(Stage.phaserWords(
+                phaser, declared.parent(), declared.parties(), declared.firstPhase(), advance != null));
         }
         for (int barrier = 0; barrier < runner.length; barrier++) {
             Program.BarrierDeclaration declared = program.barriers.get(barrier);
             stage.barrier(barrier, declared.parties(), declared.action() >= 0);
+            notes.transcript.makes(Stage.barrierWords(barrier, declared.parties(), declared.action() >= 0));
         }
         for (int phaser = 0; phaser < root.length; phaser++) {
             view[phaser] = look(Method.GET_PHASE, root[phaser]);
@@ -78,7 +85,12 @@ final class Scene {
             if (root[phaser] != phaser) {
                 odd("onAdvance of p" + phaser + " is asked, and it is a child");
             }
-            return policy.decide(phase, parties);
+            Boolean decided = policy.decide(phase, parties);
+            if (decided != null) {
+                notes.transcript.hears(chooser.number + " enter " + Entered.onAdvance(phaser, phase, parties).line());
+                notes.transcript.says("answer " + chooser.number + (decided ? " 1" : " 0"));
+            }
+            return decided;
         };
     }
 
@@ -90,14 +102,54 @@ final class Scene {
         return stage.thread(thread.number);
     }
 
+    /** Tells the thread to make a call; in the transcript a timed one has the given time. */
+    Call tell(ProgramThread thread, Request request, long transcribedTime) {
+        Request transcribed = new Request(request.method(), request.object(), request.number(), transcribedTime);
+        notes.transcript.says("call " + thread.number + " " + transcribed.words());
+        return real(thread).tell(request);
+    }
+
+    /** Ends the routine or action in which the thread stands. */
+    void end(ProgramThread thread, boolean throwing, int number) {
+        notes.transcript.says((throwing ? "throw " : "answer ") + thread.number + " " + number);
+        if (throwing) {
+            real(thread).fail(number);
+        } else {
+            real(thread).answer(number);
+        }
+    }
+
+    void interrupt(ProgramThread thread) {
+        notes.transcript.says("interrupt " + thread.number);
+        real(thread).interrupt();
+    }
+
     /** What this call of the thread has come to, once it is done, enters, or is blocked. */
     RealThread.Outcome settle(ProgramThread thread, Call call) {
-        return settling.settle(real(thread), call);
+        return seen(thread, call, settling.settle(real(thread), call));
     }
 
     /** The same of a call that never waits. */
     RealThread.Outcome comeBack(ProgramThread thread, Call call) {
-        return settling.comeBack(real(thread), call);
+        return seen(thread, call, settling.comeBack(real(thread), call));
+    }
+
+    private RealThread.Outcome seen(ProgramThread thread, Call call, RealThread.Outcome outcome) {
+        if (outcome == RealThread.Outcome.BLOCKED) {
+            notes.transcript.stands();
+        } else {
+            notes.transcript.saw(thread.number, call);
+        }
+        return outcome;
+    }
+
+    /** Whether a call that has to end does, in so much time; a real side that isn't at rest gets some times as long. */
+    boolean ends(RealThread thread, Call call, long nanoseconds) {
+        boolean done = thread.done(call, nanoseconds);
+        for (int time = 1; !done && time < RealThread.TIMES_FOR_THE_BUSY && !thread.staysAtRest(); time++) {
+            done = thread.done(call, nanoseconds);
+        }
+        return done || call.done();
     }
 
     /** How long the real side has taken of late to answer a question. */
@@ -120,7 +172,8 @@ final class Scene {
     }
 
     /** A choice begins. Until it is told that the choice has nothing to do with the real side, something may change there. */
-    void beginChoice() {
+    void beginChoice(ProgramThread thread) {
+        chooser = thread;
         mark = null;
         reached = true;
     }
@@ -165,16 +218,34 @@ final class Scene {
         note(Notes.Kind.ODD, what);
     }
 
+    /** A call that has to end doesn't, after all this time. It is stuck if nothing of the real side runs any more. */
+    void stuck(RealThread thread, String what) {
+        note(notes.count(Notes.Kind.STUCK) > 0 || thread.staysAtRest() ? Notes.Kind.STUCK : Notes.Kind.ODD, what + thread.state());
+    }
+
+    /** Whether a slow machine may explain a value: a time was over too soon, or a wait isn't surely one. */
+    boolean mayBeSlow() {
+        return early || settling.isUnsure();
+    }
+
+    /** After a choice: whether the time of a wait is over that the schedule lets run out later. */
+    void followTimes() {
+        early |= threads.stream().anyMatch(each -> each.pending != null && each.pending.expiredByItself());
+    }
+
     /** Asks an object, by the player's own thread. */
     int look(Method method, int object) {
-        return ask(stage.thread(Stage.LOOKER), Request.of(method, object));
+        return ask(Stage.LOOKER, Request.of(method, object));
     }
 
     /** Asks a real thread, which is free, for something that has a value and never waits. */
-    int ask(RealThread thread, Request request) {
+    int ask(int number, Request request) {
+        RealThread thread = stage.thread(number);
         Call call = thread.tell(request);
-        if (!thread.done(call, patience.bound())) {
-            throw new Hangs("the call " + request.words() + " doesn't answer" + thread.unfinished());
+        if (!ends(thread, call, patience.bound())) {
+            String what = "the call " + request.words() + " doesn't answer";
+            stuck(thread, what);
+            throw new Hangs(what + thread.state());
         }
         if (call.answer().kind() != Answer.Kind.VALUE) {
             throw new ProtocolFault("the call " + request.words() + " has a value, and " + call.answer().told());

@@ -14,6 +14,7 @@ final class Settling {
     private final Stage stage;
     private final Patience patience;
     private long trip;
+    private boolean unsure;
 
     Settling(Stage stage, Patience patience) {
         this.stage = stage;
@@ -35,6 +36,7 @@ final class Settling {
             last = roundTrip();
             boolean settled = rests && last <= still || System.nanoTime() > limit;
             if (settled || RealThread.outcome(call) != RealThread.Outcome.BLOCKED) {
+                unsure |= RealThread.outcome(call) == RealThread.Outcome.BLOCKED && !thread.isAtRest();
                 return RealThread.outcome(call);
             }
         }
@@ -52,11 +54,16 @@ final class Settling {
         long begun = System.nanoTime();
         Call call = looker.tell(Request.of(Method.IS_INTERRUPTED, 0));
         if (!looker.done(call, patience.bound())) {
-            throw new Hangs("isInterrupted of the looker doesn't answer" + looker.unfinished());
+            throw new Hangs("isInterrupted of the looker doesn't answer" + looker.state());
         }
         long took = System.nanoTime() - begun;
         trip = Math.max(took, trip / 2);
         return took;
+    }
+
+    /** Whether a call was taken to wait though the real side wasn't at rest. */
+    boolean isUnsure() {
+        return unsure;
     }
 
     /** How long a round trip has taken of late. */

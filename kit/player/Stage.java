@@ -23,6 +23,16 @@ interface Stage {
     /** Makes the next barrier. */
     void barrier(int number, int parties, boolean withAction);
 
+    /** The words of the port protocol that make a phaser. */
+    static String phaserWords(int number, int parent, int parties, int firstPhase, boolean asked) {
+        return "phaser " + number + " " + parent + " " + parties + " " + firstPhase + (asked ? " asked" : " own");
+    }
+
+    /** Those that make a barrier. */
+    static String barrierWords(int number, int parties, boolean withAction) {
+        return "barrier " + number + " " + parties + (withAction ? " asked" : " none");
+    }
+
     /** The thread of this number, up to {@code LOOKER}. */
     RealThread thread(int number);
 

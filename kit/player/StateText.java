@@ -12,6 +12,9 @@ final class StateText {
     }
 
     String write(int effectiveSteps) {
+        if (scene.threads.stream().anyMatch(thread -> thread.pending != null)) {
+            scene.notes.transcript.stands();
+        }
         text.append("state ").append(scene.step()).append(' ').append(effectiveSteps).append(' ').append(word()).append('\n');
         for (ProgramThread thread : scene.threads) {
             text.append(thread.line(interruptedStatus(thread)));
@@ -58,28 +61,42 @@ final class StateText {
     /** A real thread that is free is asked; of one inside a call the player tells what the rules say. */
     private int interruptedStatus(ProgramThread thread) {
         if (thread.pending == null) {
-            return scene.ask(scene.real(thread), Request.of(Method.IS_INTERRUPTED, 0));
+            return asked(thread.number, Request.of(Method.IS_INTERRUPTED, 0));
         }
         return thread.interrupted ? 1 : 0;
     }
 
     private void writePhaser(int phaser) {
-        text.append('p').append(phaser).append(' ').append(scene.look(Method.GET_PHASE, phaser));
-        text.append(' ').append(scene.registered(phaser));
+        text.append('p').append(phaser).append(' ').append(look(Method.GET_PHASE, phaser));
+        text.append(' ').append(look(Method.GET_REGISTERED_PARTIES, phaser));
         text.append(' ').append(count(Method.GET_ARRIVED_PARTIES, phaser));
         text.append(' ').append(count(Method.GET_UNARRIVED_PARTIES, phaser)).append('\n');
     }
 
+    private int look(Method method, int object) {
+        return asked(Stage.LOOKER, Request.of(method, object));
+    }
+
+    /** What a free thread answers, which stands in the transcript too. */
+    private int asked(int thread, Request request) {
+        int value = scene.ask(thread, request);
+        scene.notes.transcript.asks(thread, request, Answer.value(value), Answer.value(value));
+        return value;
+    }
+
     private int count(Method method, int phaser) {
         Situation at = new Situation(scene, null, method, phaser, 0);
-        return scene.known.told(at, Answer.value(scene.look(method, phaser))).number();
+        Answer given = Answer.value(scene.look(method, phaser));
+        Answer told = scene.known.told(at, given);
+        scene.notes.transcript.asks(Stage.LOOKER, Request.of(method, phaser), told, given);
+        return told.number();
     }
 
     private void writeBarrier(int barrier) {
         text.append('b').append(barrier).append(' ');
         if (scene.runner(barrier) == null) {
-            text.append(scene.look(Method.GET_NUMBER_WAITING, barrier)).append(' ');
-            text.append(scene.look(Method.IS_BROKEN, barrier)).append('\n');
+            text.append(look(Method.GET_NUMBER_WAITING, barrier)).append(' ');
+            text.append(look(Method.IS_BROKEN, barrier)).append('\n');
             return;
         }
         scene.note(Notes.Kind.UNSEEN, "b" + barrier + ", whose action runs");

@@ -15,8 +15,11 @@ final class Tally {
     private final Sums sums = new Sums();
     private final Map<String, Integer> whyLeftOut = new TreeMap<>();
     private final Map<String, Integer> differences = new TreeMap<>();
+    private final Map<String, Integer> excused = new TreeMap<>();
     private int same;
     private int different;
+    private int stuck;
+    private int unsteady;
     private int leftOut;
     private int again;
     private int endlessInARow;
@@ -34,16 +37,19 @@ final class Tally {
         report.add(played);
         sums.add(verdict.notes());
         verdict.notes().differences().forEach((program, count) -> differences.merge(program, count, Integer::sum));
+        verdict.notes().excused().forEach((program, count) -> excused.merge(program, count, Integer::sum));
         again += verdict.tries() > 1 ? 1 : 0;
         switch (verdict.kind()) {
             case SAME -> same++;
             case DIFFERS -> different++;
+            case STUCK -> stuck++;
+            case UNSTEADY -> unsteady++;
             case LEFT_OUT -> {
                 leftOut++;
                 whyLeftOut.merge(verdict.why(), 1, Integer::sum);
             }
         }
-        if (verdict.differs() || verdict.tries() > 1) {
+        if (verdict.fails() || verdict.tries() > 1) {
             to.println(played.line());
         }
         endlessInARow = verdict.isEndless() ? endlessInARow + 1 : 0;
@@ -52,7 +58,7 @@ final class Tally {
 
     /** The sums, in some lines. */
     void tell() {
-        int notPlayed = cases - same - different - leftOut;
+        int notPlayed = cases - compared() - leftOut;
         if (notPlayed > 0) {
             to.println("the run ends here, since there is no answer in " + endlessInARow
                 + " cases in a row (--keep-going goes on)");
@@ -60,10 +66,12 @@ final class Tally {
         whyLeftOut.forEach((why, count) -> to.println(count + " left out: " + why));
         to.println(sums.line());
         differences.forEach((program, count) -> to.println("  " + count + " told over as in differences/" + program));
-        if (same + different == 0) {
+        excused.forEach((program, count) -> to.println("  " + count + " not as the JDK, but as ours, as in differences/" + program));
+        if (compared() == 0) {
             to.println("nothing was compared");
         }
-        to.println(same + " same, " + different + " different, " + leftOut + " left out"
+        to.println(same + " same, " + different + " different, "
+            + (stuck > 0 ? stuck + " stuck, " : "") + (unsteady > 0 ? unsteady + " unsteady, " : "") + leftOut + " left out"
             + (notPlayed > 0 ? ", " + notPlayed + " not played" : "")
             + (again > 0 ? "; " + again + " played again with more patience" : ""));
     }
@@ -76,8 +84,13 @@ final class Tally {
         return same;
     }
 
-    int different() {
-        return different;
+    /** How many show a fault. */
+    int failing() {
+        return different + stuck + unsteady;
+    }
+
+    private int compared() {
+        return same + failing();
     }
 
     int leftOut() {
@@ -86,6 +99,6 @@ final class Tally {
 
     /** The exit status: 0 where all is the same, 1 where something differs, 2 where nothing was compared. */
     int status() {
-        return same + different == 0 ? 2 : different == 0 ? 0 : 1;
+        return compared() == 0 ? 2 : failing() == 0 ? 0 : 1;
     }
 }

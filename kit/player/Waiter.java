@@ -4,6 +4,8 @@ package kit.player;
 final class Waiter {
     private final Scene scene;
     private final Caller caller;
+    /** Whether some thread was found stuck behind this choice. */
+    private boolean stuckNow;
 
     Waiter(Scene scene, Caller caller) {
         this.scene = scene;
@@ -22,10 +24,10 @@ final class Waiter {
                 return "idle";
             }
             pending.setOwesInterrupt(false);
-            scene.real(thread).interrupt();
+            scene.interrupt(thread);
             scene.holds.called(scene.step());
-            if (!scene.real(thread).done(pending.call(), scene.patience.bound())) {
-                scene.odd("an interrupt doesn't end " + pending.method().word);
+            if (!scene.ends(scene.real(thread), pending.call(), scene.patience.bound())) {
+                scene.stuck(scene.real(thread), "an interrupt doesn't end " + pending.words(thread));
                 return "idle";
             }
             comesOut(thread);
@@ -56,17 +58,20 @@ final class Waiter {
         Pending pending = thread.pending;
         if (scene.first) {
             scene.plan.expires(thread, scene.step());
-            scene.real(thread).interrupt();
-            boolean out = scene.real(thread).done(pending.call(), scene.patience.bound());
-            if (out && pending.call().answer().isThrown(Answer.INTERRUPTED)) {
+            scene.interrupt(thread);
+            if (!scene.ends(scene.real(thread), pending.call(), scene.patience.bound())) {
+                scene.stuck(scene.real(thread), "an interrupt doesn't end " + pending.words(thread));
+                return "idle";
+            }
+            if (pending.call().answer().isThrown(Answer.INTERRUPTED)) {
                 pending.call().finish(Answer.thrown(Answer.TIMEOUT));
             }
         } else if (!pending.expires()) {
             scene.odd("an expiry that the first play hasn't seen");
             return "idle";
         }
-        if (!scene.real(thread).done(pending.call(), pending.time() + scene.patience.bound())) {
-            scene.odd(pending.method().word + " doesn't expire");
+        if (!scene.ends(scene.real(thread), pending.call(), pending.time() + scene.patience.bound())) {
+            scene.stuck(scene.real(thread), pending.words(thread) + " doesn't expire");
             return "idle";
         }
         return caller.answer(thread, pending, false);
@@ -108,12 +113,13 @@ final class Waiter {
         if (waits && pending.method().interruptible() && !actionRuns(pending)) {
             pending.setOwesInterrupt(true);
         } else {
-            scene.real(thread).interrupt();
+            scene.interrupt(thread);
         }
     }
 
-    /** After a choice: waits for all real threads that it released. */
+    /** After a choice: waits for all real threads that it released. Where one is stuck the others have had as much time. */
     void followReleases() {
+        stuckNow = false;
         for (ProgramThread thread : scene.threads) {
             Pending pending = thread.pending;
             if (pending != null && !pending.released()) {
@@ -132,8 +138,11 @@ final class Waiter {
                 followRegistration(thread, pending);
                 return;
             }
-            if (!scene.real(thread).done(pending.call(), scene.patience.bound())) {
-                scene.odd("t" + thread.number + " is never released from " + pending.method().word);
+            boolean out = stuckNow ? pending.call().done()
+                : scene.ends(scene.real(thread), pending.call(), scene.patience.bound());
+            if (!out) {
+                stuckNow = true;
+                scene.stuck(scene.real(thread), "t" + thread.number + " is never released from " + pending.call().request.words());
                 pending.release();
                 return;
             }
@@ -160,7 +169,9 @@ final class Waiter {
 
     /** A held registration goes on when a phase has ended, but another phase end may hold it again. */
     private void followRegistration(ProgramThread thread, Pending pending) {
-        if (scene.settle(thread, pending.call()) != RealThread.Outcome.DONE) {
+        if (scene.real(thread).done(pending.call(), 2 * scene.patience.expiry())) {
+            scene.notes.transcript.saw(thread.number, pending.call());
+        } else {
             pending.awaits(scene.view(scene.root(pending.object())));
         }
     }
@@ -168,12 +179,15 @@ final class Waiter {
     private void comesOut(ProgramThread thread) {
         Pending pending = thread.pending;
         pending.release();
+        if (!pending.expiredByItself()) {
+            scene.notes.transcript.saw(thread.number, pending.call());
+        }
         if (pending.method().waitsForPhase()) {
             pending.releasedAt(scene.look(Method.GET_PHASE, scene.root(pending.object())));
         }
         if (pending.owesInterrupt()) {
             pending.setOwesInterrupt(false);
-            scene.real(thread).interrupt();
+            scene.interrupt(thread);
         }
     }
 

@@ -1,6 +1,11 @@
 package kit.player;
 
-/** Loads the classes that a first blocking call loads: that time looks like a wait. */
+import java.util.function.Consumer;
+
+/**
+ * Loads the classes that a first blocking call loads: that time looks like a wait. What hangs here would hang wherever a case
+ * needs it, so that is told at once.
+ */
 final class WarmUp {
     private static final WarmUp[] PARTS = {
         new WarmUp("""
@@ -42,21 +47,22 @@ final class WarmUp {
         this.schedule = schedule;
     }
 
-    /** Plays what the real side can play. */
-    static void play(Stage stage, Patience... tries) {
+    /** Plays what the real side can play, and tells what hangs. */
+    static void play(Stage stage, Consumer<String> tell, Patience... tries) {
         for (WarmUp part : PARTS) {
-            if (!part.playAgainAndAgain(stage, tries)) {
+            if (!part.playAgainAndAgain(stage, tell, tries)) {
                 return;
             }
         }
     }
 
     /** Whether the real side goes on, or can't make these objects. */
-    private boolean playAgainAndAgain(Stage stage, Patience... tries) {
+    private boolean playAgainAndAgain(Stage stage, Consumer<String> tell, Patience... tries) {
         try {
-            boolean works = playOnce(stage, tries[Math.min(1, tries.length - 1)]);
+            Patience patient = tries[Math.min(1, tries.length - 1)].withBound(tries[0].bound());
+            boolean works = playOnce(stage, tell, patient);
             for (int round = 0; works && round < 2; round++) {
-                works = playOnce(stage, tries[0]);
+                works = playOnce(stage, tell, tries[0]);
             }
             return works;
         } catch (Unplayable goesWithoutThem) {
@@ -65,17 +71,20 @@ final class WarmUp {
     }
 
     /** Whether nothing odd happened. */
-    private boolean playOnce(Stage stage, Patience patient) {
+    private boolean playOnce(Stage stage, Consumer<String> tell, Patience patient) {
         Plan plan = new Plan();
         for (boolean first : new boolean[] {true, false}) {
             Scene scene = new Scene(new Program(program), stage, plan, patient, KnownDifferences.NONE, first);
-            Play play = new Play(scene, Choice.schedule(schedule));
+            Play play = new Play(scene, Choice.schedule(schedule)).stopAtOdd();
             try {
                 play.play();
             } finally {
                 play.clear();
             }
             if (scene.notes.firstOdd() != 0) {
+                if (play.breakdown() == null || play.breakdown() instanceof Hangs) {
+                    tell.accept("before the first case: " + scene.notes.firstOddWords());
+                }
                 return false;
             }
         }

@@ -1,0 +1,135 @@
+package kit.player;
+
+import java.io.IOException;
+import java.nio.file.DirectoryStream;
+import java.nio.file.Files;
+import java.nio.file.Path;
+import java.util.ArrayList;
+import java.util.List;
+import java.util.Map;
+import java.util.concurrent.TimeUnit;
+
+/** Whether what works without a JDK does: {@code kit/replay} with the transcripts, and the words that name it. */
+final class ReplayChecks {
+    /** Where all stand still, so many times as long: the machine may be busy. */
+    private static final Map<String, String> PATIENT = Map.of("PATIENCE", "2");
+    private static final String RIGHT = " same, 0 different, 0 left out\n";
+    private static final long LONGEST_SECONDS = 240;
+
+    /** The status of a replay and what it has to say, the command of the port, and folders of cases. */
+    private record Check(int status, String says, String command, String folders) {
+    }
+
+    private final Path kit;
+    private final String python;
+    private final Taker to;
+
+    ReplayChecks(Path kit, String python, Taker to) {
+        this.kit = kit.toAbsolutePath().normalize();
+        this.python = python;
+        this.to = to;
+    }
+
+    /** All transcripts are right on each of the ports, those that no program makes also on the JDK, and wrong ports are found. */
+    void check(List<Kit.Port> ports) throws IOException {
+        for (Kit.Port port : ports) {
+            check(new Check(0, transcripts("*.txt") + RIGHT, port.command(), "*"));
+        }
+        String java = Path.of(System.getProperty("java.home"), "bin", "java") + " --add-opens"
+            + " java.base/java.util.concurrent=ALL-UNNAMED -cp " + System.getProperty("java.class.path") + " kit.player.JdkPort";
+        check(new Check(0, transcripts("{children,phase-numbers}.txt") + RIGHT, java, "children phase-numbers"));
+        String wrong = python + " " + kit.resolve("wrong/ports") + "/";
+        String faults = python + " " + kit.resolve("faults/port.py") + " ";
+        List.of(
+            new Check(1, "interruption/while-it-waits differs, at line ", wrong + "ignores_interrupts.py", "interruption"),
+            new Check(1, "policies/until-tells-the-waiters differs, at line ", wrong + "loses_wake_ups.py 1", "policies"),
+            new Check(1, "0 same, ", wrong + "flushes_nothing.py threads", "phase-numbers"),
+            new Check(1, "`< 0 = 0`: ['0 = 7'] came", faults + "'0 = 0' 'say 0 = 7\\n'", "phase-numbers"),
+            new Check(1, "waiting/for-the-present-phase differs, at line ", faults + "'1 = 0' 'also 0 = 1\\n'", "waiting"),
+            new Check(0, " left out: no it makes no barrier\n", faults + "without barrier", "tiers action"),
+            new Check(2, "0 same, 0 different, ", faults + "without case", "reset")).parallelStream().forEach(this::check);
+        checkExamples(ports);
+        checkWithoutJdk();
+    }
+
+    /** How many transcripts stand in these files. */
+    private long transcripts(String files) throws IOException {
+        long count = 0;
+        try (DirectoryStream<Path> all = Files.newDirectoryStream(kit.resolve("transcripts"), files)) {
+            for (Path file : all) {
+                count += Files.readString(file).lines().filter(line -> line.startsWith("# ")).count();
+            }
+        }
+        return count;
+    }
+
+    /** The examples of the port protocol are played as they stand in its page, without their remarks. */
+    private void checkExamples(List<Kit.Port> ports) throws IOException {
+        String page = Files.readString(kit.resolve("../docs/FORMATS.md"));
+        StringBuilder examples = new StringBuilder();
+        int number = 0;
+        for (String line : page.substring(page.indexOf("**Examples.** `>`"), page.indexOf("## Transcripts")).split("\n")) {
+            if (line.matches("    [><.].*")) {
+                String said = line.strip().replaceAll(" {2,}.*", "");
+                examples.append(said.equals("> case") ? "# example " + ++number + ": of the page\n" : "").append(said).append('\n');
+            }
+        }
+        Path file = Files.createTempFile("vuthgal", ".txt");
+        Files.writeString(file, examples);
+        for (Kit.Port port : ports) {
+            replay(0, number + RIGHT, port.command(), " " + file);
+        }
+        Files.delete(file);
+    }
+
+    private void check(Check check) {
+        StringBuilder files = new StringBuilder();
+        for (String name : check.folders().split(" ")) {
+            files.append(" transcripts/").append(name).append(".txt");
+        }
+        replay(check.status(), check.says(), check.command(), files.toString());
+    }
+
+    private void replay(int status, String says, String command, String files) {
+        String quoted = "'" + command.replace("'", "'\\''") + "'";
+        shell(status, says, PATIENT, "cd '" + kit + "' && " + python + " ./replay " + quoted + files);
+    }
+
+    /** With a path on which the commands of the system stand, but no {@code javac}. */
+    private void checkWithoutJdk() throws IOException {
+        Path room = Files.createTempDirectory("vuthgal-path");
+        List<Path> links = new ArrayList<>();
+        for (String name : List.of("bash", "dirname", "env", "mktemp", "mkdir", "realpath", "rm")) {
+            links.add(Files.createSymbolicLink(room.resolve(name), Path.of("/usr/bin", name)));
+        }
+        Map<String, String> path = Map.of("PATH", room.toString());
+        for (String command : List.of("play", "run")) {
+            shell(2, "no javac: kit/" + command + " needs a JDK, 17 or later. Without one kit/replay", path, kit.resolve(command) + "");
+        }
+        for (Path link : links) {
+            Files.delete(link);
+        }
+        Files.delete(room);
+    }
+
+    private void shell(int status, String says, Map<String, String> environment, String words) {
+        try {
+            Path told = Files.createTempFile("vuthgal", ".told");
+            ProcessBuilder builder = new ProcessBuilder("/usr/bin/bash", "-c", words);
+            builder.environment().putAll(environment);
+            Process process = builder.redirectErrorStream(true).redirectOutput(told.toFile()).start();
+            boolean ended = process.waitFor(LONGEST_SECONDS, TimeUnit.SECONDS);
+            process.destroy();
+            String text = Files.readString(told);
+            Files.delete(told);
+            String what = (ended ? "status " + process.exitValue() : "no end") + ", it says:\n" + text;
+            take(words, ended && process.exitValue() == status && text.contains(says), what);
+        } catch (IOException | InterruptedException failed) {
+            throw new IllegalStateException(failed);
+        }
+    }
+
+    private synchronized void take(String name, boolean passes, String what) {
+        to.take(name, passes, what);
+    }
+}
