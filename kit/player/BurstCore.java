@@ -101,18 +101,24 @@ final class BurstCore {
         return calls.size();
     }
 
-    /** A call and the one answer that it should have had; null where no change of one answer gives the whole an order. */
+    /** The one answer that would have to be another. Only what is judged comes into question: without it there is no order. */
     BurstRemedy remedy() {
+        if (waiting) {
+            return BurstRemedy.UNKNOWN;
+        }
+        boolean sure = true;
         List<BurstEntry> latestFirst = new ArrayList<>(judged());
         Collections.reverse(latestFirst);
         for (BurstEntry entry : latestFirst) {
-            if (!waiting && !entry.step().interrupts() && isInTime()) {
-                Answer other = LegalHistory.otherAnswer(history, entry, MOST_POINTS);
-                if (other != null) {
-                    return new BurstRemedy(entry, other);
-                }
+            if (entry.step().interrupts()) {
+                continue;
             }
+            LegalHistory.Other other = LegalHistory.otherAnswer(history, entry, MOST_POINTS);
+            if (other.outcome() == LegalHistory.Outcome.ORDER) {
+                return new BurstRemedy(BurstRemedy.Kind.ANSWER, entry, other.answer());
+            }
+            sure = sure && other.outcome() == LegalHistory.Outcome.NO_ORDER && isInTime();
         }
-        return null;
+        return sure ? BurstRemedy.NONE : BurstRemedy.UNKNOWN;
     }
 }

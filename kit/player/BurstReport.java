@@ -56,10 +56,11 @@ final class BurstReport {
             core.needed().forEach(entry -> line("    " + call(entry)));
         }
         BurstRemedy remedy = core.remedy();
-        if (remedy != null) {
-            line("  with one other answer there is an order: " + call(remedy.entry()) + " " + remedy.answer().told());
-        } else if (!history.hasOpen()) {
-            line("  one other answer isn't enough");
+        switch (remedy.kind()) {
+            case ANSWER ->
+                line("  with one other answer there is an order: " + call(remedy.entry()) + " " + remedy.answer().told());
+            case NONE -> line("  one other answer isn't enough");
+            case UNKNOWN -> { }
         }
     }
 

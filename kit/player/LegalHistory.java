@@ -67,11 +67,16 @@ final class LegalHistory {
         return search.explains() ? Outcome.ORDER : search.isEndedEarly() ? Outcome.UNKNOWN : Outcome.NO_ORDER;
     }
 
-    /** The answer of this call in an order where it alone isn't judged; null where there is no such order. */
-    static Answer otherAnswer(BurstHistory history, BurstEntry entry, int mostPoints) {
+    /** The answer of this call in an order where it alone isn't judged. */
+    static Other otherAnswer(BurstHistory history, BurstEntry entry, int mostPoints) {
         LegalHistory search = new LegalHistory(history, true, Long.MAX_VALUE - 1,
             new Freedom(Set.of(entry), Set.of(), false, mostPoints));
-        return search.explains() ? search.freeAnswers.get(entry) : null;
+        Outcome outcome = search.explains() ? Outcome.ORDER : search.isEndedEarly() ? Outcome.UNKNOWN : Outcome.NO_ORDER;
+        return new Other(outcome, search.freeAnswers.get(entry));
+    }
+
+    /** Whether one other answer would do, and which. */
+    record Other(Outcome outcome, Answer answer) {
     }
 
     private boolean isEndedEarly() {
