@@ -15,6 +15,9 @@ final class BurstPlayer {
     /** Closing lets a thread go on by one call, so it mustn't become rare where many are left. */
     private static final long LONGEST_PAUSE = 8 * MILLISECOND;
 
+    /** A port that isn't at rest gets so many times the bound more. */
+    private static final int TIMES_FOR_THE_BUSY = 3;
+
     /** What the player is told by the threads. */
     private record Event(BurstRunner finished, RealThread standing, Burst.Barrier at) {
     }
@@ -56,6 +59,7 @@ final class BurstPlayer {
      */
     private boolean follow(Burst burst, BurstByLists lists, boolean stirring) {
         long limit = System.nanoTime() + bound;
+        int more = TIMES_FOR_THE_BUSY;
         long nextClosing = System.nanoTime() + MILLISECOND;
         long pause = MILLISECOND;
         while (lists.running() > 0) {
@@ -66,7 +70,10 @@ final class BurstPlayer {
             if (said != null) {
                 lists.take(said);
             } else if (System.nanoTime() > limit) {
-                return false;
+                if (more-- == 0 || stage.thread(Stage.LOOKER).isAtRest()) {
+                    return false;
+                }
+                limit = System.nanoTime() + bound;
             } else if (pokes) {
                 burst.pokes().forEach(poke -> ask(poke.request()));
             } else if (closes && System.nanoTime() > nextClosing) {

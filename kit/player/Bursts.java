@@ -109,17 +109,26 @@ final class Bursts {
         return again ? order.round() : round;
     }
 
-    /** Plays until something is found; answers that in words, or null. */
+    /** Plays until something is found, but for a real side that breaks down; answers that in words, or null. */
     String find(long seed, long rounds) {
         Place place = places.get(0);
         for (long round = 0; round < rounds; round++) {
-            BurstHistory history = history(place, place.burst(seed, round));
+            BurstHistory history = historyUnlessBroken(place, place.burst(seed, round));
             BurstJudge.Finding finding = history == null ? null : judge(history);
             if (finding != null) {
                 return history.burst().kind() + ", round " + round + ": " + finding.words();
             }
         }
         return null;
+    }
+
+    private BurstHistory historyUnlessBroken(Place place, Burst burst) {
+        try {
+            return history(place, burst);
+        } catch (Breakdown broken) {
+            place.stage().abandon();
+            return null;
+        }
     }
 
     private void playOne(Place place, long seed, long round) throws IOException {
