@@ -119,6 +119,10 @@ final class CommandChecks {
                 + "; is each line flushed?)\n", "--port", wrong + "flushes_nothing.py", one + ".asm", one + ".schedule"),
             new Check(1, "before the first case: the call getPhase 0 doesn't answer (its last line is `ok`" + stands
                 + "; is each line flushed?)\n", "--port", wrong + "flushes_nothing.py threads", one + ".asm", one + ".schedule"),
+            new Check(1, "before the first case: not so when it was tried again\n",
+                "--port", wrong + "loses_wake_ups.py 7", folder("phase-numbers")),
+            new Check(1, "5 same, 0 different, 0 left out; stuck before the first case\n",
+                "--port", wrong + "loses_wake_ups.py 7", folder("phase-numbers")),
             new Check(1, " same, 0 different, 2 stuck, 0 left out; 2 played again with more patience\n", "--port", wrong + "loses_wake_ups.py", folder("waiting")));
         checks.parallelStream().forEach(this::check);
         checkNothingIsWritten();

@@ -16,7 +16,7 @@ final class Jobs<T> {
     private final List<CompletableFuture<Played>> played = new ArrayList<>();
     private final AtomicInteger begun = new AtomicInteger();
     private volatile boolean enough;
-    private Consumer<String> tell = word -> { };
+    private Consumer<WarmUp.Word> tell = word -> { };
 
     Jobs(List<T> cases, BiFunction<Judge, T, Played> player) {
         this.cases = cases;
@@ -25,7 +25,7 @@ final class Jobs<T> {
     }
 
     /** Tells what hangs before the first case, of one judge. */
-    Jobs<T> tell(Consumer<String> to) {
+    Jobs<T> tell(Consumer<WarmUp.Word> to) {
         tell = to;
         return this;
     }
@@ -49,7 +49,7 @@ final class Jobs<T> {
         }
     }
 
-    private void work(Judge judge, Consumer<String> tells) {
+    private void work(Judge judge, Consumer<WarmUp.Word> tells) {
         try {
             judge.warm(tells);
             for (int number = begun.getAndIncrement(); number < cases.size() && !enough; number = begun.getAndIncrement()) {

@@ -36,7 +36,7 @@ final class Judge {
     }
 
     /** The same, and tells what hangs. */
-    Judge warm(Consumer<String> tell) {
+    Judge warm(Consumer<WarmUp.Word> tell) {
         WarmUp.play(learner, tell, learner.patience());
         WarmUp.play(stage, tell, patience);
         return this;

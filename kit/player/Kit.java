@@ -4,6 +4,7 @@ import java.io.IOException;
 import java.nio.file.Files;
 import java.nio.file.Path;
 import java.util.ArrayList;
+import java.util.Comparator;
 import java.util.List;
 
 /**
@@ -15,6 +16,8 @@ public final class Kit {
     private static final String KEPT = "transcripts";
     /** How often a case is played whose transcript isn't the one that is kept. */
     private static final int PLAYS = 5;
+    /** Few adapters need a case with more choices. */
+    private static final int LONG_SCHEDULE = 50;
     /** So many processes of a port play at once. */
     private static final int JOBS = 2;
     private static final long SECOND = 1_000_000_000L;
@@ -209,13 +212,17 @@ public final class Kit {
     /** The first case in which it differs, twice; null where there is none. */
     private String findByCases(String adapter) {
         Judge judge = judgeOf(adapter, KnownDifferences.COUNTS);
-        for (Learned at : learned) {
+        for (Learned at : longOnesLast()) {
             Verdict verdict = judge.judge(at.each(), at.plan());
             if (verdict.fails()) {
                 return at.each().name() + ", line " + verdict.line();
             }
         }
         return null;
+    }
+
+    private List<Learned> longOnesLast() {
+        return learned.stream().sorted(Comparator.comparing(at -> at.each().schedule().size() > LONG_SCHEDULE)).toList();
     }
 
     /** The same among the programs of the differences, with these told over. */

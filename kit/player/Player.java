@@ -55,7 +55,7 @@ public final class Player {
 
     private int playOne() throws IOException, Options.Wrong {
         Path program = options.programs().get(0);
-        Judge judge = options.judges(vuthgal).get(0).warm(System.out::println);
+        Judge judge = options.judges(vuthgal).get(0).warm(word -> System.out.println(word.text()));
         Played played = Played.of(judge, Case.of(vuthgal, program.toString(), program, options.schedule()));
         judge.close();
         Verdict verdict = played.verdict();
@@ -85,7 +85,7 @@ public final class Player {
         Tally tally = new Tally(programs.size(), options.keepGoing(), System.out);
         Transcripts transcripts = new Transcripts();
         new Jobs<>(programs, (judge, each) -> Played.of(judge, Case.of(vuthgal, each.name(), each.file())))
-            .tell(System.out::println).run(options.judges(vuthgal), played -> {
+            .tell(tally::before).run(options.judges(vuthgal), played -> {
                 transcripts.add(played.each(), played.verdict());
                 return tally.add(played);
             });

@@ -29,7 +29,7 @@ final class RandomCases {
     void play(List<Judge> judges, long firstSeed, int count) throws IOException {
         room = Files.createTempDirectory("vuthgal");
         List<Long> seeds = LongStream.range(firstSeed, firstSeed + count).boxed().toList();
-        new Jobs<>(seeds, this::play).tell(to::println).run(judges, this::take);
+        new Jobs<>(seeds, this::play).tell(tally::before).run(judges, this::take);
         Files.deleteIfExists(room);
         tally.tell();
     }

@@ -14,6 +14,7 @@ final class ReplayChecks {
     /** Where all stand still, so many times as long: the machine may be busy. */
     private static final Map<String, String> PATIENT = Map.of("PATIENCE", "2");
     private static final String RIGHT = " same, 0 different, 0 left out\n";
+    private static final int WAITS = 40_000;
     private static final long LONGEST_SECONDS = 240;
 
     /** The status of a replay and what it has to say, the command of the port, and folders of cases. */
@@ -22,34 +23,53 @@ final class ReplayChecks {
 
     private final Path kit;
     private final String python;
+    /** How the commands of the wrong ports begin. */
+    private final String wrong;
     private final Taker to;
 
     ReplayChecks(Path kit, String python, Taker to) {
         this.kit = kit.toAbsolutePath().normalize();
         this.python = python;
+        wrong = python + " " + this.kit.resolve("wrong/ports") + "/";
         this.to = to;
     }
 
     /** All transcripts are right on each of the ports, those that no program makes also on the JDK, and wrong ports are found. */
     void check(List<Kit.Port> ports) throws IOException {
+        List<Runnable> checks = new ArrayList<>();
         for (Kit.Port port : ports) {
-            check(new Check(0, transcripts("*.txt") + RIGHT, port.command(), "*"));
+            Check all = new Check(0, transcripts("*.txt") + RIGHT, port.command(), "*");
+            checks.add(() -> check(all));
+            checks.add(() -> soak(0, "while 60 threads wait: ", port.command()));
         }
         String java = Path.of(System.getProperty("java.home"), "bin", "java") + " --add-opens"
             + " java.base/java.util.concurrent=ALL-UNNAMED -cp " + System.getProperty("java.class.path") + " kit.player.JdkPort";
-        check(new Check(0, transcripts("{children,phase-numbers}.txt") + RIGHT, java, "children phase-numbers"));
-        String wrong = python + " " + kit.resolve("wrong/ports") + "/";
+        Check onJdk = new Check(0, transcripts("{children,phase-numbers}.txt") + RIGHT, java, "children phase-numbers");
+        checks.add(() -> check(onJdk));
+        wrongPorts().forEach(each -> checks.add(() -> check(each)));
+        checks.add(() -> soak(1, " 0.0 bytes a wait are left\n", wrong + "polls.py"));
+        checks.add(() -> soak(1, "while 60 threads wait: 0.", wrong + "keeps_waits.py"));
+        checks.parallelStream().forEach(Runnable::run);
+        checkExamples(ports);
+        checkWithoutJdk();
+    }
+
+    private List<Check> wrongPorts() {
         String faults = python + " " + kit.resolve("faults/port.py") + " ";
-        List.of(
+        return List.of(
             new Check(1, "interruption/while-it-waits differs, at line ", wrong + "ignores_interrupts.py", "interruption"),
             new Check(1, "policies/until-tells-the-waiters differs, at line ", wrong + "loses_wake_ups.py 1", "policies"),
             new Check(1, "0 same, ", wrong + "flushes_nothing.py threads", "phase-numbers"),
             new Check(1, "`< 0 = 0`: ['0 = 7'] came", faults + "'0 = 0' 'say 0 = 7\\n'", "phase-numbers"),
             new Check(1, "waiting/for-the-present-phase differs, at line ", faults + "'1 = 0' 'also 0 = 1\\n'", "waiting"),
             new Check(0, " left out: no it makes no barrier\n", faults + "without barrier", "tiers action"),
-            new Check(2, "0 same, 0 different, ", faults + "without case", "reset")).parallelStream().forEach(this::check);
-        checkExamples(ports);
-        checkWithoutJdk();
+            new Check(2, "0 same, 0 different, ", faults + "without case", "reset"));
+    }
+
+    /** What a port costs that waits, by {@code kit/soak}. */
+    private void soak(int status, String says, String command) {
+        String words = "'" + command.replace("'", "'\\''") + "' " + WAITS;
+        shell(status, says, Map.of(), python + " '" + kit.resolve("soak") + "' " + words);
     }
 
     /** How many transcripts stand in these files. */

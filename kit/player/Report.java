@@ -61,6 +61,10 @@ final class Report {
         Verdict verdict = played.verdict();
         List<String> lines = new ArrayList<>();
         lines.add(played.each().rule());
+        if (!verdict.differs()) {
+            lines.add(verdict.wordsWithOdd() + verdict.triesInWords());
+            return String.join("\n", lines);
+        }
         lines.add("was:       " + line(verdict.trace(), verdict.line()));
         lines.add("has to be: " + line(played.each().wanted(), verdict.line()));
         lines.addAll(verdict.notes().lines());

@@ -19,6 +19,7 @@ final class Tally {
     private int same;
     private int different;
     private int stuck;
+    private volatile boolean stuckBefore;
     private int unsteady;
     private int leftOut;
     private int again;
@@ -29,6 +30,12 @@ final class Tally {
         this.cases = cases;
         this.keepsGoing = keepsGoing;
         this.to = to;
+    }
+
+    /** Tells what hung before the first case. */
+    void before(WarmUp.Word word) {
+        to.println(word.text());
+        stuckBefore |= word.counts();
     }
 
     /** Takes one more; answers whether to go on. */
@@ -73,6 +80,7 @@ final class Tally {
         to.println(same + " same, " + different + " different, "
             + (stuck > 0 ? stuck + " stuck, " : "") + (unsteady > 0 ? unsteady + " unsteady, " : "") + leftOut + " left out"
             + (notPlayed > 0 ? ", " + notPlayed + " not played" : "")
+            + (stuckBefore ? "; stuck before the first case" : "")
             + (again > 0 ? "; " + again + " played again with more patience" : ""));
     }
 
@@ -99,6 +107,6 @@ final class Tally {
 
     /** The exit status: 0 where all is the same, 1 where something differs, 2 where nothing was compared. */
     int status() {
-        return compared() == 0 ? 2 : failing() == 0 ? 0 : 1;
+        return compared() == 0 ? 2 : failing() == 0 && !stuckBefore ? 0 : 1;
     }
 }

@@ -39,6 +39,8 @@ final class WarmUp {
             """, "t0 t1 t0*5 x0 t0 t1*5"),
     };
 
+    private static final int ROUNDS = 3;
+
     private final String program;
     private final String schedule;
 
@@ -47,8 +49,12 @@ final class WarmUp {
         this.schedule = schedule;
     }
 
+    /** What hung before the first case; {@code counts} where that came and went, as no right real side's does. */
+    record Word(String text, boolean counts) {
+    }
+
     /** Plays what the real side can play, and tells what hangs. */
-    static void play(Stage stage, Consumer<String> tell, Patience... tries) {
+    static void play(Stage stage, Consumer<Word> tell, Patience... tries) {
         for (WarmUp part : PARTS) {
             if (!part.playAgainAndAgain(stage, tell, tries)) {
                 return;
@@ -57,21 +63,36 @@ final class WarmUp {
     }
 
     /** Whether the real side goes on, or can't make these objects. */
-    private boolean playAgainAndAgain(Stage stage, Consumer<String> tell, Patience... tries) {
+    private boolean playAgainAndAgain(Stage stage, Consumer<Word> tell, Patience... tries) {
+        Patience patient = tries[Math.min(1, tries.length - 1)].withBound(tries[0].bound());
         try {
-            Patience patient = tries[Math.min(1, tries.length - 1)].withBound(tries[0].bound());
-            boolean works = playOnce(stage, tell, patient);
-            for (int round = 0; works && round < 2; round++) {
-                works = playOnce(stage, tell, tries[0]);
+            for (int round = 0; round < ROUNDS; round++) {
+                Play odd = playOnce(stage, round == 0 ? patient : tries[0]);
+                if (odd != null) {
+                    tell(odd, stage, tell, patient);
+                    return false;
+                }
             }
-            return works;
+            return true;
         } catch (Unplayable goesWithoutThem) {
             return true;
         }
     }
 
-    /** Whether nothing odd happened. */
-    private boolean playOnce(Stage stage, Consumer<String> tell, Patience patient) {
+    /** Tells what hung; what hung in a call of its own is tried again. */
+    private void tell(Play odd, Stage stage, Consumer<Word> tell, Patience patient) {
+        if (odd.breakdown() != null && !(odd.breakdown() instanceof Hangs)) {
+            return;     // the first case tells it
+        }
+        tell.accept(new Word("before the first case: " + odd.scene.notes.firstOddWords(), false));
+        boolean stuck = odd.breakdown() == null && odd.scene.notes.count(Notes.Kind.STUCK) > 0;
+        if (stuck && playOnce(stage, patient) == null) {
+            tell.accept(new Word("before the first case: not so when it was tried again", true));
+        }
+    }
+
+    /** The play in which something odd happened, or null. */
+    private Play playOnce(Stage stage, Patience patient) {
         Plan plan = new Plan();
         for (boolean first : new boolean[] {true, false}) {
             Scene scene = new Scene(new Program(program), stage, plan, patient, KnownDifferences.NONE, first);
@@ -82,12 +103,9 @@ final class WarmUp {
                 play.clear();
             }
             if (scene.notes.firstOdd() != 0) {
-                if (play.breakdown() == null || play.breakdown() instanceof Hangs) {
-                    tell.accept("before the first case: " + scene.notes.firstOddWords());
-                }
-                return false;
+                return play;
             }
         }
-        return true;
+        return null;
     }
 }

@@ -1,0 +1,14 @@
+#!/usr/bin/env python3
+"""The port of kit/ports/python whose waiters wake up every millisecond to look."""
+
+import sys
+import threading
+from pathlib import Path
+
+sys.path.insert(0, str(Path(__file__).resolve().parents[2] / "ports" / "python"))
+
+import port  # noqa: E402
+
+right_wait = threading.Condition.wait
+threading.Condition.wait = lambda condition, seconds=None: right_wait(condition, 0.001)
+port.main()
