@@ -1,12 +1,15 @@
 package kit.player;
 
+import java.io.ByteArrayOutputStream;
 import java.io.File;
 import java.io.IOException;
+import java.io.PrintStream;
 import java.nio.charset.StandardCharsets;
 import java.nio.file.Files;
 import java.nio.file.Path;
 import java.util.ArrayList;
 import java.util.List;
+import java.util.Map;
 import java.util.concurrent.TimeUnit;
 import java.util.stream.Stream;
 
@@ -97,14 +100,6 @@ final class CommandChecks {
             new Check(1, "--keep FOLDER writes it\n", "--random", "1", "--port", port + "'64 = ' 'say 64 = x\\n'"),
             new Check(1, "burst 1 0 meetings\n  the port has ended, with status 3",
                 "--burst", "1", "--port", port + "'0 did' 'exit 3'"),
-            burst("`x` is no int", port, "0 did 1 1 2 = x"),
-            burst("`x` is no number", port, "0 did 1 x 2 = 1"),
-            burst("a number, two times, and an answer have to follow", port, "0 did 1 1 2"),
-            burst("its times go back", port, "0 did 1 2 1 = 1"),
-            burst("that isn't the next of its list", port, "0 did 2 1 2 = 1"),
-            burst("call 1 of its list is missing", port, "0 end"),
-            burst("thread 7 has no list", port, "7 end"),
-            burst("no onAdvance or action of this call was told to throw that", port, "0 did 1 1 2 through 5"),
             new Check(1, "  thread 0 is in no call, and doesn't end its list\n", "--burst", "1", "--patience", "0.1",
                 "--port", port + "'0 end' 'say '"),
             new Check(0, "the port takes no lists, so its calls came one by one", "--burst", "3", "--port", port + "without lists"),
@@ -126,6 +121,7 @@ final class CommandChecks {
             new Check(1, " same, 0 different, 2 stuck, 0 left out; 2 played again with more patience\n", "--port", wrong + "loses_wake_ups.py", folder("waiting")));
         checks.parallelStream().forEach(this::check);
         checkNothingIsWritten();
+        checkLists(port);
         checkStop(port);
         checkEnd(port, "TERM");
         if (!ignoresInterrupts()) {
@@ -133,10 +129,27 @@ final class CommandChecks {
         }
     }
 
-    /** A port that tells this of its list in the first burst, in place of what it did. */
-    private static Check burst(String says, String port, String line) {
-        return new Check(1, "burst 1 0 meetings\n  the port wrote `" + line + "`: " + says + "\n", "--burst", "1",
-            "--port", port + "'0 did' 'say " + line + "\\n'");
+    /** What a port may tell of its list in the first burst in place of what it did, and what is said of that. */
+    private void checkLists(String port) {
+        Map<String, String> says = Map.of(
+            "0 did 1 1 2 = x", "`x` is no int",
+            "0 did 1 x 2 = 1", "`x` is no number",
+            "0 did 1 1 2", "a number, two times, and an answer have to follow",
+            "0 did 1 2 1 = 1", "its times go back",
+            "0 did 2 1 2 = 1", "that isn't the next of its list",
+            "0 end", "call 1 of its list is missing",
+            "7 end", "thread 7 has no list",
+            "0 did 1 1 2 through 5", "no onAdvance or action of this call was told to throw that");
+        says.entrySet().parallelStream().forEach(each -> {
+            ByteArrayOutputStream told = new ByteArrayOutputStream();
+            Stage stage = new PortStage(port + "'0 did' 'say " + each.getKey() + "\\n'");
+            Bursts bursts = new Bursts(List.of(stage), Bursts.PATIENT, null, new PrintStream(told));
+            bursts.play(new BurstOrder(1, BurstOrder.EACH, 1, 0));
+            bursts.tell();
+            stage.close();
+            String fault = "burst 1 0 meetings\n  the port wrote `" + each.getKey() + "`: " + each.getValue() + "\n";
+            take("a list's line " + each.getKey(), told.toString().startsWith(fault), told.toString());
+        });
     }
 
     private String folder(String rule) {
