@@ -14,10 +14,6 @@ final class Caller {
     private static final long TRANSCRIBED_EXPIRY = 500_000_000;
     private static final long TRANSCRIBED_CHOICE = 50_000_000;
 
-    /** The time that a wait really gets, and that which it has in the transcript. */
-    private record Time(long real, long transcribed) {
-    }
-
     private final Scene scene;
 
     Caller(Scene scene) {
@@ -135,11 +131,11 @@ final class Caller {
         if (method == Method.FORCE_TERMINATION && scene.first) {
             rememberCounts(scene.root(object));
         }
-        Time time = method.timed() ? time(thread, row) : new Time(0, 0);
+        WaitTime time = method.timed() ? time(thread, row) : WaitTime.NONE;
         Request request = new Request(method, Math.max(object, 0), row.number(thread.registers), time.real());
         Pending pending = new Pending(scene.tell(thread, request, time.transcribed()), row);
         scene.notes.asked();
-        pending.times(method.timed() && !scene.first && scene.plan.expiry(thread) != null, time.real());
+        pending.setTime(time);
         if (method.ofPhaser()) {
             boolean namesPhase = method.waitsForPhase() && !method.arrives();
             pending.awaits(namesPhase ? row.number(thread.registers) : scene.view(scene.root(object)));
@@ -174,25 +170,38 @@ final class Caller {
     }
 
     /**
-     * The time that a timed wait really gets: none where it has none; an hour where the schedule lets it end otherwise; and
-     * where the first play saw it expire, about as long as the choices and the other expiries until then take.
+     * The time that a timed wait gets: none where it has none; an hour where the schedule lets it end otherwise; and where the
+     * first play saw it expire, about as long as the choices and the other expiries until then take. It ends behind those that
+     * run out before it.
      */
-    private Time time(ProgramThread thread, Row row) {
+    private WaitTime time(ProgramThread thread, Row row) {
         thread.timedCalls++;
         int given = row.time(thread.registers);
-        if (given <= 0) {
-            return new Time(given, given);
-        }
-        Integer until = scene.first ? null : scene.plan.expiry(thread);
+        Integer until = scene.first || given <= 0 ? null : scene.plan.expiry(thread);
         if (until == null) {
-            return new Time(HOUR, HOUR);
+            return WaitTime.endsOtherwise(given <= 0 ? given : HOUR);
         }
+        long real = realTime(scene.step(), until);
+        long transcribed = transcribedTime(scene.step(), until);
+        for (ProgramThread each : scene.threads) {
+            WaitTime other = each.pending == null ? WaitTime.NONE : each.pending.time();
+            if (other.runsOut() && other.expiry() < until) {
+                real = Math.max(real, other.left() + realTime(other.expiry(), until));
+                transcribed = Math.max(transcribed, other.transcribed() + transcribedTime(other.expiry(), until));
+            }
+        }
+        return WaitTime.runsOut(real, transcribed, until);
+    }
+
+    /** How long the choices and the expiries after the one step take, up to the other. */
+    private long realTime(int step, int until) {
         long settle = scene.patience.settle();
-        long expiries = scene.plan.expiriesBetween(scene.step(), until);
-        long choices = until - scene.step();
-        long real =
-            expiries * (scene.patience.expiry() + 4 * settle) + choices * (2 * settle + TRIPS_OF_A_CHOICE * scene.roundTrip());
-        return new Time(real, expiries * TRANSCRIBED_EXPIRY + choices * TRANSCRIBED_CHOICE);
+        return scene.plan.expiriesBetween(step, until) * (scene.patience.expiry() + 4 * settle)
+            + (until - step) * (2 * settle + TRIPS_OF_A_CHOICE * scene.roundTrip());
+    }
+
+    private long transcribedTime(int step, int until) {
+        return scene.plan.expiriesBetween(step, until) * TRANSCRIBED_EXPIRY + (until - step) * TRANSCRIBED_CHOICE;
     }
 
     private String blocked(ProgramThread thread, Pending pending) {

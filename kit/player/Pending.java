@@ -9,8 +9,7 @@ final class Pending {
     private boolean released;
     private int viewAtRelease;
     private boolean owesInterrupt;
-    private boolean expires;
-    private long time;
+    private WaitTime time = WaitTime.NONE;
 
     Pending(Call call, Row row) {
         this.call = call;
@@ -38,18 +37,16 @@ final class Pending {
         return row.object();
     }
 
-    /** Its time is to run out where {@code expires}, and its real time is so long. */
-    void times(boolean expires, long nanoseconds) {
-        this.expires = expires;
-        time = nanoseconds;
+    void setTime(WaitTime time) {
+        this.time = time;
+    }
+
+    WaitTime time() {
+        return time;
     }
 
     boolean expires() {
-        return expires;
-    }
-
-    long time() {
-        return time;
+        return time.runsOut();
     }
 
     /** The view of the tree whose end it waits for: the phase that was named, or the one in which it was called. */
@@ -99,6 +96,6 @@ final class Pending {
 
     /** Its time ran out, whether or not the schedule has come to that. */
     boolean expiredByItself() {
-        return expires && call.done() && call.answer().isThrown(Answer.TIMEOUT);
+        return expires() && call.done() && call.answer().isThrown(Answer.TIMEOUT);
     }
 }

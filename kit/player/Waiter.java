@@ -70,7 +70,7 @@ final class Waiter {
             scene.odd("an expiry that the first play hasn't seen");
             return "idle";
         }
-        if (!scene.ends(scene.real(thread), pending.call(), pending.time() + scene.patience.bound())) {
+        if (!scene.ends(scene.real(thread), pending.call(), pending.time().real() + scene.patience.bound())) {
             scene.stuck(scene.real(thread), pending.words(thread) + " doesn't expire");
             return "idle";
         }
