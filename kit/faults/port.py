@@ -2,7 +2,8 @@
 """The port of kit/ports/python with one fault, so that kit/run sees what the player says of it.
 
     port.py WHEN WHAT        does WHAT in place of the first line that it would write and that begins with WHEN
-    port.py without KIND     answers `no` wherever a `phaser`, a `barrier`, or a `case` is to be made
+    port.py without KIND     answers `no` wherever a `phaser`, a `barrier`, or a `case` is to be made, and to `lists`
+    port.py old COMMAND      ends where it is given this command, as one it doesn't know
 
 WHAT is one of: `say TEXT` (\\n, \\r, \\xNN as in Python; no LF is added); `also TEXT`, behind the right line; `flood TEXT`
 and `endless TEXT`, again and again, with LF or without; `exit N`; `signal N`; `close`, of the output alone; `silence`;
@@ -56,15 +57,14 @@ def do(what, line):
         right_say(line)
 
 
-def say(line):
+def say(lines):
     global done
-    if silent:
-        return
-    if not done and line.startswith(sys.argv[1]):
-        done = True
-        do(sys.argv[2], line)
-    else:
-        right_say(line)
+    for line in lines.split("\n"):
+        if not silent and not done and line.startswith(sys.argv[1]):
+            done = True
+            do(sys.argv[2], line)
+        elif not silent:
+            right_say(line)
 
 
 def say_without(line):
@@ -84,6 +84,9 @@ def refuse(*operands):
 if sys.argv[1] == "without":
     port.say = say_without
     port.MAKES[sys.argv[2]] = refuse
+elif sys.argv[1] == "old":
+    del port.MAKES[sys.argv[2]]
+    sys.stderr = open(os.devnull, "w")
 else:
     port.say = say
 port.main()

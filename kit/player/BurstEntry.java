@@ -17,11 +17,12 @@ final class BurstEntry {
     private volatile long end = Long.MAX_VALUE;
     private volatile long endedAt = Long.MAX_VALUE;
 
-    BurstEntry(int thread, BurstStep step, long begin) {
+    /** {@code beganAt} is in nanoseconds. */
+    BurstEntry(int thread, BurstStep step, long begin, long beganAt) {
         this.thread = thread;
         this.step = step;
-        beganAt = System.nanoTime();
         this.begin = begin;
+        this.beganAt = beganAt;
     }
 
     int thread() {
@@ -70,8 +71,8 @@ final class BurstEntry {
         return entered;
     }
 
-    void finish(Answer answer, long end) {
-        endedAt = System.nanoTime();
+    void finish(Answer answer, long end, long endedAt) {
+        this.endedAt = endedAt;
         this.answer = answer;
         this.end = end;
     }

@@ -10,12 +10,19 @@ import java.util.concurrent.atomic.AtomicLong;
 /** All calls and interrupts of one burst, and how {@code onAdvance} was asked. */
 final class BurstHistory {
     private final Burst burst;
+    private final boolean timed;
     private final AtomicLong clock = new AtomicLong();
     private final Queue<BurstEntry> entries = new ConcurrentLinkedQueue<>();
     private final Queue<Entered> asked = new ConcurrentLinkedQueue<>();
 
-    BurstHistory(Burst burst) {
+    /** {@code timed}: its clock is that of the real side, in nanoseconds, and it is told what began and ended when. */
+    BurstHistory(Burst burst, boolean timed) {
         this.burst = burst;
+        this.timed = timed;
+    }
+
+    boolean isTimed() {
+        return timed;
     }
 
     Burst burst() {
@@ -23,13 +30,19 @@ final class BurstHistory {
     }
 
     BurstEntry begin(int thread, BurstStep step) {
-        BurstEntry entry = new BurstEntry(thread, step, clock.incrementAndGet());
+        long now = System.nanoTime();
+        BurstEntry entry = new BurstEntry(thread, step, clock.incrementAndGet(), now);
         entries.add(entry);
         return entry;
     }
 
     void end(BurstEntry entry, Answer answer) {
-        entry.finish(answer, clock.incrementAndGet());
+        long now = System.nanoTime();
+        entry.finish(answer, clock.incrementAndGet(), now);
+    }
+
+    void add(BurstEntry entry) {
+        entries.add(entry);
     }
 
     /** The {@code onAdvance} of a phaser was asked. */

@@ -40,6 +40,53 @@ final class BurstKit {
         System.out.println("the model of the bursts played " + cases.size() + " cases and " + SCENARIOS + " random scenarios");
     }
 
+    /** What a failed burst says of itself: the few calls that no order explains, and the answer that would do. */
+    void checkCores() {
+        Request arrive = Request.of(Method.ARRIVE, 0);
+        Request look = Request.of(Method.GET_PHASE, 0);
+        String arrival = report(new Told(0, arrive, 1, 2, Answer.value(0)), new Told(1, arrive, 3, 4, Answer.value(0)),
+            new Told(2, look, 1, 9, Answer.value(0)), new Told(0, arrive, 5, 6, Answer.value(0)),
+            new Told(1, look, 7, 8, Answer.value(1)));
+        checkSays(arrival, "  no order explains these alone, whatever the other 2 did:\n    thread 0: arrive 0 = 0\n"
+            + "  with these made, whatever they answer:\n    thread 0: arrive 0\n    thread 1: arrive 0\n"
+            + "  with one other answer there is an order: thread 0: arrive 0 = 1\n");
+        String two = report(new Told(0, arrive, 1, 2, Answer.value(1)), new Told(1, look, 1, 2, Answer.value(7)));
+        checkSays(two, "  one other answer isn't enough\n");
+        Request await = new Request(Method.AWAIT_ADVANCE, 0, 0, 0);
+        String lost = report(new Told(0, arrive, 1, 2, Answer.value(0)), new Told(1, arrive, 1, 2, Answer.value(0)),
+            new Told(2, await, 1, Long.MAX_VALUE, null));
+        checkSays(lost, "    thread 2: awaitAdvance 0 0 has no answer\n  with these made, whatever they answer:\n"
+            + "    thread 0: arrive 0\n    thread 1: arrive 0\n");
+        String right = report(new Told(0, arrive, 1, 2, Answer.value(0)), new Told(2, await, 1, Long.MAX_VALUE, null));
+        to.take("a wait that has to be", !right.contains("no order explains these"), right);
+    }
+
+    /** A call as it is put into a history; it has no answer where that is null. */
+    private record Told(int thread, Request request, long begin, long end, Answer answer) {
+    }
+
+    /** Of a burst of three threads at a phaser of two parties. */
+    private static String report(Told... calls) {
+        BurstMaker make = new BurstMaker("meetings", 1, 0, 1);
+        make.root(2);
+        for (int thread = 0; thread < 3; thread++) {
+            make.thread();
+        }
+        BurstHistory history = new BurstHistory(make.burst(), true);
+        for (Told call : calls) {
+            BurstEntry entry = new BurstEntry(call.thread(), BurstStep.call(call.request()), call.begin(), call.begin());
+            history.add(entry);
+            if (call.answer() != null) {
+                entry.finish(call.answer(), call.end(), call.end());
+            }
+        }
+        return new BurstReport(history, BurstJudge.judge(history)).text();
+    }
+
+    private void checkSays(String report, String words) {
+        to.take("a failed burst", report.contains(words), "it doesn't say:\n" + words + "but:\n" + report);
+    }
+
     private void countModel(ModelCheck check, Case each) {
         String differs = check.differs(each);
         to.take(each.name() + " on the model", differs == null, differs);
@@ -56,9 +103,10 @@ final class BurstKit {
     }
 
     private void checkRight(String name, Stage stage, int rounds) throws IOException {
-        Bursts bursts = new Bursts(stage, Bursts.PATIENT, null, System.out);
-        bursts.play(1, rounds);
-        to.take("bursts on " + name, bursts.findings() == 0, bursts.findings() + " found");
+        Bursts bursts = new Bursts(List.of(stage), Bursts.PATIENT, null, System.out);
+        bursts.play(new BurstOrder(1, BurstOrder.EACH, rounds, 0));
+        int found = bursts.count().findings();
+        to.take("bursts on " + name, found == 0, found + " found");
         System.out.print("bursts on " + name + ": ");
         bursts.tell();
     }
@@ -69,7 +117,7 @@ final class BurstKit {
         for (String name : adapters.names()) {
             Stage stage = adapters.stage(name);
             boolean right = name.equals(RIGHT);
-            String finding = new Bursts(stage, right ? Bursts.PATIENT : IMPATIENT, null, System.out)
+            String finding = new Bursts(List.of(stage), right ? Bursts.PATIENT : IMPATIENT, null, System.out)
                 .find(1, right ? ROUNDS_ON_THE_RIGHT_ONE : ROUNDS_TO_FIND);
             to.take(name, right == (finding == null), right ? "it is right, and found: " + finding : "no burst finds it");
             if (!right && finding != null) {
@@ -78,5 +126,24 @@ final class BurstKit {
             }
         }
         System.out.println("wrong adapters that bursts have to find: " + found + " found");
+    }
+
+    /** The phaser without a lock: its bursts find nothing as long as it has no fault, and each fault of the table. */
+    void checkLockFree(Path table, String command) throws IOException {
+        checkPort(new Kit.Port(command, ROUNDS_ON_THE_RIGHT_ONE));
+        int found = 0;
+        for (String line : Files.readAllLines(table)) {
+            if (line.startsWith("#")) {
+                continue;
+            }
+            String fault = line.substring(0, line.indexOf(' '));
+            Stage stage = new PortStage("FAULT=" + fault + " " + command);
+            String finding = new Bursts(List.of(stage), IMPATIENT, null, System.out).find(1, ROUNDS_TO_FIND);
+            stage.close();
+            to.take("a phaser without a lock, " + fault, finding != null, "no burst finds it");
+            found += finding == null ? 0 : 1;
+            System.out.println("  " + fault + " is found first by " + finding);
+        }
+        System.out.println("faults of a phaser without a lock: " + found + " found");
     }
 }

@@ -7,6 +7,8 @@ import java.util.List;
 final class BurstMaker {
     /** At most so many threads run at once. */
     static final int MOST_THREADS = 8;
+    /** But for a crowd, of so many at most. */
+    static final int CROWD = 40;
 
     static final Policy NEVER = new Policy(Policy.Kind.NEVER, 0);
 

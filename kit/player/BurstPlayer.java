@@ -15,6 +15,9 @@ final class BurstPlayer {
     /** Closing lets a thread go on by one call, so it mustn't become rare where many are left. */
     private static final long LONGEST_PAUSE = 8 * MILLISECOND;
 
+    /** A port that isn't at rest gets so many times the bound more. */
+    private static final int TIMES_FOR_THE_BUSY = 3;
+
     /** What the player is told by the threads. */
     private record Event(BurstRunner finished, RealThread standing, Burst.Barrier at) {
     }
@@ -30,7 +33,60 @@ final class BurstPlayer {
 
     /** Its history; calls that wait for ever have no answer in it. Unplayable where the real side can't make the objects. */
     BurstHistory play(Burst burst) {
-        BurstHistory history = new BurstHistory(burst);
+        return stage.takesLists() ? playByLists(burst) : playByCalls(burst);
+    }
+
+    private BurstHistory playByLists(Burst burst) {
+        BurstByLists lists = new BurstByLists(burst, stage);
+        build(burst, lists.history());
+        lists.start();
+        boolean through = follow(burst, lists, true);
+        if (through) {
+            lists.look();
+            through = follow(burst, lists, false);
+        }
+        if (!through) {
+            stage.askSoFar();
+            lists.takeSoFar();
+            stage.abandon();
+        }
+        return lists.history();
+    }
+
+    /**
+     * Until all threads are through their lists, or, where it answers false, as long as that may take; {@code stirring}: it
+     * closes and pokes where the burst wants it.
+     */
+    private boolean follow(Burst burst, BurstByLists lists, boolean stirring) {
+        long limit = System.nanoTime() + bound;
+        int more = TIMES_FOR_THE_BUSY;
+        long nextClosing = System.nanoTime() + MILLISECOND;
+        long pause = MILLISECOND;
+        while (lists.running() > 0) {
+            boolean pokes = stirring && !burst.pokes().isEmpty();
+            boolean closes = stirring && burst.closer() != null && !lists.isRunning(burst.looker());
+            long until = pokes ? System.nanoTime() + MILLISECOND / 4 : closes ? Math.min(nextClosing, limit) : limit;
+            PortLine said = next(lists.told(), until - System.nanoTime());
+            if (said != null) {
+                lists.take(said);
+            } else if (System.nanoTime() > limit) {
+                if (more-- == 0 || stage.thread(Stage.LOOKER).isAtRest()) {
+                    return false;
+                }
+                limit = System.nanoTime() + bound;
+            } else if (pokes) {
+                burst.pokes().forEach(poke -> ask(poke.request()));
+            } else if (closes && System.nanoTime() > nextClosing) {
+                lists.close();
+                pause = Math.min(2 * pause, LONGEST_PAUSE);
+                nextClosing = System.nanoTime() + pause;
+            }
+        }
+        return true;
+    }
+
+    private BurstHistory playByCalls(Burst burst) {
+        BurstHistory history = new BurstHistory(burst, false);
         build(burst, history);
         BlockingQueue<Event> events = new LinkedBlockingQueue<>();
         List<RealThread> threads = new ArrayList<>();

@@ -29,14 +29,43 @@ final class BurstReport {
         line(head(burst));
         line("  " + finding.words());
         objects(burst);
-        line("  in the order in which they began, each with its begin and its end:");
+        line("  in the order in which they began, each with its begin and its end"
+            + (history.isTimed() ? ", in nanoseconds:" : ":"));
         history.entries().forEach(this::entry);
         history.asked().forEach(where -> line("    onAdvance of phaser " + where.object() + " was asked: phase "
             + where.phase() + ", parties " + where.parties()));
         if (!history.hasOpen() && !finding.overtaken()) {
             unexplained();
         }
+        if (!finding.overtaken()) {
+            core();
+        }
         return text.toString();
+    }
+
+    private void core() {
+        BurstCore core = BurstCore.of(history);
+        if (core == null) {
+            return;
+        }
+        String alone = core.isWhole() ? "alone" : "alone, or fewer of them";
+        line("  no order explains these " + alone + ", whatever the other " + core.others() + " did:");
+        core.judged().forEach(entry -> line("    " + entry.words()));
+        if (!core.needed().isEmpty()) {
+            line("  with these made, whatever they answer:");
+            core.needed().forEach(entry -> line("    " + call(entry)));
+        }
+        BurstRemedy remedy = core.remedy();
+        switch (remedy.kind()) {
+            case ANSWER ->
+                line("  with one other answer there is an order: " + call(remedy.entry()) + " " + remedy.answer().told());
+            case NONE -> line("  one other answer isn't enough");
+            case UNKNOWN -> { }
+        }
+    }
+
+    private static String call(BurstEntry entry) {
+        return "thread " + entry.thread() + ": " + entry.request().words();
     }
 
     private void objects(Burst burst) {
@@ -56,8 +85,13 @@ final class BurstReport {
     }
 
     private void entry(BurstEntry entry) {
-        line("    " + entry.begin() + ".." + (entry.isOpen() ? "" : entry.end()) + " " + entry.words()
+        line("    " + at(entry.begin()) + ".." + (entry.isOpen() ? "" : at(entry.end())) + " " + entry.words()
             + (entry.entered().isEmpty() ? "" : ", ran the action"));
+    }
+
+    /** A moment of the history's clock, as it is told. */
+    private long at(long time) {
+        return history.isTimed() ? time - history.entries().get(0).begin() : time;
     }
 
     private void unexplained() {
@@ -65,12 +99,16 @@ final class BurstReport {
         if (first == null) {
             return;
         }
-        line("  what ended before " + first.end() + " is explained by this order:");
+        line("  what ended before " + at(first.end()) + " is explained by this order:");
         List<BurstEntry> order = new ArrayList<>(LegalHistory.orderBefore(history, first));
         Collections.reverse(order);
         List<BurstEntry> told = new ArrayList<>();
-        for (BurstEntry entry : order) {
-            line("    " + entry.words() + part(entry, first, Collections.frequency(order, entry) > 1, told.contains(entry)));
+        for (int at = 0; at < order.size(); at++) {
+            BurstEntry entry = order.get(at);
+            boolean toldBefore = told.contains(entry);
+            if (!toldBefore || order.lastIndexOf(entry) == at) {
+                line("    " + entry.words() + part(entry, first, Collections.frequency(order, entry) > 1, toldBefore));
+            }
             told.add(entry);
         }
         line("  no order explains, with these, " + first.words());

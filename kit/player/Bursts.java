@@ -4,12 +4,9 @@ import java.io.IOException;
 import java.io.PrintStream;
 import java.nio.file.Files;
 import java.nio.file.Path;
-import java.util.HashSet;
-import java.util.Map;
-import java.util.Set;
-import java.util.TreeMap;
+import java.util.List;
 
-/** Plays many bursts on a real side, tells those that fail, and keeps them where a folder is named. */
+/** Plays many bursts, by so many real sides at once, tells those that fail, and keeps them where a folder is named. */
 final class Bursts {
     /** A generous bound for what waits for ever, in nanoseconds. */
     static final long PATIENT = 10_000_000_000L;
@@ -17,57 +14,106 @@ final class Bursts {
     private static final long UNIT_HERE = 10_000;
     private static final long UNIT_OF_PORT = 100_000;
     private static final int MOST_FINDINGS = 5;
-    /**
-     * An interrupt that wins over the end of a phase may do so between two looks, which is so rare that it counts only
-     * where it comes so often among so many rounds in a row.
-     */
-    private static final int OVERTAKEN_TO_COUNT = 3;
-    private static final int ROUNDS_OF_OVERTAKING = 5_000;
+    private static final int MILLISECONDS_OF_PROGRESS = 1_000;
+    /** Whoever ends a port by a signal may mean the player too, which hears it a little later. */
+    private static final int MILLISECONDS_OF_A_SIGNAL = 1_000;
+    /** Set where the standard error is a terminal. */
+    private static final boolean SHOWS_PROGRESS = Boolean.getBoolean("kit.progress");
 
-    private final Stage stage;
-    private final BurstPlayer player;
+    /** One real side. */
+    private record Place(Stage stage, BurstPlayer player) {
+        Burst burst(long seed, long round) {
+            return BurstKind.burst(seed, round, stage.isHere() || stage.takesLists() ? UNIT_HERE : UNIT_OF_PORT);
+        }
+    }
+
+    private final List<Place> places;
     private final Path keep;
     private final PrintStream to;
-    private final Set<String> kindsPlayed = new HashSet<>();
-    private final Set<String> kindsLeftOut = new HashSet<>();
-    private final Map<String, Integer> whyLeftOut = new TreeMap<>();
-    private int rounds;
-    private int calls;
-    private int findings;
-    private long firstFound;
-    private int overtaken;
-    private long overtakenSince;
+    private final BurstCount count = new BurstCount();
+    private BurstOrder order;
+    private long given;
+    private long until;
+    private RuntimeException failed;
+    private boolean told;
 
     /** {@code keep} is null where nothing is kept. */
-    Bursts(Stage stage, long bound, Path keep, PrintStream to) {
-        this.stage = stage;
+    Bursts(List<Stage> stages, long bound, Path keep, PrintStream to) {
+        places = stages.stream().map(stage -> new Place(stage, new BurstPlayer(stage, bound))).toList();
         this.keep = keep;
         this.to = to;
-        player = new BurstPlayer(stage, bound);
     }
 
-    int findings() {
-        return findings;
+    BurstCount count() {
+        return count;
     }
 
-    /** Plays so many rounds, but none behind so many findings that no more are wanted. */
-    void play(long seed, long count) throws IOException {
-        for (long round = 0; round < count && findings < MOST_FINDINGS; round++) {
-            playOne(seed, round);
+    /**
+     * Plays until as many are played, or as much time has gone by, as the order says, or until no more findings are wanted:
+     * some, or one where a round is played again and again, since its threads are free to run otherwise each time.
+     */
+    void play(BurstOrder asked) {
+        order = asked;
+        until = order.seconds() > 0 ? System.nanoTime() + order.seconds() * 1_000_000_000L : Long.MAX_VALUE;
+        Runtime.getRuntime().addShutdownHook(new Thread(this::tellWhenStopped, "count when stopped"));
+        List<Thread> workers = places.stream().map(place -> new Thread(() -> work(place), "bursts")).toList();
+        for (Thread worker : workers) {
+            worker.setDaemon(true);
+            worker.start();
+        }
+        try {
+            for (Thread worker : workers) {
+                for (worker.join(MILLISECONDS_OF_PROGRESS); worker.isAlive(); worker.join(MILLISECONDS_OF_PROGRESS)) {
+                    progress(count.progress());
+                }
+            }
+        } catch (InterruptedException never) {
+            throw new IllegalStateException(never);
+        }
+        progress("");
+        if (failed != null) {
+            told = true;
+            throw failed;
         }
     }
 
-    /** Plays the burst of one round so often, since its threads are free to run otherwise each time. */
-    void repeat(long seed, long round, long count) throws IOException {
-        for (long time = 0; time < count && findings == 0; time++) {
-            playOne(seed, round);
+    private static void progress(String words) {
+        if (SHOWS_PROGRESS) {
+            System.err.print("\r" + words + "\033[K");
         }
     }
 
-    /** Plays until something is found; answers that in words, or null. */
-    String find(long seed, long count) {
-        for (long round = 0; round < count; round++) {
-            BurstHistory history = history(burst(seed, round));
+    private void work(Place place) {
+        try {
+            for (long round = next(); round >= 0; round = next()) {
+                playOne(place, order.seed(), round);
+            }
+        } catch (IOException | RuntimeException thrown) {
+            fail(thrown);
+        }
+    }
+
+    private synchronized void fail(Exception thrown) {
+        failed = thrown instanceof RuntimeException unchecked ? unchecked : new IllegalStateException(thrown);
+    }
+
+    /** The next round to be played; negative where none is. */
+    private synchronized long next() {
+        boolean again = order.playsOneRound();
+        boolean enough = count.findings() >= (again ? 1 : MOST_FINDINGS);
+        if (enough || failed != null || given >= order.count() || System.nanoTime() > until) {
+            return -1;
+        }
+        count.asks();
+        long round = given++;
+        return again ? order.round() : round;
+    }
+
+    /** Plays until something is found, but for a real side that breaks down; answers that in words, or null. */
+    String find(long seed, long rounds) {
+        Place place = places.get(0);
+        for (long round = 0; round < rounds; round++) {
+            BurstHistory history = historyUnlessBroken(place, place.burst(seed, round));
             BurstJudge.Finding finding = history == null ? null : judge(history);
             if (finding != null) {
                 return history.burst().kind() + ", round " + round + ": " + finding.words();
@@ -76,95 +122,100 @@ final class Bursts {
         return null;
     }
 
-    private Burst burst(long seed, long round) {
-        return BurstKind.burst(seed, round, stage.isHere() ? UNIT_HERE : UNIT_OF_PORT);
+    private BurstHistory historyUnlessBroken(Place place, Burst burst) {
+        try {
+            return history(place, burst);
+        } catch (Breakdown broken) {
+            place.stage().abandon();
+            return null;
+        }
     }
 
-    private void playOne(long seed, long round) throws IOException {
-        Burst burst = burst(seed, round);
-        String text = whatFails(burst);
-        if (text == null) {
-            return;
+    private void playOne(Place place, long seed, long round) throws IOException {
+        Burst burst = place.burst(seed, round);
+        String text = whatFails(place, burst);
+        if (text != null) {
+            tellFailure(burst, text);
         }
-        firstFound = findings == 0 ? round : firstFound;
-        findings++;
+    }
+
+    private synchronized void tellFailure(Burst burst, String text) throws IOException {
+        count.fails(burst, text);
+        progress("");
         to.print(text);
         if (keep == null) {
-            to.println("again: --burst 1000 --seed " + seed + " --round " + round);
+            to.println("again: --burst " + BurstOrder.TRIES_OF_ONE + " --seed " + burst.seed() + " --round " + burst.round());
         } else {
             Files.createDirectories(keep);
-            Path file = keep.resolve(burst.kind() + "-" + seed + "-" + round + ".burst");
+            Path file = keep.resolve(burst.kind() + "-" + burst.seed() + "-" + burst.round() + ".burst");
             Files.writeString(file, text);
             to.println("kept; again: --burst " + file);
         }
     }
 
     /** In words; null where it is right, and where the real side can't make the objects. */
-    private String whatFails(Burst burst) {
+    private String whatFails(Place place, Burst burst) {
         try {
-            BurstHistory history = history(burst);
+            BurstHistory history = history(place, burst);
             BurstJudge.Finding finding = history == null ? null : judge(history);
             return finding == null ? null : new BurstReport(history, finding).text();
         } catch (Breakdown broken) {
-            countRound(burst);
-            stage.abandon();
+            letSignalsIn(broken);
+            count.played(burst, 0, 0);
+            place.stage().abandon();
             return BurstReport.head(burst) + "\n  " + broken.getMessage() + "\n";
         }
     }
 
-    /** Null where the real side can't make the objects. */
-    private BurstHistory history(Burst burst) {
-        if (kindsLeftOut.contains(burst.kind())) {
-            return null;
+    private static void letSignalsIn(Breakdown broken) {
+        if (broken.getMessage().contains("SIGTERM") || broken.getMessage().contains("SIGINT")) {
+            try {
+                Thread.sleep(MILLISECONDS_OF_A_SIGNAL);
+            } catch (InterruptedException never) {
+                throw new IllegalStateException(never);
+            }
         }
-        try {
-            BurstHistory history = player.play(burst);
-            countRound(burst);
-            calls += history.entries().size();
-            return history;
-        } catch (Unplayable why) {
-            kindsLeftOut.add(burst.kind());
-            whyLeftOut.merge(why.getMessage(), 1, Integer::sum);
-            return null;
-        }
+        LivingPorts.check();
     }
 
-    private void countRound(Burst burst) {
-        rounds++;
-        kindsPlayed.add(burst.kind());
+    /** Null where the real side can't make the objects. */
+    private BurstHistory history(Place place, Burst burst) {
+        if (count.isLeftOut(burst.kind())) {
+            return null;
+        }
+        long begun = System.nanoTime();
+        try {
+            BurstHistory history = place.player().play(burst);
+            count.played(burst, history.entries().size(), System.nanoTime() - begun);
+            return history;
+        } catch (Unplayable why) {
+            count.leavesOut(burst.kind(), why.getMessage());
+            return null;
+        }
     }
 
     /** Null where the history is right. */
     private BurstJudge.Finding judge(BurstHistory history) {
         BurstJudge.Finding finding = BurstJudge.judge(history);
-        if (finding.isRight() || finding.overtaken() && !countsOvertaking()) {
-            return null;
-        }
-        return finding;
+        return finding.isRight() || finding.overtaken() && !count.countsOvertaking() ? null : finding;
     }
 
-    private boolean countsOvertaking() {
-        if (rounds - overtakenSince > ROUNDS_OF_OVERTAKING) {
-            overtaken = 0;
-            overtakenSince = rounds;
+    /** The counts, in some lines. */
+    synchronized void tell() {
+        told = true;
+        Stage stage = places.get(0).stage();
+        if (!stage.isHere() && !stage.takesLists()) {
+            to.println("the port takes no lists, so its calls came one by one through the pipe, and hardly overlapped");
         }
-        overtaken++;
-        return overtaken >= OVERTAKEN_TO_COUNT;
+        count.tell(order.round(), to);
     }
 
-    void tell() {
-        whyLeftOut.forEach((why, kinds) -> to.println(kinds + " kinds left out: " + why));
-        if (rounds == 0) {
-            to.println("nothing was compared");
+    private synchronized void tellWhenStopped() {
+        if (!told) {
+            told = true;
+            progress("");
+            to.println("stopped by a signal");
+            count.tell(order.round(), to);
         }
-        String kinds = kindsPlayed.size() == 1 ? " kind, " : " kinds, ";
-        to.println(rounds + " bursts of " + kindsPlayed.size() + kinds + calls + " calls and interrupts: "
-            + findings + " found" + (findings == 0 ? "" : ", the first in round " + firstFound)
-            + (overtaken == 0 ? "" : "; an interrupt won over the end of a phase " + overtaken + " times"));
-    }
-
-    /** The exit status: 0 where nothing was found, 1 where something was, 2 where nothing was compared. */
-    int status() {
-        return findings > 0 ? 1 : rounds == 0 ? 2 : 0;
     }
 }

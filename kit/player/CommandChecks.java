@@ -1,12 +1,15 @@
 package kit.player;
 
+import java.io.ByteArrayOutputStream;
 import java.io.File;
 import java.io.IOException;
+import java.io.PrintStream;
 import java.nio.charset.StandardCharsets;
 import java.nio.file.Files;
 import java.nio.file.Path;
 import java.util.ArrayList;
 import java.util.List;
+import java.util.Map;
 import java.util.concurrent.TimeUnit;
 import java.util.stream.Stream;
 
@@ -64,8 +67,13 @@ final class CommandChecks {
             new Check(2, "--keep wants --random or --burst", "--keep", room.toString(), reset),
             new Check(2, "--burst" + NO_NUMBER, "--burst", "0"),
             new Check(2, "there is no ./nosuch.burst", "--burst", "./nosuch.burst"),
-            new Check(2, "with --burst go only", "--burst", "1", "--jobs", "2", "--port", "./nosuch"),
-            new Check(2, "--round wants --burst", "--round", "1", reset),
+            new Check(2, "with --burst and --for go only", "--burst", "1", "--known"),
+            new Check(2, "--round wants --burst or --for", "--round", "1", reset),
+            new Check(2, "--for" + NO_NUMBER, "--for", "0"),
+            new Check(0, " bursts of ", "--for", "1", "--burst", "1000000000"),
+            new Check(0, "round 5 didn't fail in 3 tries\n", "--burst", "3", "--round", "5"),
+            new Check(0, "<testsuite name=\"bursts\" tests=\"20\" failures=\"0\" errors=\"0\" skipped=\"0\"",
+                "--burst", "20", "--report", "/dev/stdout"),
             new Check(1, "burst 1 0 meetings\n  the port has ended before its first answer",
                 "--burst", "1", "--port", "./nosuch"),
             new Check(1, "with status 127 (no such command)", "--port", "./nosuch", reset),
@@ -91,10 +99,15 @@ final class CommandChecks {
             new Check(2, "nothing was compared\n", "--port", port + "without case", folder("reset")),
             new Check(1, "--keep FOLDER writes it\n", "--random", "1", "--port", port + "'64 = ' 'say 64 = x\\n'"),
             new Check(1, "burst 1 0 meetings\n  the port has ended, with status 3",
-                "--burst", "1", "--port", port + "'0 = ' 'exit 3'"),
-            new Check(1, "  the port wrote `0 = x`: `x` is no int\n", "--burst", "1", "--port", port + "'0 = ' 'say 0 = x\\n'"),
-            new Check(0, "15 kinds left out: it makes no barrier\n", "--burst", "37", "--port", port + "without barrier"),
-            new Check(2, "nothing was compared\n", "--burst", "37", "--port", port + "without case"),
+                "--burst", "1", "--port", port + "'0 did' 'exit 3'"),
+            new Check(1, "  thread 0 is in no call, and doesn't end its list\n", "--burst", "1", "--patience", "0.1",
+                "--port", port + "'0 end' 'say '"),
+            new Check(0, "the port takes no lists, so its calls came one by one", "--burst", "3", "--port", port + "without lists"),
+            new Check(0, "the port takes no lists, so its calls came one by one", "--burst", "3", "--port", port + "old lists"),
+            new Check(0, "84 bursts of 42 kinds, ", "--burst", "84", "--jobs", "2", "--port", port + "nothing ''"),
+            new Check(0, "16 kinds left out: it makes no barrier\n26 of 42 bursts of 26 kinds, ",
+                "--burst", "42", "--port", port + "without barrier"),
+            new Check(2, "nothing was compared\n", "--burst", "42", "--port", port + "without case"),
             new Check(0, "before the first case: an interrupt doesn't end awaitAdvanceInterruptibly 0 2 " + Caller.HOUR
                 + " of t0 (its last line is `0 = 2`" + stands, "--port", wrong + "ignores_interrupts.py", folder("phase-numbers")),
             new Check(1, "before the first case: the port doesn't answer: case (it has written nothing" + stands
@@ -108,10 +121,35 @@ final class CommandChecks {
             new Check(1, " same, 0 different, 2 stuck, 0 left out; 2 played again with more patience\n", "--port", wrong + "loses_wake_ups.py", folder("waiting")));
         checks.parallelStream().forEach(this::check);
         checkNothingIsWritten();
+        checkLists(port);
+        checkStop(port);
         checkEnd(port, "TERM");
         if (!ignoresInterrupts()) {
             checkEnd(port, "INT");
         }
+    }
+
+    /** What a port may tell of its list in the first burst in place of what it did, and what is said of that. */
+    private void checkLists(String port) {
+        Map<String, String> says = Map.of(
+            "0 did 1 1 2 = x", "`x` is no int",
+            "0 did 1 x 2 = 1", "`x` is no number",
+            "0 did 1 1 2", "a number, two times, and an answer have to follow",
+            "0 did 1 2 1 = 1", "its times go back",
+            "0 did 2 1 2 = 1", "that isn't the next of its list",
+            "0 end", "call 1 of its list is missing",
+            "7 end", "thread 7 has no list",
+            "0 did 1 1 2 through 5", "no onAdvance or action of this call was told to throw that");
+        says.entrySet().parallelStream().forEach(each -> {
+            ByteArrayOutputStream told = new ByteArrayOutputStream();
+            Stage stage = new PortStage(port + "'0 did' 'say " + each.getKey() + "\\n'");
+            Bursts bursts = new Bursts(List.of(stage), Bursts.PATIENT, null, new PrintStream(told));
+            bursts.play(new BurstOrder(1, BurstOrder.EACH, 1, 0));
+            bursts.tell();
+            stage.close();
+            String fault = "burst 1 0 meetings\n  the port wrote `" + each.getKey() + "`: " + each.getValue() + "\n";
+            take("a list's line " + each.getKey(), told.toString().startsWith(fault), told.toString());
+        });
     }
 
     private String folder(String rule) {
@@ -163,6 +201,25 @@ final class CommandChecks {
         Files.delete(told);
     }
 
+    /** Bursts that are ended by a signal which the port gets too, and sooner: they are counted, and none fails. */
+    private void checkStop(String port) throws IOException, InterruptedException {
+        Path told = Files.createTempFile("vuthgal", ".told");
+        Process player = start(told, List.of("-Dkit.progress=true"), "--burst", "1000000", "--port", port + "nothing ''");
+        for (int wait = 0; wait < 400 && Files.size(told) == 0; wait++) {
+            Thread.sleep(50);
+        }
+        List<String> command = new ArrayList<>(List.of("kill", "-TERM"));
+        player.descendants().forEach(each -> command.add(Long.toString(each.pid())));
+        command.add(Long.toString(player.pid()));
+        new ProcessBuilder(command).start().waitFor();
+        boolean ended = player.waitFor(LONGEST_SECONDS, TimeUnit.SECONDS);
+        String text = Files.readString(told, StandardCharsets.ISO_8859_1);
+        boolean counted = text.contains("stopped by a signal\n") && text.contains(": 0 found\n") && !text.contains("burst 1 ");
+        to.take("bursts ended by SIGTERM", ended && counted, text);
+        to.take("bursts at a terminal", text.matches("(?s)\r[0-9]+ bursts, 0 found, [0-9]+ s\033.*"), text);
+        Files.delete(told);
+    }
+
     private static boolean hasChild(List<ProcessHandle> processes) {
         return processes.stream().anyMatch(each -> each.info().commandLine().orElse("").endsWith("sleep 87654"));
     }
@@ -184,10 +241,15 @@ final class CommandChecks {
     }
 
     private Process start(Path told, String... words) throws IOException {
+        return start(told, List.of(), words);
+    }
+
+    private Process start(Path told, List<String> ofJava, String... words) throws IOException {
         String java = Path.of(System.getProperty("java.home"), "bin", "java").toString();
         List<String> command = new ArrayList<>(List.of(java, "-XX:+UseSerialGC", "--add-opens",
-            "java.base/java.util.concurrent=ALL-UNNAMED", "-cp", System.getProperty("java.class.path"), Player.class.getName(),
-            "--vuthgal", vuthgal.toString()));
+            "java.base/java.util.concurrent=ALL-UNNAMED", "-cp", System.getProperty("java.class.path")));
+        command.addAll(ofJava);
+        command.addAll(List.of(Player.class.getName(), "--vuthgal", vuthgal.toString()));
         command.addAll(List.of(words));
         File output = told.toFile();
         return new ProcessBuilder(command).directory(room.toFile()).redirectErrorStream(true).redirectOutput(output).start();

@@ -54,12 +54,12 @@ public final class Kit {
     }
 
     /**
-     * The words are the repository's folder, the program to hold all against, the command of Python (empty where there is
-     * none), and, for each port, how many bursts it plays, and its command.
+     * The words are the repository's folder, the program to hold all against, the command of Python, that of the phaser without
+     * a lock (each empty where there is none), and, for each port, how many bursts it plays, and its command.
      */
     public static void main(String[] words) throws IOException, InterruptedException {
         Kit kit = new Kit(Path.of(words[0]), Path.of(words[1]));
-        List<Port> ports = Port.of(List.of(words).subList(3, words.length));
+        List<Port> ports = Port.of(List.of(words).subList(4, words.length));
         kit.checkPlayer(Path.of(words[1]), words[2]);
         kit.checkCases();
         kit.checkDifferences();
@@ -72,7 +72,7 @@ public final class Kit {
             new ReplayChecks(kit.kit, words[2], kit::count).check(ports);
         }
         kit.checkRandom();
-        kit.checkBursts(ports);
+        kit.checkBursts(ports, words[3]);
         System.out.println(kit.passed + " passed, " + kit.failed + " failed");
         System.exit(kit.failed == 0 ? 0 : 1);
     }
@@ -271,13 +271,17 @@ public final class Kit {
 
     // ---- bursts
 
-    private void checkBursts(List<Port> ports) throws IOException {
+    private void checkBursts(List<Port> ports, String lockFree) throws IOException {
         BurstKit bursts = new BurstKit(vuthgal, this::count);
         bursts.checkModel(learned.stream().map(Learned::each).toList());
+        bursts.checkCores();
         bursts.checkJdk();
         bursts.checkAdapters(new WrongAdapters(kit.resolve("wrong").resolve("burst"), "kit.wrong.burst"));
         for (Port port : ports) {
             bursts.checkPort(port);
+        }
+        if (!lockFree.isEmpty()) {
+            bursts.checkLockFree(kit.resolve("wrong/lockfree/table.txt"), lockFree);
         }
     }
 }

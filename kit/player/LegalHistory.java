@@ -2,8 +2,10 @@ package kit.player;
 
 import java.util.ArrayList;
 import java.util.Comparator;
+import java.util.HashMap;
 import java.util.HashSet;
 import java.util.List;
+import java.util.Map;
 import java.util.Set;
 
 /**
@@ -12,6 +14,9 @@ import java.util.Set;
  * and remembers where it has been (after Wing and Gong, and Lowe).
  */
 final class LegalHistory {
+    /** A time that isn't over before a burst is, in nanoseconds. */
+    private static final long LONG = 3_600_000_000_000L;
+
     private final BurstHistory history;
     private final List<List<BurstEntry>> lines;
     /**
@@ -21,20 +26,61 @@ final class LegalHistory {
     private final boolean twoLooks;
     /** What ended later than this is taken to be still open: any answer will do, or none. */
     private final long until;
+    private final Freedom freedom;
     private final Set<List<Integer>> seen = new HashSet<>();
     private final List<BurstEntry> order = new ArrayList<>();
+    /** What those answer here that may answer anything. */
+    private final Map<BurstEntry, Answer> freeAnswers = new HashMap<>();
 
-    private LegalHistory(BurstHistory history, boolean twoLooks, long until) {
+    /**
+     * What isn't judged: calls of {@code answers} and of {@code calls} may answer anything, and the latter may as well not have
+     * been made. {@code waiting}: whoever has no answer has to wait in the end, and mustn't be released.
+     */
+    record Freedom(Set<BurstEntry> answers, Set<BurstEntry> calls, boolean waiting, int mostPoints) {
+        static final Freedom NONE = new Freedom(Set.of(), Set.of(), false, Integer.MAX_VALUE);
+
+        boolean ofAnswer(BurstEntry entry) {
+            return answers.contains(entry) || calls.contains(entry);
+        }
+    }
+
+    /** What a search comes to; UNKNOWN where it was ended because there are too many points. */
+    enum Outcome { ORDER, NO_ORDER, UNKNOWN }
+
+    private LegalHistory(BurstHistory history, boolean twoLooks, long until, Freedom freedom) {
         this.history = history;
         this.twoLooks = twoLooks;
         this.until = until;
+        this.freedom = freedom;
         lines = history.lines();
         lines.sort(Comparator.comparingLong(line -> line.get(0).end()));
     }
 
     /** Whether there is such an order. */
     static boolean explains(BurstHistory history, boolean twoLooks) {
-        return new LegalHistory(history, twoLooks, Long.MAX_VALUE - 1).explains();
+        return new LegalHistory(history, twoLooks, Long.MAX_VALUE - 1, Freedom.NONE).explains();
+    }
+
+    /** Whether there is an order where not all is judged. */
+    static Outcome outcome(BurstHistory history, Freedom freedom) {
+        LegalHistory search = new LegalHistory(history, true, Long.MAX_VALUE - 1, freedom);
+        return search.explains() ? Outcome.ORDER : search.isEndedEarly() ? Outcome.UNKNOWN : Outcome.NO_ORDER;
+    }
+
+    /** The answer of this call in an order where it alone isn't judged. */
+    static Other otherAnswer(BurstHistory history, BurstEntry entry, int mostPoints) {
+        LegalHistory search = new LegalHistory(history, true, Long.MAX_VALUE - 1,
+            new Freedom(Set.of(entry), Set.of(), false, mostPoints));
+        Outcome outcome = search.explains() ? Outcome.ORDER : search.isEndedEarly() ? Outcome.UNKNOWN : Outcome.NO_ORDER;
+        return new Other(outcome, search.freeAnswers.get(entry));
+    }
+
+    /** Whether one other answer would do, and which. */
+    record Other(Outcome outcome, Answer answer) {
+    }
+
+    private boolean isEndedEarly() {
+        return seen.size() > freedom.mostPoints();
     }
 
     /** The first answer, in the order in which they came, that no order explains. */
@@ -42,7 +88,7 @@ final class LegalHistory {
         List<BurstEntry> answered = history.entries().stream().filter(entry -> !entry.isOpen())
             .sorted(Comparator.comparingLong(BurstEntry::end)).toList();
         for (BurstEntry entry : answered) {
-            if (!new LegalHistory(history, true, entry.end()).explains()) {
+            if (!new LegalHistory(history, true, entry.end(), Freedom.NONE).explains()) {
                 return entry;
             }
         }
@@ -51,7 +97,7 @@ final class LegalHistory {
 
     /** An order of what ended before this entry did, the last first, with what has to come between. */
     static List<BurstEntry> orderBefore(BurstHistory history, BurstEntry entry) {
-        LegalHistory before = new LegalHistory(history, true, entry.end() - 1);
+        LegalHistory before = new LegalHistory(history, true, entry.end() - 1, Freedom.NONE);
         before.explains();
         return before.order;
     }
@@ -64,7 +110,7 @@ final class LegalHistory {
         if (isThrough(at)) {
             return true;
         }
-        if (!seen.add(at.key())) {
+        if (isEndedEarly() || !seen.add(at.key())) {
             return false;
         }
         int[] lineOrder = at.byEnd(lines);
@@ -76,7 +122,7 @@ final class LegalHistory {
         }
         for (int line : lineOrder) {
             BurstEntry entry = at.present(lines, line);
-            if (at.hasBegun(line) ? ends(at, line, entry) : begins(at, line, entry)) {
+            if (at.hasBegun(line) ? ends(at, line, entry) : isNotMade(at, line, entry) || begins(at, line, entry)) {
                 return true;
             }
         }
@@ -89,7 +135,7 @@ final class LegalHistory {
      */
     private HistoryPoint silent(HistoryPoint at, int line) {
         BurstEntry entry = at.present(lines, line);
-        if (entry.step().interrupts() || isOpen(entry)) {
+        if (entry.step().interrupts() || isOpen(entry) || freedom.ofAnswer(entry)) {
             return null;
         }
         if (at.hasBegun(line)) {
@@ -111,14 +157,37 @@ final class LegalHistory {
         return entry.end() > until;
     }
 
+    /** Whether any answer will do. */
+    private boolean isFree(BurstEntry entry) {
+        return isOpen(entry) || freedom.ofAnswer(entry);
+    }
+
+    private boolean isNotMade(HistoryPoint at, int line, BurstEntry entry) {
+        if (!freedom.calls().contains(entry)) {
+            return false;
+        }
+        HistoryPoint next = at.copy();
+        next.passes(line);
+        return goesOn(next);
+    }
+
     private boolean isThrough(HistoryPoint at) {
         for (int line = 0; line < lines.size(); line++) {
             BurstEntry entry = at.present(lines, line);
-            if (entry != null && !isOpen(entry)) {
+            if (entry != null && (!isOpen(entry) || freedom.waiting() && !waits(at, line, entry))) {
                 return false;
             }
         }
         return true;
+    }
+
+    /** Whether it waits there, and nothing lets it go on. */
+    private static boolean waits(HistoryPoint at, int line, BurstEntry entry) {
+        Model model = at.model();
+        int thread = entry.thread();
+        boolean isLate = entry.request().method().timed() && entry.request().nanoseconds() < LONG;
+        return at.hasBegun(line) && model.inside(thread) == null && !model.isReleased(thread) && !model.hearsInterrupt(thread)
+            && !isLate;
     }
 
     /** Takes a further step; where that leads to an end the entry is part of the order. */
@@ -147,7 +216,7 @@ final class LegalHistory {
 
     /** What the model makes of a call's beginning, or of the end of its routine or action. */
     private boolean follows(HistoryPoint next, int line, BurstEntry entry, ModelOutcome outcome, boolean wasInside) {
-        boolean ran = !isOpen(entry) && !entry.entered().isEmpty();
+        boolean ran = !isFree(entry) && !entry.entered().isEmpty();
         boolean possible = switch (outcome.kind()) {
             case HELD -> false;
             case ANSWERS -> (wasInside || !ran) && matches(next.model(), entry, outcome.answer());
@@ -157,23 +226,37 @@ final class LegalHistory {
         if (!possible) {
             return false;
         }
-        if (outcome.kind() == ModelOutcome.Kind.ANSWERS) {
-            next.passes(line);
-        } else {
+        if (outcome.kind() != ModelOutcome.Kind.ANSWERS) {
             next.begins(line);
+            return steps(next, entry);
         }
-        return steps(next, entry);
+        if (isOpen(entry) && freedom.waiting()) {
+            return false;
+        }
+        next.passes(line);
+        return answers(next, entry, outcome.answer());
+    }
+
+    /** A further step by which a call has this answer. */
+    private boolean answers(HistoryPoint next, BurstEntry entry, Answer answer) {
+        if (!steps(next, entry)) {
+            return false;
+        }
+        if (freedom.ofAnswer(entry)) {
+            freeAnswers.put(entry, answer);
+        }
+        return true;
     }
 
     /** Whether the answer may come of this wait: an arrival index is known when it begins. */
     private boolean mayCome(ModelWait wait, BurstEntry entry) {
-        return isOpen(entry) || !wait.method().ofBarrier() || entry.answer().kind() != Answer.Kind.VALUE
+        return isFree(entry) || !wait.method().ofBarrier() || entry.answer().kind() != Answer.Kind.VALUE
             || entry.answer().number() == wait.number();
     }
 
     /** Whether the routine was asked with just these numbers, or the action ran. */
     private boolean wasEntered(BurstEntry entry, Entered where) {
-        if (isOpen(entry)) {
+        if (isFree(entry)) {
             return true;
         }
         if (!where.ofPhaser()) {
@@ -192,7 +275,11 @@ final class LegalHistory {
             HistoryPoint next = at.copy();
             return follows(next, line, entry, endInside(next.model(), thread, inside), true);
         }
-        return leavesInterrupted(at, line, entry) || leavesLate(at, line, entry);
+        if (isOpen(entry) && freedom.waiting()) {
+            return false;
+        }
+        return freedom.ofAnswer(entry) && leavesReleased(at, line, entry) || leavesInterrupted(at, line, entry)
+            || leavesLate(at, line, entry);
     }
 
     private ModelOutcome endInside(Model model, int thread, Entered inside) {
@@ -219,9 +306,14 @@ final class LegalHistory {
         return next;
     }
 
+    private boolean leavesReleased(HistoryPoint at, int line, BurstEntry entry) {
+        HistoryPoint next = released(at, line, entry);
+        return next != null && answers(next, entry, at.copy().model().release(entry.thread()));
+    }
+
     private boolean leavesInterrupted(HistoryPoint at, int line, BurstEntry entry) {
         Model model = at.model();
-        boolean told = isOpen(entry) || entry.answer().isThrown(Answer.INTERRUPTED);
+        boolean told = isFree(entry) || entry.answer().isThrown(Answer.INTERRUPTED);
         boolean secondLook = twoLooks && entry.request().method().ofPhaser();
         if (!told || !model.hearsInterrupt(entry.thread()) || !secondLook && !model.mayLeave(entry.thread())) {
             return false;
@@ -229,24 +321,24 @@ final class LegalHistory {
         HistoryPoint next = at.copy();
         next.model().leaveInterrupted(entry.thread());
         next.passes(line);
-        return steps(next, entry);
+        return answers(next, entry, Answer.thrown(Answer.INTERRUPTED));
     }
 
     private boolean leavesLate(HistoryPoint at, int line, BurstEntry entry) {
-        boolean told = entry.request().method().timed() && (isOpen(entry) || entry.answer().isThrown(Answer.TIMEOUT));
+        boolean told = entry.request().method().timed() && (isFree(entry) || entry.answer().isThrown(Answer.TIMEOUT));
         if (!told || !at.model().mayLeave(entry.thread()) || !at.mayBeLate(lines, entry)) {
             return false;
         }
         HistoryPoint next = at.copy();
         next.model().leaveLate(entry.thread());
         next.passes(line);
-        return steps(next, entry);
+        return answers(next, entry, Answer.thrown(Answer.TIMEOUT));
     }
 
     // ---- answers
 
     private boolean matches(Model model, BurstEntry entry, Answer answer) {
-        return isOpen(entry) || answer.equals(entry.answer()) || isMeaningless(model, entry);
+        return isFree(entry) || answer.equals(entry.answer()) || isMeaningless(model, entry);
     }
 
     /** Counts after a termination are called meaningless in the Java documentation. */

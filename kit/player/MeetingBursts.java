@@ -13,7 +13,11 @@ final class MeetingBursts {
         new BurstKind("registration-while-a-phase-ends", MeetingBursts::registration),
         new BurstKind("bulk-registration-while-a-phase-ends", MeetingBursts::bulkRegistration),
         new BurstKind("looks-at-a-phaser", MeetingBursts::manyLooks),
-        new BurstKind("arrivals-that-nobody-awaits", MeetingBursts::arrivals));
+        new BurstKind("arrivals-that-nobody-awaits", MeetingBursts::arrivals),
+        new BurstKind("arrivals-one-after-the-other", MeetingBursts::manyArrivals),
+        new BurstKind("barging-at-a-phaser", MeetingBursts::barging));
+
+    private static final int MANY = 24;
 
     private MeetingBursts() {
     }
@@ -136,6 +140,25 @@ final class MeetingBursts {
         }
         make.thread(BurstMaker.call(Method.AWAIT_ADVANCE, phaser, 0));
         looks(make, phaser);
+    }
+
+    /** Few parties, and more threads than these that arrive again and again: each may be the last of a phase. */
+    private static void manyArrivals(BurstMaker make) {
+        int phaser = make.root(make.between(1, 2));
+        for (int thread = make.between(2, 4); thread > 0; thread--) {
+            make.thread(BurstMaker.times(make.between(4, MANY), BurstMaker.call(Method.ARRIVE, phaser)));
+        }
+    }
+
+    /** More threads than parties meet, so that one may end a phase while another still wakes those of the phase before. */
+    private static void barging(BurstMaker make) {
+        int parties = make.between(1, 3);
+        int phaser = make.root(parties, make.of(50) ? Policy.DEFAULT : BurstMaker.NEVER);
+        int most = make.of(50) ? 8 : 3;
+        for (int thread = parties + make.between(1, 4); thread > 0; thread--) {
+            make.thread(BurstMaker.times(make.between(1, most), meet(phaser)));
+        }
+        make.closes(Request.of(Method.FORCE_TERMINATION, phaser));
     }
 
     private static void looks(BurstMaker make, int phaser) {

@@ -14,19 +14,21 @@ final class Options {
         kit/play [OPTION].. PROGRAM SCHEDULE [--trace FILE]
         kit/play [OPTION].. FOLDER.. [--transcripts FOLDER]
         kit/play [OPTION].. --random N [--seed S] [--keep FOLDER]
-        kit/play [OPTION].. --burst ROUNDS [--seed S] [--round R] [--keep FOLDER]
-        kit/play [OPTION].. --burst FILE
+        kit/play [OPTION].. --burst ROUNDS [--for SECONDS] [--seed S] [--round R] [--keep FOLDER]
+        kit/play [OPTION].. --for SECONDS [--seed S] [--round R] [--keep FOLDER]
+        kit/play [OPTION].. --burst FILE [--for SECONDS]
           --factory NAME     a class on the class path KIT_CLASSPATH that implements kit.player.Factory
           --port COMMAND     a command that speaks the port protocol (docs/FORMATS.md)
-          --jobs N           starts the port so many times, and plays so many cases at once
+          --jobs N           starts the port so many times, and plays so many cases or bursts at once
           --known            tells documented differences over (docs/BEHAVIOUR.md, "Where the JDK differs"), and counts them
           --trace FILE       writes the trace of what was played
           --transcripts FOLDER
                              writes what was said to the JDK's classes and what they answered, for kit/replay
           --random N         plays N scenarios of its own, with documented differences told over
           --burst ROUNDS     plays so many bursts: several calls at once on threads that run freely
-          --burst FILE       plays a burst that was kept, 1000 times over
-          --round R          plays the burst of round R alone, ROUNDS times over
+          --for SECONDS      plays bursts for so long, and no more than ROUNDS where these are given
+          --burst FILE       plays a burst that was kept until it fails, 20000 times at most
+          --round R          plays the burst of round R alone until it fails, ROUNDS times at most
           --seed S           other scenarios, or other bursts; by default 1
           --keep FOLDER      writes each scenario that differs there, as NAME.asm, NAME.schedule and NAME.trace, and each
                              burst that fails, as KIND-SEED-ROUND.burst
@@ -39,6 +41,7 @@ final class Options {
     private static final long MOST_SCENARIOS = 1_000_000;
     private static final long LAST_SEED = 1_000_000_000_000L;
     private static final long MOST_ROUNDS = 1_000_000_000L;
+    private static final long MOST_SECONDS = 10_000_000;
     private static final long MOST_JOBS = 64;
     private static final double LEAST_PATIENCE = 0.1;
     private static final double MOST_PATIENCE = 100;
@@ -67,7 +70,8 @@ final class Options {
     private int jobs = 1;
     private double patience = 1;
     private String burst;
-    private long round = -1;
+    private long round = BurstOrder.EACH;
+    private long seconds;
     private String factory = JdkFactory.class.getName();
     private String port;
 
@@ -87,6 +91,7 @@ final class Options {
                 case "--random" -> random = (int) number(word, at, 1, MOST_SCENARIOS);
                 case "--seed" -> seed = number(word, at, 0, LAST_SEED);
                 case "--burst" -> burst = argument(word, at);
+                case "--for" -> seconds = number(word, at, 1, MOST_SECONDS);
                 case "--round" -> round = number(word, at, 0, MOST_ROUNDS);
                 case "--patience" -> patience = factor(word, at);
                 case "--known" -> known = true;
@@ -99,19 +104,20 @@ final class Options {
     }
 
     private void check() throws Wrong {
-        if (programs.isEmpty() == (random == 0 && burst == null)) {
-            throw new Wrong("either programs, or --random, or --burst");
+        if (programs.isEmpty() == (random == 0 && !playsBursts())) {
+            throw new Wrong("either programs, or --random, or --burst or --for");
         }
-        if (burst != null && (random > 0 || jobs > 1 || patience != 1 || report != null || known || firstTry || keepGoing)) {
-            throw new Wrong("with --burst go only --factory or --port, --seed, --round, and --keep");
+        if (playsBursts() && (random > 0 || known || firstTry || keepGoing)) {
+            throw new Wrong("with --burst and --for go only --factory or --port, --jobs, --seed, --round, --keep, --report, and"
+                + " --patience");
         }
-        if (round >= 0 && burst == null) {
-            throw new Wrong("--round wants --burst");
+        if (round >= 0 && !playsBursts()) {
+            throw new Wrong("--round wants --burst or --for");
         }
         if (jobs > 1 && port == null) {
             throw new Wrong("--jobs wants --port: classes on the JVM are played one case after the other");
         }
-        if (keep != null && random == 0 && burst == null) {
+        if (keep != null && random == 0 && !playsBursts()) {
             throw new Wrong("--keep wants --random or --burst");
         }
         if (transcripts != null && (programs.isEmpty() || schedule != null)) {
@@ -120,6 +126,10 @@ final class Options {
         if (trace != null && schedule == null) {
             throw new Wrong("--trace wants one program and its schedule");
         }
+    }
+
+    private boolean playsBursts() {
+        return burst != null || seconds > 0;
     }
 
     private static String argument(String option, Iterator<String> at) throws Wrong {
@@ -172,11 +182,11 @@ final class Options {
     /** The bursts that were asked for, or null. */
     BurstOrder bursts() throws Wrong, IOException {
         if (burst == null) {
-            return null;
+            return seconds == 0 ? null : new BurstOrder(seed, round, MOST_ROUNDS, seconds);
         }
         Path file = Path.of(burst);
         if (Files.isRegularFile(file)) {
-            BurstOrder kept = BurstOrder.ofFile(file, keep);
+            BurstOrder kept = BurstOrder.ofFile(file, seconds);
             if (kept == null) {
                 throw new Wrong(burst + " is no burst that was kept");
             }
@@ -186,7 +196,7 @@ final class Options {
             throw new Wrong("there is no " + burst);
         }
         long count = number("--burst", List.of(burst).iterator(), 1, MOST_ROUNDS);
-        return round < 0 ? BurstOrder.of(seed, count, keep) : new BurstOrder(seed, round, count, keep);
+        return new BurstOrder(seed, round, count, seconds);
     }
 
     /** The real side that was asked for. */
@@ -199,6 +209,15 @@ final class Options {
         } catch (ReflectiveOperationException | ClassCastException none) {
             throw new Wrong(factory + " is no factory: " + none);
         }
+    }
+
+    /** A real side for each burst that is played at once. */
+    List<Stage> stages() throws Wrong {
+        List<Stage> stages = new ArrayList<>();
+        for (int job = 0; job < jobs; job++) {
+            stages.add(stage());
+        }
+        return stages;
     }
 
     /** A judge for each case that is played at once. */
@@ -224,6 +243,11 @@ final class Options {
     /** The schedule of the one program that is named; null where there is none. */
     Path schedule() {
         return schedule;
+    }
+
+    /** How many times as long as usual it waits. */
+    double patience() {
+        return patience;
     }
 
     Path vuthgal() {

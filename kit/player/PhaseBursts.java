@@ -13,9 +13,12 @@ final class PhaseBursts {
         new BurstKind("time-that-runs-out", PhaseBursts::timeThatRunsOut),
         new BurstKind("time-among-pokes", PhaseBursts::timeAmongPokes),
         new BurstKind("the-longest-time", PhaseBursts::longestTime),
+        new BurstKind("a-crowd-at-a-phase", PhaseBursts::crowd),
         new BurstKind("force-among-waiters", PhaseBursts::forceAmong),
-        new BurstKind("force-against-the-end", PhaseBursts::forceAgainstTheEnd));
+        new BurstKind("force-against-the-end", PhaseBursts::forceAgainstTheEnd),
+        new BurstKind("force-among-arrivals", PhaseBursts::forceAmongArrivals));
 
+    private static final int MANY = 40;
     private static final long DAY = 86_400_000_000_000L;
 
     private PhaseBursts() {
@@ -129,6 +132,15 @@ final class PhaseBursts {
         make.thread(arrive(phaser).after(make.time(300, 1_000)));
     }
 
+    /** More waiters than any round number of the small ones. */
+    private static void crowd(BurstMaker make) {
+        int phaser = make.root(1, make.of(50) ? Policy.DEFAULT : BurstMaker.NEVER);
+        for (int waiter = make.between(BurstMaker.MOST_THREADS + 1, BurstMaker.CROWD); waiter > 0; waiter--) {
+            make.thread(anyWait(make, phaser));
+        }
+        make.thread(arrive(phaser).after(make.time(0, 3_000)));
+    }
+
     private static void forceAmong(BurstMaker make) {
         int parties = make.between(2, 4);
         int phaser = make.root(parties, make.of(50) ? Policy.DEFAULT : BurstMaker.NEVER);
@@ -140,6 +152,19 @@ final class PhaseBursts {
         }
         int thread = make.thread(BurstMaker.call(Method.FORCE_TERMINATION, phaser).after(make.time(0, 200)));
         make.then(thread, BurstMaker.call(make.any(List.of(Method.GET_PHASE, Method.ARRIVE, Method.REGISTER)), phaser));
+    }
+
+    /** Phases end one behind the other, others look at their numbers, and a forced termination comes at some moment. */
+    private static void forceAmongArrivals(BurstMaker make) {
+        int phaser = make.root(1);
+        for (int thread = make.between(1, 2); thread > 0; thread--) {
+            make.thread(BurstMaker.times(make.between(MANY / 2, MANY), arrive(phaser)));
+        }
+        for (int looker = make.between(1, 2); looker > 0; looker--) {
+            make.thread(BurstMaker.times(make.between(MANY / 2, MANY), BurstMaker.call(Method.GET_PHASE, phaser)));
+        }
+        make.thread(BurstMaker.call(Method.FORCE_TERMINATION, phaser).after(make.time(0, 40)),
+            BurstMaker.call(Method.GET_PHASE, phaser));
     }
 
     /** A phase ends, somebody registers, and a forced termination comes in between. */

@@ -42,12 +42,15 @@ public final class Player {
     }
 
     private int playBursts(BurstOrder bursts) throws IOException, Options.Wrong {
-        Stage stage = options.stage();
-        try {
-            return bursts.play(stage, System.out);
-        } finally {
-            stage.close();
+        List<Stage> stages = options.stages();
+        Bursts played = new Bursts(stages, (long) (Bursts.PATIENT * options.patience()), options.keep(), System.out);
+        played.play(bursts);
+        played.tell();
+        stages.forEach(Stage::close);
+        if (options.report() != null) {
+            played.count().suite().write(options.report());
         }
+        return played.count().status();
     }
 
     private int playOne() throws IOException, Options.Wrong {

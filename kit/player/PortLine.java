@@ -10,7 +10,9 @@ record PortLine(Kind kind, int thread, int[] numbers, String line) {
         /** A call has come to this. */
         VALUE, VOID, THROWN, THROUGH, FAULT,
         /** A call stands at the beginning of an onAdvance or an action. */
-        ENTERS_ROUTINE, ENTERS_ACTION
+        ENTERS_ROUTINE, ENTERS_ACTION,
+        /** Of a list of calls: one is made, has begun, or was the last. */
+        DID, BEGAN, END
     }
 
     private static final int[] NONE = {};
@@ -34,6 +36,11 @@ record PortLine(Kind kind, int thread, int[] numbers, String line) {
         return ofThread(line, thread, words);
     }
 
+    /** The words as an answer of the same thread, which stand in this line. */
+    PortLine ofThisThread(String words) {
+        return ofThread(line, thread, (thread + " " + words).split(" ", -1));
+    }
+
     private static PortLine ofThread(String line, int thread, String[] words) {
         return switch (words[1]) {
             case "=" -> of(Kind.VALUE, thread, line, words, 2, 1);
@@ -41,6 +48,9 @@ record PortLine(Kind kind, int thread, int[] numbers, String line) {
             case "throw" -> of(Kind.THROWN, thread, line, words, 2, 1);
             case "through" -> of(Kind.THROUGH, thread, line, words, 2, 1);
             case "fault" -> new PortLine(Kind.FAULT, thread, NONE, line);
+            case "did" -> new PortLine(Kind.DID, thread, NONE, line);
+            case "began" -> new PortLine(Kind.BEGAN, thread, NONE, line);
+            case "end" -> of(Kind.END, thread, line, words, 2, 0);
             case "enter" -> switch (words.length > 2 ? words[2] : "") {
                 case "phaser" -> of(Kind.ENTERS_ROUTINE, thread, line, words, 3, 3);
                 case "barrier" -> of(Kind.ENTERS_ACTION, thread, line, words, 3, 1);
@@ -88,6 +98,14 @@ record PortLine(Kind kind, int thread, int[] numbers, String line) {
     /** Whether it answers a command for objects. */
     boolean ofObjects() {
         return kind == Kind.OK || kind == Kind.NO;
+    }
+
+    /** Whether it tells of a list of calls, where the port plays lists. */
+    boolean ofList() {
+        return switch (kind) {
+            case ENTERS_ROUTINE, ENTERS_ACTION, DID, BEGAN, END -> true;
+            default -> false;
+        };
     }
 
     /** Why the port can't do it. */

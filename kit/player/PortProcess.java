@@ -4,6 +4,7 @@ import java.io.BufferedWriter;
 import java.io.IOException;
 import java.io.OutputStreamWriter;
 import java.nio.charset.StandardCharsets;
+import java.util.List;
 import java.util.Map;
 import java.util.Set;
 import java.util.concurrent.BlockingQueue;
@@ -22,6 +23,7 @@ final class PortProcess {
     private static final long LOOK = SECOND / 1_000;
     private final Process process;
     private final Thread reader = new Thread(this::read, "port reader");
+    private final BurstSpread spread;
     private final BufferedWriter into;
     private final BoundedLines from;
     /** The answers to commands for objects; null where the port has broken down. */
@@ -31,6 +33,8 @@ final class PortProcess {
     private final Map<Integer, Stage.Advance> advances = new ConcurrentHashMap<>();
     /** The barriers whose action asks the player. */
     private final Set<Integer> actions = ConcurrentHashMap.newKeySet();
+    /** What it tells of lists of calls; null where it was given none. */
+    private volatile BlockingQueue<PortLine> ofLists;
     private volatile boolean asked;
     private volatile boolean answered;
     private volatile boolean answeredByThreads;
@@ -50,6 +54,7 @@ final class PortProcess {
         } catch (IOException failed) {
             throw new PortEnded("the port can't be started: " + failed.getMessage(), true);
         }
+        spread = new BurstSpread(process);
         into = new BufferedWriter(new OutputStreamWriter(process.getOutputStream(), StandardCharsets.US_ASCII));
         from = new BoundedLines(process.getInputStream());
         reader.setDaemon(true);
@@ -71,6 +76,7 @@ final class PortProcess {
         tasks = null;
         advances.clear();
         actions.clear();
+        ofLists = null;
         order("case");
     }
 
@@ -144,6 +150,22 @@ final class PortProcess {
         }
     }
 
+    /** Gives the threads that it has by now processors of their own. */
+    void spreadThreads() {
+        spread.spread();
+    }
+
+    /** How many threads were named. */
+    int countThreads() {
+        return threads.size();
+    }
+
+    /** Tells lists of calls, or begins them; what the port tells of them goes to {@code told}. */
+    synchronized void writeLists(List<String> lines, BlockingQueue<PortLine> told) {
+        ofLists = told;
+        write(String.join("\n", lines));
+    }
+
     /** Who can't write to it any more waits until the reader says why, which takes longer where the machine is busy. */
     private void awaitBreakdown() {
         long begun = System.nanoTime();
@@ -204,6 +226,11 @@ final class PortProcess {
             asked = false;
             answered = true;
             replies.add(new Reply(said));
+            return;
+        }
+        BlockingQueue<PortLine> lists = ofLists;
+        if (lists != null && said.ofList()) {
+            lists.add(said);
             return;
         }
         PortThread thread = threads.get(said.thread());

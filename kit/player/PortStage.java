@@ -1,9 +1,15 @@
 package kit.player;
 
+import java.util.ArrayList;
+import java.util.List;
+import java.util.concurrent.BlockingQueue;
+
 /** Calls made by the process of a port in any language. A process that hangs is killed, and started again. */
 final class PortStage implements Stage {
     private final String command;
     private PortProcess process;
+    /** Null until it was asked. */
+    private Boolean takesLists;
 
     PortStage(String command) {
         this.command = command;
@@ -39,6 +45,55 @@ final class PortStage implements Stage {
             throw new PortEnded("there is no port", true);
         }
         return process.thread(number);
+    }
+
+    /** A port that doesn't know the command is asked once, and started anew where that was too much for it. */
+    @Override
+    public boolean takesLists() {
+        if (takesLists == null) {
+            takesLists = isReadyForLists();
+        }
+        return takesLists;
+    }
+
+    private boolean isReadyForLists() {
+        try {
+            begin(patience()[0]);
+            process.order("lists");
+            return true;
+        } catch (Unplayable goesWithoutThem) {
+            return false;
+        } catch (Breakdown unknown) {
+            abandon();
+            return false;
+        }
+    }
+
+    @Override
+    public void prepareForLists(int threads) {
+        if (process.countThreads() > threads) {
+            return;
+        }
+        List<RealThread> all = new ArrayList<>(List.of(thread(LOOKER)));
+        for (int number = 0; number < threads; number++) {
+            all.add(thread(number));
+        }
+        for (RealThread each : all) {
+            if (!each.done(each.tell(Request.of(Method.IS_INTERRUPTED, 0)), patience()[0].bound())) {
+                throw new Hangs("isInterrupted doesn't answer");
+            }
+        }
+        process.spreadThreads();
+    }
+
+    @Override
+    public void tellLists(List<String> lines, BlockingQueue<PortLine> told) {
+        process.writeLists(lines, told);
+    }
+
+    @Override
+    public void askSoFar() {
+        process.order("so-far");
     }
 
     @Override

@@ -1,5 +1,7 @@
 package kit.player;
 
+import java.util.function.IntPredicate;
+
 /** A thread of a port's process. */
 final class PortThread extends RealThread {
     private static final int LAST_EXCEPTION = Answer.TIMEOUT;
@@ -62,17 +64,24 @@ final class PortThread extends RealThread {
         if (call.inside()) {
             throw said.fault("thread " + number + " stands in an onAdvance or an action, and wasn't told to end it");
         }
-        Method method = call.request.method();
         switch (said.kind()) {
-            case VALUE -> finish(call, value(said, method));
-            case VOID -> finish(call, nothing(said, method));
-            case THROWN -> finish(call, thrown(said));
-            case THROUGH -> finish(call, through(said, call));
-            case FAULT -> finish(call, Answer.fault(Excerpt.of(said.line())));
             case ENTERS_ROUTINE -> enterRoutine(said, call);
             case ENTERS_ACTION -> enterAction(said, call);
-            default -> throw new AssertionError(said);
+            case DID, BEGAN, END -> throw said.fault("thread " + number + " was given no list");
+            default -> finish(call, answer(said, call.request.method(), call::wasToldToThrow));
         }
+    }
+
+    /** What a call of this method has come to. */
+    static Answer answer(PortLine said, Method method, IntPredicate wasToldToThrow) {
+        return switch (said.kind()) {
+            case VALUE -> value(said, method);
+            case VOID -> nothing(said, method);
+            case THROWN -> thrown(said);
+            case THROUGH -> through(said, wasToldToThrow);
+            case FAULT -> Answer.fault(Excerpt.of(said.line()));
+            default -> throw said.fault("it is no answer of a call");
+        };
     }
 
     private static Answer value(PortLine said, Method method) {
@@ -99,8 +108,8 @@ final class PortThread extends RealThread {
         return Answer.thrown(said.number(0));
     }
 
-    private static Answer through(PortLine said, Call call) {
-        if (!call.wasToldToThrow(said.number(0))) {
+    private static Answer through(PortLine said, IntPredicate wasToldToThrow) {
+        if (!wasToldToThrow.test(said.number(0))) {
             throw said.fault("no onAdvance or action of this call was told to throw that");
         }
         return Answer.through(said.number(0));

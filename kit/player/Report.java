@@ -76,11 +76,11 @@ final class Report {
         return number > 0 && number <= lines.length ? lines[number - 1] : "(no line)";
     }
 
-    private static String seconds(long nanoseconds) {
+    static String seconds(long nanoseconds) {
         return String.format(Locale.ROOT, "%.3f", nanoseconds / 1e9);
     }
 
-    private static String escaped(String text) {
+    static String escaped(String text) {
         StringBuilder escaped = new StringBuilder();
         for (char letter : text.toCharArray()) {
             switch (letter) {

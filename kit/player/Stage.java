@@ -1,5 +1,8 @@
 package kit.player;
 
+import java.util.List;
+import java.util.concurrent.BlockingQueue;
+
 /** Where the real calls are made: in this JVM, or by a port's process. Only the player's own thread calls it. */
 interface Stage {
     /** The number of the player's own thread, which makes the looks at the objects; those of a program are below it. */
@@ -39,6 +42,26 @@ interface Stage {
     /** Whether its threads are threads of this JVM, which run a call's watcher themselves. */
     default boolean isHere() {
         return false;
+    }
+
+    /** Whether it takes lists of calls, begins them all at once, and tells when each call began and ended. */
+    default boolean takesLists() {
+        return false;
+    }
+
+    /** Makes the threads for lists, these and the looker, so that none has to be made when they begin. */
+    default void prepareForLists(int threads) {
+        throw new IllegalStateException("it takes no lists");
+    }
+
+    /** Tells lists of calls, in the words of the port protocol; what comes of them goes to {@code told}. */
+    default void tellLists(List<String> lines, BlockingQueue<PortLine> told) {
+        throw new IllegalStateException("it takes no lists");
+    }
+
+    /** Puts what it can tell of lists that haven't ended into their queue. */
+    default void askSoFar() {
+        throw new IllegalStateException("it takes no lists");
     }
 
     /** How long to wait, first and then at each further try. */

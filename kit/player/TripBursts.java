@@ -8,6 +8,7 @@ final class TripBursts {
     static final List<BurstKind> KINDS = List.of(
         new BurstKind("trips", TripBursts::trips),
         new BurstKind("barging", TripBursts::barging),
+        new BurstKind("a-crowd-at-a-barrier", TripBursts::crowd),
         new BurstKind("released-and-then-broken", TripBursts::releasedAndBroken),
         new BurstKind("released-and-then-reset", TripBursts::releasedAndReset),
         new BurstKind("interrupt-behind-the-trip", TripBursts::interruptBehind),
@@ -52,6 +53,13 @@ final class TripBursts {
             make.thread(BurstMaker.times(make.between(1, most), await(barrier)));
         }
         make.closes(Request.of(Method.RESET, barrier));
+    }
+
+    private static void crowd(BurstMaker make) {
+        int parties = make.between(BurstMaker.MOST_THREADS + 1, BurstMaker.CROWD);
+        int barrier = make.barrier(parties, make.of(30), 0, false);
+        others(make, barrier, parties);
+        make.claims(BurstClaim.TRIPS);
     }
 
     private static void releasedAndBroken(BurstMaker make) {

@@ -3,8 +3,11 @@
 //     g++ -std=c++17 -O2 -pthread -o port kit/ports/cpp/*.cpp
 //     kit/play --port ./port kit/cases
 //
-// Another port in C++ makes its own classes in `make_phaser` and `make_barrier`, and calls them in `call`; the rest stays.
+// Another port in C++ makes its own classes in `make_phaser` and `make_barrier`, and calls them in `call_phaser` and
+// `call_barrier`; the rest stays.
 
+#include <atomic>
+#include <chrono>
 #include <condition_variable>
 #include <cstdlib>
 #include <deque>
@@ -14,6 +17,7 @@
 #include <map>
 #include <memory>
 #include <mutex>
+#include <set>
 #include <sstream>
 #include <string>
 #include <thread>
@@ -38,7 +42,54 @@ struct Through {
   int number;
 };
 
-std::string outcome(std::istringstream& words);
+/// A call that is ready to be made; its answer is what it returned, in the protocol's words.
+using Call = std::function<std::string()>;
+
+Call call_of(std::istringstream& words);
+std::string outcome(const Call& call);
+
+using Nanoseconds = long long;
+
+Nanoseconds now() {
+  return std::chrono::nanoseconds(std::chrono::steady_clock::now().time_since_epoch()).count();
+}
+
+void pause(Nanoseconds length) {
+  const Nanoseconds until = now() + length;
+  while (length > 0 && now() < until) {
+  }
+}
+
+/// Lets the threads of a burst begin at once. They spin, since to wake up takes longer than a call.
+class Gate {
+ public:
+  explicit Gate(int threads) : missing_(threads) {}
+
+  void pass() {
+    const Nanoseconds until = now() + kSpins;
+    missing_ -= 1;
+    while (missing_ > 0) {
+      if (now() > until) {
+        std::this_thread::yield();
+      }
+    }
+  }
+
+ private:
+  static constexpr Nanoseconds kSpins = 100000;
+  std::atomic<int> missing_;
+};
+
+/// A step of a thread's list in a burst, and, once it is made, how it went.
+struct Step {
+  int number;
+  Nanoseconds pause_before;
+  Call call;
+  std::atomic<Nanoseconds> begun{0};
+  Nanoseconds ended = 0;
+  std::string answer{};
+  std::string entered{};  // a line for each onAdvance and action
+};
 
 /// A thread of a case: makes the calls that it is told to make, also in the middle of an onAdvance or an action.
 class Actor : public Thread {
@@ -64,7 +115,79 @@ class Actor : public Thread {
     return actor.serve();
   }
 
+  /// The same in a list, where nobody is asked: notes it, and goes on behind so long a pause. False where it is in none.
+  static bool passes(const std::string& what, Nanoseconds length) {
+    Actor& actor = static_cast<Actor&>(current());
+    if (!actor.present_) {
+      return false;
+    }
+    actor.present_->entered += std::to_string(actor.number_) + " enter " + what + '\n';
+    pause(length);
+    return true;
+  }
+
+  /// One more step of its list. It has no other list then.
+  void give(int number, Nanoseconds pause_before, Call call) {
+    list_.emplace_back();
+    list_.back().number = number;
+    list_.back().pause_before = pause_before;
+    list_.back().call = std::move(call);
+  }
+
+  /// Makes its list, and begins when all who pass this gate do.
+  void go(std::shared_ptr<Gate> gate) {
+    gate_ = std::move(gate);
+    tell("list");
+  }
+
+  /// What it has done of a list that hasn't ended.
+  std::string so_far() {
+    std::lock_guard<std::mutex> lock(mutex_);
+    const size_t made = made_;
+    std::string lines = did(made);
+    if (made < list_.size() && list_[made].begun > 0) {
+      lines += std::to_string(number_) + " began " + std::to_string(list_[made].number) + ' ' +
+               std::to_string(list_[made].begun) + '\n';
+    }
+    return lines;
+  }
+
  private:
+  /// The clock is read outside two fences: what a call has done is seen by whoever begins after its end.
+  void make_list() {
+    gate_->pass();
+    for (Step& step : list_) {
+      pause(step.pause_before);
+      present_ = &step;
+      step.begun = now();
+      std::atomic_thread_fence(std::memory_order_seq_cst);
+      step.answer = outcome(step.call);
+      std::atomic_thread_fence(std::memory_order_seq_cst);
+      step.ended = now();
+      present_ = nullptr;
+      made_ += 1;
+    }
+    std::string lines;
+    {
+      std::lock_guard<std::mutex> lock(mutex_);
+      lines = did(list_.size());
+      list_.clear();
+      made_ = 0;
+    }
+    say(lines + std::to_string(number_) + " end");
+  }
+
+  /// The first so many steps of its list, as they are told.
+  std::string did(size_t count) const {
+    std::ostringstream lines;
+    for (size_t at = 0; at < count; at++) {
+      const Step& step = list_[at];
+      lines << step.entered << number_ << " did " << step.number << ' ' << step.begun << ' ' << step.ended << ' '
+            << step.answer << '\n';
+    }
+    return lines.str();
+  }
+
   /// Makes calls until it is told to end what it stands in; answers what that is to answer.
   int serve() {
     for (;;) {
@@ -72,7 +195,11 @@ class Actor : public Thread {
       std::string word;
       words >> word;
       if (word == "call") {
-        say(std::to_string(number_) + " " + outcome(words));
+        say(std::to_string(number_) + " " + outcome(call_of(words)));
+        continue;
+      }
+      if (word == "list") {
+        make_list();
         continue;
       }
       int number = 0;
@@ -96,7 +223,22 @@ class Actor : public Thread {
   std::mutex mutex_;
   std::condition_variable told_something_;
   std::deque<std::string> told_;
+  std::deque<Step> list_;  // the reader's until `go`, then the thread's
+  std::shared_ptr<Gate> gate_;
+  std::atomic<size_t> made_{0};
+  Step* present_ = nullptr;
 };
+
+/// What an onAdvance or an action does in a list: from which phase on it answers true, or never, where that is negative;
+/// what it throws, or nothing, where that is 0.
+struct Plan {
+  Nanoseconds lasts = 0;
+  int number = 0;
+};
+
+// The plans of the burst, by the numbers of phasers and barriers.
+std::map<int, Plan> advances;
+std::map<int, Plan> actions;
 
 /// A phaser whose onAdvance asks the player.
 class AskingPhaser : public Phaser {
@@ -108,6 +250,10 @@ class AskingPhaser : public Phaser {
   bool on_advance(int phase, int parties) override {
     std::ostringstream what;
     what << "phaser " << number_ << ' ' << phase << ' ' << parties;
+    const Plan& plan = advances.at(number_);
+    if (Actor::passes(what.str(), plan.lasts)) {
+      return plan.number >= 0 && (phase >= plan.number || parties == 0);
+    }
     return Actor::enter(what.str()) != 0;
   }
 
@@ -119,6 +265,15 @@ class AskingPhaser : public Phaser {
 std::vector<std::unique_ptr<Phaser>> phasers;
 std::vector<std::unique_ptr<CyclicBarrier>> barriers;
 std::map<int, std::unique_ptr<Actor>> actors;
+
+/// Only the reader of commands asks for it.
+Actor& actor(int number) {
+  std::unique_ptr<Actor>& place = actors[number];
+  if (!place) {
+    place = std::make_unique<Actor>(number);
+  }
+  return *place;
+}
 
 int number_of(const Phaser* phaser) {
   for (size_t at = 0; at < phasers.size(); at++) {
@@ -135,56 +290,70 @@ int number(std::istringstream& words) {
   return number;
 }
 
-/// The time behind a call, or that without an end where there is none.
-Time time_of(std::istringstream& words) {
-  long long nanoseconds = 0;
-  return words >> nanoseconds ? Time(std::chrono::nanoseconds(nanoseconds)) : Time();
+/// The time behind a call, which begins when the call does; none where there is none.
+std::function<Time()> time_of(std::istringstream& words) {
+  Nanoseconds length = 0;
+  if (words >> length) {
+    return [length] { return Time(std::chrono::nanoseconds(length)); };
+  }
+  return [] { return Time(); };
 }
 
 std::string value(int number) { return "= " + std::to_string(number); }
 
-std::string call_phaser(const std::string& method, Phaser& phaser, std::istringstream& words) {
-  if (method == "register") return value(phaser.register_party());
-  if (method == "bulkRegister") return value(phaser.bulk_register(number(words)));
-  if (method == "arrive") return value(phaser.arrive());
-  if (method == "arriveAndDeregister") return value(phaser.arrive_and_deregister());
-  if (method == "arriveAndAwaitAdvance") return value(phaser.arrive_and_await_advance());
-  if (method == "awaitAdvance") return value(phaser.await_advance(number(words)));
-  if (method == "awaitAdvanceInterruptibly") {
-    const int phase = number(words);
-    return value(phaser.await_advance_interruptibly(phase, time_of(words)));
-  }
+Call call_phaser(const std::string& method, Phaser& phaser, std::istringstream& words) {
+  if (method == "register") return [&phaser] { return value(phaser.register_party()); };
+  if (method == "arrive") return [&phaser] { return value(phaser.arrive()); };
+  if (method == "arriveAndDeregister") return [&phaser] { return value(phaser.arrive_and_deregister()); };
+  if (method == "arriveAndAwaitAdvance") return [&phaser] { return value(phaser.arrive_and_await_advance()); };
   if (method == "forceTermination") {
-    phaser.force_termination();
-    return "ok";
+    return [&phaser] {
+      phaser.force_termination();
+      return std::string("ok");
+    };
   }
-  if (method == "getPhase") return value(phaser.phase());
-  if (method == "getRegisteredParties") return value(phaser.registered_parties());
-  if (method == "getArrivedParties") return value(phaser.arrived_parties());
-  if (method == "getUnarrivedParties") return value(phaser.unarrived_parties());
-  if (method == "isTerminated") return value(phaser.is_terminated());
-  if (method == "getParent") return value(number_of(phaser.parent()));
-  if (method == "getRoot") return value(number_of(phaser.root()));
-  return "fault there is no " + method;
+  if (method == "getPhase") return [&phaser] { return value(phaser.phase()); };
+  if (method == "getRegisteredParties") return [&phaser] { return value(phaser.registered_parties()); };
+  if (method == "getArrivedParties") return [&phaser] { return value(phaser.arrived_parties()); };
+  if (method == "getUnarrivedParties") return [&phaser] { return value(phaser.unarrived_parties()); };
+  if (method == "isTerminated") return [&phaser] { return value(phaser.is_terminated()); };
+  if (method == "getParent") return [&phaser] { return value(number_of(phaser.parent())); };
+  if (method == "getRoot") return [&phaser] { return value(number_of(phaser.root())); };
+  const int operand = number(words);
+  if (method == "bulkRegister") return [&phaser, operand] { return value(phaser.bulk_register(operand)); };
+  if (method == "awaitAdvance") return [&phaser, operand] { return value(phaser.await_advance(operand)); };
+  if (method == "awaitAdvanceInterruptibly") {
+    return [&phaser, operand, time = time_of(words)] { return value(phaser.await_advance_interruptibly(operand, time())); };
+  }
+  return [method] { return "fault there is no " + method; };
 }
 
-std::string call_barrier(const std::string& method, CyclicBarrier& barrier, std::istringstream& words) {
-  if (method == "await") return value(barrier.await(time_of(words)));
+Call call_barrier(const std::string& method, CyclicBarrier& barrier, std::istringstream& words) {
+  if (method == "await") return [&barrier, time = time_of(words)] { return value(barrier.await(time())); };
   if (method == "reset") {
-    barrier.reset();
-    return "ok";
+    return [&barrier] {
+      barrier.reset();
+      return std::string("ok");
+    };
   }
-  if (method == "isBroken") return value(barrier.is_broken());
-  if (method == "getNumberWaiting") return value(barrier.number_waiting());
-  return value(barrier.parties());
+  if (method == "isBroken") return [&barrier] { return value(barrier.is_broken()); };
+  if (method == "getNumberWaiting") return [&barrier] { return value(barrier.number_waiting()); };
+  return [&barrier] { return value(barrier.parties()); };
 }
 
-std::string call(std::istringstream& words) {
+/// A call, ready to be made by whichever thread; also the interrupt that a list may hold.
+Call call_of(std::istringstream& words) {
   std::string method;
   words >> method;
-  if (method == "interrupted") return value(Thread::current().clear_interrupted());
-  if (method == "isInterrupted") return value(Thread::current().is_interrupted());
+  if (method == "interrupted") return [] { return value(Thread::current().clear_interrupted()); };
+  if (method == "isInterrupted") return [] { return value(Thread::current().is_interrupted()); };
   const int object = number(words);
+  if (method == "interrupt") {
+    return [&target = actor(object)] {
+      target.interrupt();
+      return std::string("ok");
+    };
+  }
   for (const char* of_barrier : {"await", "reset", "isBroken", "getNumberWaiting", "getParties"}) {
     if (method == of_barrier) {
       return call_barrier(method, *barriers.at(object), words);
@@ -194,9 +363,9 @@ std::string call(std::istringstream& words) {
 }
 
 /// Makes a call on the current thread; what became of it, in the protocol's words.
-std::string outcome(std::istringstream& words) {
+std::string outcome(const Call& call) {
   try {
-    return call(words);
+    return call();
   } catch (const Through& through) {
     return "through " + std::to_string(through.number);
   } catch (const IllegalState&) {
@@ -221,6 +390,8 @@ void begin() {
   std::lock_guard<std::mutex> lock(writing);
   phasers.clear();
   barriers.clear();
+  advances.clear();
+  actions.clear();
   for (auto& entry : actors) {
     entry.second->clear_interrupted();
   }
@@ -232,6 +403,7 @@ void make_phaser(std::istringstream& words) {
   words >> number >> parent >> parties >> first_phase >> advance;
   Phaser* above = parent < 0 ? nullptr : phasers.at(parent).get();
   if (advance == "asked") {
+    advances[number] = Plan();
     phasers.push_back(std::make_unique<AskingPhaser>(number, above, parties, first_phase));
   } else {
     phasers.push_back(std::make_unique<Phaser>(above, parties, first_phase));
@@ -244,17 +416,53 @@ void make_barrier(std::istringstream& words) {
   words >> number >> parties >> action;
   std::function<void()> asks;
   if (action == "asked") {
-    asks = [number] { Actor::enter("barrier " + std::to_string(number)); };
+    actions[number] = Plan();
+    asks = [number] {
+      const std::string what = "barrier " + std::to_string(number);
+      const Plan& plan = actions.at(number);
+      if (!Actor::passes(what, plan.lasts)) {
+        Actor::enter(what);
+      } else if (plan.number != 0) {
+        throw Through{plan.number};
+      }
+    };
   }
   barriers.push_back(std::make_unique<CyclicBarrier>(parties, asks));
 }
 
-Actor& actor(int number) {
-  std::unique_ptr<Actor>& place = actors[number];
-  if (!place) {
-    place = std::make_unique<Actor>(number);
+// ---- lists of calls
+
+std::set<Actor*> listed;  // who has a list, and wasn't told to go
+
+void list(std::istringstream& words) {
+  Actor& named = actor(number(words));
+  const int step = number(words);
+  Nanoseconds pause_before = 0;
+  words >> pause_before;
+  named.give(step, pause_before, call_of(words));
+  listed.insert(&named);
+}
+
+void go() {
+  const auto gate = std::make_shared<Gate>(listed.size());
+  for (Actor* actor : listed) {
+    actor->go(gate);
   }
-  return *place;
+  listed.clear();
+}
+
+/// What all have done of lists that haven't ended.
+std::string so_far() {
+  std::string lines;
+  for (auto& entry : actors) {
+    lines += entry.second->so_far();
+  }
+  return lines;
+}
+
+void plan(std::map<int, Plan>& plans, std::istringstream& words) {
+  Plan& plan = plans[number(words)];
+  words >> plan.lasts >> plan.number;
 }
 
 void command_thread(const std::string& word, std::istringstream& words) {
@@ -266,6 +474,16 @@ void command_thread(const std::string& word, std::istringstream& words) {
   std::string rest;
   std::getline(words, rest);
   named.tell(word + rest);
+}
+
+/// Carries out a command for objects, and answers it.
+std::string make(const std::string& word, std::istringstream& words) {
+  try {
+    word == "case" ? begin() : word == "phaser" ? make_phaser(words) : make_barrier(words);
+    return "ok";
+  } catch (const Missing& missing) {
+    return std::string("no ") + missing.why;
+  }
 }
 
 }  // namespace
@@ -280,12 +498,24 @@ class Reader : public Thread {
       std::istringstream words(line);
       std::string word;
       words >> word;
-      if (word == "case" || word == "phaser" || word == "barrier") {
-        word == "case" ? begin() : word == "phaser" ? make_phaser(words) : make_barrier(words);
-        say("ok");
-      } else {
-        command_thread(word, words);
-      }
+      read(word, words);
+    }
+  }
+
+ private:
+  static void read(const std::string& word, std::istringstream& words) {
+    if (word == "case" || word == "phaser" || word == "barrier") {
+      say(make(word, words));
+    } else if (word == "lists" || word == "so-far") {
+      say((word == "lists" ? "" : so_far()) + "ok");
+    } else if (word == "advance" || word == "action") {
+      plan(word == "advance" ? advances : actions, words);
+    } else if (word == "list") {
+      list(words);
+    } else if (word == "go") {
+      go();
+    } else {
+      command_thread(word, words);
     }
   }
 };

@@ -22,6 +22,11 @@ struct BrokenBarrier {};
 /// The time of a wait is over.
 struct TimedOut {};
 
+/// An object that this port doesn't make, and why.
+struct Missing {
+  const char* why;
+};
+
 /// A lock, and the condition that is notified whenever something changes that somebody may wait for.
 struct Monitor {
   std::mutex mutex;

@@ -8,6 +8,7 @@ Another port in Python writes its own classes in `MAKES` and `CALLS`; the rest s
 
 import sys
 import threading
+import time
 from queue import SimpleQueue
 
 from barrier import CyclicBarrier
@@ -17,6 +18,8 @@ from threads import BrokenBarrier, IllegalArgument, IllegalState, Interrupted, T
 THROWN = {IllegalState: 1, IllegalArgument: 2, Interrupted: 3, BrokenBarrier: 4, TimedOut: 5}
 
 phasers, barriers, actors = [], [], {}
+advances, actions = {}, {}      # what an onAdvance and an action do in a list: how long, and what
+listed = []                     # who has a list, and wasn't told to go
 writing = threading.Lock()
 
 
@@ -32,7 +35,11 @@ class AskingPhaser(Phaser):
     """A phaser whose onAdvance asks the player."""
 
     def on_advance(self, phase, parties):
-        return current().enter(f"phaser {phasers.index(self)} {phase} {parties}") != 0
+        number = phasers.index(self)
+        if current().passes(f"phaser {number} {phase} {parties}", advances.get(number)):
+            first = advances[number][1]
+            return first >= 0 and (phase >= first or parties == 0)
+        return current().enter(f"phaser {number} {phase} {parties}") != 0
 
 
 class Actor(Thread):
@@ -42,6 +49,7 @@ class Actor(Thread):
         super().__init__()
         self.number = number
         self.told = SimpleQueue()
+        self.list, self.made, self.present, self.own = [], [], None, threading.Lock()
         self.start()
 
     def run(self):
@@ -52,6 +60,36 @@ class Actor(Thread):
         say(f"{self.number} enter {what}")
         return self.serve()
 
+    def passes(self, what, plan):
+        """The same in a list, where nobody is asked: notes it, and goes on behind a pause. False where it is in none."""
+        if self.present is None:
+            return False
+        self.present[2].append(f"{self.number} enter {what}")
+        pause(plan[0])
+        return True
+
+    def make_list(self, gate):
+        gate.wait()
+        for number, before, call in self.list:
+            pause(before)
+            entered = []
+            self.present = (number, time.monotonic_ns(), entered)
+            answer = outcome(*call)
+            ended = time.monotonic_ns()
+            with self.own:
+                self.made += [*entered, f"{self.number} did {number} {self.present[1]} {ended} {answer}"]
+                self.present = None
+        with self.own:
+            lines = [*self.made, f"{self.number} end"]
+            self.list, self.made = [], []
+        say("\n".join(lines))
+
+    def so_far(self):
+        """What it has done of a list that hasn't ended."""
+        with self.own:
+            present = self.present
+            return [*self.made, *([] if present is None else [f"{self.number} began {present[0]} {present[1]}"])]
+
     def serve(self):
         """Makes calls until it is told to end what it stands in; answers what that is to answer."""
         while True:
@@ -60,7 +98,16 @@ class Actor(Thread):
                 return int(operands[0])
             if word == "throw":
                 raise Through(int(operands[0]))
+            if word == "list":
+                self.make_list(operands)
+                continue
             say(f"{self.number} {outcome(operands[0], [int(n) for n in operands[1:]])}")
+
+
+def pause(nanoseconds):
+    until = time.monotonic_ns() + nanoseconds
+    while nanoseconds > 0 and time.monotonic_ns() < until:
+        pass
 
 
 def say(line):
@@ -108,12 +155,13 @@ CALLS = {
     "getParties": lambda b: barriers[b].parties(),
     "interrupted": lambda: current().clear_interrupted(),
     "isInterrupted": lambda: current().interrupted,
+    "interrupt": lambda t: actor(t).interrupt(),
 }
 
 
 def begin():
-    phasers.clear()
-    barriers.clear()
+    for each in phasers, barriers, advances, actions:
+        each.clear()
     for actor in actors.values():
         actor.interrupted = False
 
@@ -125,11 +173,50 @@ def make_phaser(number, parent, parties, first_phase, advance):
 
 
 def make_barrier(number, parties, action):
-    ask = None if action == "none" else lambda: current().enter(f"barrier {number}")
-    barriers.append(CyclicBarrier(int(parties), ask))
+    barriers.append(CyclicBarrier(int(parties), None if action == "none" else lambda: ask_action(number)))
 
 
-MAKES = {"case": begin, "phaser": make_phaser, "barrier": make_barrier}
+def ask_action(number):
+    plan = actions.get(int(number))
+    if not current().passes(f"barrier {number}", plan):
+        current().enter(f"barrier {number}")
+    elif plan[1] != 0:
+        raise Through(plan[1])
+
+
+def actor(number):
+    if number not in actors:
+        actors[number] = Actor(number)
+    return actors[number]
+
+
+def add_to_list(thread, number, before, method, *numbers):
+    named = actor(int(thread))
+    if named not in listed:
+        listed.append(named)
+    named.list.append((number, int(before), (method, [int(n) for n in numbers])))
+
+
+def go():
+    gate = threading.Barrier(len(listed))
+    for named in listed:
+        named.told.put(("list", gate))
+    listed.clear()
+
+
+def tell_so_far():
+    for named in list(actors.values()):
+        for line in named.so_far():
+            say(line)
+
+
+MAKES = {"case": begin, "phaser": make_phaser, "barrier": make_barrier, "lists": lambda: None, "so-far": tell_so_far}
+LISTS = {
+    "list": add_to_list,
+    "advance": lambda number, *plan: advances.update({int(number): [int(n) for n in plan]}),
+    "action": lambda number, *plan: actions.update({int(number): [int(n) for n in plan]}),
+    "go": go,
+}
 
 
 def main():
@@ -139,13 +226,14 @@ def main():
             MAKES[word](*operands)
             say("ok")
             continue
-        number = int(operands[0])
-        if number not in actors:
-            actors[number] = Actor(number)
+        if word in LISTS:
+            LISTS[word](*operands)
+            continue
+        named = actor(int(operands[0]))
         if word == "interrupt":
-            actors[number].interrupt()
+            named.interrupt()
         else:
-            actors[number].told.put((word, operands[1:]))
+            named.told.put((word, operands[1:]))
 
 
 if __name__ == "__main__":

@@ -1,0 +1,113 @@
+package kit.player;
+
+import java.io.PrintStream;
+import java.util.HashSet;
+import java.util.Map;
+import java.util.Set;
+import java.util.TreeMap;
+
+/** What came of the bursts of a run, in numbers. Those who play at once share it. */
+final class BurstCount {
+    /**
+     * An interrupt that wins over the end of a phase may do so between two looks, which is so rare that it counts only
+     * where it comes so often among so many rounds in a row.
+     */
+    private static final int OVERTAKEN_TO_COUNT = 3;
+    private static final int ROUNDS_OF_OVERTAKING = 5_000;
+    private static final long SECOND = 1_000_000_000L;
+
+    private final long begun = System.nanoTime();
+    private final BurstSuite suite = new BurstSuite();
+    private final Set<String> kindsPlayed = new HashSet<>();
+    private final Set<String> kindsLeftOut = new HashSet<>();
+    private final Map<String, Integer> whyLeftOut = new TreeMap<>();
+    private long rounds;
+    private long asked;
+    private long calls;
+    private int findings;
+    private long firstFound;
+    private long firstTry;
+    private int overtaken;
+    private long overtakenSince;
+
+    /** One more burst is to be played. */
+    synchronized void asks() {
+        asked++;
+    }
+
+    synchronized boolean isLeftOut(String kind) {
+        return kindsLeftOut.contains(kind);
+    }
+
+    synchronized void leavesOut(String kind, String why) {
+        if (kindsLeftOut.add(kind)) {
+            whyLeftOut.merge(why, 1, Integer::sum);
+            suite.leavesOut(kind, why);
+        }
+    }
+
+    /** A burst was played, with so many calls and interrupts. */
+    synchronized void played(Burst burst, int count, long nanoseconds) {
+        rounds++;
+        calls += count;
+        kindsPlayed.add(burst.kind());
+        suite.played(burst.kind(), nanoseconds);
+    }
+
+    /** A burst failed, as this text tells. */
+    synchronized void fails(Burst burst, String text) {
+        if (findings++ == 0) {
+            firstFound = burst.round();
+            firstTry = rounds;
+        }
+        suite.fails(burst.kind(), text);
+    }
+
+    /** An interrupt won over the end of a phase; whether that counts. */
+    synchronized boolean countsOvertaking() {
+        if (rounds - overtakenSince > ROUNDS_OF_OVERTAKING) {
+            overtaken = 0;
+            overtakenSince = rounds;
+        }
+        overtaken++;
+        return overtaken >= OVERTAKEN_TO_COUNT;
+    }
+
+    synchronized int findings() {
+        return findings;
+    }
+
+    /** In a few words, while it goes on. */
+    synchronized String progress() {
+        return rounds + " bursts, " + findings + " found, " + seconds();
+    }
+
+    private String seconds() {
+        return (System.nanoTime() - begun) / SECOND + " s";
+    }
+
+    /** In some lines; {@code round} is the one that was played again and again, or negative. */
+    synchronized void tell(long round, PrintStream to) {
+        whyLeftOut.forEach((why, kinds) -> to.println(kinds + " kinds left out: " + why));
+        if (rounds == 0) {
+            to.println("nothing was compared");
+        }
+        String kinds = kindsPlayed.size() == 1 ? " kind, " : " kinds, ";
+        to.println(rounds + (asked > rounds ? " of " + asked : "") + " bursts of " + kindsPlayed.size() + kinds + calls
+            + " calls and interrupts, " + seconds() + ": " + findings + " found"
+            + (findings == 0 || round >= 0 ? "" : ", the first in round " + firstFound)
+            + (overtaken == 0 ? "" : "; an interrupt won over the end of a phase " + overtaken + " times"));
+        if (round >= 0) {
+            to.println("round " + round + (findings == 0 ? " didn't fail in " + rounds + " tries" : " failed at try " + firstTry));
+        }
+    }
+
+    BurstSuite suite() {
+        return suite;
+    }
+
+    /** The exit status: 0 where nothing was found, 1 where something was, 2 where nothing was compared. */
+    synchronized int status() {
+        return findings > 0 ? 1 : rounds == 0 ? 2 : 0;
+    }
+}

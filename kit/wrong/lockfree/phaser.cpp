@@ -1,0 +1,284 @@
+#include "phaser.hpp"
+
+#include <cstdlib>
+#include <cstring>
+#include <limits>
+
+namespace {
+
+using Word = std::uint64_t;
+
+constexpr int kMostParties = 65535;
+constexpr int kLastPhase = std::numeric_limits<int>::max();
+constexpr Word kTerminated = Word(1) << 63;
+constexpr Word kParty = Word(1) << 16;
+constexpr Word kUnarrived = 0xffff;
+
+int phase_of(Word word) { return static_cast<int>(word >> 32 & 0x7fffffff); }
+int parties_of(Word word) { return static_cast<int>(word >> 16 & 0xffff); }
+bool terminated(Word word) { return (word & kTerminated) != 0; }
+bool turned(Word word) { return !terminated(word) && (word & kUnarrived) == 0; }
+bool empty(Word word) { return parties_of(word) == 0 && (word & kUnarrived) == 1; }
+int view_of(Word word) { return terminated(word) ? phase_of(word) - kLastPhase - 1 : phase_of(word); }
+
+/// A phaser at the beginning of a phase; without parties one is to arrive, so that it isn't turned.
+Word fresh(int phase, int parties) {
+  return Word(static_cast<unsigned>(phase)) << 32 | Word(parties) << 16 | Word(parties == 0 ? 1 : parties);
+}
+
+Fault fault_of_environment() {
+  const char* name = std::getenv("FAULT");
+  const char* names[] = {"", "check-push-park", "park-once", "register-by-adding", "arrive-by-subtracting",
+                         "advance-in-two-steps", "force-by-storing", "stale-answer", "sixteen-are-woken"};
+  for (int at = 1; name && at < 9; at++) {
+    if (std::strcmp(name, names[at]) == 0) {
+      return static_cast<Fault>(at);
+    }
+  }
+  return name && *name ? throw IllegalArgument() : Fault::kNone;
+}
+
+const Fault fault = fault_of_environment();
+
+/// A permit to go on: `unpark` gives it, and `park` takes it, or waits for it.
+class Parker {
+ public:
+  void unpark() {
+    std::lock_guard<std::mutex> lock(monitor_->mutex);
+    permit_ = true;
+    monitor_->changed.notify_all();
+  }
+
+  /// Returns with the permit, for an interrupt where `interruptibly`, when the time is over, or for no reason.
+  void park(bool interruptibly, const Time& time) {
+    std::unique_lock<std::mutex> lock(monitor_->mutex);
+    if (!permit_) {
+      interruptibly ? Thread::current().wait(monitor_, lock, time) : monitor_->changed.wait(lock);
+    }
+    permit_ = false;
+  }
+
+ private:
+  const std::shared_ptr<Monitor> monitor_ = std::make_shared<Monitor>();
+  bool permit_ = false;
+};
+
+Parker& own_parker() {
+  static thread_local Parker* parker = new Parker();  // whoever still has it may wake a thread that has ended
+  return *parker;
+}
+
+}  // namespace
+
+/// A waiter. It is the waiter's and the stack's, and the one that lets it go last deletes it.
+struct Phaser::Node {
+  Parker& parker = own_parker();
+  std::atomic<bool> queued{false};
+  std::atomic<int> owners{1};
+  Node* next = nullptr;
+
+  void let_go() {
+    if (--owners == 0) {
+      delete this;
+    }
+  }
+};
+
+Phaser::Phaser(Phaser* parent, int parties, int first_phase) : word_(fresh(first_phase, parties)) {
+  if (parent) {
+    throw Missing{"it makes no tiers"};
+  }
+  if (parties < 0 || parties > kMostParties) {
+    throw IllegalArgument();
+  }
+}
+
+Phaser::~Phaser() { release_all(); }
+
+bool Phaser::on_advance(int, int parties) { return parties == 0; }
+
+// ---------------------------------------------------------------- registering
+
+int Phaser::bulk_register(int count) {
+  refuse_inside_on_advance();
+  if (count < 0) {
+    throw IllegalArgument();
+  }
+  Word word = word_;
+  for (;;) {
+    if (terminated(word) || count == 0) {
+      return view_of(word);
+    }
+    if (parties_of(word) > kMostParties - count) {
+      throw IllegalState();
+    }
+    if (turned(word)) {
+      wait(phase_of(word), false, Time());
+      word = word_;
+      continue;
+    }
+    if (fault == Fault::kRegisterByAdding && !empty(word)) {
+      return view_of(word_.fetch_add(count * kParty + count));
+    }
+    const Word more = empty(word) ? fresh(phase_of(word), count) : word + count * kParty + count;
+    if (word_.compare_exchange_strong(word, more)) {
+      return phase_of(word);
+    }
+  }
+}
+
+// ---------------------------------------------------------------- arriving
+
+int Phaser::arrive(bool leaves) {
+  refuse_inside_on_advance();
+  Word word = word_;
+  const Word first = word;
+  Word less;
+  do {
+    if (terminated(word)) {
+      return view_of(word);
+    }
+    if (empty(word) || turned(word)) {
+      throw IllegalState();
+    }
+    less = word - 1 - (leaves ? kParty : 0);
+    if (fault == Fault::kArriveBySubtracting) {
+      word = word_.fetch_sub(word - less);
+      less = word - 1 - (leaves ? kParty : 0);
+      break;
+    }
+  } while (!word_.compare_exchange_weak(word, less));
+  const int phase = phase_of(fault == Fault::kStaleAnswer ? first : word);
+  if (turned(less)) {
+    advance(phase, parties_of(less));
+  }
+  return phase;
+}
+
+/// Only the last to arrive comes here. An exception of `on_advance` ends no phase: it stays turned.
+void Phaser::advance(int phase, int parties) {
+  bool terminates;
+  runner_ = &Thread::current();
+  try {
+    terminates = on_advance(phase, parties);
+  } catch (...) {
+    runner_ = nullptr;
+    throw;
+  }
+  runner_ = nullptr;
+  end_phase(word_, terminates);
+  release_all();
+}
+
+/// While it is turned a forced termination alone changes the word; that has ended the phase, then.
+void Phaser::end_phase(Word turned, bool terminates) {
+  const int phase = phase_of(turned) == kLastPhase ? 0 : phase_of(turned) + 1;
+  const Word next = fresh(phase, parties_of(turned)) | (terminates ? kTerminated : 0);
+  if (fault == Fault::kAdvanceInTwoSteps && !terminated(turned)) {
+    word_ = fresh(phase_of(turned), parties_of(turned));
+    word_ += next - fresh(phase_of(turned), parties_of(turned));
+    return;
+  }
+  while (!terminated(turned) && !word_.compare_exchange_weak(turned, next)) {
+  }
+}
+
+// ---------------------------------------------------------------- waiting
+
+int Phaser::await_advance(int phase) {
+  refuse_inside_on_advance();
+  if (phase >= 0 && view_of(word_) == phase) {
+    wait(phase, false, Time());
+  }
+  return phase < 0 ? phase : view_of(word_);
+}
+
+int Phaser::await_advance_interruptibly(int phase, const Time& time) {
+  refuse_inside_on_advance();
+  if (phase >= 0 && view_of(word_) == phase) {
+    wait(phase, true, time);
+  }
+  return phase < 0 ? phase : view_of(word_);
+}
+
+/// Until the phase has ended. It has a node on the stack whenever it parks.
+void Phaser::wait(int phase, bool interruptibly, const Time& time) {
+  Node* node = new Node();
+  while (view_of(word_) == phase) {
+    if (interruptibly && Thread::current().clear_interrupted()) {
+      node->let_go();
+      throw Interrupted();
+    }
+    if (time.is_over()) {
+      node->let_go();
+      throw TimedOut();
+    }
+    if (!node->queued) {
+      push(node);
+      if (fault != Fault::kCheckPushPark) {
+        continue;  // the phase may have ended before that
+      }
+    }
+    node->parker.park(interruptibly, time);
+    if (fault == Fault::kParkOnce && !Thread::current().is_interrupted() && !time.is_over()) {
+      break;
+    }
+  }
+  node->let_go();
+}
+
+void Phaser::push(Node* node) {
+  node->queued = true;
+  node->owners += 1;
+  node->next = waiters_;
+  while (!waiters_.compare_exchange_weak(node->next, node)) {
+  }
+}
+
+/// Wakes all. A node is its waiter's again once it isn't queued: its successor is read before.
+void Phaser::release_all() {
+  const int most = fault == Fault::kSixteenAreWoken ? 16 : kMostParties;
+  int count = 0;
+  for (Node* node = waiters_.exchange(nullptr); node; count++) {
+    Node* next = node->next;
+    node->queued = false;
+    if (count < most) {
+      node->parker.unpark();
+    }
+    node->let_go();
+    node = next;
+  }
+}
+
+void Phaser::refuse_inside_on_advance() const {
+  if (runner_.load(std::memory_order_relaxed) == &Thread::current()) {
+    throw IllegalState();
+  }
+}
+
+// ---------------------------------------------------------------- termination and getters
+
+void Phaser::force_termination() {
+  if (fault == Fault::kForceByStoring) {
+    word_ = word_ | kTerminated;
+  } else {
+    word_ |= kTerminated;
+  }
+  release_all();
+}
+
+bool Phaser::is_terminated() const { return terminated(word_); }
+
+int Phaser::phase() const { return view_of(word_); }
+
+int Phaser::registered_parties() const { return parties_of(word_); }
+
+int Phaser::arrived_parties() const {
+  const Word word = word_;
+  return terminated(word) ? parties_of(word) : parties_of(word) - (empty(word) ? 0 : static_cast<int>(word & kUnarrived));
+}
+
+int Phaser::unarrived_parties() const {
+  const Word word = word_;
+  return terminated(word) || empty(word) ? 0 : static_cast<int>(word & kUnarrived);
+}
