@@ -1,6 +1,5 @@
 """The programs, schedules and texts that benchmarks/speed and benchmarks/growth measure with. Here `|` parts directives and
 rows; threads that are only counted begin at the first row."""
-import random
 
 
 def lines(text): return [line.strip() for line in text.split('|') if line.strip()]
@@ -26,7 +25,8 @@ TREE = '.phaser r 0' + ''.join(
     for c in range(9) for level in range(7))
 LEAVES = ' | '.join(f'parr r0 c{c}l6' for c in range(9))
 
-# The plays: directives, threads, rows, and the pattern of the schedule. docs/SPEED.md says what each does.
+# The plays: directives, threads, rows, and the pattern of the schedule. docs/SPEED.md says what each does. (`preg` registers
+# at every second choice, 65535 times at most.)
 PLAYS = {
     'idle': ('.phaser p 2', 2, 'paaa r0 p | halt', 't0*'),
     'idle turns': ('.phaser p 3', 3, 'paaa r0 p | halt', 't0 t1'),
@@ -59,7 +59,6 @@ PLAYS = {
 }
 
 MIX = ['ldi r1 {n}', 'parr r0 p', 'add r2 r1 r0', 'lds r3 cc', 'blt r1 r2 l{at}', 'jmp l{at}', 'paaa r4 p', 'sts r1 cc']
-ANY = random.Random(7)
 
 
 def mixed(i, many):
@@ -75,7 +74,7 @@ TEXTS = {
     'asm behind': lambda i, many: mixed(i, many) + ' ; arrives',
     'asm tabs': lambda i, many: '\t' + mixed(i, many),
     'asm labels': lambda i, many: f'at{i}:',
-    'asm jumps': lambda i, many: f'l{i}: jmp l{ANY.randrange(many)}',
+    'asm jumps': lambda i, many: f'l{i}: jmp l{i * 7919 % many}',
 }
 
 
