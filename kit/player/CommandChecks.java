@@ -36,6 +36,10 @@ final class CommandChecks {
     /** Generous: a busy machine takes its time to start so many at once. */
     private static final long LONGEST_SECONDS = 240;
     private static final int INTERRUPT = 2;
+    private static final long MILLISECOND = 1_000_000L;
+    private static final long SOON = 10_000 * MILLISECOND;
+    /** So many times as long as the right port takes, which is less than ten seconds where the machine isn't busy. */
+    private static final int TIMES_THE_RIGHT_ONE = 6;
 
     private final Path kit;
     private final Path vuthgal;
@@ -164,12 +168,42 @@ final class CommandChecks {
         checks.parallelStream().forEach(this::check);
         checkNothingIsWritten();
         checkKept(port);
+        checkSoon(python + " '" + kit.resolve("ports/python/port.py") + "'", wrong + "ignores_interrupts.py", one);
         checkLists(port);
         checkStop(port);
         checkEnd(port, "TERM");
         if (!ignoresInterrupts()) {
             checkEnd(port, "INT");
         }
+    }
+
+    /** What hangs before the first case is told within ten seconds; later only where the right port is slow, too. */
+    private void checkSoon(String right, String hanging, String one) throws IOException, InterruptedException {
+        long usual = nanosecondsUntil("same\n", "--port", right, one);
+        long told = nanosecondsUntil("before the first case: ", "--port", hanging, one);
+        to.take("what hangs before the first case", told < Math.max(SOON, TIMES_THE_RIGHT_ONE * usual),
+            "it is told after " + told / MILLISECOND + " ms, and the right port takes " + usual / MILLISECOND + " ms");
+    }
+
+    /** How long it takes until a command has said this. */
+    private long nanosecondsUntil(String says, String... words) throws IOException, InterruptedException {
+        Path told = Files.createTempFile("vuthgal", ".told");
+        long begun = System.nanoTime();
+        Process process = start(told, words);
+        boolean said = false;
+        while (!said && System.nanoTime() - begun < LONGEST_SECONDS * 1000 * MILLISECOND) {
+            boolean lives = process.isAlive();
+            said = Files.readString(told, StandardCharsets.ISO_8859_1).contains(says);
+            if (!lives) {
+                break;
+            }
+            Thread.sleep(10);
+        }
+        long took = System.nanoTime() - begun;
+        process.destroy();
+        process.waitFor(LONGEST_SECONDS, TimeUnit.SECONDS);
+        Files.delete(told);
+        return said ? took : Long.MAX_VALUE / TIMES_THE_RIGHT_ONE;
     }
 
     /** What a port may tell of its list in the first burst in place of what it did, and what is said of that. */
