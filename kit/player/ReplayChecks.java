@@ -14,7 +14,8 @@ final class ReplayChecks {
     /** Where all stand still, so many times as long, and at the second try, since the machine may be busy. */
     private static final List<String> PATIENCE = List.of("2", "20");
     private static final String RIGHT = " same, 0 different, 0 left out\n";
-    private static final int WAITS = 24_000;
+    /** So many that 128 KiB more, which is how an allocator grows, are less than the bytes that `kit/soak` allows. */
+    private static final int WAITS = 48_000;
     private static final long LONGEST_SECONDS = 240;
 
     /** The status of a replay and what it has to say, the command of the port, and folders of cases. */
