@@ -71,18 +71,8 @@ final class Actor extends RealThread {
             return maker.make(request);
         } catch (Told exception) {
             return Answer.through(exception.number);
-        } catch (IllegalStateException exception) {
-            return Answer.thrown(Answer.ILLEGAL_STATE);
-        } catch (IllegalArgumentException exception) {
-            return Answer.thrown(Answer.ILLEGAL_ARGUMENT);
-        } catch (InterruptedException exception) {
-            return Answer.thrown(Answer.INTERRUPTED);
-        } catch (BrokenBarrierException exception) {
-            return Answer.thrown(Answer.BROKEN_BARRIER);
-        } catch (TimeoutException exception) {
-            return Answer.thrown(Answer.TIMEOUT);
         } catch (Throwable other) {
-            return Answer.fault(other.toString());
+            return Answer.of(other);
         }
     }
 

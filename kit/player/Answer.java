@@ -1,5 +1,8 @@
 package kit.player;
 
+import java.util.concurrent.BrokenBarrierException;
+import java.util.concurrent.TimeoutException;
+
 /** What a call came to. */
 record Answer(Kind kind, int number, String words) {
     enum Kind {
@@ -29,6 +32,23 @@ record Answer(Kind kind, int number, String words) {
 
     static Answer thrown(int number) {
         return new Answer(Kind.THROWN, number, "");
+    }
+
+    /** What a call, or a constructor, came to that threw this. */
+    static Answer of(Throwable thrown) {
+        if (thrown instanceof IllegalStateException) {
+            return thrown(ILLEGAL_STATE);
+        }
+        if (thrown instanceof IllegalArgumentException) {
+            return thrown(ILLEGAL_ARGUMENT);
+        }
+        if (thrown instanceof InterruptedException) {
+            return thrown(INTERRUPTED);
+        }
+        if (thrown instanceof BrokenBarrierException) {
+            return thrown(BROKEN_BARRIER);
+        }
+        return thrown instanceof TimeoutException ? thrown(TIMEOUT) : fault(thrown.toString());
     }
 
     static Answer through(int number) {

@@ -33,7 +33,6 @@ final class BurstKit {
         for (int seed = 1; seed <= SCENARIOS; seed++) {
             Path file = Scenario.of(seed).write(room);
             countModel(check, Case.of(vuthgal, "random-" + seed, file));
-            Files.delete(Case.beside(file, ".schedule"));
             Files.delete(file);
         }
         Files.delete(room);

@@ -36,6 +36,10 @@ final class CommandChecks {
     /** Generous: a busy machine takes its time to start so many at once. */
     private static final long LONGEST_SECONDS = 240;
     private static final int INTERRUPT = 2;
+    private static final long MILLISECOND = 1_000_000L;
+    private static final long SOON = 10_000 * MILLISECOND;
+    /** So many times as long as the right port takes, which is less than ten seconds where the machine isn't busy. */
+    private static final int TIMES_THE_RIGHT_ONE = 6;
 
     private final Path kit;
     private final Path vuthgal;
@@ -52,7 +56,7 @@ final class CommandChecks {
     /** What is no command, and what can't be played to its end. */
     void checkWords() throws IOException {
         String reset = folder("reset");
-        String one = reset + "/a-timed-wait";
+        String one = reset + "/a-timed-wait.txt";
         List<Check> checks = List.of(
             new Check(2, "there is no case in", room.toString()),
             new Check(2, "there is no case in", reset, room.toString()),
@@ -79,12 +83,54 @@ final class CommandChecks {
             new Check(1, "with status 127 (no such command)", "--port", "./nosuch", reset),
             new Check(1, "the run ends here, since there is no answer in 3 cases in a row", "--port", "./nosuch", reset),
             new Check(1, " different, 0 left out\n", "--keep-going", "--port", "./nosuch", reset),
-            new Check(1, "the port doesn't answer: case", "--port", "exec sleep 600", one + ".asm", one + ".schedule"),
+            new Check(1, "the port doesn't answer: case", "--port", "exec sleep 600", one),
             new Check(0, "2 left out: it makes no phaser\n", "--factory", BarriersAlone.class.getName(), folder("action")),
             new Check(2, "nothing was compared\n", "--factory", BarriersAlone.class.getName(), folder("policies")),
             new Check(0, " left out: it makes no phaser\n", "--factory", BarriersAlone.class.getName(), "--random", "30"));
         checks.parallelStream().forEach(this::check);
         checkNothingIsWritten();
+        checkForms();
+    }
+
+    /** The files that make a case, and those that make none. */
+    private void checkForms() throws IOException {
+        Path forms = Files.createTempDirectory("vuthgal-forms");
+        String program = ".phaser p 1\n.thread ann main\nmain: parr r0 p\n halt\n";
+        write(forms.resolve("one.txt"), program + " .run ; its schedule\nt0*2\n");
+        write(forms.resolve("two.asm"), program);
+        write(forms.resolve("two.schedule"), "t0*2\n");
+        write(forms.resolve("by-name.asm"), program);
+        write(forms.resolve("by-name.plan"), "ann.\n");
+        write(forms.resolve("alone.asm"), program);
+        write(forms.resolve("read-me.txt"), "how to .run it\n");
+        List.of(
+            new Check(0, "\n3 same, 0 different, 0 left out\n", forms.toString()),
+            new Check(0, "same\n1 calls asked", forms.resolve("one.txt").toString()),
+            new Check(0, "same\n1 calls asked", forms.resolve("two.asm").toString()),
+            new Check(0, "same\n1 calls asked", forms.resolve("by-name.asm").toString()),
+            new Check(0, "same\n1 calls asked", forms.resolve("alone.asm").toString(), forms.resolve("two.schedule").toString()),
+            new Check(0, "\n2 same, 0 different", forms.resolve("one.txt").toString(), forms.resolve("two.asm").toString()),
+            new Check(2, "alone.asm is no case: that is NAME.txt with", forms.resolve("alone.asm").toString()),
+            new Check(2, "read-me.txt is no case: that is NAME.txt with", forms.resolve("read-me.txt").toString()),
+            new Check(2, "--transcripts wants folders", "--transcripts", "there", forms.resolve("one.txt").toString())
+        ).parallelStream().forEach(this::check);
+        write(forms.resolve("two.plan"), "..\n");
+        check(new Check(2, "two.asm has a schedule and a plan", forms.toString()));
+    }
+
+    private static void write(Path file, String text) throws IOException {
+        Files.writeString(file, text);
+    }
+
+    /** A scenario that differs is kept as a case, which plays as it was told. */
+    private void checkKept(String port) throws IOException {
+        Path kept = Files.createTempDirectory("vuthgal-kept");
+        Path one = kept.resolve("random-1.txt");
+        check(new Check(1, "kept as " + one + "\n", "--random", "1", "--first-try", "--keep", kept.toString(),
+            "--port", port + "'64 = ' 'say 64 = x\\n'"));
+        boolean plays = Files.exists(one) && new Vuthgal(vuthgal).run(one).equals(Files.readString(Case.beside(one, ".trace")));
+        to.take("--keep", plays, "random-1.txt, as it was kept, doesn't play as random-1.trace");
+        check(new Check(0, "1 same, 0 different", kept.toString()));
     }
 
     /** What a port that isn't whole, or that has to be killed, comes to. */
@@ -92,7 +138,7 @@ final class CommandChecks {
         String port = python + " '" + kit.resolve("faults/port.py") + "' ";
         String wrong = python + " " + kit.resolve("wrong/ports") + "/";
         String stands = ", and it stands still";
-        String one = folder("reset") + "/a-timed-wait";
+        String one = folder("reset") + "/a-timed-wait.txt";
         List<Check> checks = List.of(
             new Check(0, "2 left out: it makes no phaser\n", "--port", port + "without phaser", folder("action")),
             new Check(2, "nothing was compared\n", "--port", port + "without barrier", folder("reset")),
@@ -111,9 +157,9 @@ final class CommandChecks {
             new Check(0, "before the first case: an interrupt doesn't end awaitAdvanceInterruptibly 0 2 " + Caller.HOUR
                 + " of t0 (its last line is `0 = 2`" + stands, "--port", wrong + "ignores_interrupts.py", folder("phase-numbers")),
             new Check(1, "before the first case: the port doesn't answer: case (it has written nothing" + stands
-                + "; is each line flushed?)\n", "--port", wrong + "flushes_nothing.py", one + ".asm", one + ".schedule"),
+                + "; is each line flushed?)\n", "--port", wrong + "flushes_nothing.py", one),
             new Check(1, "before the first case: the call getPhase 0 doesn't answer (its last line is `ok`" + stands
-                + "; is each line flushed?)\n", "--port", wrong + "flushes_nothing.py threads", one + ".asm", one + ".schedule"),
+                + "; is each line flushed?)\n", "--port", wrong + "flushes_nothing.py threads", one),
             new Check(1, "before the first case: not so when it was tried again\n",
                 "--port", wrong + "loses_wake_ups.py 7", folder("phase-numbers")),
             new Check(1, "5 same, 0 different, 0 left out; stuck before the first case\n",
@@ -121,12 +167,43 @@ final class CommandChecks {
             new Check(1, " same, 0 different, 2 stuck, 0 left out; 2 played again with more patience\n", "--port", wrong + "loses_wake_ups.py", folder("waiting")));
         checks.parallelStream().forEach(this::check);
         checkNothingIsWritten();
+        checkKept(port);
+        checkSoon(python + " '" + kit.resolve("ports/python/port.py") + "'", wrong + "ignores_interrupts.py", one);
         checkLists(port);
         checkStop(port);
         checkEnd(port, "TERM");
         if (!ignoresInterrupts()) {
             checkEnd(port, "INT");
         }
+    }
+
+    /** What hangs before the first case is told within ten seconds; later only where the right port is slow, too. */
+    private void checkSoon(String right, String hanging, String one) throws IOException, InterruptedException {
+        long usual = nanosecondsUntil("same\n", "--port", right, one);
+        long told = nanosecondsUntil("before the first case: ", "--port", hanging, one);
+        to.take("what hangs before the first case", told < Math.max(SOON, TIMES_THE_RIGHT_ONE * usual),
+            "it is told after " + told / MILLISECOND + " ms, and the right port takes " + usual / MILLISECOND + " ms");
+    }
+
+    /** How long it takes until a command has said this. */
+    private long nanosecondsUntil(String says, String... words) throws IOException, InterruptedException {
+        Path told = Files.createTempFile("vuthgal", ".told");
+        long begun = System.nanoTime();
+        Process process = start(told, words);
+        boolean said = false;
+        while (!said && System.nanoTime() - begun < LONGEST_SECONDS * 1000 * MILLISECOND) {
+            boolean lives = process.isAlive();
+            said = Files.readString(told, StandardCharsets.ISO_8859_1).contains(says);
+            if (!lives) {
+                break;
+            }
+            Thread.sleep(10);
+        }
+        long took = System.nanoTime() - begun;
+        process.destroy();
+        process.waitFor(LONGEST_SECONDS, TimeUnit.SECONDS);
+        Files.delete(told);
+        return said ? took : Long.MAX_VALUE / TIMES_THE_RIGHT_ONE;
     }
 
     /** What a port may tell of its list in the first burst in place of what it did, and what is said of that. */

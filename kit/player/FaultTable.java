@@ -32,7 +32,7 @@ final class FaultTable {
 
     /** Makes all the faults, some at a time. */
     void check(Vuthgal vuthgal, String python, Taker to) {
-        Case played = Case.of(vuthgal, "faults/case.asm", folder.resolve("case.asm"));
+        Case played = Case.of(vuthgal, "faults/case.txt", folder.resolve("case.txt"));
         long longest = LONGEST + TIMES_THE_RIGHT_ONE * check(RIGHT, played, vuthgal, python, Long.MAX_VALUE, to);
         rows.parallelStream().forEach(row -> check(row, played, vuthgal, python, longest, to));
     }
@@ -42,7 +42,7 @@ final class FaultTable {
         String port = quoted(folder.resolve("port.py").toString());
         String command = python + " " + port + " " + quoted(row.when()) + " " + quoted(row.what());
         Stage stage = new PortStage(command);
-        Judge judge = new Judge(stage, vuthgal, KnownDifferences.NONE, Patience.times(row.patience(), stage.patience()));
+        Judge judge = new Judge(stage, KnownDifferences.NONE, Patience.times(row.patience(), stage.patience()));
         Played told = Played.of(judge, played);
         judge.close();
         String line = told.line();

@@ -48,10 +48,16 @@ public final class JdkPort {
             case "answer" -> stage.thread(number).answer(Integer.parseInt(words[2]));
             case "throw" -> stage.thread(number).fail(Integer.parseInt(words[2]));
             case "interrupt" -> stage.thread(number).interrupt();
-            default -> {
-                make(number, words);
-                say("ok");
-            }
+            default -> say(made(number, words));
+        }
+    }
+
+    private String made(int number, String[] words) {
+        try {
+            make(number, words);
+            return Answer.NOTHING.line();
+        } catch (ProtocolFault refused) {
+            return Answer.of(refused.getCause()).line();
         }
     }
 

@@ -15,17 +15,15 @@ final class Judge {
 
     private final Stage learner = new JvmStage(new JdkFactory());
     private final Stage stage;
-    private final Vuthgal vuthgal;
     private final KnownDifferences known;
     private final Patience[] patience;
 
-    Judge(Stage stage, Vuthgal vuthgal, KnownDifferences known) {
-        this(stage, vuthgal, known, stage.patience());
+    Judge(Stage stage, KnownDifferences known) {
+        this(stage, known, stage.patience());
     }
 
-    Judge(Stage stage, Vuthgal vuthgal, KnownDifferences known, Patience... patience) {
+    Judge(Stage stage, KnownDifferences known, Patience... patience) {
         this.stage = stage;
-        this.vuthgal = vuthgal;
         this.known = known.forAnother();
         this.patience = patience;
     }
@@ -134,10 +132,7 @@ final class Judge {
 
     /** The first line that differs, or the first choice at which something odd happened; 0 if there is none. */
     private int line(Case asked, String trace, Notes notes) {
-        if (trace.equals(asked.wanted())) {
-            return notes.firstOdd();
-        }
-        String verdict = vuthgal.compare(asked.file(), trace);
-        return Integer.parseInt(verdict.substring(verdict.lastIndexOf(' ') + 1));
+        int line = asked.firstDifference(trace);
+        return line == 0 ? notes.firstOdd() : line;
     }
 }

@@ -51,7 +51,7 @@ final class JvmStage implements Stage {
         } catch (UnsupportedOperationException missing) {
             throw new Unplayable(missing.getMessage() == null ? "the factory makes no such " + what : missing.getMessage());
         } catch (RuntimeException thrown) {
-            throw new ProtocolFault("the factory's " + what + " threw " + Excerpt.of(thrown.toString()));
+            throw new ProtocolFault("the factory's " + what + " threw " + Excerpt.of(thrown.toString()), thrown);
         }
     }
 

@@ -110,8 +110,8 @@ public final class Kit {
     private void checkCases() throws IOException {
         Sums sums = new Sums();
         Transcripts transcripts = new Transcripts();
-        Judge judge = new Judge(new JvmStage(new JdkFactory()), vuthgal, KnownDifferences.COUNTS).warm();
-        for (Path file : Player.programsBelow(kit.resolve("cases"))) {
+        Judge judge = new Judge(new JvmStage(new JdkFactory()), KnownDifferences.COUNTS).warm();
+        for (Path file : Player.casesBelow(kit.resolve("cases"))) {
             String name = kit.relativize(file).toString();
             Case each = Case.of(vuthgal, name, file);
             Verdict verdict = judge.judge(each);
@@ -155,9 +155,9 @@ public final class Kit {
     // ---- differences
 
     private void checkDifferences() throws IOException {
-        Judge plain = new Judge(new JvmStage(new JdkFactory()), vuthgal, KnownDifferences.NONE);
-        Judge known = new Judge(new JvmStage(new JdkFactory()), vuthgal, KnownDifferences.ALL);
-        List<Path> files = Player.programsBelow(kit.resolve("differences"));
+        Judge plain = new Judge(new JvmStage(new JdkFactory()), KnownDifferences.NONE);
+        Judge known = new Judge(new JvmStage(new JdkFactory()), KnownDifferences.ALL);
+        List<Path> files = Player.casesBelow(kit.resolve("differences"));
         for (Path file : files) {
             String name = kit.relativize(file).toString();
             Case ours = Case.of(vuthgal, name, file);
@@ -179,7 +179,7 @@ public final class Kit {
         String table = behaviour.substring(behaviour.indexOf("## Where the JDK differs"));
         for (KnownDifference difference : KnownDifferences.ALL.list) {
             count(difference.row(), table.contains("| " + difference.row() + " |"), "there is no such row in BEHAVIOUR.md");
-            Path program = kit.resolve("differences").resolve(difference.program() + ".asm");
+            Path program = kit.resolve("differences").resolve(difference.program() + ".txt");
             count(difference.row(), Files.exists(program), "there is no " + program);
             Path nearly = kit.resolve("wrong").resolve(difference.nearly() + ".java");
             count(difference.row(), Files.exists(nearly), "there is no " + nearly);
@@ -205,7 +205,7 @@ public final class Kit {
     }
 
     private Judge judgeOf(String adapter, KnownDifferences known) {
-        return new Judge(adapters.stage(adapter), vuthgal, known,
+        return new Judge(adapters.stage(adapter), known,
             Patience.OF_JVM[0].withBound(SECOND / 3), Patience.OF_JVM[1].withBound(SECOND));
     }
 
@@ -228,7 +228,7 @@ public final class Kit {
     /** The same among the programs of the differences, with these told over. */
     private String findByDifferences(String adapter) throws IOException {
         Judge judge = judgeOf(adapter, KnownDifferences.ALL);
-        for (Path file : Player.programsBelow(kit.resolve("differences"))) {
+        for (Path file : Player.casesBelow(kit.resolve("differences"))) {
             Verdict verdict = judge.judge(Case.of(vuthgal, kit.relativize(file).toString(), file));
             if (verdict.fails()) {
                 return kit.relativize(file) + ", line " + verdict.line();
@@ -242,7 +242,7 @@ public final class Kit {
     private void checkPort(String command) {
         List<Judge> judges = new ArrayList<>();
         for (int job = 0; job < JOBS; job++) {
-            judges.add(new Judge(new PortStage(command), vuthgal, KnownDifferences.COUNTS));
+            judges.add(new Judge(new PortStage(command), KnownDifferences.COUNTS));
         }
         Sums sums = new Sums();
         int[] leftOut = {0};
@@ -263,7 +263,7 @@ public final class Kit {
     private void checkRandom() throws IOException {
         System.out.println("random scenarios on the JDK, seeds 1 to " + SCENARIOS + ":");
         Tally tally = new Tally(SCENARIOS, true, System.out);
-        Judge judge = new Judge(new JvmStage(new JdkFactory()), vuthgal, KnownDifferences.ALL);
+        Judge judge = new Judge(new JvmStage(new JdkFactory()), KnownDifferences.ALL);
         new RandomCases(vuthgal, tally, null, System.out).play(List.of(judge), 1, SCENARIOS);
         passed += tally.same();
         failed += tally.failing();

@@ -11,13 +11,8 @@ final class ModelCheck {
         if (each.wanted().startsWith(trace) && scene.notes.firstOdd() == 0) {
             return null;
         }
-        String[] wanted = each.wanted().split("\n");
-        String[] played = trace.split("\n");
-        int line = 0;
-        while (line < played.length && line < wanted.length && played[line].equals(wanted[line])) {
-            line++;
-        }
-        String there = line < played.length ? played[line] : "nothing";
-        return "the model plays " + there + " in line " + (line + 1) + "; " + scene.notes.firstOddWords();
+        int line = each.firstDifference(trace);
+        String there = trace.lines().skip(line - 1L).findFirst().orElse("nothing");
+        return "the model plays " + there + " in line " + line + "; " + scene.notes.firstOddWords();
     }
 }

@@ -11,6 +11,7 @@ import java.util.List;
 /** The words of the command line. */
 final class Options {
     static final String USAGE = """
+        kit/play [OPTION].. CASE [--trace FILE]
         kit/play [OPTION].. PROGRAM SCHEDULE [--trace FILE]
         kit/play [OPTION].. FOLDER.. [--transcripts FOLDER]
         kit/play [OPTION].. --random N [--seed S] [--keep FOLDER]
@@ -30,8 +31,8 @@ final class Options {
           --burst FILE       plays a burst that was kept until it fails, 20000 times at most
           --round R          plays the burst of round R alone until it fails, ROUNDS times at most
           --seed S           other scenarios, or other bursts; by default 1
-          --keep FOLDER      writes each scenario that differs there, as NAME.asm, NAME.schedule and NAME.trace, and each
-                             burst that fails, as KIND-SEED-ROUND.burst
+          --keep FOLDER      writes each scenario that differs there, as NAME.txt and NAME.trace, and each burst that
+                             fails, as KIND-SEED-ROUND.burst
           --report FILE      writes all verdicts as JUnit XML
           --patience FACTOR  waits so many times as long, 0.1 to 100, before a thread counts as blocked and a call as hanging
           --first-try        plays nothing again that differs
@@ -120,11 +121,11 @@ final class Options {
         if (keep != null && random == 0 && !playsBursts()) {
             throw new Wrong("--keep wants --random or --burst");
         }
-        if (transcripts != null && (programs.isEmpty() || schedule != null)) {
+        if (transcripts != null && (programs.isEmpty() || one() != null)) {
             throw new Wrong("--transcripts wants folders of cases");
         }
-        if (trace != null && schedule == null) {
-            throw new Wrong("--trace wants one program and its schedule");
+        if (trace != null && one() == null) {
+            throw new Wrong("--trace wants one case");
         }
     }
 
@@ -165,14 +166,13 @@ final class Options {
         throw new Wrong(option + " wants a factor from " + LEAST_PATIENCE + " to " + (int) MOST_PATIENCE + ", and not " + word);
     }
 
-    /** A folder, a program, or the schedule of the program before it. */
+    /** A folder, a case, a program, or the schedule of the program before it. */
     private void place(String word) throws Wrong {
         Path path = Path.of(word);
         if (word.startsWith("--") || !path.toFile().exists()) {
             throw new Wrong("there is no " + word);
         }
-        boolean folder = path.toFile().isDirectory();
-        if (!folder && programs.size() == 1 && schedule == null && !programs.get(0).toFile().isDirectory()) {
+        if (one() != null && schedule == null && !path.toFile().isDirectory() && !Case.isCase(path)) {
             schedule = path;
         } else {
             programs.add(path);
@@ -221,12 +221,12 @@ final class Options {
     }
 
     /** A judge for each case that is played at once. */
-    List<Judge> judges(Vuthgal by) throws Wrong {
+    List<Judge> judges() throws Wrong {
         List<Judge> judges = new ArrayList<>();
         for (int job = 0; job < jobs; job++) {
             Stage stage = stage();
             Patience[] tries = Patience.times(patience, stage.patience());
-            judges.add(new Judge(stage, by, knownDifferences(), firstTry ? new Patience[] {tries[0]} : tries));
+            judges.add(new Judge(stage, knownDifferences(), firstTry ? new Patience[] {tries[0]} : tries));
         }
         return judges;
     }
@@ -240,7 +240,12 @@ final class Options {
         return Collections.unmodifiableList(programs);
     }
 
-    /** The schedule of the one program that is named; null where there is none. */
+    /** The one case or program that is named; null where it is a folder, or there are several. */
+    Path one() {
+        return programs.size() == 1 && !programs.get(0).toFile().isDirectory() ? programs.get(0) : null;
+    }
+
+    /** The schedule of the one program that is named; null where none is named. */
     Path schedule() {
         return schedule;
     }

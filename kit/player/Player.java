@@ -12,7 +12,7 @@ public final class Player {
     private final Options options;
     private final Vuthgal vuthgal;
 
-    /** A program that has its schedule beside it, and the name by which it is told. */
+    /** The file of a case, and the name by which it is told. */
     private record Named(String name, Path file) {
     }
 
@@ -38,7 +38,7 @@ public final class Player {
         if (options.random() > 0) {
             return playRandom();
         }
-        return options.schedule() != null ? playOne() : playAll();
+        return options.one() != null ? playOne() : playAll();
     }
 
     private int playBursts(BurstOrder bursts) throws IOException, Options.Wrong {
@@ -54,9 +54,9 @@ public final class Player {
     }
 
     private int playOne() throws IOException, Options.Wrong {
-        Path program = options.programs().get(0);
-        Judge judge = options.judges(vuthgal).get(0).warm(word -> System.out.println(word.text()));
-        Played played = Played.of(judge, Case.of(vuthgal, program.toString(), program, options.schedule()));
+        Case each = caseOf(options.one(), options.schedule());
+        Judge judge = options.judges().get(0).warm(word -> System.out.println(word.text()));
+        Played played = Played.of(judge, each);
         judge.close();
         Verdict verdict = played.verdict();
         System.out.println(verdict.words() + verdict.triesInWords());
@@ -70,10 +70,20 @@ public final class Player {
         return end(report, verdict.isSame() ? 0 : verdict.fails() ? 1 : 2);
     }
 
+    private Case caseOf(Path program, Path schedule) {
+        if (schedule != null) {
+            return Case.of(vuthgal, program.toString(), program, schedule);
+        }
+        if (!Case.isCase(program)) {
+            throw new Vuthgal.Refused(program + " is no case: that is " + Case.IN_A_FOLDER);
+        }
+        return Case.of(vuthgal, program.toString(), program);
+    }
+
     private int playRandom() throws IOException, Options.Wrong {
         Tally tally = new Tally(options.random(), options.keepGoing(), System.out);
         RandomCases cases = new RandomCases(vuthgal, tally, options.keep(), System.out);
-        cases.play(options.judges(vuthgal), options.seed(), options.random());
+        cases.play(options.judges(), options.seed(), options.random());
         return end(tally.report(), tally.status());
     }
 
@@ -85,7 +95,7 @@ public final class Player {
         Tally tally = new Tally(programs.size(), options.keepGoing(), System.out);
         Transcripts transcripts = new Transcripts();
         new Jobs<>(programs, (judge, each) -> Played.of(judge, Case.of(vuthgal, each.name(), each.file())))
-            .tell(tally::before).run(options.judges(vuthgal), played -> {
+            .tell(tally::before).run(options.judges(), played -> {
                 transcripts.add(played.each(), played.verdict());
                 return tally.add(played);
             });
@@ -97,9 +107,9 @@ public final class Player {
     }
 
     private static List<Named> named(Path place) throws IOException {
-        List<Path> files = programsBelow(place);
+        List<Path> files = casesBelow(place);
         if (files.isEmpty()) {
-            throw new Vuthgal.Refused("there is no case in " + place + ": no NAME.asm with NAME.schedule beside it");
+            throw new Vuthgal.Refused("there is no case in " + place + ": no " + Case.IN_A_FOLDER);
         }
         return files.stream()
             .map(file -> new Named(file.equals(place) ? file.toString() : place.relativize(file).toString(), file)).toList();
@@ -112,11 +122,10 @@ public final class Player {
         return status;
     }
 
-    /** The programs that have a schedule beside them, in a folder and below, or the one that is named. */
-    static List<Path> programsBelow(Path place) throws IOException {
+    /** The cases in a folder and below, or the one that is named. */
+    static List<Path> casesBelow(Path place) throws IOException {
         try (Stream<Path> all = Files.walk(place)) {
-            return all.filter(file -> file.toString().endsWith(".asm") && Files.exists(Case.beside(file, ".schedule")))
-                .sorted().toList();
+            return all.filter(Case::isCase).sorted().toList();
         }
     }
 }

@@ -5,8 +5,8 @@ import java.util.regex.Pattern;
 /** A line that a port wrote, taken apart (docs/FORMATS.md, "Port protocol"). */
 record PortLine(Kind kind, int thread, int[] numbers, String line) {
     enum Kind {
-        /** A command for objects was carried out, or can't be. */
-        OK, NO,
+        /** A command for objects was carried out, or can't be, or its constructor threw. */
+        OK, NO, REFUSED,
         /** A call has come to this. */
         VALUE, VOID, THROWN, THROUGH, FAULT,
         /** A call stands at the beginning of an onAdvance or an action. */
@@ -25,6 +25,9 @@ record PortLine(Kind kind, int thread, int[] numbers, String line) {
         }
         if (words[0].equals("no")) {
             return new PortLine(Kind.NO, 0, NONE, line);
+        }
+        if (words[0].equals("throw")) {
+            return of(Kind.REFUSED, 0, line, words, 1, 1);
         }
         if (words.length < 2) {
             throw fault(line, "it is no answer");
@@ -97,7 +100,7 @@ record PortLine(Kind kind, int thread, int[] numbers, String line) {
 
     /** Whether it answers a command for objects. */
     boolean ofObjects() {
-        return kind == Kind.OK || kind == Kind.NO;
+        return kind == Kind.OK || kind == Kind.NO || kind == Kind.REFUSED;
     }
 
     /** Whether it tells of a list of calls, where the port plays lists. */

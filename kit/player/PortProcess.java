@@ -123,6 +123,9 @@ final class PortProcess {
         if (reply.said().kind() == PortLine.Kind.NO) {
             throw new Unplayable(Excerpt.of(reply.said().reason()));
         }
+        if (reply.said().kind() == PortLine.Kind.REFUSED) {
+            throw new ProtocolFault("`" + command + "` " + Answer.thrown(reply.said().number(0)).told());
+        }
     }
 
     /** The next answer; null where none comes for as long as one may take. */

@@ -8,6 +8,11 @@ final class ProtocolFault extends Breakdown {
         super(what, false);
     }
 
+    ProtocolFault(String what, RuntimeException thrown) {
+        this(what);
+        initCause(thrown);
+    }
+
     @Override
     boolean mayBeSlowness() {
         return false;

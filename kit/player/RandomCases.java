@@ -48,7 +48,6 @@ final class RandomCases {
             if (played.verdict().fails()) {
                 to.println("  " + (keep != null ? "kept as " + keep(played.each()) : "--keep FOLDER writes it"));
             }
-            Files.delete(Case.beside(played.each().file(), ".schedule"));
             Files.delete(played.each().file());
         } catch (IOException failed) {
             throw new UncheckedIOException(failed);
@@ -58,10 +57,8 @@ final class RandomCases {
 
     private Path keep(Case scenario) throws IOException {
         Files.createDirectories(keep);
-        Path file = keep.resolve(scenario.name() + ".asm");
+        Path file = keep.resolve(scenario.file().getFileName());
         Files.copy(scenario.file(), file, StandardCopyOption.REPLACE_EXISTING);
-        Files.copy(Case.beside(scenario.file(), ".schedule"), Case.beside(file, ".schedule"),
-            StandardCopyOption.REPLACE_EXISTING);
         Files.writeString(Case.beside(file, ".trace"), scenario.wanted());
         return file;
     }

@@ -14,7 +14,8 @@ final class ReplayChecks {
     /** Where all stand still, so many times as long, and at the second try, since the machine may be busy. */
     private static final List<String> PATIENCE = List.of("2", "20");
     private static final String RIGHT = " same, 0 different, 0 left out\n";
-    private static final int WAITS = 24_000;
+    /** So many that 128 KiB more, which is how an allocator grows, are less than the bytes that `kit/soak` allows. */
+    private static final int WAITS = 48_000;
     private static final long LONGEST_SECONDS = 240;
 
     /** The status of a replay and what it has to say, the command of the port, and folders of cases. */
@@ -44,7 +45,8 @@ final class ReplayChecks {
         }
         String java = Path.of(System.getProperty("java.home"), "bin", "java") + " --add-opens"
             + " java.base/java.util.concurrent=ALL-UNNAMED -cp " + System.getProperty("java.class.path") + " kit.player.JdkPort";
-        Check onJdk = new Check(0, transcripts("{children,phase-numbers}.txt") + RIGHT, java, "children phase-numbers");
+        Check onJdk = new Check(0, transcripts("{children,constructors,phase-numbers}.txt") + RIGHT, java,
+            "children constructors phase-numbers");
         checks.add(() -> check(onJdk));
         wrongPorts().forEach(each -> checks.add(() -> check(each)));
         checks.add(() -> soak(1, " 0.0 bytes a wait are left\n", wrong + "polls.py"));
@@ -59,11 +61,20 @@ final class ReplayChecks {
         return List.of(
             new Check(1, "interruption/while-it-waits differs, at line ", wrong + "ignores_interrupts.py", "interruption"),
             new Check(1, "policies/until-tells-the-waiters differs, at line ", wrong + "loses_wake_ups.py 1", "policies"),
+            constructs("negative", "a-phaser-of-negative-parties"),
+            constructs("too-many", "a-phaser-of-too-many-parties"),
+            constructs("no-room", "a-child-without-room-in-its-parent"),
+            constructs("barrier", "a-barrier-of-0-parties"),
             new Check(1, "0 same, ", wrong + "flushes_nothing.py threads", "phase-numbers"),
             new Check(1, "`< 0 = 0`: ['0 = 7'] came", faults + "'0 = 0' 'say 0 = 7\\n'", "phase-numbers"),
             new Check(1, "waiting/for-the-present-phase differs, at line ", faults + "'1 = 0' 'also 0 = 1\\n'", "waiting"),
             new Check(0, " left out: no it makes no barrier\n", faults + "without barrier", "tiers action"),
             new Check(2, "0 same, 0 different, ", faults + "without case", "reset"));
+    }
+
+    /** A port whose constructors refuse all but one thing, and the transcript that it plays otherwise. */
+    private Check constructs(String what, String transcript) {
+        return new Check(1, "constructors/" + transcript + " differs, at line ", wrong + "constructs_all.py " + what, "constructors");
     }
 
     /** What a port costs that waits, by {@code kit/soak}. */

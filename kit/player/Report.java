@@ -19,9 +19,8 @@ final class Report {
 
     /** The folder of a program names the rule, as {@code tiers} does; a scenario of the player's own lies in none. */
     private static String folder(Case each) {
-        boolean ownScenario = !each.name().endsWith(".asm");
         Path folder = each.file().toAbsolutePath().normalize().getParent().getFileName();
-        return ownScenario || folder == null ? each.name().replaceAll("-[0-9]+$", "") : folder.toString();
+        return each.isOfAFile() && folder != null ? folder.toString() : each.name().replaceAll("-[0-9]+$", "");
     }
 
     void write(Path file) throws IOException {
@@ -42,7 +41,7 @@ final class Report {
     }
 
     private static String test(String folder, Played played) {
-        String name = Path.of(played.each().name()).getFileName().toString().replace(".asm", "");
+        String name = played.each().title();
         String heading = played.each().heading();
         String begin = "    <testcase classname=\"" + escaped(folder) + "\" name=\""
             + escaped(heading.isEmpty() ? name : name + " (" + heading + ")")

@@ -10,11 +10,8 @@ record Scenario(String name, String text, String schedule) {
         return new ScenarioMaker(seed).make();
     }
 
-    /** Writes NAME.asm and NAME.schedule into a folder; answers the program. */
+    /** Writes NAME.txt into a folder, and answers it. */
     Path write(Path folder) throws IOException {
-        Path file = folder.resolve(name + ".asm");
-        Files.writeString(file, text);
-        Files.writeString(Case.beside(file, ".schedule"), schedule);
-        return file;
+        return Files.writeString(folder.resolve(name + ".txt"), text + ".run\n" + schedule);
     }
 }

@@ -22,8 +22,7 @@ final class Transcripts {
     }
 
     private static String text(Case each, Verdict verdict) {
-        String name = each.file().getFileName().toString().replace(".asm", "");
-        return "# " + folder(each) + "/" + name + ": " + each.rule() + "\n" + verdict.notes().transcript + "\n";
+        return "# " + folder(each) + "/" + each.title() + ": " + each.rule() + "\n" + verdict.notes().transcript + "\n";
     }
 
     /** Whether the folder keeps it so. */

@@ -31,20 +31,30 @@ final class Vuthgal {
 
     /** The canonical text of a program's text or image. */
     String list(Path file) {
-        return output(file.getFileName() + " is refused: ", "", "list", file.toString());
+        return output(file, "", "list", file.toString());
+    }
+
+    /** The same of the program that a file holds beside its schedule. */
+    String list(Path file, String program) {
+        return output(file, program, "list", "/dev/stdin");
+    }
+
+    /** The trace of a text that holds its schedule. */
+    String run(Path file) {
+        return output(file, "", "run", file.toString());
     }
 
     /** The trace of a program under a schedule. */
-    String run(Path file, Path schedule) {
-        return output(file.getFileName() + " is refused: ", "", "run", file.toString(), schedule.toString());
+    String run(Path file, String schedule) {
+        return output(file, schedule, "run", file.toString(), "-");
     }
 
-    /** {@code same}, {@code differs LINE} or {@code not a trace LINE}. */
-    String compare(Path file, String trace) {
-        return output(file.getFileName() + " is refused: ", trace, "compare", file.toString(), "-").strip();
+    /** The schedule of a plan. */
+    String plan(Path file, Path plan) {
+        return output(file, "", "plan", file.toString(), plan.toString());
     }
 
-    private String output(String failure, String input, String... words) {
+    private String output(Path file, String input, String... words) {
         List<String> command = new ArrayList<>(List.of(program.toString()));
         command.addAll(List.of(words));
         try {
@@ -52,11 +62,11 @@ final class Vuthgal {
             try {
                 Process process = new ProcessBuilder(command).redirectError(errors.toFile()).start();
                 try (OutputStream into = process.getOutputStream()) {
-                    into.write(input.getBytes(StandardCharsets.US_ASCII));
+                    into.write(input.getBytes(StandardCharsets.ISO_8859_1));
                 }
                 String output = new String(process.getInputStream().readAllBytes(), StandardCharsets.US_ASCII);
-                if (process.waitFor() > 1) {
-                    throw new Refused(failure + Files.readString(errors).strip());
+                if (process.waitFor() != 0) {
+                    throw new Refused(file.getFileName() + " is refused: " + Files.readString(errors).strip());
                 }
                 return output;
             } finally {

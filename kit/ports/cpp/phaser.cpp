@@ -1,5 +1,6 @@
 #include "phaser.hpp"
 
+#include <algorithm>
 #include <limits>
 
 namespace {
@@ -55,8 +56,14 @@ Phaser::Phaser(Phaser* parent, int parties, int first_phase)
     auto lock = tree_->lock();
     tree_->phasers.push_back(this);
   }
-  if (parties > 0) {
-    bulk_register(parties);
+  try {
+    if (parties > 0) {
+      bulk_register(parties);
+    }
+  } catch (...) {  // there is no room in the parent
+    auto lock = tree_->lock();
+    tree_->phasers.erase(std::find(tree_->phasers.begin(), tree_->phasers.end(), this));
+    throw;
   }
 }
 

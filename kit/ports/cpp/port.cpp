@@ -479,8 +479,10 @@ void command_thread(const std::string& word, std::istringstream& words) {
 /// Carries out a command for objects, and answers it.
 std::string make(const std::string& word, std::istringstream& words) {
   try {
-    word == "case" ? begin() : word == "phaser" ? make_phaser(words) : make_barrier(words);
-    return "ok";
+    return outcome([&word, &words] {
+      word == "case" ? begin() : word == "phaser" ? make_phaser(words) : make_barrier(words);
+      return std::string("ok");
+    });
   } catch (const Missing& missing) {
     return std::string("no ") + missing.why;
   }

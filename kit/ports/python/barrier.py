@@ -3,7 +3,7 @@
 import threading
 import time
 
-from threads import BrokenBarrier, IllegalState, Interrupted, TimedOut, current
+from threads import BrokenBarrier, IllegalArgument, IllegalState, Interrupted, TimedOut, current
 
 
 class _Generation:
@@ -16,6 +16,8 @@ class _Generation:
 
 class CyclicBarrier:
     def __init__(self, parties, action=None):
+        if parties < 1:
+            raise IllegalArgument
         self._parties = parties
         self._action = action
         self._changed = threading.Condition()

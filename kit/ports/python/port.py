@@ -117,8 +117,12 @@ def say(line):
 
 def outcome(method, numbers):
     """Makes a call on the current thread; what became of it, in the protocol's words."""
+    return became(CALLS[method], numbers)
+
+
+def became(call, operands):
     try:
-        value = CALLS[method](*numbers)
+        value = call(*operands)
     except Through as thrown:
         return f"through {thrown.number}"
     except tuple(THROWN) as thrown:
@@ -223,8 +227,7 @@ def main():
     for line in sys.stdin:
         word, *operands = line.split()
         if word in MAKES:
-            MAKES[word](*operands)
-            say("ok")
+            say(became(MAKES[word], operands))
             continue
         if word in LISTS:
             LISTS[word](*operands)

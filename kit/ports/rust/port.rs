@@ -46,8 +46,8 @@ fn pause(length: u64) {
 type Call = Box<dyn Fn() -> Answer<Option<i32>> + Send>;
 
 /// What became of a call, in the protocol's words.
-fn outcome(call: &Call) -> String {
-    match call() {
+fn words_of(answer: Answer<Option<i32>>) -> String {
+    match answer {
         Ok(Some(value)) => format!("= {value}"),
         Ok(None) => "ok".to_string(),
         Err(Thrown::IllegalState) => "throw 1".to_string(),
@@ -137,7 +137,7 @@ impl Actor {
         loop {
             let order = self.told.lock().unwrap().recv().unwrap();
             match order {
-                Order::Call(call) => say(&format!("{} {}", self.number, outcome(&call))),
+                Order::Call(call) => say(&format!("{} {}", self.number, words_of(call()))),
                 Order::List(gate) => self.make_list(&gate),
                 Order::Answer(number) => return Ok(number),
                 Order::Throw(number) => return Err(Thrown::Through(number)),
@@ -169,7 +169,7 @@ impl Actor {
             let begin = now();
             self.list.lock().unwrap().present = Some((step.number, begin));
             fence(SeqCst);
-            let answer = outcome(&step.call);
+            let answer = words_of((step.call)());
             fence(SeqCst);
             let end = now();
             let entered = ENTERED.take().unwrap();
@@ -359,7 +359,7 @@ fn carry_out(command: &str, words: &[&str]) {
             world.begin();
             say("ok");
         }
-        "phaser" | "barrier" => say(world.make(command, words).map_or("no it throws", |()| "ok")),
+        "phaser" | "barrier" => say(&words_of(world.make(command, words).map(|()| None))),
         "lists" => say("ok"),
         "so-far" => say(&(world.actors.values().map(|actor| actor.so_far()).collect::<String>() + "ok")),
         "advance" | "action" => {

@@ -1,9 +1,0 @@
-; Arriving: who leaves isn't counted among the arrived, and those that have arrived stay so
-.phaser root 3
-.thread driver main
-main: parr r0 root
-      pdereg r1 root
-      pparties r2 root
-      parrived r3 root
-      punarr r4 root
-      halt
