@@ -11,6 +11,8 @@ final class BurstKit {
     private static final int ROUNDS_ON_THE_JDK = 2_000;
     private static final int ROUNDS_ON_THE_RIGHT_ONE = 1_000;
     private static final int ROUNDS_TO_FIND = 20_000;
+    /** A race is a matter of chance, and of free processors: what the bursts of one seed don't find, those of another may. */
+    private static final int SEEDS_TO_FIND = 4;
     /** What is wrong may be taken to wait for ever sooner. */
     private static final long IMPATIENT = 500_000_000L;
     private static final String RIGHT = "UnderOneLock";
@@ -116,8 +118,8 @@ final class BurstKit {
         for (String name : adapters.names()) {
             Stage stage = adapters.stage(name);
             boolean right = name.equals(RIGHT);
-            String finding = new Bursts(List.of(stage), right ? Bursts.PATIENT : IMPATIENT, null, System.out)
-                .find(1, right ? ROUNDS_ON_THE_RIGHT_ONE : ROUNDS_TO_FIND);
+            String finding = right ? new Bursts(List.of(stage), Bursts.PATIENT, null, System.out).find(1, ROUNDS_ON_THE_RIGHT_ONE)
+                : finding(stage);
             to.take(name, right == (finding == null), right ? "it is right, and found: " + finding : "no burst finds it");
             if (!right && finding != null) {
                 found++;
@@ -125,6 +127,15 @@ final class BurstKit {
             }
         }
         System.out.println("wrong adapters that bursts have to find: " + found + " found");
+    }
+
+    /** What bursts find first in something wrong; null where they find nothing. */
+    private static String finding(Stage stage) throws IOException {
+        String finding = null;
+        for (int seed = 1; seed <= SEEDS_TO_FIND && finding == null; seed++) {
+            finding = new Bursts(List.of(stage), IMPATIENT, null, System.out).find(seed, ROUNDS_TO_FIND);
+        }
+        return finding;
     }
 
     /** The phaser without a lock: its bursts find nothing as long as it has no fault, and each fault of the table. */
@@ -137,7 +148,7 @@ final class BurstKit {
             }
             String fault = line.substring(0, line.indexOf(' '));
             Stage stage = new PortStage("FAULT=" + fault + " " + command);
-            String finding = new Bursts(List.of(stage), IMPATIENT, null, System.out).find(1, ROUNDS_TO_FIND);
+            String finding = finding(stage);
             stage.close();
             to.take("a phaser without a lock, " + fault, finding != null, "no burst finds it");
             found += finding == null ? 0 : 1;
