@@ -1,5 +1,5 @@
 -- What is listed of the rows of a program.
-use Rattle.std.specs.Prelude.{◌≡◌, ◌⊎◌, ℕ, ◌-◌, true, false, List, [], ◌∷◌, length, take, drop, decimal, slice_index_or, Option, Ok}
+use Rattle.std.specs.Prelude.{◌≡◌, ◌⊎◌, ℕ, ◌-◌, true, false, List, [], ◌∷◌, length, take, drop, decimal, slice_index_or, Bool, Option, Result, Ok, Err}
 use Rattle.std.specs.Char.{is_ascii_whitespace}
 use Rattle.std.specs.Io.KnownBytes.{Appends}
 use Rattle.std.specs.List.{flat_map, prefix_len, suffix_len}
@@ -15,7 +15,8 @@ use Rattle.line_reader.specs.Words.{lines_of}
 use Rattle.listing.specs.Listing.{line_text, numbered, row_words}
 use Rattle.assembler.specs.Meaning.{image_of, row_of, SayInOrder, StandsFor}
 use Rattle.assembler.specs.Symbols.{row_line}
-use Rattle.workbench.specs.Input.{GivesAll}
+use Rattle.workbench.specs.declared.fault.Fault.{Fault}
+use Rattle.workbench.specs.List.{StopsListing}
 use Rattle.workbench.specs.ProgramFile.{is_image_file}
 
 -- a line without the blanks at its start and its end
@@ -68,8 +69,8 @@ IsRowListing file listing =
     ((is_image_file file ≡ true) × ((image : Image) × ((image_in file ≡ Ok image) × (listing ≡ image_listing image))))
     ⊎ ((is_image_file file ≡ false) × IsTextListing file listing)
 
--- the file was read to its end, and the rows of its program were listed
-abbrev pub HasListedRows : (file_before file_after output_before output_after : Option (List ℕ)) → Type 0
-HasListedRows file_before file_after output_before output_after =
-    (file : List ℕ) × ((listing : List ℕ) × (GivesAll file_before file_after file × IsRowListing file listing
-    × Appends output_before output_after listing))
+-- the rows of the program that a file's bytes are were listed; or why not, as `list` stops
+abbrev pub ListsRows : (file : List ℕ) → Result (Unit {0}) Fault → (output_before output_after : Option (List ℕ)) (output_failed : Bool) → Type 0
+ListsRows file (Ok done) output_before output_after output_failed =
+    (listing : List ℕ) × (IsRowListing file listing × Appends output_before output_after listing)
+ListsRows file (Err f) output_before output_after output_failed = StopsListing f file output_before output_after output_failed

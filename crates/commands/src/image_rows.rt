@@ -40,10 +40,7 @@ fn push_image_rows(listing: &mut Vec<u8>, rows: &[Row]) -> Result<(), AllocError
 pub fn listed_image(alloc: Global, file: &[u8]) -> Result<Vec<u8>, Fault>
     requires { is_image_file file.now ≡ true }
     ensures listing { IfOk result (λ listing. IsRowListing file.now listing.items) }
-    ensures refused { IfErr result (λ fault. status_of fault ≡ 3 → IsNoProgramFor fault file.now) }
-    ensures spawn { result ≢ Err Fault.Spawn }
-    ensures read { result ≢ Err Fault.Read }
-    ensures write { result ≢ Err Fault.Write }
+    ensures none { IfErr result (λ fault. (fault ≡ Fault.Memory) ⊎ IsNoProgramFor fault file.now) }
 {
     let image = match read_image(alloc, file) {
         Ok(image) => image,

@@ -86,10 +86,7 @@ fn rows_in_text(alloc: Global, text: &[u8], numbers: &[u64]) -> Result<Vec<u8>, 
 pub fn listed_text(alloc: Global, file: &[u8]) -> Result<Vec<u8>, Fault>
     requires { is_image_file file.now ≡ false }
     ensures listing { IfOk result (λ listing. IsRowListing file.now listing.items) }
-    ensures refused { IfErr result (λ fault. status_of fault ≡ 3 → IsNoProgramFor fault file.now) }
-    ensures spawn { result ≢ Err Fault.Spawn }
-    ensures read { result ≢ Err Fault.Read }
-    ensures write { result ≢ Err Fault.Write }
+    ensures none { IfErr result (λ fault. (fault ≡ Fault.Memory) ⊎ IsNoProgramFor fault file.now) }
 {
     let (_image, symbols) = match assemble_named(alloc, file) {
         Ok(named) => named,

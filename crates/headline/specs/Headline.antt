@@ -10,7 +10,7 @@
 -- 1 is what `play` leaves (src/machine.rt); 2 and 4 are laws (src/law.rt); 3 is what `step_and_back` does to a machine, and
 -- `steps_and_backs` to a debugging session (src/back.rt). Behind each name of a `use` line stands the file that defines it: who
 -- believes this page has to read those too. Beside it stands what lies below: a tree whose words lag, and the word that real
--- threads share. That commands show this of what they read is said by end_to_end/specs/EndToEnd.antt.
+-- threads share. That commands show this of what they read is said by EndToEnd.antt, beside this file.
 --
 -- The program calls none of these functions. Its runs step by `Machine::step`, its debugger by `Machine::step_into` and
 -- `Debugger::back`: their contracts say the same of each choice (thread_machine/src/machine.rt, debugger/src/session.rt).

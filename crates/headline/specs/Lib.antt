@@ -1,3 +1,4 @@
 pub mod Headline
 pub mod Pasts
 pub mod Playing
+pub mod EndToEnd

@@ -1,10 +1,12 @@
 -- What several live runs of a program's file are told as.
-use Rattle.std.specs.Prelude.{◌≡◌, ℕ, All, List, length, Option, None}
+use Rattle.std.specs.Prelude.{◌≡◌, ℕ, All, Bool, IsTrue, List, length, Option, None, Result, Ok, Err}
 use Rattle.std.specs.Io.KnownBytes.{Appends}
 use Rattle.row_code.specs.declared.image.Image.{Image}
 use Rattle.loader.specs.Fault.{first_fault}
 use Rattle.thread_machine.specs.World.{World, IsFirstOf}
-use Rattle.workbench.specs.Run.{GivesProgram}
+use Rattle.workbench.specs.ProgramFile.{IsNoProgramFor, IsProgramFile, IsUnloadedFor}
+use Rattle.workbench.specs.declared.fault.Fault.{Fault}
+use Rattle.workbench.specs.declared.fault.Fault.TheVariants as fault
 use Rattle.workbench.specs.declared.done.Done.{Done}
 use Rattle.live_runs.specs.declared.command.Asked.{Asked}
 use Rattle.live_runs.specs.declared.end_state.EndState.{EndState}
@@ -24,7 +26,17 @@ HasReported image asked done output_before output_after =
     × IsMostFrequentFirst outcomes × (done ≡ done_by asked.expected.now outcomes)
     × Appends output_before output_after (report outcomes)))
 
--- the file was read to its end, and this was done with its program
-abbrev pub HasReportedFile : Asked → Done → (file_before file_after output_before output_after : Option (List ℕ)) → Type 0
-HasReportedFile asked done file_before file_after output_before output_after =
-    (image : Image) × (GivesProgram file_before file_after image × HasReported image asked done output_before output_after)
+-- why no report was written: the output failed; or there was no memory, or no thread could be started, or the program isn't loaded,
+-- or the file is none, and nothing was
+abbrev pub StopsReporting : Fault → (file : List ℕ) (output_before output_after : Option (List ℕ)) (output_failed : Bool) → Type 0
+StopsReporting fault.Write file output_before output_after output_failed = IsTrue output_failed
+StopsReporting fault.Memory file output_before output_after output_failed = output_after ≡ output_before
+StopsReporting fault.Spawn file output_before output_after output_failed = output_after ≡ output_before
+StopsReporting (fault.Load f) file output_before output_after output_failed = IsUnloadedFor f file × (output_after ≡ output_before)
+StopsReporting f file output_before output_after output_failed = IsNoProgramFor f file × (output_after ≡ output_before)
+
+-- this was done with the program that a file's bytes are
+abbrev pub Reports : Asked → (file : List ℕ) → Result Done Fault → (output_before output_after : Option (List ℕ)) (output_failed : Bool) → Type 0
+Reports asked file (Ok done) output_before output_after output_failed =
+    (image : Image) × (IsProgramFile file image × HasReported image asked done output_before output_after)
+Reports asked file (Err f) output_before output_after output_failed = StopsReporting f file output_before output_after output_failed

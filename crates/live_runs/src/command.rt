@@ -1,30 +1,24 @@
 //! The command that plays a program several times.
 ghost use Rattle.std.specs.Prelude.{◌≡◌, ◌⊎◌, ◌≤◌, Err, IsTrue, IfErr, IfOk, OnOk};
 ghost use Rattle.std.specs.Io.KnownBytes.{Appends};
-ghost use Rattle.loader.specs.declared.load_fault.LoadFault.{LoadFault};
-ghost use Rattle.trace_compare.specs.Start.{IsRefused};
 ghost use Rattle.workbench.specs.declared.fault.Fault.{Fault};
-ghost use Rattle.workbench.specs.Fault.{status_of};
-ghost use Rattle.workbench.specs.Input.{GivesTooMuch};
-ghost use Rattle.workbench.specs.Run.{HasNoRun};
 ghost use Rattle.thread_machine.specs.World.{first_world};
 ghost use Rattle.live_runs.specs.Outcomes.{IsMostFrequentFirst, report, done_by};
-ghost use Rattle.live_runs.specs.Runs.{AreOutcomesFrom, HasReported, HasReportedFile};
+ghost use Rattle.live_runs.specs.Runs.{AreOutcomesFrom, Reports};
 
 use crate::outcomes::{Outcomes, sort};
 use crate::pauses::Pauses;
 use crate::report::{done_by, report};
 use crate::runs::add_runs;
-use byte_ports::{Sink, Source};
+use byte_ports::Sink;
 use loader::{LoadFault, Loaded, load};
-use row_code::Image;
 use std::alloc::Global;
 use std::sync::Wait;
 use std::thread::Threads;
 use thread_runner::Gate;
 use workbench::done::Done;
 use workbench::fault::Fault;
-use workbench::program_file::read_program;
+use workbench::program_file::program_in;
 
 /// Which runs are asked for.
 #[derive(Clone, Copy)]
@@ -38,63 +32,35 @@ pub struct Asked<'a> {
     pub expected: &'a [Vec<u8>],
 }
 
-/// Plays the program in `file`, an image or a text, on real threads as often as it is asked for, and writes to `output` a line
+/// Plays the program that a file's bytes are, an image or a text, on real threads as often as it is asked for, and writes to `output` a line
 /// for each state that a run ended in, the most frequent first: how often one did, `all`, `stuck` or `live`, with `+died` where a
 /// thread died, and the schedule of the first that did. Nothing is written before all runs are over. The threads of each run pass `gate` behind their
 /// pauses, as in `workbench::live::live`.
-pub fn report_runs<R: Threads + Wait + Sync, G: Gate + Sync, F: Source, K: Sink>(
+pub fn report_runs<R: Threads + Wait + Sync, G: Gate + Sync, K: Sink>(
     rt: &R,
     alloc: Global,
     asked: &Asked<'_>,
     gate: &G,
-    file: &mut F,
+    program: &[u8],
     output: &mut K,
 ) -> Result<Done, Fault>
     requires limit { asked.now.limit ≤ 1000000000 }
     requires count { asked.now.runs ≤ 100000 }
-    ensures done { IfOk result (λ done. HasReportedFile asked.now done (F.left file.old) (F.left file.new)
-        (K.written output.old) (K.written output.new)) }
-    ensures refused { IfErr result (λ fault. status_of fault ≡ 3
-        → HasNoRun fault (F.left file.old) (F.left file.new) (K.written output.old) (K.written output.new)) }
-    ensures unchanged { IfErr result (λ fault. (fault ≡ Fault.Write)
-        ⊎ (K.written output.new ≡ K.written output.old)) }
-    ensures read { result ≡ Err Fault.Read → IsTrue (F.has_failed file.new)
-        ⊎ GivesTooMuch (F.left file.old) (F.left file.new) }
-    ensures write { result ≡ Err Fault.Write → IsTrue (K.has_failed output.new) }
+    ensures { Reports asked.now program.now result (K.written output.old) (K.written output.new) (K.has_failed output.new) }
 {
-    let image = match read_program(alloc, file) {
+    let image = match program_in(alloc, program) {
         Ok(image) => image,
         Err(fault) => return Err(fault),
     };
-    report_image(rt, alloc, asked, gate, image, output)
-}
-
-/// The same of an image.
-fn report_image<R: Threads + Wait + Sync, G: Gate + Sync, K: Sink>(
-    rt: &R,
-    alloc: Global,
-    asked: &Asked<'_>,
-    gate: &G,
-    image: Image,
-    output: &mut K,
-) -> Result<Done, Fault>
-    requires limit { asked.now.limit ≤ 1000000000 }
-    requires count { asked.now.runs ≤ 100000 }
-    ensures done { IfOk result (λ done. HasReported image asked.now done
-        (K.written output.old) (K.written output.new)) }
-    ensures load { (fault : LoadFault) → result ≡ Err (Fault.Load fault) → IsRefused fault image }
-    ensures fault { IfErr result (λ fault. ((other : LoadFault) × (fault ≡ Fault.Load other))
-        ⊎ ((fault ≡ Fault.Memory) ⊎ ((fault ≡ Fault.Spawn) ⊎ (fault ≡ Fault.Write)))) }
-    ensures unchanged { IfErr result (λ fault. (fault ≡ Fault.Write)
-        ⊎ (K.written output.new ≡ K.written output.old)) }
-    ensures write { result ≡ Err Fault.Write → IsTrue (K.has_failed output.new) }
-{
     let program = match load(alloc, image) {
         Ok(program) => program,
         Err(LoadFault::Memory) => return Err(Fault::Memory),
         Err(fault) => return Err(Fault::Load(fault)),
     };
-    let outcomes = outcomes_of(rt, alloc, asked, gate, &program)?;
+    let outcomes = match outcomes_of(rt, alloc, asked, gate, &program) {
+        Ok(outcomes) => outcomes,
+        Err(fault) => return Err(fault),
+    };
     push_report(alloc, asked.expected, &outcomes, output)
 }
 

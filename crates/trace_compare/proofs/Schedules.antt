@@ -2,7 +2,7 @@
 use Rattle.std.proofs.Common.{◌≡◌, ◌≢◌, ◌∙◌, ◌++◌, ◌⊎◌, ℕ, Bool, true, inl, inr, List, [], Ok, Err, None, Result, ap, sym, subst, refl, append-nil, append_assoc, Option, Some}
 use Rattle.std.specs.Prelude.{IfOk, IfErr, OnOk, replicate}
 use Rattle.std.proofs.lemmas.Grind.{flat_map-append}
-use Rattle.std.specs.Io.KnownBytes.{Appends}
+use Rattle.std.specs.Io.KnownBytes.{Appends, Consumes, IsAtEnd}
 use Rattle.schedule_reader.specs.declared.fault.ScheduleFault.{ScheduleFault}
 use Rattle.schedule_reader.specs.declared.fault.ScheduleFault.TheVariants.{Memory}
 use Rattle.schedule_reader.specs.declared.run.Run.{Run}
@@ -10,7 +10,10 @@ use Rattle.schedule_reader.specs.Places.{Progress, HasRead, rest_by_fault, with_
 use Rattle.schedule_reader.specs.Reading.{Adds, answer_by, answer_of}
 use Rattle.schedule_reader.specs.Schedule.{Schedule, open_schedule, finished_schedule, choices_of}
 use Rattle.thread_machine.specs.World.{World}
-use Rattle.trace_compare.specs.Playing.{IsUpTo, PlaysOn, WritesOn, WritesPartOn}
+use Rattle.trace_compare.specs.declared.run.RunFault.{RunFault}
+use Rattle.trace_compare.specs.declared.run.RunFault.TheVariants as fault
+use Rattle.trace_compare.specs.Outcome.{StopsFrom}
+use Rattle.trace_compare.specs.Playing.{IsUpTo, PlaysOn, StopsAt, WritesOn, WritesPartOn}
 use Rattle.trace_compare.specs.RunText.{faulty_after}
 use Rattle.trace_compare.specs.Trace.{AppendsPartOf, Plays, lines_of}
 use Rattle.trace_compare.proofs.Plays.{Part-longer}
@@ -149,3 +152,95 @@ end-plays (Ok all) told bytes first before after was old known new start runs no
       (told_none told is) adds up.plays on,
 )
 end-plays (Err e) told bytes first before after was old known new start runs now empty up adds answer is on = on
+
+-- a schedule by its fault
+pub schedule_by_fault : (schedule : Schedule) (fault : Option ScheduleFault) → schedule.fault ≡ fault
+    → schedule ≡ record { runs = schedule.runs; fault = fault }
+schedule_by_fault schedule fault is =
+    let make : Option ScheduleFault → Schedule = λ f. record { runs = schedule.runs; fault = f } in ap make is
+
+-- what stops a run behind a piece of its schedule
+pub piece-stops : (f : RunFault) (told : Result (Unit {0}) ScheduleFault) (bytes longer : List ℕ) (first before : World) (was : Bool)
+    (schedule_before schedule_after old known new : Option (List ℕ)) (failed other : Bool) (start runs : List Run) (now next : Progress)
+    → start ≡ [] → IsUpTo first before bytes now was old known → Consumes schedule_before schedule_after longer
+    → Adds told (open_schedule bytes) (open_schedule longer) start runs
+    → (told ≡ Err Memory) ⊎ HasRead next longer → IfErr told (λ e. next.fault ≡ Some e)
+    → StopsAt f told before was (choices_of runs) known new other
+    → StopsFrom first f schedule_before schedule_after failed old new other
+piece-stops (fault.Schedule f) told bytes longer first before was schedule_before schedule_after old known new failed other start runs now next
+    empty up consumed adds read err (is, is_other, writes) =
+    let enough = told_other told f is is_other in
+    let has = has_read told next longer enough read in (
+      longer,
+      (
+        (open_schedule longer).runs,
+        (
+          is_other,
+          consumed,
+          inr (λ rest. faulty_then next longer rest f (fault_told told f next is err) has),
+          added-writes told (open_schedule bytes) (open_schedule longer) first before was old known new start runs empty enough adds up.plays writes,
+        ),
+      ),
+    )
+piece-stops fault.Memory told bytes longer first before was schedule_before schedule_after old known new failed other start runs now next
+    empty up consumed adds read err writes = (
+      longer,
+      (
+        open_schedule longer,
+        (
+          consumed,
+          inl refl,
+          added-writes_part told (open_schedule bytes) (open_schedule longer) first before was old known new start runs empty adds up.plays writes,
+        ),
+      ),
+    )
+piece-stops fault.Write told bytes longer first before was schedule_before schedule_after old known new failed other start runs now next
+    empty up consumed adds read err writes = writes
+piece-stops fault.Read told bytes longer first before was schedule_before schedule_after old known new failed other start runs now next
+    empty up consumed adds read err no = absurd no
+piece-stops (fault.Load f) told bytes longer first before was schedule_before schedule_after old known new failed other start runs now next
+    empty up consumed adds read err no = absurd no
+
+-- and behind its last token
+pub end-stops : (f : RunFault) (told : Result (Unit {0}) ScheduleFault) (bytes : List ℕ) (first before : World) (was : Bool)
+    (schedule_before schedule_after old known new : Option (List ℕ)) (failed other : Bool) (start runs : List Run) (now : Progress)
+    → start ≡ [] → IsUpTo first before bytes now was old known → Consumes schedule_before schedule_after bytes → IsAtEnd schedule_after
+    → Adds told (open_schedule bytes) (finished_schedule bytes) start runs
+    → (told ≡ Err Memory) ⊎ (told ≡ answer_of (finished_schedule bytes))
+    → StopsAt f told before was (choices_of runs) known new other
+    → StopsFrom first f schedule_before schedule_after failed old new other
+end-stops (fault.Schedule f) told bytes first before was schedule_before schedule_after old known new failed other start runs now
+    empty up consumed end adds answer (is, is_other, writes) =
+    let schedule = finished_schedule bytes in
+    let enough = told_other told f is is_other in
+    let by_fault : schedule ≡ faulty_after schedule.runs f = schedule_by_fault schedule (Some f) (end_with_fault told schedule f is enough answer) in (
+      bytes,
+      (
+        schedule.runs,
+        (
+          is_other,
+          consumed,
+          inl (end, by_fault),
+          added-writes told (open_schedule bytes) schedule first before was old known new start runs empty enough adds up.plays writes,
+        ),
+      ),
+    )
+end-stops fault.Memory told bytes first before was schedule_before schedule_after old known new failed other start runs now
+    empty up consumed end adds answer writes =
+    let schedule = finished_schedule bytes in (
+      bytes,
+      (
+        schedule,
+        (
+          consumed,
+          inr (end, refl),
+          added-writes_part told (open_schedule bytes) schedule first before was old known new start runs empty adds up.plays writes,
+        ),
+      ),
+    )
+end-stops fault.Write told bytes first before was schedule_before schedule_after old known new failed other start runs now
+    empty up consumed end adds answer writes = writes
+end-stops fault.Read told bytes first before was schedule_before schedule_after old known new failed other start runs now
+    empty up consumed end adds answer no = absurd no
+end-stops (fault.Load f) told bytes first before was schedule_before schedule_after old known new failed other start runs now
+    empty up consumed end adds answer no = absurd no

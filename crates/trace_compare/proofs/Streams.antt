@@ -18,12 +18,17 @@ use Rattle.trace_compare.proofs.NamedThreads.{named-runs, named-threads}
 use Rattle.trace_compare.proofs.OneVerdict.{found-same}
 use Rattle.trace_compare.proofs.OwnTrace.{IsNamed, own-trace}
 use Rattle.trace_compare.specs.NumberedLine.{NumberedLine}
-use Rattle.trace_compare.specs.Playing.{HasPlayedAll, HasPlayedInPart, HasTraced}
-use Rattle.trace_compare.specs.RunText.{AreTraced, EndsAs, HasRun, HasRunInPart, HasWrittenTheSame, IsEndOf}
+use Rattle.trace_compare.specs.declared.run.RunFault.{RunFault}
+use Rattle.trace_compare.specs.declared.run.RunFault.TheVariants as fault
+use Rattle.trace_compare.specs.Outcome.{EndsFrom, Stops, StopsFrom}
+use Rattle.trace_compare.specs.Playing.{HasPlayedAll}
+use Rattle.trace_compare.specs.RunText.{AreTraced, HasWrittenTheSame, IsEndOf}
 use Rattle.trace_compare.specs.Start.{Begins}
 use Rattle.row_code.specs.declared.image.Image.{Image}
 use Rattle.trace_compare.specs.State.{state_text}
-use Rattle.trace_compare.specs.Trace.{Plays, lines_of, trace_of}
+use Rattle.trace_compare.specs.Trace.{AppendsPartOf, Plays, lines_of, trace_of}
+use Rattle.trace_compare.proofs.Plays.{Part-whole}
+use Rattle.trace_compare.proofs.Schedules.{schedule_by_fault}
 use Rattle.trace_compare.specs.declared.run_end.RunEnd.{RunEnd}
 
 -- a read of nothing
@@ -38,12 +43,6 @@ pub longer_by_piece : (bytes buffer piece : List ℕ) (n turns : ℕ) → piece 
     → turns ≤ length bytes → turns + 1 ≤ length (bytes ++ piece)
 longer_by_piece bytes buffer piece n turns is within some many =
     omega (arith, length-append bytes piece, ap length is, length-take n buffer, within, some, many)
-
--- a schedule by its fault
-pub schedule_by_fault : (schedule : Schedule) (fault : Option ScheduleFault) → schedule.fault ≡ fault
-    → schedule ≡ record { runs = schedule.runs; fault = fault }
-schedule_by_fault schedule fault is =
-    let make : Option ScheduleFault → Schedule = λ f. record { runs = schedule.runs; fault = f } in ap make is
 
 -- a schedule was played to its end
 pub played-all : {E : Type 0} (result : Result Bool E) (first last : World) (bytes : List ℕ) (schedule_before schedule_after old new : Option (List ℕ))
@@ -100,25 +99,39 @@ are_traced (Ok end) first last choices all old between new plays tells appends =
 are_traced (Err e) first last choices all old between new plays tells appends = appends
 
 -- the same of a whole schedule
-pub traced-all : {E : Type 0} (result : Result RunEnd E) (first last : World) (all : Bool)
+pub ended : {E : Type 0} (result : Result RunEnd E) (first last : World) (all : Bool)
     (schedule_before schedule_after old between new : Option (List ℕ))
     → HasPlayedAll first last all schedule_before schedule_after old between
     → IfOk result (TellsEnd last all) → OnOk result (Appends between new (state_text last))
-    → IfOk result (λ end. HasTraced first end schedule_before schedule_after old new)
-traced-all (Ok end) first last all schedule_before schedule_after old between new
-    (bytes, (runs, (consumed, at_end, is, plays))) tells appends = (
+    → IfOk result (λ end. EndsFrom first end schedule_before schedule_after old new)
+ended (Ok end) first last all schedule_before schedule_after old between new
+    (bytes, (runs, (consumed, at_end, is, plays))) tells appends =
+    (bytes, (runs, (consumed, at_end, is, traced_by end first last (choices_of runs) all old between new plays tells appends)))
+ended (Err e) first last all schedule_before schedule_after old between new played tells appends = appends
+
+-- a part of the trace was written, where its state was not
+pub broken_off : (first last : World) (all : Bool) (schedule_before schedule_after old between new : Option (List ℕ)) (failed other : Bool)
+    → HasPlayedAll first last all schedule_before schedule_after old between → new ≡ between
+    → StopsFrom first fault.Memory schedule_before schedule_after failed old new other
+broken_off first last all schedule_before schedule_after old between new failed other (bytes, (runs, (consumed, at_end, is, plays))) same =
+    let whole = subst (λ rs. Appends old between (lines_of first (choices_of rs))) (ap (λ (schedule : Schedule). schedule.runs) (sym is)) plays.lines in
+    let lines = lines_of first (choices_of (finished_schedule bytes).runs) in (
       bytes,
       (
-        runs,
-        (
-          consumed,
-          at_end,
-          is,
-          traced_by end first last (choices_of runs) all old between new plays tells appends,
-        ),
+        finished_schedule bytes,
+        (consumed, inr (at_end, refl), subst (λ out. AppendsPartOf old out lines) (sym same) (Part-whole old between lines whole)),
       ),
     )
-traced-all (Err e) first last all schedule_before schedule_after old between new played tells appends = appends
+
+-- what stops behind the first world of an image's program stops its run
+pub stops : (f : RunFault) (image : Image) (world : World) (schedule_before schedule_after old new : Option (List ℕ)) (failed other : Bool)
+    → Begins image world → StopsFrom world f schedule_before schedule_after failed old new other
+    → Stops image f schedule_before schedule_after failed old new other
+stops (fault.Schedule f) image world schedule_before schedule_after old new failed other begins from = (world, (begins, from))
+stops fault.Memory image world schedule_before schedule_after old new failed other begins from = inr (world, (begins, from))
+stops fault.Read image world schedule_before schedule_after old new failed other begins from = (world, (begins, from))
+stops fault.Write image world schedule_before schedule_after old new failed other begins from = (world, (begins, from))
+stops (fault.Load f) image world schedule_before schedule_after old new failed other begins from = absurd from
 
 -- the verdict on a trace, beside the program that it is of
 pub begun-verdict : (image : Image) (world : World) (choices : List Choice) → Begins image world → All IsNamed choices
@@ -127,54 +140,15 @@ begun-verdict image world choices (loads, first) named =
     own-trace choices world 1 (omega (arith, ap (λ (w : World). w.choices) first)) named
 
 -- a comparison finds the trace of runs the same that a token can spell
-pub traced-same : {E : Type 0} (result : Result RunEnd E) (image : Image) (world : World) (runs : List Run)
-    (old new : Option (List ℕ)) → Begins image world → All IsRun runs
-    → IfOk result (λ end. AreTraced world (choices_of runs) end old new) → OnOk result (HasWrittenTheSame image old new)
-traced-same (Ok end) image world runs old new begins are (ends, appends) =
-    let trace = trace_of world (choices_of runs) in (
-      trace,
-      (
-        appends,
-        found-same image world trace begins
-            (begun-verdict image world (choices_of runs) begins (named-runs runs are)),
-      ),
-    )
-traced-same (Err e) image world runs old new begins are traced = traced
+pub traced-same : (image : Image) (world : World) (runs : List Run) (end : RunEnd) (old new : Option (List ℕ))
+    → Begins image world → All IsRun runs → AreTraced world (choices_of runs) end old new → HasWrittenTheSame image old new
+traced-same image world runs end old new begins are (ends, appends) =
+    let trace = trace_of world (choices_of runs) in
+    (trace, (appends, found-same image world trace begins (begun-verdict image world (choices_of runs) begins (named-runs runs are))))
 
--- the same of an image whose program begins in that world
-pub begun : {E : Type 0} (result : Result RunEnd E) (image : Image) (world : World)
-    (schedule_before schedule_after old new : Option (List ℕ)) → Begins image world
-    → IfOk result (λ end. HasTraced world end schedule_before schedule_after old new)
-    → OnOk result (HasRun image schedule_before schedule_after old new)
-begun (Ok end) image world schedule_before schedule_after old new begins p =
-    let (bytes, (runs, (consumed, at_end, is, (ends, appends)))) = p in
-    (bytes, (trace_of world (choices_of runs), (consumed, at_end, (world, (runs, (begins, is, refl))), appends)))
-begun (Err e) image world schedule_before schedule_after old new begins p = p
-
--- and how its run ends
-pub begun-ends : {E : Type 0} (result : Result RunEnd E) (image : Image) (world : World)
-    (schedule_before schedule_after old new : Option (List ℕ)) → Begins image world
-    → IfOk result (λ end. HasTraced world end schedule_before schedule_after old new)
-    → IfOk result (λ end. EndsAs image end schedule_before schedule_after)
-begun-ends (Ok end) image world schedule_before schedule_after old new begins p =
-    let (bytes, (runs, (consumed, at_end, is, (ends, appends)))) = p in
-    (bytes, (world, (runs, (consumed, at_end, begins, is, ends))))
-begun-ends (Err e) image world schedule_before schedule_after old new begins p = p
-
--- and a comparison finds what was written the same
-pub begun-same : {E : Type 0} (result : Result RunEnd E) (image : Image) (world : World)
-    (schedule_before schedule_after old new : Option (List ℕ)) → Begins image world
-    → IfOk result (λ end. HasTraced world end schedule_before schedule_after old new)
-    → OnOk result (HasWrittenTheSame image old new)
-begun-same (Ok end) image world schedule_before schedule_after old new begins p =
-    let (bytes, (runs, (consumed, at_end, is, (ends, appends)))) = p in
+-- and so the trace that a run writes
+pub ended-same : (image : Image) (world : World) (end : RunEnd) (schedule_before schedule_after old new : Option (List ℕ))
+    → Begins image world → EndsFrom world end schedule_before schedule_after old new → HasWrittenTheSame image old new
+ended-same image world end schedule_before schedule_after old new begins (bytes, (runs, (consumed, at_end, is, (ends, appends)))) =
     let trace = trace_of world (choices_of runs) in
     (trace, (appends, found-same image world trace begins (begun-verdict image world (choices_of runs) begins (named-threads bytes runs None is))))
-begun-same (Err e) image world schedule_before schedule_after old new begins p = p
-
-pub begun_part : (image : Image) (world : World) (schedule_before schedule_after old new : Option (List ℕ)) → Begins image world
-    → (new ≡ old) ⊎ HasPlayedInPart world schedule_before schedule_after old new
-    → HasRunInPart image schedule_before schedule_after old new
-begun_part image world schedule_before schedule_after old new begins (inl same) = inl same
-begun_part image world schedule_before schedule_after old new begins (inr (bytes, (schedule, (consumed, read, part)))) =
-    inr (world, (bytes, (schedule, (begins, consumed, read, part))))

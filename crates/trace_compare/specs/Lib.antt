@@ -4,6 +4,7 @@ pub mod Trace
 pub mod Start
 pub mod Compare
 pub mod RunText
+pub mod Outcome
 pub mod Brief
 pub mod NumberedLine
 pub mod Playing

@@ -1,16 +1,21 @@
 -- How one part of a schedule after another is played. Nobody has to believe this: it is what proofs go by, from call to call.
-use Rattle.std.specs.Prelude.{◌≡◌, ◌⊎◌, ◌+◌, ℕ, zero, suc, Bool, List, [], ◌++◌, Option, None}
+use Rattle.std.specs.Prelude.{◌≡◌, ◌≢◌, ◌+◌, ℕ, zero, suc, Bool, IsTrue, List, [], ◌++◌, Option, None, Result, Err}
 use Rattle.std.specs.Io.KnownBytes.{Appends, Consumes, IsAtEnd}
 use Rattle.schedule_reader.specs.declared.fault.ScheduleFault.{ScheduleFault}
+use Rattle.schedule_reader.specs.declared.fault.ScheduleFault.TheVariants as schedule
 use Rattle.schedule_reader.specs.declared.run.Run.{Run}
 use Rattle.schedule_reader.specs.Places.{Progress, HasRead}
-use Rattle.schedule_reader.specs.Schedule.{Schedule, open_schedule, finished_schedule, choices_of}
+use Rattle.schedule_reader.specs.Schedule.{open_schedule, finished_schedule, choices_of}
 use Rattle.thread_machine.specs.declared.choice.Choice.{Choice}
 use Rattle.thread_machine.specs.Idle.{idle_event}
 use Rattle.thread_machine.specs.World.{World}
+use Rattle.trace_compare.specs.declared.play.PlayFault.{PlayFault}
+use Rattle.trace_compare.specs.declared.play.PlayFault.TheVariants as play
+use Rattle.trace_compare.specs.declared.run.RunFault.{RunFault}
+use Rattle.trace_compare.specs.declared.run.RunFault.TheVariants as fault
+use Rattle.trace_compare.specs.declared.start.StartFault.{StartFault}
+use Rattle.trace_compare.specs.declared.start.StartFault.TheVariants as start
 use Rattle.trace_compare.specs.Lines.{event_text}
-use Rattle.trace_compare.specs.declared.run_end.RunEnd.{RunEnd}
-use Rattle.trace_compare.specs.RunText.{AreTraced, HasFault}
 use Rattle.trace_compare.specs.Trace.{AppendsPartOf, Plays, lines_of}
 
 -- the lines of so many idle choices of a thread at this row, behind that many choices
@@ -41,36 +46,32 @@ pub record IsUpTo (first now : World) (bytes : List ℕ) (reader : Progress) (ac
   pub reads : HasRead reader bytes
   pub plays : Plays first now (choices_of (open_schedule bytes).runs) accepted old new
 
--- what `run_to_end` has done of an image's program, by the program's first world: the schedule was read to its end, and its
--- choices were played
+-- a schedule was read to its end, and its choices were played
 abbrev pub HasPlayedAll : World → World → Bool → Option (List ℕ) → Option (List ℕ) → Option (List ℕ) → Option (List ℕ) → Type 0
 HasPlayedAll first last all schedule_before schedule_after old new =
     (bytes : List ℕ) × ((runs : List Run)
     × (Consumes schedule_before schedule_after bytes × IsAtEnd schedule_after
     × (finished_schedule bytes ≡ record { runs = runs; fault = None }) × Plays first last (choices_of runs) all old new))
 
--- a schedule was read to its end, and the trace of its choices was written, which ends so
-abbrev pub HasTraced : World → RunEnd → Option (List ℕ) → Option (List ℕ) → Option (List ℕ) → Option (List ℕ) → Type 0
-HasTraced first end schedule_before schedule_after old new =
-    (bytes : List ℕ) × ((runs : List Run)
-    × (Consumes schedule_before schedule_after bytes × IsAtEnd schedule_after
-    × (finished_schedule bytes ≡ record { runs = runs; fault = None }) × AreTraced first (choices_of runs) end old new))
+-- what a run stops for whose reader told this
+abbrev pub IsToldOf : RunFault → Result (Unit {0}) ScheduleFault → Type 0
+IsToldOf (fault.Schedule f) told = (told ≡ Err f) × (f ≢ schedule.Memory)
+IsToldOf fault.Memory told = told ≡ Err schedule.Memory
+IsToldOf _ told = ⊥
 
-abbrev pub HasPlayedToFault : World → ScheduleFault → Option (List ℕ) → Option (List ℕ) → Option (List ℕ) → Option (List ℕ)
-    → Type 0
-HasPlayedToFault first fault schedule_before schedule_after old new =
-    (bytes : List ℕ) × ((runs : List Run)
-    × (Consumes schedule_before schedule_after bytes × HasFault bytes schedule_after runs fault
-    × Appends old new (lines_of first (choices_of runs))))
+-- what a run stops for whose program has no machine for this reason, or whose choices can't be played on
+abbrev pub begun_fault : StartFault → RunFault
+begun_fault (start.Load f) = fault.Load f
+begun_fault start.Memory = fault.Memory
 
-abbrev pub HasPlayedSoFar : World → Option (List ℕ) → Option (List ℕ) → Option (List ℕ) → Option (List ℕ) → Type 0
-HasPlayedSoFar first schedule_before schedule_after old new =
-    (bytes : List ℕ) × (Consumes schedule_before schedule_after bytes
-    × Appends old new (lines_of first (choices_of (open_schedule bytes).runs)))
+abbrev pub played_fault : PlayFault → RunFault
+played_fault play.Memory = fault.Memory
+played_fault play.Write = fault.Write
 
-abbrev pub HasPlayedInPart : World → Option (List ℕ) → Option (List ℕ) → Option (List ℕ) → Option (List ℕ) → Type 0
-HasPlayedInPart first schedule_before schedule_after old new =
-    (bytes : List ℕ) × ((schedule : Schedule)
-    × (Consumes schedule_before schedule_after bytes
-    × ((schedule ≡ open_schedule bytes) ⊎ (IsAtEnd schedule_after × (schedule ≡ finished_schedule bytes)))
-    × AppendsPartOf old new (lines_of first (choices_of schedule.runs))))
+-- a run stopped for this fault with these choices, or behind them because its reader told one
+abbrev pub StopsAt : RunFault → Result (Unit {0}) ScheduleFault → World → Bool → List Choice → Option (List ℕ) → Option (List ℕ) → Bool → Type 0
+StopsAt (fault.Schedule f) told before was choices known new failed =
+    (told ≡ Err f) × (f ≢ schedule.Memory) × WritesOn before was choices known new
+StopsAt fault.Memory told before was choices known new failed = WritesPartOn before was choices known new
+StopsAt fault.Write told before was choices known new failed = IsTrue failed
+StopsAt _ told before was choices known new failed = ⊥

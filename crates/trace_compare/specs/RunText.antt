@@ -22,13 +22,6 @@ IsTraceOf image schedule trace =
     × (Begins image world × (finished_schedule schedule ≡ record { runs = runs; fault = None })
     × (trace ≡ trace_of world (choices_of runs))))
 
--- the schedule was read to its end, and the trace was written
-abbrev pub HasRun : Image → Option (List ℕ) → Option (List ℕ) → Option (List ℕ) → Option (List ℕ) → Type 0
-HasRun image schedule_before schedule_after output_before output_after =
-    (schedule : List ℕ) × ((trace : List ℕ)
-    × (Consumes schedule_before schedule_after schedule × IsAtEnd schedule_after × IsTraceOf image schedule trace
-    × Appends output_before output_after trace))
-
 -- choices were executed to this end: how the program stands then, the text of its state, and whether a choice was refused
 abbrev pub IsEndOf : Execution → RunEnd → Type 0
 IsEndOf done end =
@@ -39,14 +32,6 @@ IsEndOf done end =
 abbrev pub AreTraced : World → List Choice → RunEnd → Option (List ℕ) → Option (List ℕ) → Type 0
 AreTraced first choices end old new =
     IsEndOf (execution first choices) end × Appends old new (trace_of first choices)
-
--- the schedule was read to its end, and its run ends so
-abbrev pub EndsAs : Image → RunEnd → Option (List ℕ) → Option (List ℕ) → Type 0
-EndsAs image end schedule_before schedule_after =
-    (schedule : List ℕ) × ((world : World) × ((runs : List Run)
-    × (Consumes schedule_before schedule_after schedule × IsAtEnd schedule_after × Begins image world
-    × (finished_schedule schedule ≡ record { runs = runs; fault = None })
-    × IsEndOf (execution world (choices_of runs)) end)))
 
 -- a trace was written, and a comparison with this program finds it the same
 abbrev pub HasWrittenTheSame : Image → Option (List ℕ) → Option (List ℕ) → Type 0
@@ -63,30 +48,6 @@ abbrev pub HasFault : List ℕ → Option (List ℕ) → List Run → ScheduleFa
 HasFault bytes left runs fault =
     (IsAtEnd left × (finished_schedule bytes ≡ faulty_after runs fault))
     ⊎ ((rest : List ℕ) → finished_schedule (bytes ++ rest) ≡ faulty_after runs fault)
-
--- the schedule was read up to this fault, and the lines of the choices before it were written
-abbrev pub HasRunToFault : Image → ScheduleFault → Option (List ℕ) → Option (List ℕ) → Option (List ℕ) → Option (List ℕ)
-    → Type 0
-HasRunToFault image fault schedule_before schedule_after output_before output_after =
-    (world : World) × ((bytes : List ℕ) × ((runs : List Run)
-    × (Begins image world × Consumes schedule_before schedule_after bytes × HasFault bytes schedule_after runs fault
-    × Appends output_before output_after (lines_of world (choices_of runs)))))
-
--- the lines of the choices that were read were written
-abbrev pub HasRunSoFar : Image → Option (List ℕ) → Option (List ℕ) → Option (List ℕ) → Option (List ℕ) → Type 0
-HasRunSoFar image schedule_before schedule_after output_before output_after =
-    (world : World) × ((bytes : List ℕ)
-    × (Begins image world × Consumes schedule_before schedule_after bytes
-    × Appends output_before output_after (lines_of world (choices_of (open_schedule bytes).runs))))
-
--- nothing was written, or a part of those lines; of the last token too, where the schedule was read to its end
-abbrev pub HasRunInPart : Image → Option (List ℕ) → Option (List ℕ) → Option (List ℕ) → Option (List ℕ) → Type 0
-HasRunInPart image schedule_before schedule_after output_before output_after =
-    (output_after ≡ output_before)
-    ⊎ ((world : World) × ((bytes : List ℕ) × ((schedule : Schedule)
-    × (Begins image world × Consumes schedule_before schedule_after bytes
-    × ((schedule ≡ open_schedule bytes) ⊎ (IsAtEnd schedule_after × (schedule ≡ finished_schedule bytes)))
-    × AppendsPartOf output_before output_after (lines_of world (choices_of schedule.runs))))))
 
 -- a source gave a byte in each of 1,000,000,000 reads
 abbrev pub GivesOnAndOn : Option (List ℕ) → Option (List ℕ) → Type 0

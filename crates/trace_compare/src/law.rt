@@ -1,8 +1,15 @@
-ghost use Rattle.std.specs.Prelude.{◌≡◌, ◌≤◌, All, List, ℕ};
+ghost use Rattle.std.specs.Prelude.{◌≡◌, ◌≤◌, All, Bool, List, Ok, Option, ℕ};
+ghost use Rattle.row_code.specs.declared.image.Image.{Image};
+ghost use Rattle.schedule_reader.specs.declared.run.Run.{Run};
+ghost use Rattle.schedule_reader.specs.Schedule.{IsRun, choices_of};
 ghost use Rattle.thread_machine.specs.declared.choice.Choice.{Choice};
 ghost use Rattle.thread_machine.specs.World.{World};
 ghost use Rattle.trace_compare.specs.Compare.{choices_of_trace, verdict_of};
+ghost use Rattle.trace_compare.specs.Outcome.{ComesTo};
+ghost use Rattle.trace_compare.specs.RunText.{AreTraced, HasWrittenTheSame};
+ghost use Rattle.trace_compare.specs.Start.{Begins};
 ghost use Rattle.trace_compare.specs.Trace.{trace_of};
+ghost use Rattle.trace_compare.specs.declared.run_end.RunEnd.{RunEnd};
 ghost use Rattle.trace_compare.specs.declared.comparison.Verdict.TheVariants.{Same};
 
 /// A trace whose verdict is `Same` is, byte for byte, the trace of the choices that its lines name.
@@ -17,4 +24,16 @@ pub fn what_is_the_same_is_the_trace_of_its_choices()
 pub fn the_trace_of_any_choices_is_the_same()
     ensures { (world : World) (choices : List Choice) → world.choices ≤ 1000000000000
         → All (λ choice. choice.thread ≤ 63) choices → verdict_of world (trace_of world choices) ≡ Same }
+{}
+
+/// What a run writes that comes to its end, a comparison with its program finds the same, whether a schedule was read or the
+/// choices were known.
+pub fn what_a_run_writes_is_the_same()
+    ensures read { (image : Image) (end : RunEnd) (schedule_before schedule_after output_before output_after : Option (List ℕ))
+        (schedule_failed output_failed : Bool)
+        → ComesTo image (Ok end) schedule_before schedule_after schedule_failed output_before output_after output_failed
+        → HasWrittenTheSame image output_before output_after }
+    ensures known { (image : Image) (world : World) (runs : List Run) (end : RunEnd) (output_before output_after : Option (List ℕ))
+        → Begins image world → All IsRun runs → AreTraced world (choices_of runs) end output_before output_after
+        → HasWrittenTheSame image output_before output_after }
 {}

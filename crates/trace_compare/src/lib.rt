@@ -22,7 +22,10 @@ pub mod trace_line;
 
 pub use comparison::{CompareFault, Judged, Verdict, compare, compare_shown};
 pub use kept_line::KeptLine;
-pub use law::{the_trace_of_any_choices_is_the_same, what_is_the_same_is_the_trace_of_its_choices};
+pub use law::{
+    the_trace_of_any_choices_is_the_same, what_a_run_writes_is_the_same,
+    what_is_the_same_is_the_trace_of_its_choices,
+};
 pub use line::{event_line, refusal_line};
 pub use line_end::LineEnd;
 pub use loaded::run_loaded;

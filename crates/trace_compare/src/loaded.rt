@@ -1,10 +1,8 @@
 //! A loaded program under choices that are known.
-ghost use Rattle.std.specs.Prelude.{◌≡◌, All, IfOk, IsTrue, OnOk};
-ghost use Rattle.row_code.specs.declared.image.Image.{Image};
-ghost use Rattle.schedule_reader.specs.Schedule.{IsRun, choices_of};
+ghost use Rattle.std.specs.Prelude.{◌≡◌, IfOk, IsTrue};
+ghost use Rattle.schedule_reader.specs.Schedule.{choices_of};
 ghost use Rattle.thread_machine.specs.World.{first_world, world_of};
-ghost use Rattle.trace_compare.specs.RunText.{AreTraced, HasWrittenTheSame};
-ghost use Rattle.trace_compare.specs.Start.{Begins};
+ghost use Rattle.trace_compare.specs.RunText.{AreTraced};
 ghost use Rattle.trace_compare.specs.Trace.{AppendsPartOf, lines_of};
 
 use crate::kept_line::KeptLine;
@@ -48,8 +46,6 @@ pub fn run_loaded<W: Sink>(
 ) -> Result<RunEnd, PlayFault>
     ensures traced { IfOk result (λ end. AreTraced (first_world program 1000000000) (choices_of runs.now) end
         (W.written output.old) (W.written output.new)) }
-    ensures same { (image : Image) → Begins image (first_world program 1000000000) → All IsRun runs.now
-        → OnOk result (HasWrittenTheSame image (W.written output.old) (W.written output.new)) }
     ensures memory { result ≡ Err PlayFault.Memory → AppendsPartOf (W.written output.old) (W.written output.new)
         (lines_of (first_world program 1000000000) (choices_of runs.now)) }
     ensures write { result ≡ Err PlayFault.Write → IsTrue (W.has_failed output.new) }

@@ -74,35 +74,6 @@ fn push_refusal<W: Sink>(
     push_line(line.as_slice(), output)
 }
 
-/// Plays one choice of a thread that is there, and writes its line; whether the choice was accepted. `line` keeps the last
-/// line.
-#[inline(always)]
-fn play_turn<W: Sink>(
-    machine: &mut Machine,
-    choice: Choice,
-    line: &mut KeptLine,
-    output: &mut W,
-) -> Result<bool, PlayFault>
-    requires there { choice.thread < length machine.old.scene.threads }
-    ensures plays { IfOk result (λ accepted. Plays (world_of machine.old) (world_of machine.new) (choice ∷ []) accepted
-        (W.written output.old) (W.written output.new)) }
-    ensures write { result ≡ Err PlayFault.Write → IsTrue (W.has_failed output.new) }
-    ensures memory { result ≡ Err PlayFault.Memory → W.written output.new ≡ W.written output.old }
-{
-    let pc = machine.pc(choice.thread);
-    match machine.step(choice) {
-        Ok(event) => {
-            push_event(machine.choices(), choice, pc, &event, line, output)?;
-            Ok(true)
-        }
-        Err(StepFault::Memory) => Err(PlayFault::Memory),
-        Err(_) => {
-            push_refusal(machine, choice, Some(pc), line, output)?;
-            Ok(false)
-        }
-    }
-}
-
 /// Plays one choice and writes its line; whether the choice was accepted. `line` keeps the last line.
 #[inline(always)]
 fn play_choice<W: Sink>(
@@ -116,11 +87,22 @@ fn play_choice<W: Sink>(
     ensures write { result ≡ Err PlayFault.Write → IsTrue (W.has_failed output.new) }
     ensures memory { result ≡ Err PlayFault.Memory → W.written output.new ≡ W.written output.old }
 {
-    if usize::from(choice.thread) < machine.thread_count() {
-        return play_turn(machine, choice, line, output);
+    if usize::from(choice.thread) >= machine.thread_count() {
+        push_refusal(machine, choice, None, line, output)?;
+        return Ok(false);
     }
-    push_refusal(machine, choice, None, line, output)?;
-    Ok(false)
+    let pc = machine.pc(choice.thread);
+    match machine.step(choice) {
+        Ok(event) => {
+            push_event(machine.choices(), choice, pc, &event, line, output)?;
+            Ok(true)
+        }
+        Err(StepFault::Memory) => Err(PlayFault::Memory),
+        Err(_) => {
+            push_refusal(machine, choice, Some(pc), line, output)?;
+            Ok(false)
+        }
+    }
 }
 
 /// Plays one choice, and makes its line; whether the choice was accepted.

@@ -5,41 +5,36 @@ use crate::trouble::Trouble;
 use crate::{files, notes, printable};
 use byte_ports::{BlockSource, ReadPort, Source, WritePort};
 use commands::{GuidedCommands, list_rows};
+use headline::shown;
 use schedule_reader::Run;
 use std::fs::File;
 use std::io::IsTerminal;
 use trace_choices::naming::{Named, NamingFault, choices_in};
-use workbench::debug::debug_behind;
 use workbench::done::{Done, as_asked};
 use workbench::fault::{Fault, push_counted_line};
 use workbench::input::read_all;
-use workbench::slice_source::SliceSource;
 
 /// What a session comes to.
 type Answer<'a> = Result<Done, Trouble<'a>>;
 
 /// Answers commands that are about a program, behind the choices of a trace if there is one. Nothing is kept back: standard output
 /// is flushed at each line's end.
-fn session<'a, F: Source, S: Source>(
+fn session<'a, S: Source>(
     rt: &HostRuntime,
-    program: &mut F,
+    program: &[u8],
     runs: Option<&[Run]>,
     commands: &mut S,
 ) -> Answer<'a> {
     let mut output = WritePort::new(rt.stdout());
     let answer = match runs {
-        Some(runs) => debug_behind(rt.alloc(), program, runs, commands, &mut output),
-        None => end_to_end::debug(rt.alloc(), program, commands, &mut output),
+        Some(runs) => shown::debug_behind(rt.alloc(), program, runs, commands, &mut output),
+        None => shown::debug(rt.alloc(), program, commands, &mut output),
     };
     Ok(as_asked(flushed(answer, &mut output))?)
 }
 
 /// The commands are those on standard input. They are waited for only where none that has come is left.
-fn session_of_input<'a, F: Source>(
-    rt: &HostRuntime,
-    program: &mut F,
-    runs: Option<&[Run]>,
-) -> Answer<'a> {
+fn session_of_input<'a>(rt: &HostRuntime, program: &[u8], runs: Option<&[Run]>) -> Answer<'a> {
     let mut commands = BlockSource::new(rt.alloc(), ReadPort::new(rt.stdin()))?;
     session(rt, program, runs, &mut commands)
 }
@@ -54,7 +49,7 @@ fn session_of_person<'a>(rt: &HostRuntime, program: &[u8], runs: Option<&[Run]>)
         WritePort::new(rt.stdout()),
         WritePort::new(printable::errors(rt)),
     )?;
-    session(rt, &mut SliceSource::new(program), runs, &mut commands)
+    session(rt, program, runs, &mut commands)
 }
 
 /// Writes which line is the first that is no line of a trace.
@@ -80,7 +75,7 @@ fn named_in<'a>(rt: &HostRuntime, trace: Option<File>) -> Result<Option<Named>, 
 }
 
 /// Answers the commands on standard input, behind a trace if there is one.
-fn begin<'a, F: Source>(rt: &HostRuntime, program: &mut F, trace: Option<File>) -> Answer<'a> {
+fn begin<'a>(rt: &HostRuntime, program: &[u8], trace: Option<File>) -> Answer<'a> {
     notes::push_waiting(
         rt,
         b"reading commands from the terminal (debug --help lists them)\n",
@@ -92,20 +87,18 @@ fn begin<'a, F: Source>(rt: &HostRuntime, program: &mut F, trace: Option<File>) 
     }
 }
 
-/// The same for a person, who is shown the program's rows first. The file is read once.
-fn begin_with_rows<'a>(rt: &HostRuntime, program: File, trace: Option<File>) -> Answer<'a> {
-    let bytes = read_all(rt.alloc(), &mut ReadPort::new(program))?;
-    let bytes = bytes.as_slice();
+/// The same for a person, who is shown the program's rows first.
+fn begin_with_rows<'a>(rt: &HostRuntime, program: &[u8], trace: Option<File>) -> Answer<'a> {
     let mut rows = WritePort::new(printable::errors(rt));
-    list_rows(rt.alloc(), &mut SliceSource::new(bytes), &mut rows)?;
+    list_rows(rt.alloc(), program, &mut rows)?;
     notes::push_waiting(
         rt,
         b"reading commands from the terminal (`help` lists them)\n",
     );
     match named_in(rt, trace)? {
-        Some(Named::Choices(runs)) => session_of_person(rt, bytes, Some(runs.as_slice())),
+        Some(Named::Choices(runs)) => session_of_person(rt, program, Some(runs.as_slice())),
         Some(Named::NotATrace { line }) => not_a_trace(rt, line),
-        None => session_of_person(rt, bytes, None),
+        None => session_of_person(rt, program, None),
     }
 }
 
@@ -116,9 +109,10 @@ pub fn debug<'a>(rt: &HostRuntime, file: &'a str, trace: Option<&'a str>) -> Ans
         Some(trace) => Some(files::read(rt, trace)?),
         None => None,
     };
+    let program = read_all(rt.alloc(), &mut ReadPort::new(program))?;
     if rt.stdin().is_terminal() && rt.stderr().is_terminal() {
-        begin_with_rows(rt, program, trace)
+        begin_with_rows(rt, program.as_slice(), trace)
     } else {
-        begin(rt, &mut ReadPort::new(program), trace)
+        begin(rt, program.as_slice(), trace)
     }
 }

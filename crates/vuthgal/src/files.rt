@@ -1,12 +1,21 @@
 //! The files that the words name.
 
 use crate::no_command::NoCommand;
+use crate::trouble::Trouble;
+use byte_ports::ReadPort;
 use std::fs::{self, File, Metadata, OpenOptions};
 use std::os::unix::fs::{FileTypeExt, MetadataExt};
+use workbench::input::read_all;
 
 /// A file to read from, from its beginning.
 pub fn read<'a>(rt: &HostRuntime, path: &'a str) -> Result<File, NoCommand<'a>> {
     fs::open(rt, path).map_err(|error| NoCommand::Unread(path, error))
+}
+
+/// All that a file holds.
+pub fn contents<'a>(rt: &HostRuntime, path: &'a str) -> Result<Vec<u8>, Trouble<'a>> {
+    let file = read(rt, path)?;
+    Ok(read_all(rt.alloc(), &mut ReadPort::new(file))?)
 }
 
 /// How many bytes a file has, 0 where that isn't known.

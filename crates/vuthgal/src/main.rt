@@ -39,6 +39,7 @@ use commands::{LinesSeen, list_rows, show_comparison};
 use debugging::debug;
 use ending::{flushed, handed_on};
 use expectation::{as_expected, expectations, tell_unmet};
+use headline::shown;
 use help::Files;
 use input::Input;
 use live_runs::{Asked, Pauses, report_runs};
@@ -99,7 +100,7 @@ fn play_both<'a>(rt: &HostRuntime, expected: &[&str]) -> Answer<'a> {
     let (program, _) = split_at_run(text);
     let expected = expectations(rt.alloc(), program, expected)?;
     let mut output = trace_port(rt)?;
-    let answer = end_to_end::both(rt.alloc(), &mut SliceSource::new(text), &mut output);
+    let answer = shown::both(rt.alloc(), text, &mut output);
     if answer.is_ok() && program.len() == text.len() {
         notes::push_no_schedule(rt);
     }
@@ -110,22 +111,23 @@ fn play_both<'a>(rt: &HostRuntime, expected: &[&str]) -> Answer<'a> {
 fn write_image<'a>(rt: &HostRuntime, source: &'a str, image: &'a str) -> Answer<'a> {
     let input = files::read(rt, source)?;
     let file = files::write(rt, image, &input)?;
+    let text = read_all(rt.alloc(), &mut ReadPort::new(input))?;
     let Ok(writer) = BufWriter::with_capacity(rt.alloc(), BUFFER, UntilFailure::new(file)) else {
         return Err(Trouble::Fault(Fault::Memory));
     };
     let mut output = WritePort::new(writer);
-    let answer = asm(rt.alloc(), &mut ReadPort::new(input), &mut output);
+    let answer = asm(rt.alloc(), text.as_slice(), &mut output);
     Ok(as_asked(flushed(answer, &mut output))?)
 }
 
 /// Writes the canonical text of the program in a file, or its rows.
 fn write_list<'a>(rt: &HostRuntime, file: &'a str, has_rows: bool) -> Answer<'a> {
-    let mut input = ReadPort::new(files::read(rt, file)?);
+    let program = files::contents(rt, file)?;
     let mut output = WritePort::new(printable::output(rt));
     let answer = if has_rows {
-        list_rows(rt.alloc(), &mut input, &mut output)
+        list_rows(rt.alloc(), program.as_slice(), &mut output)
     } else {
-        list(rt.alloc(), &mut input, &mut output)
+        list(rt.alloc(), program.as_slice(), &mut output)
     };
     Ok(as_asked(flushed(answer, &mut output))?)
 }
@@ -139,12 +141,7 @@ fn play<'a, S: Source>(
 ) -> Answer<'a> {
     let expected = expectations(rt.alloc(), program, expected)?;
     let mut output = trace_port(rt)?;
-    let answer = end_to_end::run(
-        rt.alloc(),
-        &mut SliceSource::new(program),
-        schedule,
-        &mut output,
-    );
+    let answer = shown::run(rt.alloc(), program, schedule, &mut output);
     ended(rt, answer, output, expected.as_slice())
 }
 
@@ -164,12 +161,12 @@ fn run<'a>(
     schedule: Option<&'a str>,
     expected: &[&str],
 ) -> Answer<'a> {
-    let mut program = ReadPort::new(files::read(rt, file)?);
+    let program = files::read(rt, file)?;
     let schedule = match schedule {
         Some(word) => Some(ReadPort::new(Input::named(rt, word)?)),
         None => None,
     };
-    let file = read_all(rt.alloc(), &mut program)?;
+    let file = read_all(rt.alloc(), &mut ReadPort::new(program))?;
     match schedule {
         Some(mut schedule) => play(rt, file.as_slice(), &mut schedule, expected),
         None => {
@@ -184,16 +181,18 @@ fn run<'a>(
 
 /// Compares a trace with the run of the program in a file, and shows the lines that differ where that is asked for.
 fn compare<'a>(rt: &HostRuntime, file: &'a str, trace: &'a str, is_shown: bool) -> Answer<'a> {
-    let mut program = ReadPort::new(files::read(rt, file)?);
+    let program = files::read(rt, file)?;
     let trace = Input::named(rt, trace)?;
     let size = trace.size();
     let mut trace = ShownSource::new(rt, ReadPort::new(trace), size);
+    let program = read_all(rt.alloc(), &mut ReadPort::new(program))?;
+    let program = program.as_slice();
     let mut output = WritePort::new(printable::output(rt));
     let verdict = if is_shown {
         let mut trace = LinesSeen::new(rt.alloc(), trace)?;
-        show_comparison(rt.alloc(), &mut program, &mut trace, &mut output)
+        show_comparison(rt.alloc(), program, &mut trace, &mut output)
     } else {
-        compared(rt.alloc(), &mut program, &mut trace, &mut output)
+        compared(rt.alloc(), program, &mut trace, &mut output)
     };
     Ok(done_by(flushed(verdict, &mut output)?))
 }
@@ -252,14 +251,7 @@ fn live<'a, R: Threads + Wait + Sync>(
     let mut output = trace_port(rt)?;
     let shown = ShownGate::of_trace(rt);
     let gate = pauses.of_run(0, &shown);
-    let answer = end_to_end::live(
-        threads,
-        rt.alloc(),
-        limit,
-        &gate,
-        &mut SliceSource::new(program),
-        &mut output,
-    );
+    let answer = shown::live(threads, rt.alloc(), limit, &gate, program, &mut output);
     shown.end();
     ended(rt, answer, output, expected)
 }
@@ -276,14 +268,7 @@ fn live_often<'a, R: Threads + Wait + Sync>(
 {
     let shown = ShownGate::of_runs(rt);
     let mut output = WritePort::new(BehindProgress::new(rt.stdout(), &shown));
-    let answer = report_runs(
-        threads,
-        rt.alloc(),
-        asked,
-        &shown,
-        &mut SliceSource::new(program),
-        &mut output,
-    );
+    let answer = report_runs(threads, rt.alloc(), asked, &shown, program, &mut output);
     shown.end();
     Ok(flushed(answer, &mut output)?)
 }
@@ -301,8 +286,7 @@ fn play_live<'a, R: Threads + Wait + Sync>(
     requires limit { limit ≤ 1000000000 }
     requires count { IfSome runs (λ n. n ≤ 100000) }
 {
-    let mut program = ReadPort::new(files::read(rt, file)?);
-    let program = read_all(rt.alloc(), &mut program)?;
+    let program = files::contents(rt, file)?;
     let expected = expectations(rt.alloc(), program.as_slice(), expected)?;
     let expected = expected.as_slice();
     let Some(runs) = runs else {
@@ -407,21 +391,19 @@ fn done<'a, R: Threads + Wait + Sync>(
 }
 
 /// Does what the words ask for, and answers the exit status. On a terminal what a fault means follows its line.
-fn answer<R: Threads + Wait + Sync>(threads: &R, rt: &HostRuntime, words: &[String]) -> u8 {
-    let request = match words::request(rt, words) {
+fn main(rt: HostRuntime) -> ExitCode {
+    let words = match words::given(&rt) {
+        Ok(words) => words,
+        Err(no_command) => return ExitCode::from(no_command.tell(&rt, &[])),
+    };
+    let words = words.as_slice();
+    let request = match words::request(&rt, words) {
         Ok(request) => request,
-        Err(no_command) => return no_command.tell(rt, words),
+        Err(no_command) => return ExitCode::from(no_command.tell(&rt, words)),
     };
     let files = Files::of(&request);
-    match done(threads, rt, request) {
+    ExitCode::from(match done(&rt, &rt, request) {
         Ok(done) => settled(Ok(done), &mut WritePort::new(rt.stderr())),
-        Err(trouble) => trouble.tell(rt, words, files),
-    }
-}
-
-fn main(rt: HostRuntime) -> ExitCode {
-    ExitCode::from(match words::given(&rt) {
-        Ok(words) => answer(&rt, &rt, words.as_slice()),
-        Err(no_command) => no_command.tell(&rt, &[]),
+        Err(trouble) => trouble.tell(&rt, words, files),
     })
 }

@@ -1,58 +1,57 @@
 -- The conversation on a program that was just loaded.
-use Rattle.std.proofs.Common.{◌≡◌, ◌⊎◌, inl, inr, ℕ, List, Option, Result, Ok, Err, ap, refl, subst, arith}
+use Rattle.std.proofs.Common.{◌≡◌, ◌⊎◌, inl, inr, sym, ℕ, Bool, List, Option, Some, None, Result, Ok, Err, IsTrue, ap, subst}
 use Rattle.std.specs.Prelude.{IfErr, OnOk}
 use Rattle.row_code.specs.declared.image.Image.{Image}
+use Rattle.loader.specs.declared.load_fault.LoadFault.{LoadFault}
 use Rattle.thread_machine.specs.World.{StoredWorld, world_of}
-use Rattle.trace_compare.specs.Start.{Begins}
+use Rattle.trace_compare.specs.Outcome.{IsUntouched}
+use Rattle.trace_compare.specs.RunText.{GivesOnAndOn}
+use Rattle.trace_compare.specs.Start.{Begins, IsRefused}
 use Rattle.debugger.specs.Session.{Session}
-use Rattle.debugger.specs.Command.{Go}
-use Rattle.debugger.specs.Reply.{Replies}
 use Rattle.schedule_reader.specs.declared.run.Run.{Run}
-use Rattle.std.specs.Io.KnownBytes.{Appends}
 use Rattle.workbench.specs.declared.fault.Fault.{Fault}
 use Rattle.workbench.specs.declared.fault.Fault.TheVariants as fault
-use Rattle.workbench.specs.Fault.{status_of}
-use Rattle.workbench.specs.Run.{GivesProgram}
-use Rattle.workbench.specs.Debug.{Ending, Finished, HasConversed, HasDebugged, HasDebuggedBehind, Unanswered, first_session}
+use Rattle.workbench.specs.Debug.{Cut, Debugs, Ending, Finished, HasConversed, HasDebugged, HasReadLines, IsBegun, StopsDebugging, Unanswered, first_session}
+use Rattle.workbench.specs.ProgramFile.{IsProgramFile}
 
 -- the session is that of an image's program
 abbrev pub IsFirst : Image → Session → Type 0
 IsFirst image session = (world : StoredWorld) × (Begins image (world_of world) × (session ≡ first_session world))
 
-pub debugged_so : (ending : Ending) (image : Image) (session : Session) (f0 f1 c0 c1 o0 o1 : Option (List ℕ)) → IsFirst image session
-    → GivesProgram f0 f1 image → HasConversed ending session c0 c1 o0 o1 → HasDebugged ending f0 f1 c0 c1 o0 o1
-debugged_so ending image session f0 f1 c0 c1 o0 o1 first program conversed =
-    inr (image, (first.0, (program, first.1.0, subst (λ s. HasConversed ending s c0 c1 o0 o1) first.1.1 conversed)))
+-- a program has no session: it isn't loaded, or there is no memory for it
+pub not_begun : (f : Fault) (runs : Option (List Run)) (file : List ℕ) (image : Image) (c0 c1 o0 o1 : Option (List ℕ)) (failed other : Bool)
+    → IsProgramFile file image → (f ≡ fault.Memory) ⊎ ((why : LoadFault) × ((f ≡ fault.Load why) × IsRefused why image))
+    → IsUntouched c0 c1 o0 o1 → StopsDebugging f runs file c0 c1 failed o0 o1 other
+not_begun f runs file image c0 c1 o0 o1 failed other is (inl memory) untouched =
+    subst (λ e. StopsDebugging e runs file c0 c1 failed o0 o1 other) (sym memory) (inl untouched)
+not_begun f runs file image c0 c1 o0 o1 failed other is (inr (why, (load, refused))) untouched =
+    subst (λ e. StopsDebugging e runs file c0 c1 failed o0 o1 other) (sym load) ((image, (is, refused)), untouched)
 
-pub debugged : (result : Result (Unit {0}) Fault) (image : Image) (session : Session) (f0 f1 c0 c1 o0 o1 : Option (List ℕ)) → IsFirst image session
-    → GivesProgram f0 f1 image → OnOk result (HasConversed Finished session c0 c1 o0 o1)
-    → OnOk result (HasDebugged Finished f0 f1 c0 c1 o0 o1)
-debugged (Ok done) image session f0 f1 c0 c1 o0 o1 first program conversed =
-    debugged_so Finished image session f0 f1 c0 c1 o0 o1 first program conversed
-debugged (Err e) image session f0 f1 c0 c1 o0 o1 first program conversed = conversed
+debugged_so : (ending : Ending) (runs : Option (List Run)) (file : List ℕ) (image : Image) (session now : Session) (c0 c1 o0 om o1 : Option (List ℕ))
+    → IsFirst image session → IsProgramFile file image → IsBegun runs session now o0 om
+    → HasConversed ending now c0 c1 om o1 → HasDebugged ending runs file c0 c1 o0 o1
+debugged_so ending runs file image session now c0 c1 o0 om o1 (world, (begins, is)) program begun conversed =
+    (image, (world, (now, (om, (program, begins, subst (λ s. IsBegun runs s now o0 om) is begun, conversed)))))
 
--- status 4 is told for want of memory alone
-four : (f : Fault) (five : Fault) → f ≡ five → status_of five ≡ 5 → status_of f ≡ 4 → ⊥
-four f five is port memory = let same = ap status_of is in absurd (omega (arith, same, port, memory))
-
-pub without_memory : (result : Result (Unit {0}) Fault) (image : Image) (session : Session) (f0 f1 c0 c1 o0 o1 : Option (List ℕ))
-    → IsFirst image session → GivesProgram f0 f1 image
+-- a session was held, and came to this
+pub debugged : (result : Result (Unit {0}) Fault) (runs : Option (List Run)) (file : List ℕ) (image : Image) (session now : Session)
+    (c0 c1 o0 om o1 : Option (List ℕ)) (failed other : Bool)
+    → IsFirst image session → IsProgramFile file image → IsBegun runs session now o0 om
     → IfErr result (λ f. (f ≡ fault.Memory) ⊎ ((f ≡ fault.Read) ⊎ (f ≡ fault.Write)))
-    → (result ≡ Err fault.Memory → HasConversed Unanswered session c0 c1 o0 o1)
-    → IfErr result (λ f. status_of f ≡ 4 → HasDebugged Unanswered f0 f1 c0 c1 o0 o1)
-without_memory (Ok done) image session f0 f1 c0 c1 o0 o1 first program which memory = tt
-without_memory (Err f) image session f0 f1 c0 c1 o0 o1 first program (inl is) memory =
-    λ _. debugged_so Unanswered image session f0 f1 c0 c1 o0 o1 first program (memory (ap Err is))
-without_memory (Err f) image session f0 f1 c0 c1 o0 o1 first program (inr (inl is)) memory =
-    λ status. absurd (four f fault.Read is refl status)
-without_memory (Err f) image session f0 f1 c0 c1 o0 o1 first program (inr (inr is)) memory =
-    λ status. absurd (four f fault.Write is refl status)
-
--- the conversation behind runs that were played as `g` plays them
-pub behind : (result : Result (Unit {0}) Fault) (image : Image) (session now : Session) (runs : List Run) (reply : List ℕ)
-    (f0 f1 c0 c1 o0 om o1 : Option (List ℕ)) → IsFirst image session → GivesProgram f0 f1 image
-    → Replies session (Go runs) now reply → Appends o0 om reply → OnOk result (HasConversed Finished now c0 c1 om o1)
-    → OnOk result (HasDebuggedBehind runs f0 f1 c0 c1 o0 o1)
-behind (Ok done) image session now runs reply f0 f1 c0 c1 o0 om o1 first program replies appended conversed =
-    (image, (first.0, (now, (reply, (om, (program, first.1.0, subst (λ s. Replies s (Go runs) now reply) first.1.1 replies, appended, conversed))))))
-behind (Err e) image session now runs reply f0 f1 c0 c1 o0 om o1 first program replies appended conversed = conversed
+    → OnOk result (HasConversed Finished now c0 c1 om o1)
+    → (result ≡ Err fault.Memory → HasConversed Unanswered now c0 c1 om o1)
+    → (result ≡ Err fault.Read → (IsTrue failed ⊎ GivesOnAndOn c0 c1) × HasConversed Cut now c0 c1 om o1)
+    → (result ≡ Err fault.Write → IsTrue other × HasReadLines c0 c1)
+    → Debugs runs file result c0 c1 failed o0 o1 other
+debugged (Ok done) runs file image session now c0 c1 o0 om o1 failed other first program begun which finished memory read write =
+    debugged_so Finished runs file image session now c0 c1 o0 om o1 first program begun finished
+debugged (Err f) runs file image session now c0 c1 o0 om o1 failed other first program begun (inl is) finished memory read write =
+    subst (λ e. StopsDebugging e runs file c0 c1 failed o0 o1 other) (sym is)
+    (inr (debugged_so Unanswered runs file image session now c0 c1 o0 om o1 first program begun (memory (ap Err is))))
+debugged (Err f) runs file image session now c0 c1 o0 om o1 failed other first program begun (inr (inl is)) finished memory read write =
+    let (why, conversed) = read (ap Err is) in
+    subst (λ e. StopsDebugging e runs file c0 c1 failed o0 o1 other) (sym is)
+    (why, debugged_so Cut runs file image session now c0 c1 o0 om o1 first program begun conversed)
+debugged (Err f) runs file image session now c0 c1 o0 om o1 failed other first program begun (inr (inr is)) finished memory read write =
+    let (why, lines) = write (ap Err is) in
+    subst (λ e. StopsDebugging e runs file c0 c1 failed o0 o1 other) (sym is) (why, inr lines)

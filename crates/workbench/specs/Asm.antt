@@ -1,24 +1,20 @@
--- What `asm` makes of a text.
-use Rattle.std.specs.Prelude.{◌≡◌, ℕ, List, Option, Err}
+-- What `asm` makes of a text, by its answer.
+use Rattle.std.specs.Prelude.{◌≡◌, ℕ, Bool, IsTrue, List, Option, Result, Ok, Err}
 use Rattle.std.specs.Io.KnownBytes.{Appends}
 use Rattle.assembler.specs.Meaning.{StandsFor}
-use Rattle.assembler.specs.Passes.{assembled}
 use Rattle.row_code.specs.Image.{image_bytes}
 use Rattle.row_code.specs.declared.image.Image.{Image}
 use Rattle.workbench.specs.declared.fault.Fault.{Fault}
 use Rattle.workbench.specs.declared.fault.Fault.TheVariants as fault
-use Rattle.workbench.specs.Input.{GivesAll}
+use Rattle.workbench.specs.ProgramFile.{IsNoTextFor}
 
--- the text was read to its end, and the bytes of the image that it stands for were written
-abbrev pub HasAssembled : Option (List ℕ) → Option (List ℕ) → Option (List ℕ) → Option (List ℕ)
-    → Type 0
-HasAssembled input_before input_after output_before output_after =
-    (text : List ℕ) × ((image : Image)
-    × (GivesAll input_before input_after text × StandsFor text image
-    × Appends output_before output_after (image_bytes image)))
+-- why no image was written: the output failed; or the text stands for none, and nothing was
+abbrev pub StopsAssembling : Fault → (text : List ℕ) (output_before output_after : Option (List ℕ)) (output_failed : Bool) → Type 0
+StopsAssembling fault.Write text output_before output_after output_failed = IsTrue output_failed
+StopsAssembling f text output_before output_after output_failed = IsNoTextFor f text × (output_after ≡ output_before)
 
--- the text was read to its end, and has this as its first fault
-abbrev pub HasTextFault : Fault → Option (List ℕ) → Option (List ℕ) → Type 0
-HasTextFault (fault.Asm f) input_before input_after =
-    (text : List ℕ) × (GivesAll input_before input_after text × (assembled text ≡ Err f))
-HasTextFault _ input_before input_after = ⊥
+-- the bytes of the image that the text stands for were written
+abbrev pub Assembles : (text : List ℕ) → Result (Unit {0}) Fault → (output_before output_after : Option (List ℕ)) (output_failed : Bool) → Type 0
+Assembles text (Ok done) output_before output_after output_failed =
+    (image : Image) × (StandsFor text image × Appends output_before output_after (image_bytes image))
+Assembles text (Err f) output_before output_after output_failed = StopsAssembling f text output_before output_after output_failed

@@ -1,12 +1,18 @@
--- What `compare` makes of a program's file and a trace.
-use Rattle.std.specs.Prelude.{ℕ, List, Option, codes}
+-- What `compare` makes of a program's file and a trace, by its answer.
+use Rattle.std.specs.Prelude.{◌≡◌, ◌⊎◌, ℕ, Bool, IsTrue, List, Option, Result, Ok, Err, codes}
 use Rattle.std.specs.Io.KnownBytes.{Appends}
 use Rattle.row_code.specs.declared.image.Image.{Image}
 use Rattle.trace_compare.specs.declared.comparison.Verdict.{Verdict}
 use Rattle.trace_compare.specs.declared.comparison.Verdict.TheVariants as verdict
-use Rattle.trace_compare.specs.Compare.{HasCompared}
+use Rattle.trace_compare.specs.Compare.{HasCompared, IsReadNoFurther}
+use Rattle.trace_compare.specs.Outcome.{IsUntouched}
+use Rattle.trace_compare.specs.RunText.{GivesOnAndOn}
+use Rattle.workbench.specs.declared.done.Done.{Done}
+use Rattle.workbench.specs.declared.done.Done.TheVariants as done
+use Rattle.workbench.specs.declared.fault.Fault.{Fault}
+use Rattle.workbench.specs.declared.fault.Fault.TheVariants as fault
 use Rattle.workbench.specs.Fault.{counted_line}
-use Rattle.workbench.specs.Run.{GivesProgram}
+use Rattle.workbench.specs.ProgramFile.{IsNoProgramFor, IsProgramFile, IsUnloadedFor}
 
 -- the line that tells a verdict
 abbrev pub verdict_line : Verdict → List ℕ
@@ -14,14 +20,30 @@ verdict_line verdict.Same = codes "same\n"
 verdict_line (verdict.Differs line) = counted_line (codes "differs ") line
 verdict_line (verdict.NotATrace line) = counted_line (codes "not a trace ") line
 
--- the exit status by it
-abbrev pub verdict_status : Verdict → ℕ
-verdict_status verdict.Same = 0
-verdict_status (verdict.Differs line) = 1
-verdict_status (verdict.NotATrace line) = 1
+-- why there is no verdict: the output failed; or the trace couldn't be read, or there was no memory, or the program isn't loaded, or
+-- the file is none, and nothing was written
+abbrev pub StopsComparing : Fault → (file : List ℕ) (trace_before trace_after : Option (List ℕ)) (trace_failed : Bool)
+    (output_before output_after : Option (List ℕ)) (output_failed : Bool) → Type 0
+StopsComparing fault.Write file trace_before trace_after trace_failed output_before output_after output_failed = IsTrue output_failed
+StopsComparing fault.Read file trace_before trace_after trace_failed output_before output_after output_failed =
+    (IsTrue trace_failed ⊎ GivesOnAndOn trace_before trace_after) × (output_after ≡ output_before)
+StopsComparing fault.Memory file trace_before trace_after trace_failed output_before output_after output_failed = output_after ≡ output_before
+StopsComparing (fault.Load f) file trace_before trace_after trace_failed output_before output_after output_failed =
+    IsUnloadedFor f file × IsUntouched trace_before trace_after output_before output_after
+StopsComparing f file trace_before trace_after trace_failed output_before output_after output_failed =
+    IsNoProgramFor f file × IsUntouched trace_before trace_after output_before output_after
 
--- the file was read to its end, and the trace as far as the verdict needs; the line of the verdict was written
-abbrev pub HasComparedFile : Verdict → (file_before file_after trace_before trace_after output_before output_after : Option (List ℕ)) → Type 0
-HasComparedFile v file_before file_after trace_before trace_after output_before output_after =
-    (image : Image) × (GivesProgram file_before file_after image
-    × HasCompared image trace_before trace_after v × Appends output_before output_after (verdict_line v))
+-- the trace was read as far as the verdict needs, and no line further; the line of the verdict was written
+abbrev pub ComparesFile : (file : List ℕ) → Result Verdict Fault → (trace_before trace_after : Option (List ℕ)) (trace_failed : Bool)
+    (output_before output_after : Option (List ℕ)) (output_failed : Bool) → Type 0
+ComparesFile file (Ok v) trace_before trace_after trace_failed output_before output_after output_failed =
+    (image : Image) × (IsProgramFile file image × HasCompared image trace_before trace_after v
+    × IsReadNoFurther trace_before trace_after v × Appends output_before output_after (verdict_line v))
+ComparesFile file (Err f) trace_before trace_after trace_failed output_before output_after output_failed =
+    StopsComparing f file trace_before trace_after trace_failed output_before output_after output_failed
+
+-- how a verdict is done
+abbrev pub done_by : Verdict → Done
+done_by verdict.Same = done.AsAsked
+done_by (verdict.Differs line) = done.Unlike
+done_by (verdict.NotATrace line) = done.Unlike

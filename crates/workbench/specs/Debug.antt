@@ -1,5 +1,5 @@
--- What `debug` makes of a program's file and of lines of commands.
-use Rattle.std.specs.Prelude.{◌≡◌, ◌≢◌, ◌≤◌, ◌⊎◌, ℕ, Bool, true, false, All, List, [], ◌∷◌, ◌++◌, length, replicate, Option}
+-- What `debug` makes of a program's file and of lines of commands, by its answer.
+use Rattle.std.specs.Prelude.{◌≡◌, ◌≢◌, ◌≤◌, ◌⊎◌, ℕ, Bool, true, false, IsTrue, All, List, [], ◌∷◌, ◌++◌, length, replicate, Option, Some, None, Result, Ok, Err}
 use Rattle.std.specs.List.{flat_map}
 use Rattle.std.specs.Io.KnownBytes.{Appends, Consumes, IsAtEnd}
 use Rattle.row_code.specs.declared.image.Image.{Image}
@@ -9,7 +9,11 @@ use Rattle.debugger.specs.Session.{Session}
 use Rattle.schedule_reader.specs.declared.run.Run.{Run}
 use Rattle.debugger.specs.Command.{Go, Quit, line_order}
 use Rattle.debugger.specs.Reply.{Replies}
-use Rattle.workbench.specs.Run.{GivesProgram, IsUntouched}
+use Rattle.trace_compare.specs.Outcome.{IsUntouched}
+use Rattle.trace_compare.specs.RunText.{GivesOnAndOn}
+use Rattle.workbench.specs.declared.fault.Fault.{Fault}
+use Rattle.workbench.specs.declared.fault.Fault.TheVariants as fault
+use Rattle.workbench.specs.ProgramFile.{IsNoProgramFor, IsProgramFile, IsUnloadedFor}
 
 -- the session of a machine that nothing was done with: it has no breakpoints, and keeps 4096 choices at most
 abbrev pub first_session : StoredWorld → Session
@@ -64,22 +68,20 @@ HasConversed ending session commands_before commands_after output_before output_
     × Consumes commands_before commands_after (flat_map (λ e. bytes_of e.line true) exchanges ++ bytes_of last.line is_ended)
     × Appends output_before output_after (flat_map (λ e. e.reply) exchanges ++ last.reply)))))
 
--- the file was read to its end, and the session of its program ended so; where it isn't finished, perhaps there was none:
--- no command was read, and nothing was written
-abbrev pub HasDebugged : Ending → (file_before file_after commands_before commands_after output_before output_after : Option (List ℕ)) → Type 0
-HasDebugged ending file_before file_after commands_before commands_after output_before output_after =
-    ((ending ≢ Finished) × IsUntouched commands_before commands_after output_before output_after)
-    ⊎ ((image : Image) × ((world : StoredWorld) × (GivesProgram file_before file_after image × Begins image (world_of world)
-    × HasConversed ending (first_session world) commands_before commands_after output_before output_after)))
+-- the first session of a file's program, and behind the runs that are played first, if any, and told as `g` tells them
+abbrev pub IsBegun : Option (List Run) → Session → Session → (output_before output_after : Option (List ℕ)) → Type 0
+IsBegun None session now output_before output_after = (now ≡ session) × (output_after ≡ output_before)
+IsBegun (Some runs) session now output_before output_after =
+    (reply : List ℕ) × (Replies session (Go runs) now reply × Appends output_before output_after reply)
 
--- the file was read to its end; in the first session of its program these runs were played, and told as `g` tells them; then
--- the rest of the session was held to its end
-abbrev pub HasDebuggedBehind : List Run → (file_before file_after commands_before commands_after output_before output_after : Option (List ℕ)) → Type 0
-HasDebuggedBehind runs file_before file_after commands_before commands_after output_before output_after =
-    (image : Image) × ((world : StoredWorld) × ((now : Session) × ((reply : List ℕ) × ((output_then : Option (List ℕ))
-    × (GivesProgram file_before file_after image × Begins image (world_of world)
-    × Replies (first_session world) (Go runs) now reply × Appends output_before output_then reply
-    × HasConversed Finished now commands_before commands_after output_then output_after)))))
+-- a session of a file's program was held, and ended so
+abbrev pub HasDebugged : Ending → Option (List Run) → (file : List ℕ)
+    (commands_before commands_after output_before output_after : Option (List ℕ)) → Type 0
+HasDebugged ending runs file commands_before commands_after output_before output_after =
+    (image : Image) × ((world : StoredWorld) × ((now : Session) × ((output_then : Option (List ℕ))
+    × (IsProgramFile file image × Begins image (world_of world)
+    × IsBegun runs (first_session world) now output_before output_then
+    × HasConversed ending now commands_before commands_after output_then output_after))))
 
 -- what was read of the commands ends with an LF, or with the commands
 abbrev pub HasReadLines : (commands_before commands_after : Option (List ℕ)) → Type 0
@@ -90,3 +92,28 @@ HasReadLines commands_before commands_after =
 -- no more bytes were given than the commands are read at most, a byte at a time, over all lines
 abbrev pub GivesFew : Option (List ℕ) → Option (List ℕ) → Type 0
 GivesFew before after = (bytes : List ℕ) × (Consumes before after bytes × (length bytes ≤ 1000000000))
+
+-- why a session wasn't held to its end: the output failed, and what was read of the commands are whole lines, or nothing; or they
+-- couldn't be read; or there was no memory for a line, or for the machine; or the program isn't loaded, or the file is none
+abbrev pub StopsDebugging : Fault → Option (List Run) → (file : List ℕ) (commands_before commands_after : Option (List ℕ)) (commands_failed : Bool)
+    (output_before output_after : Option (List ℕ)) (output_failed : Bool) → Type 0
+StopsDebugging fault.Write runs file commands_before commands_after commands_failed output_before output_after output_failed =
+    IsTrue output_failed × ((commands_after ≡ commands_before) ⊎ HasReadLines commands_before commands_after)
+StopsDebugging fault.Read runs file commands_before commands_after commands_failed output_before output_after output_failed =
+    (IsTrue commands_failed ⊎ GivesOnAndOn commands_before commands_after)
+    × HasDebugged Cut runs file commands_before commands_after output_before output_after
+StopsDebugging fault.Memory runs file commands_before commands_after commands_failed output_before output_after output_failed =
+    IsUntouched commands_before commands_after output_before output_after
+    ⊎ HasDebugged Unanswered runs file commands_before commands_after output_before output_after
+StopsDebugging (fault.Load f) runs file commands_before commands_after commands_failed output_before output_after output_failed =
+    IsUnloadedFor f file × IsUntouched commands_before commands_after output_before output_after
+StopsDebugging f runs file commands_before commands_after commands_failed output_before output_after output_failed =
+    IsNoProgramFor f file × IsUntouched commands_before commands_after output_before output_after
+
+abbrev pub Debugs : Option (List Run) → (file : List ℕ) → Result (Unit {0}) Fault
+    → (commands_before commands_after : Option (List ℕ)) (commands_failed : Bool)
+    (output_before output_after : Option (List ℕ)) (output_failed : Bool) → Type 0
+Debugs runs file (Ok done) commands_before commands_after commands_failed output_before output_after output_failed =
+    HasDebugged Finished runs file commands_before commands_after output_before output_after
+Debugs runs file (Err f) commands_before commands_after commands_failed output_before output_after output_failed =
+    StopsDebugging f runs file commands_before commands_after commands_failed output_before output_after output_failed

@@ -16,3 +16,14 @@ IsSettled (Ok d) status has_failed errors_before errors_after =
     (status ≡ done_status d) × (errors_after ≡ errors_before)
 IsSettled (Err f) status has_failed errors_before errors_after =
     (status ≡ status_of f) × HasTold f has_failed errors_before errors_after
+
+-- the same of an answer that is done so
+abbrev pub IsSettledBy : {A : Type 0} → (A → Done) → Result A Fault → ℕ → Bool → (errors_before errors_after : Option (List ℕ)) → Type 0
+IsSettledBy done_by (Ok x) status has_failed errors_before errors_after =
+    IsSettled (Ok (done_by x)) status has_failed errors_before errors_after
+IsSettledBy done_by (Err f) status has_failed errors_before errors_after =
+    IsSettled (Err f) status has_failed errors_before errors_after
+
+-- of one that is always as it was asked for
+abbrev pub as_asked : {A : Type 0} → A → Done
+as_asked x = done.AsAsked

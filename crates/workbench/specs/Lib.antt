@@ -1,5 +1,4 @@
 pub mod Asm
-pub mod Both
 pub mod Compare
 pub mod Debug
 pub mod Done
@@ -9,5 +8,5 @@ pub mod List
 pub mod Live
 pub mod ProgramFile
 pub mod Racing
-pub mod Run
 pub mod RunLine
+pub mod Outcome

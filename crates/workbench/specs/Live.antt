@@ -1,5 +1,5 @@
--- What `live` makes of a program's file.
-use Rattle.std.specs.Prelude.{◌≡◌, ◌⊎◌, ℕ, List, Option, Some, None}
+-- What `live` makes of a program's file, by its answer.
+use Rattle.std.specs.Prelude.{◌≡◌, ◌⊎◌, ℕ, Bool, IsTrue, List, Option, Some, None, Result, Ok, Err}
 use Rattle.std.specs.Io.KnownBytes.{Appends}
 use Rattle.row_code.specs.declared.image.Image.{Image}
 use Rattle.loader.specs.Fault.{first_fault}
@@ -11,12 +11,11 @@ use Rattle.thread_runner.specs.Endings.{ending_of}
 use Rattle.thread_runner.specs.Replay.{IsReplay}
 use Rattle.trace_compare.specs.declared.run_end.RunEnd.{RunEnd}
 use Rattle.trace_compare.specs.RunText.{IsEndOf}
-use Rattle.trace_compare.specs.Start.{Begins, IsRefused}
+use Rattle.trace_compare.specs.Start.{Begins}
 use Rattle.trace_compare.specs.Trace.{AppendsPartOf, lines_of, trace_of}
 use Rattle.workbench.specs.declared.fault.Fault.{Fault}
 use Rattle.workbench.specs.declared.fault.Fault.TheVariants as fault
-use Rattle.workbench.specs.Input.{GivesAll}
-use Rattle.workbench.specs.ProgramFile.{IsNoProgramFor, IsProgramFile}
+use Rattle.workbench.specs.ProgramFile.{IsNoProgramFor, IsProgramFile, IsUnloadedFor}
 
 -- the image has no fault, and the choices are the record of a run from its first world that came to an end, of at most so
 -- many steps: each of them was accepted, and none was idle
@@ -41,19 +40,15 @@ IsLivedAtMost limit file output_before output_after =
     × (IsProgramFile file image × IsRecorded image limit choices × Begins image world
     × AppendsPartOf output_before output_after (lines_of world choices)))))
 
--- why the program in a file isn't played: it is none, or it isn't loaded
-abbrev pub IsRefusedFor : Fault → List ℕ → Type 0
-IsRefusedFor (fault.Load f) file = (image : Image) × (IsProgramFile file image × IsRefused f image)
-IsRefusedFor f file = IsNoProgramFor f file
+-- why no whole trace was written: the output failed; a part of it was, where there was no memory; or no thread could be started,
+-- or the program isn't loaded, or the file is none, and nothing was
+abbrev pub StopsLiving : ℕ → Fault → (file : List ℕ) (output_before output_after : Option (List ℕ)) (output_failed : Bool) → Type 0
+StopsLiving limit fault.Write file output_before output_after output_failed = IsTrue output_failed
+StopsLiving limit fault.Memory file output_before output_after output_failed = IsLivedAtMost limit file output_before output_after
+StopsLiving limit fault.Spawn file output_before output_after output_failed = output_after ≡ output_before
+StopsLiving limit (fault.Load f) file output_before output_after output_failed = IsUnloadedFor f file × (output_after ≡ output_before)
+StopsLiving limit f file output_before output_after output_failed = IsNoProgramFor f file × (output_after ≡ output_before)
 
--- the file was read to its end, its program was played on real threads, the trace of the choices that were recorded was
--- written, and it ends so
-abbrev pub HasLived : ℕ → RunEnd → (file_before file_after output_before output_after : Option (List ℕ)) → Type 0
-HasLived limit end file_before file_after output_before output_after =
-    (file : List ℕ) × (GivesAll file_before file_after file × IsLived limit file end output_before output_after)
-
--- nothing was written; or the file was read to its end, the run was recorded, and a part of its lines was written
-abbrev pub HasLivedAtMost : ℕ → (file_before file_after output_before output_after : Option (List ℕ)) → Type 0
-HasLivedAtMost limit file_before file_after output_before output_after =
-    (output_after ≡ output_before)
-    ⊎ ((file : List ℕ) × (GivesAll file_before file_after file × IsLivedAtMost limit file output_before output_after))
+abbrev pub Lives : ℕ → (file : List ℕ) → Result RunEnd Fault → (output_before output_after : Option (List ℕ)) (output_failed : Bool) → Type 0
+Lives limit file (Ok end) output_before output_after output_failed = IsLived limit file end output_before output_after
+Lives limit file (Err f) output_before output_after output_failed = StopsLiving limit f file output_before output_after output_failed

@@ -1,12 +1,12 @@
-ghost use Rattle.std.specs.Prelude.{◌≡◌, ◌≢◌, ◌⊎◌, IsTrue, IfErr, OnOk};
+ghost use Rattle.std.specs.Prelude.{◌≡◌, IsTrue, IfErr, OnOk, Result};
 ghost use Rattle.std.specs.Io.KnownBytes.{Appends};
 ghost use Rattle.row_code.specs.Image.{image_bytes};
 ghost use Rattle.workbench.specs.declared.fault.Fault.{Fault};
-ghost use Rattle.workbench.specs.Asm.{HasAssembled, HasTextFault};
-ghost use Rattle.workbench.specs.Fault.{HasTold, status_of};
-ghost use Rattle.workbench.specs.Input.{GivesTooMuch};
+ghost use Rattle.workbench.specs.Asm.{Assembles};
+ghost use Rattle.workbench.specs.Done.{IsSettledBy, as_asked};
+ghost use Rattle.workbench.specs.Outcome.{ComesOf};
 
-use crate::done::{Done, settled};
+use crate::done::settled_as_asked;
 use crate::fault::Fault;
 use crate::input::read_all;
 use assembler::assemble;
@@ -24,44 +24,23 @@ pub fn asm_cmd<S: Source, K: Sink, E: Sink>(
     output: &mut K,
     errors: &mut E,
 ) -> u8
-    ensures statuses { (result ≡ 0) ⊎ ((result ≡ 3) ⊎ ((result ≡ 4) ⊎ (result ≡ 5))) }
-    ensures done { result ≡ 0 → HasAssembled (S.left input.old) (S.left input.new)
-        (K.written output.old) (K.written output.new) }
-    ensures told { ((result ≡ 0) × (E.written errors.new ≡ E.written errors.old))
-        ⊎ ((fault : Fault) × ((result ≡ status_of fault)
-        × (HasTold fault (E.has_failed errors.new) (E.written errors.old) (E.written errors.new)
-        × (result ≡ 3 → HasTextFault fault (S.left input.old) (S.left input.new))
-        × (fault ≢ Fault.Spawn)
-        × (fault ≡ Fault.Read → K.written output.new ≡ K.written output.old)))) }
-    ensures unchanged { (result ≡ 3) ⊎ (result ≡ 4) → K.written output.new ≡ K.written output.old }
-    ensures port { result ≡ 5 → IsTrue (S.has_failed input.new)
-        ⊎ (GivesTooMuch (S.left input.old) (S.left input.new)
-        ⊎ IsTrue (K.has_failed output.new)) }
+    ensures { (answer : Result (Unit {0}) Fault)
+        × (ComesOf (λ text came. Assembles text came (K.written output.old) (K.written output.new) (K.has_failed output.new))
+        (K.written output.new ≡ K.written output.old) answer (S.left input.old) (S.left input.new) (S.has_failed input.new)
+        × IsSettledBy as_asked answer result (E.has_failed errors.new) (E.written errors.old) (E.written errors.new)) }
 {
-    match asm(alloc, input, output) {
-        Ok(_) => settled(Ok(Done::AsAsked), errors),
-        Err(fault) => settled(Err(fault), errors),
-    }
+    let answer = match read_all(alloc, input) {
+        Ok(text) => asm(alloc, text.as_slice(), output),
+        Err(fault) => Err(fault),
+    };
+    settled_as_asked(answer, errors)
 }
 
-/// The same with the fault that decides the status.
-pub fn asm<S: Source, K: Sink>(alloc: Global, input: &mut S, output: &mut K) -> Result<(), Fault>
-    ensures done { OnOk result (HasAssembled (S.left input.old) (S.left input.new)
-        (K.written output.old) (K.written output.new)) }
-    ensures refused { IfErr result (λ fault. status_of fault ≡ 3
-        → HasTextFault fault (S.left input.old) (S.left input.new)) }
-    ensures unchanged { IfErr result (λ fault. (fault ≡ Fault.Write)
-        ⊎ (K.written output.new ≡ K.written output.old)) }
-    ensures spawn { result ≢ Err Fault.Spawn }
-    ensures read { result ≡ Err Fault.Read → IsTrue (S.has_failed input.new)
-        ⊎ GivesTooMuch (S.left input.old) (S.left input.new) }
-    ensures write { result ≡ Err Fault.Write → IsTrue (K.has_failed output.new) }
+/// Writes the bytes of the image that a text stands for.
+pub fn asm<K: Sink>(alloc: Global, text: &[u8], output: &mut K) -> Result<(), Fault>
+    ensures { Assembles text.now result (K.written output.old) (K.written output.new) (K.has_failed output.new) }
 {
-    let text = match read_all(alloc, input) {
-        Ok(text) => text,
-        Err(fault) => return Err(fault),
-    };
-    match assemble(alloc, text.as_slice()) {
+    match assemble(alloc, text) {
         Ok(image) => push_image(&image, output),
         Err(fault) => Err(Fault::Asm(fault)),
     }

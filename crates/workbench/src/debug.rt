@@ -1,25 +1,23 @@
-ghost use Rattle.std.specs.Prelude.{◌≡◌, ◌≢◌, ◌⊎◌, ◌+◌, ◌∷◌, [], true, false, List, ℕ, length, Ok, Err, IsTrue, IfOk, IfErr, OnOk};
+ghost use Rattle.std.specs.Prelude.{◌≡◌, ◌⊎◌, ◌+◌, ◌∷◌, [], true, false, List, ℕ, length, None, Some, Ok, Err, IsTrue, IfOk, IfErr, OnOk, Result};
 ghost use Rattle.std.specs.Io.KnownBytes.{Appends, Consumes};
-ghost use Rattle.line_reader.specs.declared.asm_fault.AsmFault.{AsmFault};
-ghost use Rattle.row_code.specs.declared.image_fault.ImageFault.{ImageFault};
 ghost use Rattle.loader.specs.declared.load_fault.LoadFault.{LoadFault};
-ghost use Rattle.schedule_reader.specs.declared.fault.ScheduleFault.{ScheduleFault};
 ghost use Rattle.thread_machine.specs.World.{StoredWorld, world_of};
+ghost use Rattle.trace_compare.specs.Outcome.{IsUntouched};
 ghost use Rattle.trace_compare.specs.RunText.{GivesOnAndOn};
 ghost use Rattle.trace_compare.specs.Start.{Begins, IsRefused};
 ghost use Rattle.debugger.specs.Command.{goes_on, line_order};
 ghost use Rattle.debugger.specs.Reply.{Replies};
 ghost use Rattle.workbench.specs.declared.fault.Fault.{Fault};
-ghost use Rattle.workbench.specs.declared.fault.PictureKind.{PictureKind};
-ghost use Rattle.workbench.specs.Debug.{Cut, Exchange, Finished, GivesFew, HasConversed, HasDebugged, HasDebuggedBehind, HasReadLines, IsDialogue, Unanswered, bytes_of, first_session};
-ghost use Rattle.workbench.specs.Fault.{HasTold, status_of};
-ghost use Rattle.workbench.specs.Input.{GivesInEach, GivesTooMuch, IsCounted};
-ghost use Rattle.workbench.specs.Run.{HasNoRun};
+ghost use Rattle.workbench.specs.Debug.{Cut, Debugs, Exchange, Finished, GivesFew, HasConversed, HasReadLines, IsDialogue, Unanswered, bytes_of, first_session};
+ghost use Rattle.workbench.specs.Done.{IsSettledBy, as_asked};
+ghost use Rattle.workbench.specs.Input.{GivesInEach, IsCounted};
+ghost use Rattle.workbench.specs.Outcome.{ComesOf};
 
-use crate::done::{Done, settled};
+use crate::done::settled_as_asked;
 use crate::fault::Fault;
+use crate::input::read_all;
 use crate::input_line::read_line;
-use crate::program_file::read_program;
+use crate::program_file::program_in;
 use byte_ports::{Sink, Source};
 use debugger::{CommandFault, Debugger};
 use row_code::Image;
@@ -47,60 +45,34 @@ pub fn debug_cmd<F: Source, S: Source, K: Sink, E: Sink>(
     output: &mut K,
     errors: &mut E,
 ) -> u8
-    ensures statuses { (result ≡ 0) ⊎ ((result ≡ 3) ⊎ ((result ≡ 4) ⊎ (result ≡ 5))) }
-    ensures done { result ≡ 0 → HasDebugged Finished (F.left file.old) (F.left file.new)
-        (S.left commands.old) (S.left commands.new) (K.written output.old) (K.written output.new) }
-    ensures told { ((result ≡ 0) × (E.written errors.new ≡ E.written errors.old))
-        ⊎ ((fault : Fault) × ((result ≡ status_of fault)
-        × (HasTold fault (E.has_failed errors.new) (E.written errors.old) (E.written errors.new)
-        × (result ≡ 3 → HasNoRun fault (F.left file.old) (F.left file.new) (S.left commands.old) (S.left commands.new))
-        × (fault ≡ Fault.Read → HasDebugged Cut (F.left file.old) (F.left file.new)
-        (S.left commands.old) (S.left commands.new) (K.written output.old) (K.written output.new))
-        × (fault ≡ Fault.Write → HasReadLines (S.left commands.old) (S.left commands.new))
-        × (fault ≢ Fault.Spawn)))) }
+    ensures outcome { (answer : Result (Unit {0}) Fault)
+        × (ComesOf (λ program came. Debugs None program came (S.left commands.old) (S.left commands.new) (S.has_failed commands.new)
+        (K.written output.old) (K.written output.new) (K.has_failed output.new))
+        (IsUntouched (S.left commands.old) (S.left commands.new) (K.written output.old) (K.written output.new))
+        answer (F.left file.old) (F.left file.new) (F.has_failed file.new)
+        × IsSettledBy as_asked answer result (E.has_failed errors.new) (E.written errors.old) (E.written errors.new)) }
     ensures few { GivesFew (S.left commands.old) (S.left commands.new) }
-    ensures unchanged { result ≡ 3 → K.written output.new ≡ K.written output.old }
-    ensures memory { result ≡ 4 → HasDebugged Unanswered (F.left file.old) (F.left file.new)
-        (S.left commands.old) (S.left commands.new) (K.written output.old) (K.written output.new) }
-    ensures port { result ≡ 5 → (IsTrue (F.has_failed file.new)
-        ⊎ GivesTooMuch (F.left file.old) (F.left file.new))
-        ⊎ ((IsTrue (S.has_failed commands.new)
-        ⊎ GivesOnAndOn (S.left commands.old) (S.left commands.new))
-        ⊎ IsTrue (K.has_failed output.new)) }
 {
-    match debug(alloc, file, commands, output) {
-        Ok(_) => settled(Ok(Done::AsAsked), errors),
-        Err(fault) => settled(Err(fault), errors),
-    }
+    let answer = match read_all(alloc, file) {
+        Ok(program) => debug(alloc, program.as_slice(), commands, output),
+        Err(fault) => Err(fault),
+    };
+    settled_as_asked(answer, errors)
 }
 
-/// The same with the fault that decides the status.
-pub fn debug<F: Source, S: Source, K: Sink>(
+/// Debugs the program that a file's bytes are: reads a line of commands, carries it out, writes its reply, and reads on, up to the
+/// line `q` or to the end.
+pub fn debug<S: Source, K: Sink>(
     alloc: Global,
-    file: &mut F,
+    program: &[u8],
     commands: &mut S,
     output: &mut K,
 ) -> Result<(), Fault>
-    ensures done { OnOk result (HasDebugged Finished (F.left file.old) (F.left file.new)
-        (S.left commands.old) (S.left commands.new) (K.written output.old) (K.written output.new)) }
-    ensures refused { IfErr result (λ fault. status_of fault ≡ 3
-        → HasNoRun fault (F.left file.old) (F.left file.new) (S.left commands.old) (S.left commands.new)
-        × (K.written output.new ≡ K.written output.old)) }
-    ensures memory { IfErr result (λ fault. status_of fault ≡ 4
-        → HasDebugged Unanswered (F.left file.old) (F.left file.new)
-        (S.left commands.old) (S.left commands.new) (K.written output.old) (K.written output.new)) }
-    ensures unread { result ≡ Err Fault.Read → HasDebugged Cut (F.left file.old) (F.left file.new)
-        (S.left commands.old) (S.left commands.new) (K.written output.old) (K.written output.new) }
-    ensures read { result ≡ Err Fault.Read → (IsTrue (F.has_failed file.new)
-        ⊎ GivesTooMuch (F.left file.old) (F.left file.new))
-        ⊎ (IsTrue (S.has_failed commands.new)
-        ⊎ GivesOnAndOn (S.left commands.old) (S.left commands.new)) }
-    ensures write { result ≡ Err Fault.Write → IsTrue (K.has_failed output.new)
-        × HasReadLines (S.left commands.old) (S.left commands.new) }
-    ensures spawn { result ≢ Err Fault.Spawn }
+    ensures outcome { Debugs None program.now result (S.left commands.old) (S.left commands.new) (S.has_failed commands.new)
+        (K.written output.old) (K.written output.new) (K.has_failed output.new) }
     ensures few { GivesFew (S.left commands.old) (S.left commands.new) }
 {
-    let image = match read_program(alloc, file) {
+    let image = match program_in(alloc, program) {
         Ok(image) => image,
         Err(fault) => return Err(fault),
     };
@@ -111,28 +83,20 @@ pub fn debug<F: Source, S: Source, K: Sink>(
     converse(alloc, &mut debugger, commands, output)
 }
 
-/// The same behind runs of choices, which are played first and told as the command `g` tells them.
-pub fn debug_behind<F: Source, S: Source, K: Sink>(
+/// `debug` behind runs of choices, which are played first and told as the command `g` tells them.
+pub fn debug_behind<S: Source, K: Sink>(
     alloc: Global,
-    file: &mut F,
+    program: &[u8],
     runs: &[Run],
     commands: &mut S,
     output: &mut K,
 ) -> Result<(), Fault>
-    ensures done { OnOk result (HasDebuggedBehind runs.now (F.left file.old) (F.left file.new)
-        (S.left commands.old) (S.left commands.new) (K.written output.old) (K.written output.new)) }
-    ensures refused { IfErr result (λ fault. status_of fault ≡ 3
-        → HasNoRun fault (F.left file.old) (F.left file.new) (S.left commands.old) (S.left commands.new)
-        × (K.written output.new ≡ K.written output.old)) }
-    ensures read { result ≡ Err Fault.Read → (IsTrue (F.has_failed file.new)
-        ⊎ GivesTooMuch (F.left file.old) (F.left file.new))
-        ⊎ (IsTrue (S.has_failed commands.new)
-        ⊎ GivesOnAndOn (S.left commands.old) (S.left commands.new)) }
-    ensures write { result ≡ Err Fault.Write → IsTrue (K.has_failed output.new) }
-    ensures spawn { result ≢ Err Fault.Spawn }
+    ensures outcome { Debugs (Some runs.now) program.now result
+        (S.left commands.old) (S.left commands.new) (S.has_failed commands.new)
+        (K.written output.old) (K.written output.new) (K.has_failed output.new) }
     ensures few { GivesFew (S.left commands.old) (S.left commands.new) }
 {
-    let image = match read_program(alloc, file) {
+    let image = match program_in(alloc, program) {
         Ok(image) => image,
         Err(fault) => return Err(fault),
     };
@@ -150,12 +114,8 @@ pub fn debug_behind<F: Source, S: Source, K: Sink>(
 fn first_debugger(alloc: Global, image: Image) -> Result<Debugger, Fault>
     ensures first { IfOk result (λ debugger. (world : StoredWorld) × (Begins image (world_of world)
         × (debugger ≡ first_session world))) }
-    ensures load { (fault : LoadFault) → result ≡ Err (Fault.Load fault) → IsRefused fault image }
-    ensures other { ((fault : AsmFault) → result ≢ Err (Fault.Asm fault))
-        × ((fault : ImageFault) → result ≢ Err (Fault.Image fault))
-        × ((fault : ScheduleFault) → result ≢ Err (Fault.Schedule fault))
-        × ((kind : PictureKind) → result ≢ Err (Fault.TooLong kind))
-        × (result ≢ Err Fault.Spawn) × (result ≢ Err Fault.Read) × (result ≢ Err Fault.Write) }
+    ensures fault { IfErr result (λ told. (told ≡ Fault.Memory)
+        ⊎ ((fault : LoadFault) × ((told ≡ Fault.Load fault) × IsRefused fault image))) }
 {
     let machine = match first_machine(alloc, image) {
         Ok(machine) => machine,

@@ -1,7 +1,7 @@
 //! How a command ends.
 ghost use Rattle.std.specs.Prelude.{◌≡◌, Err, IfErr, Ok, OnOk};
 ghost use Rattle.workbench.specs.declared.done.Done.TheVariants as done;
-ghost use Rattle.workbench.specs.Done.{IsSettled, done_status};
+ghost use Rattle.workbench.specs.Done.{IsSettled, IsSettledBy, as_asked, done_status};
 
 use crate::fault::Fault;
 use byte_ports::Sink;
@@ -36,6 +36,13 @@ pub fn as_asked<T: Drop>(answer: Result<T, Fault>) -> Result<Done, Fault>
         Ok(_) => Ok(Done::AsAsked),
         Err(fault) => Err(fault),
     }
+}
+
+/// `settled`, where a command does as it is asked wherever it meets no fault.
+pub fn settled_as_asked<T: Drop, E: Sink>(answer: Result<T, Fault>, errors: &mut E) -> u8
+    ensures { IsSettledBy as_asked answer result (E.has_failed errors.new) (E.written errors.old) (E.written errors.new) }
+{
+    settled(as_asked(answer), errors)
 }
 
 /// The exit status of a command that came to this. A fault's line is written to `errors`; that this may fail changes no status.

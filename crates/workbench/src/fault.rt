@@ -3,6 +3,7 @@ ghost use Rattle.std.specs.Io.KnownBytes.{Appends};
 ghost use Rattle.loader.specs.FaultNumber.{load_number};
 ghost use Rattle.row_code.specs.FaultNumber.{image_number};
 ghost use Rattle.schedule_reader.specs.FaultNumber.{schedule_number};
+ghost use Rattle.workbench.specs.Outcome.{told_as};
 ghost use Rattle.workbench.specs.Fault.{counted, counted_line, image_place, line_of, load_place, refusal_line, refusal_status, schedule_place, status_of, target_place, text_line, too_long};
 
 use assembler::AsmFault;
@@ -11,6 +12,7 @@ use itoa::Buffer;
 use loader::{LoadFault, Place};
 use row_code::ImageFault;
 use schedule_reader::ScheduleFault;
+use trace_compare::RunFault;
 
 /// Which picture of a run is asked for.
 #[derive(Clone, Copy, Debug, PartialEq, Eq)]
@@ -54,6 +56,21 @@ pub enum Fault {
     Read,
     /// The output failed.
     Write,
+}
+
+impl Fault {
+    /// A run's fault, in the words of the commands.
+    pub fn of_run(fault: RunFault) -> Fault
+        ensures { result ≡ told_as fault }
+    {
+        match fault {
+            RunFault::Load(fault) => Fault::Load(fault),
+            RunFault::Schedule(fault) => Fault::Schedule(fault),
+            RunFault::Memory => Fault::Memory,
+            RunFault::Read => Fault::Read,
+            RunFault::Write => Fault::Write,
+        }
+    }
 }
 
 /// The exit status of a refusal, by the number of its kind: missing memory has none.

@@ -14,7 +14,6 @@ pub mod input;
 pub mod input_line;
 pub mod list;
 pub mod live;
-mod play;
 pub mod program_file;
 pub mod racing;
 pub mod run;

@@ -1,15 +1,15 @@
-ghost use Rattle.std.specs.Prelude.{◌≡◌, ◌≢◌, ◌⊎◌, Err, IsTrue, IfErr, OnOk};
+ghost use Rattle.std.specs.Prelude.{◌≡◌, ◌⊎◌, Err, IsTrue, IfErr, OnOk, Result};
 ghost use Rattle.std.specs.Io.KnownBytes.{Appends};
 ghost use Rattle.listing.specs.Listing.{canonical};
 ghost use Rattle.workbench.specs.declared.fault.Fault.{Fault};
-ghost use Rattle.workbench.specs.Fault.{HasTold, status_of};
-ghost use Rattle.workbench.specs.Input.{GivesTooMuch};
-ghost use Rattle.workbench.specs.List.{HasListed};
-ghost use Rattle.workbench.specs.Run.{GivesNoProgram};
+ghost use Rattle.workbench.specs.Done.{IsSettledBy, as_asked};
+ghost use Rattle.workbench.specs.List.{Lists};
+ghost use Rattle.workbench.specs.Outcome.{ComesOf};
 
-use crate::done::{Done, settled};
+use crate::done::settled_as_asked;
 use crate::fault::Fault;
-use crate::program_file::read_program;
+use crate::input::read_all;
+use crate::program_file::program_in;
 use assembler::disassemble;
 use byte_ports::{Sink, Source};
 use row_code::Image;
@@ -25,40 +25,23 @@ pub fn list_cmd<S: Source, K: Sink, E: Sink>(
     output: &mut K,
     errors: &mut E,
 ) -> u8
-    ensures statuses { (result ≡ 0) ⊎ ((result ≡ 3) ⊎ ((result ≡ 4) ⊎ (result ≡ 5))) }
-    ensures done { result ≡ 0 → HasListed (S.left file.old) (S.left file.new)
-        (K.written output.old) (K.written output.new) }
-    ensures told { ((result ≡ 0) × (E.written errors.new ≡ E.written errors.old))
-        ⊎ ((fault : Fault) × ((result ≡ status_of fault)
-        × (HasTold fault (E.has_failed errors.new) (E.written errors.old) (E.written errors.new)
-        × (result ≡ 3 → GivesNoProgram (S.left file.old) (S.left file.new) fault)
-        × (fault ≢ Fault.Spawn)
-        × (fault ≡ Fault.Read → K.written output.new ≡ K.written output.old)))) }
-    ensures unchanged { (result ≡ 3) ⊎ (result ≡ 4) → K.written output.new ≡ K.written output.old }
-    ensures port { result ≡ 5 → IsTrue (S.has_failed file.new)
-        ⊎ (GivesTooMuch (S.left file.old) (S.left file.new)
-        ⊎ IsTrue (K.has_failed output.new)) }
+    ensures { (answer : Result (Unit {0}) Fault)
+        × (ComesOf (λ program came. Lists program came (K.written output.old) (K.written output.new) (K.has_failed output.new))
+        (K.written output.new ≡ K.written output.old) answer (S.left file.old) (S.left file.new) (S.has_failed file.new)
+        × IsSettledBy as_asked answer result (E.has_failed errors.new) (E.written errors.old) (E.written errors.new)) }
 {
-    match list(alloc, file, output) {
-        Ok(_) => settled(Ok(Done::AsAsked), errors),
-        Err(fault) => settled(Err(fault), errors),
-    }
+    let answer = match read_all(alloc, file) {
+        Ok(program) => list(alloc, program.as_slice(), output),
+        Err(fault) => Err(fault),
+    };
+    settled_as_asked(answer, errors)
 }
 
-/// The same with the fault that decides the status.
-pub fn list<S: Source, K: Sink>(alloc: Global, file: &mut S, output: &mut K) -> Result<(), Fault>
-    ensures done { OnOk result (HasListed (S.left file.old) (S.left file.new)
-        (K.written output.old) (K.written output.new)) }
-    ensures refused { IfErr result (λ fault. status_of fault ≡ 3
-        → GivesNoProgram (S.left file.old) (S.left file.new) fault) }
-    ensures unchanged { IfErr result (λ fault. (fault ≡ Fault.Write)
-        ⊎ (K.written output.new ≡ K.written output.old)) }
-    ensures spawn { result ≢ Err Fault.Spawn }
-    ensures read { result ≡ Err Fault.Read → IsTrue (S.has_failed file.new)
-        ⊎ GivesTooMuch (S.left file.old) (S.left file.new) }
-    ensures write { result ≡ Err Fault.Write → IsTrue (K.has_failed output.new) }
+/// Writes the canonical text of the program that a file's bytes are.
+pub fn list<K: Sink>(alloc: Global, program: &[u8], output: &mut K) -> Result<(), Fault>
+    ensures { Lists program.now result (K.written output.old) (K.written output.new) (K.has_failed output.new) }
 {
-    match read_program(alloc, file) {
+    match program_in(alloc, program) {
         Ok(image) => push_canonical(alloc, &image, output),
         Err(fault) => Err(fault),
     }

@@ -1,4 +1,4 @@
-ghost use Rattle.std.specs.Prelude.{◌≡◌, ◌≢◌, ◌⊎◌, ◌≤◌, All, None, Some, Err, IsTrue, IfOk, IfErr, OnOk};
+ghost use Rattle.std.specs.Prelude.{◌≡◌, ◌⊎◌, ◌≤◌, All, None, Some, IfOk, IfErr, OnOk, Result};
 ghost use Rattle.row_code.specs.declared.image.Image.{Image};
 ghost use Rattle.loader.specs.Fault.{first_fault};
 ghost use Rattle.loader.specs.Program.{IsProgramOf};
@@ -8,17 +8,14 @@ ghost use Rattle.thread_machine.specs.World.{World, first_world};
 ghost use Rattle.thread_runner.specs.declared.ending.Ending.{Ending};
 ghost use Rattle.thread_runner.specs.Endings.{ending_of};
 ghost use Rattle.thread_runner.specs.Replay.{IsReplay};
-ghost use Rattle.trace_compare.specs.RunText.{HasWrittenTheSame};
 ghost use Rattle.trace_compare.specs.Start.{IsRefused};
 ghost use Rattle.trace_compare.specs.declared.run_end.RunEnd.{RunEnd};
 ghost use Rattle.workbench.specs.declared.fault.Fault.{Fault};
-ghost use Rattle.workbench.specs.Fault.{HasTold, status_of};
-ghost use Rattle.workbench.specs.Input.{GivesTooMuch};
-ghost use Rattle.workbench.specs.Live.{HasLived, HasLivedAtMost, IsLived, IsLivedAtMost, IsRefusedFor};
-ghost use Rattle.workbench.specs.ProgramFile.{IsProgramFile};
-ghost use Rattle.workbench.specs.Run.{HasNoRun, HasRunTheSame};
+ghost use Rattle.workbench.specs.Done.{IsSettledBy, as_asked};
+ghost use Rattle.workbench.specs.Live.{Lives};
+ghost use Rattle.workbench.specs.Outcome.{ComesOf};
 
-use crate::done::{Done, settled};
+use crate::done::settled_as_asked;
 use crate::fault::Fault;
 use crate::input::read_all;
 use crate::program_file::program_in;
@@ -47,63 +44,22 @@ pub fn live_cmd<R: Threads + Wait + Sync, F: Source, K: Sink, E: Sink>(
     errors: &mut E,
 ) -> u8
     requires { limit ≤ 1000000000 }
-    ensures statuses { (result ≡ 0) ⊎ ((result ≡ 3) ⊎ ((result ≡ 4) ⊎ (result ≡ 5))) }
-    ensures done { result ≡ 0 → (end : RunEnd) × HasLived limit end (F.left file.old) (F.left file.new)
-        (K.written output.old) (K.written output.new) }
-    ensures same { result ≡ 0 → HasRunTheSame (F.left file.old) (F.left file.new)
-        (K.written output.old) (K.written output.new) }
-    ensures told { ((result ≡ 0) × (E.written errors.new ≡ E.written errors.old))
-        ⊎ ((fault : Fault) × ((result ≡ status_of fault)
-        × (HasTold fault (E.has_failed errors.new) (E.written errors.old) (E.written errors.new)
-        × (result ≡ 3 → HasNoRun fault (F.left file.old) (F.left file.new)
-        (K.written output.old) (K.written output.new))
-        × (fault ≡ Fault.Read → K.written output.new ≡ K.written output.old)))) }
-    ensures memory { result ≡ 4 → HasLivedAtMost limit (F.left file.old) (F.left file.new)
-        (K.written output.old) (K.written output.new) }
-    ensures port { result ≡ 5 → IsTrue (F.has_failed file.new)
-        ⊎ (GivesTooMuch (F.left file.old) (F.left file.new)
-        ⊎ IsTrue (K.has_failed output.new)) }
+    ensures { (answer : Result RunEnd Fault)
+        × (ComesOf (λ program came. Lives limit program came (K.written output.old) (K.written output.new) (K.has_failed output.new))
+        (K.written output.new ≡ K.written output.old) answer (F.left file.old) (F.left file.new) (F.has_failed file.new)
+        × IsSettledBy as_asked answer result (E.has_failed errors.new) (E.written errors.old) (E.written errors.new)) }
 {
-    let fault = match live(threads, alloc, limit, &NoGate, file, output) {
-        Ok(_) => return settled(Ok(Done::AsAsked), errors),
-        Err(fault) => fault,
+    let answer = match read_all(alloc, file) {
+        Ok(program) => live(threads, alloc, limit, &NoGate, program.as_slice(), output),
+        Err(fault) => Err(fault),
     };
-    settled(Err(fault), errors)
+    settled_as_asked(answer, errors)
 }
 
-/// The same: how the run has ended, or the fault that decides the status. Each thread passes a gate before each time that it
-/// takes the lock: whom the gate lets go first decides which run it is, and nothing else.
-pub fn live<R: Threads + Wait + Sync, G: Gate + Sync, F: Source, K: Sink>(
-    rt: &R,
-    alloc: Global,
-    limit: u32,
-    gate: &G,
-    file: &mut F,
-    output: &mut K,
-) -> Result<RunEnd, Fault>
-    requires { limit ≤ 1000000000 }
-    ensures done { IfOk result (λ end. HasLived limit end (F.left file.old) (F.left file.new)
-        (K.written output.old) (K.written output.new)) }
-    ensures same { OnOk result (HasRunTheSame (F.left file.old) (F.left file.new)
-        (K.written output.old) (K.written output.new)) }
-    ensures refused { IfErr result (λ fault. status_of fault ≡ 3
-        → HasNoRun fault (F.left file.old) (F.left file.new) (K.written output.old) (K.written output.new)) }
-    ensures memory { IfErr result (λ fault. status_of fault ≡ 4
-        → HasLivedAtMost limit (F.left file.old) (F.left file.new) (K.written output.old) (K.written output.new)) }
-    ensures unread { result ≡ Err Fault.Read → K.written output.new ≡ K.written output.old }
-    ensures read { result ≡ Err Fault.Read → IsTrue (F.has_failed file.new)
-        ⊎ GivesTooMuch (F.left file.old) (F.left file.new) }
-    ensures write { result ≡ Err Fault.Write → IsTrue (K.has_failed output.new) }
-{
-    let bytes = match read_all(alloc, file) {
-        Ok(bytes) => bytes,
-        Err(fault) => return Err(fault),
-    };
-    play_live(rt, alloc, limit, gate, bytes.as_slice(), output)
-}
-
-/// The same of the bytes of a file.
-fn play_live<R: Threads + Wait + Sync, G: Gate + Sync, K: Sink>(
+/// Plays the program that a file's bytes are on real threads, writes the trace of the choices that they made, and answers how the
+/// run has ended. Each thread passes a gate before each time that it takes the lock: whom the gate lets go first decides which run
+/// it is, and nothing else.
+pub fn live<R: Threads + Wait + Sync, G: Gate + Sync, K: Sink>(
     rt: &R,
     alloc: Global,
     limit: u32,
@@ -112,15 +68,7 @@ fn play_live<R: Threads + Wait + Sync, G: Gate + Sync, K: Sink>(
     output: &mut K,
 ) -> Result<RunEnd, Fault>
     requires { limit ≤ 1000000000 }
-    ensures done { IfOk result (λ end. IsLived limit file.now end (K.written output.old) (K.written output.new)) }
-    ensures same { OnOk result ((image : Image) × (IsProgramFile file.now image
-        × HasWrittenTheSame image (K.written output.old) (K.written output.new))) }
-    ensures refused { IfErr result (λ fault. status_of fault ≡ 3
-        → IsRefusedFor fault file.now × (K.written output.new ≡ K.written output.old)) }
-    ensures memory { IfErr result (λ fault. status_of fault ≡ 4
-        → IsLivedAtMost limit file.now (K.written output.old) (K.written output.new)) }
-    ensures read { result ≢ Err Fault.Read }
-    ensures write { result ≡ Err Fault.Write → IsTrue (K.has_failed output.new) }
+    ensures { Lives limit file.now result (K.written output.old) (K.written output.new) (K.has_failed output.new) }
 {
     let image = match program_in(alloc, file) {
         Ok(image) => image,

@@ -12,7 +12,8 @@ use workbench::asm::asm_cmd;
 use workbench::both::both_cmd;
 use workbench::compare::compare_cmd;
 use workbench::debug::debug_cmd;
-use workbench::done::{as_asked, settled};
+use workbench::done::settled_as_asked;
+use workbench::input::read_all;
 use workbench::list::list_cmd;
 use workbench::live::live_cmd;
 use workbench::run::run_cmd;
@@ -54,15 +55,21 @@ fn status<R: Threads + Wait + Sync>(
     match command {
         Command::Asm => asm_cmd(alloc, file, output, errors),
         Command::List => list_cmd(alloc, file, output, errors),
-        Command::Rows => settled(as_asked(list_rows(alloc, file, output)), errors),
+        Command::Rows => {
+            let answer = match read_all(alloc, file) {
+                Ok(program) => list_rows(alloc, program.as_slice(), output),
+                Err(fault) => Err(fault),
+            };
+            settled_as_asked(answer, errors)
+        }
         Command::Both => both_cmd(alloc, file, output, errors),
         Command::Run => run_cmd(alloc, file, other, output, errors),
         Command::Compare => compare_cmd(alloc, file, other, output, errors),
         Command::Debug => debug_cmd(alloc, file, other, output, errors),
-        Command::Show => settled(as_asked(make(alloc, &Page, file, other, output)), errors),
+        Command::Show => settled_as_asked(make(alloc, &Page, file, other, output), errors),
         Command::Draw => {
             let drawing = Drawing { width: 80 };
-            settled(as_asked(make(alloc, &drawing, file, other, output)), errors)
+            settled_as_asked(make(alloc, &drawing, file, other, output), errors)
         }
         Command::Live => live_cmd(rt, alloc, 1000, file, output, errors),
     }

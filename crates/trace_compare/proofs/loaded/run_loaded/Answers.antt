@@ -5,7 +5,6 @@ use Rattle.thread_machine.specs.World.{World}
 use Rattle.trace_compare.specs.RunText.{AreTraced}
 use Rattle.trace_compare.specs.Trace.{AppendsPartOf, lines_of}
 use Rattle.trace_compare.proofs.Plays.{Part-none}
-use Rattle.trace_compare.proofs.Streams.{traced-same}
 use Rattle.trace_compare.proofs.loaded.run_loaded.Goals as goal
 
 pub returns-in-Ok-clause-traced : goal.returns-in-Ok-clause-traced
@@ -13,10 +12,6 @@ returns-in-Ok-clause-traced g c =
     subst (λ (world : World). IfOk c.play_known.result (λ end. AreTraced world (choices_of c.args.runs.now) end
     (g.W.Sink.written c.args.output.now) (g.W.Sink.written c.play_known.new.output)))
     c.in-Ok.ensures c.play_known.ensures.traced
-
-pub returns-in-Ok-clause-same : goal.returns-in-Ok-clause-same
-returns-in-Ok-clause-same g c = λ image begins are.
-    traced-same c.play_known.result image _ c.args.runs.now _ _ begins are (returns-in-Ok-clause-traced g c)
 
 pub returns-in-Ok-clause-memory : goal.returns-in-Ok-clause-memory
 returns-in-Ok-clause-memory g c = λ want.

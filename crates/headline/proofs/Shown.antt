@@ -1,0 +1,126 @@
+-- What the commands have written, in the words of their promise.
+use Rattle.std.proofs.Common.{◌≡◌, ◌∙◌, ◌++◌, ℕ, Bool, List, None, Some, refl, ap, sym, subst, append-nil, inl, inr}
+use Rattle.std.specs.Prelude.{Option, Result, Ok, Err, OnOk}
+use Rattle.std.specs.Io.KnownBytes.{Appends, Consumes, IsAtEnd}
+use Rattle.row_code.specs.declared.image.Image.{Image}
+use Rattle.row_code.specs.Image.{IsImage}
+use Rattle.line_reader.specs.Words.{lines_of}
+use Rattle.assembler.specs.Meaning.{StandsFor}
+use Rattle.assembler.proofs.ImageRanges.{said_image}
+use Rattle.assembler.proofs.ReadLines.{one_image}
+use Rattle.loader.specs.Fault.{first_fault}
+use Rattle.loader.specs.declared.load_fault.LoadFault.{LoadFault}
+use Rattle.schedule_reader.specs.declared.run.Run.{Run}
+use Rattle.schedule_reader.specs.Schedule.{finished_schedule, choices_of}
+use Rattle.thread_machine.specs.declared.choice.Choice.{Choice}
+use Rattle.thread_machine.specs.World.{World}
+use Rattle.trace_compare.specs.declared.run_end.RunEnd.{RunEnd}
+use Rattle.trace_compare.specs.Start.{Begins}
+use Rattle.trace_compare.specs.Trace.{trace_of}
+use Rattle.trace_compare.proofs.OneTrace.{trace-first}
+use Rattle.workbench.specs.declared.fault.Fault.{Fault}
+use Rattle.workbench.specs.Debug.{Debugs}
+use Rattle.workbench.specs.Live.{Lives}
+use Rattle.workbench.specs.Outcome.{PlaysFile, PlaysText}
+use Rattle.workbench.specs.ProgramFile.{IsProgramFile}
+use Rattle.workbench.specs.RunLine.{program_part, schedule_part}
+use Rattle.headline.specs.Headline.{start}
+use Rattle.headline.specs.EndToEnd.{HasDebuggedFile, HasShownFile, HasShownLive, HasShownText, ShowsTheRows}
+
+-- what a text stands for is within the limits of an image
+text_image : (text : List ℕ) (image : Image) → StandsFor text image → IsImage image
+text_image text image (lines, said, follows, known, is) = subst IsImage (sym is) (said_image 1 (lines_of text) lines said follows)
+
+-- so is what a file holds
+file_image : (file : List ℕ) (image : Image) → IsProgramFile file image → IsImage image
+file_image file image (inl (is, read, fits)) = fits
+file_image file image (inr (is, stands)) = text_image file image stands
+
+-- what a known schedule's bytes are that were all read
+whole : (schedule bytes : List ℕ) (rest : Option (List ℕ)) → Consumes (Some schedule) rest bytes → IsAtEnd rest → bytes ≡ schedule
+whole schedule bytes (Some after) consumed end = sym (append-nil bytes) ∙ ap (λ left. bytes ++ left) (sym end) ∙ sym consumed
+whole schedule bytes None consumed end = absurd consumed
+
+-- the trace of the choices that a schedule makes is that from the image's first world on
+rows : (image : Image) (world : World) (schedule : List ℕ) (runs : List Run) → Begins image world
+    → finished_schedule schedule ≡ record { runs = runs; fault = None }
+    → ShowsTheRows image schedule (trace_of (start image) (choices_of runs))
+rows image world schedule runs begins is = (runs, (is, refl))
+
+first_trace : (image : Image) (world : World) (choices : List Choice) (before after : Option (List ℕ)) → Begins image world
+    → Appends before after (trace_of world choices) → Appends before after (trace_of (start image) choices)
+first_trace image world choices before after (loads, begins) appends =
+    subst (Appends before after) (trace-first image 1000000000 world choices begins) appends
+
+pub text-shown : (result : Result RunEnd Fault) (text : List ℕ) (before after : Option (List ℕ)) (failed : Bool)
+    → PlaysText text result before after failed → OnOk result (HasShownText text before after)
+text-shown (Ok end) text before after failed
+    (rest, (image, (stands, (world, ((loads, first), (bytes, (runs, (consumed, at_end, is, (ends, appends))))))))) =
+    let all = whole (schedule_part text) bytes rest consumed at_end in (
+      image,
+      (
+        trace_of (start image) (choices_of runs),
+        (
+          (stands, (text_image (program_part text) image stands, loads)),
+          subst (λ schedule. ShowsTheRows image schedule (trace_of (start image) (choices_of runs))) all
+              (rows image world bytes runs (loads, first) is),
+          first_trace image world (choices_of runs) before after (loads, first) appends,
+        ),
+      ),
+    )
+text-shown (Err f) text before after failed plays = tt
+
+pub file-shown : (result : Result RunEnd Fault) (file : List ℕ) (schedule_before schedule_after : Option (List ℕ)) (schedule_failed : Bool)
+    (before after : Option (List ℕ)) (failed : Bool)
+    → PlaysFile file result schedule_before schedule_after schedule_failed before after failed
+    → OnOk result (HasShownFile file schedule_before schedule_after before after)
+file-shown (Ok end) file schedule_before schedule_after schedule_failed before after failed
+    (image, (is_file, (world, ((loads, first), (bytes, (runs, (consumed, at_end, is, (ends, appends)))))))) = (
+      image,
+      (
+        bytes,
+        (
+          trace_of (start image) (choices_of runs),
+          (
+            (is_file, (file_image file image is_file, loads)),
+            consumed,
+            at_end,
+            rows image world bytes runs (loads, first) is,
+            first_trace image world (choices_of runs) before after (loads, first) appends,
+          ),
+        ),
+      ),
+    )
+file-shown (Err f) file schedule_before schedule_after schedule_failed before after failed plays = tt
+
+pub file-debugged : (result : Result (Unit {0}) Fault) (runs : Option (List Run)) (file : List ℕ)
+    (commands_before commands_after : Option (List ℕ)) (commands_failed : Bool) (before after : Option (List ℕ)) (failed : Bool)
+    → Debugs runs file result commands_before commands_after commands_failed before after failed
+    → OnOk result (HasDebuggedFile runs file commands_before commands_after before after)
+file-debugged (Ok done) runs file commands_before commands_after commands_failed before after failed
+    (image, (world, (now, (output_then, (is, (loads, first), begun, held))))) =
+    (image, (world, (now, (output_then, ((is, (file_image file image is, loads)), first, begun, held)))))
+file-debugged (Err f) runs file commands_before commands_after commands_failed before after failed debugs = tt
+
+pub live-shown : (result : Result RunEnd Fault) (limit : ℕ) (file : List ℕ) (before after : Option (List ℕ)) (failed : Bool)
+    → Lives limit file result before after failed → OnOk result (HasShownLive limit file before after)
+live-shown (Ok end) limit file before after failed
+    (image, (choices, (world, (is, (first, (last, (ending, (loads, begun, replay, over)))), begins, ends, appends)))) = (
+      image,
+      (
+        choices,
+        (
+          (is, (file_image file image is, loads)),
+          (first, (last, (ending, (begun, replay, over)))),
+          first_trace image world choices before after begins appends,
+        ),
+      ),
+    )
+live-shown (Err f) limit file before after failed lives = tt
+
+-- a text whose program has a fault isn't shown
+pub never-shown : (text : List ℕ) (image : Image) (why : LoadFault) (before after : Option (List ℕ))
+    → StandsFor (program_part text) image → first_fault image ≡ Some why → HasShownText text before after → ⊥
+never-shown text image why before after stands fault (other, (shown, ((spells, (within, loads)), traced, appends))) =
+    let same : other ≡ image = one_image (program_part text) other image spells stands in
+    absurd (cc (fault, loads, ap first_fault same))

@@ -1,0 +1,91 @@
+//! The commands that play a program: under a schedule, by commands, or on real threads. Each is the one of `workbench`, which says
+//! what has come about whatever it answers; here it also says, in the words of one page, what is shown where all went well.
+ghost use Rattle.std.specs.Prelude.{◌≤◌, None, OnOk, Some};
+ghost use Rattle.headline.specs.EndToEnd.{HasDebuggedFile, HasShownFile, HasShownLive, HasShownText};
+ghost use Rattle.workbench.specs.Debug.{Debugs, GivesFew};
+ghost use Rattle.workbench.specs.Live.{Lives};
+ghost use Rattle.workbench.specs.Outcome.{PlaysFile, PlaysText};
+
+use byte_ports::{Sink, Source};
+use schedule_reader::Run;
+use std::alloc::Global;
+use std::sync::Wait;
+use std::thread::Threads;
+use thread_runner::Gate;
+use trace_compare::RunEnd;
+use workbench::fault::Fault;
+
+/// Plays the program of a text under the schedule that stands behind its line `.run`, writes the trace, and answers how the
+/// run has ended.
+pub fn both<K: Sink>(alloc: Global, text: &[u8], output: &mut K) -> Result<RunEnd, Fault>
+    ensures outcome { PlaysText text.now result (K.written output.old) (K.written output.new) (K.has_failed output.new) }
+    ensures shown { OnOk result (HasShownText text.now (K.written output.old) (K.written output.new)) }
+{
+    workbench::both::both(alloc, text, output)
+}
+
+/// Plays the program that a file's bytes are under a schedule, writes the trace, and answers how the run has ended.
+pub fn run<S: Source, K: Sink>(
+    alloc: Global,
+    program: &[u8],
+    schedule: &mut S,
+    output: &mut K,
+) -> Result<RunEnd, Fault>
+    ensures outcome { PlaysFile program.now result (S.left schedule.old) (S.left schedule.new) (S.has_failed schedule.new)
+        (K.written output.old) (K.written output.new) (K.has_failed output.new) }
+    ensures shown { OnOk result (HasShownFile program.now (S.left schedule.old) (S.left schedule.new)
+        (K.written output.old) (K.written output.new)) }
+{
+    workbench::run::run(alloc, program, schedule, output)
+}
+
+/// Plays the program that a file's bytes are by commands, which may take steps back.
+pub fn debug<S: Source, K: Sink>(
+    alloc: Global,
+    program: &[u8],
+    commands: &mut S,
+    output: &mut K,
+) -> Result<(), Fault>
+    ensures outcome { Debugs None program.now result (S.left commands.old) (S.left commands.new) (S.has_failed commands.new)
+        (K.written output.old) (K.written output.new) (K.has_failed output.new) }
+    ensures shown { OnOk result (HasDebuggedFile None program.now (S.left commands.old) (S.left commands.new)
+        (K.written output.old) (K.written output.new)) }
+    ensures few { GivesFew (S.left commands.old) (S.left commands.new) }
+{
+    workbench::debug::debug(alloc, program, commands, output)
+}
+
+/// `debug` behind runs of choices.
+pub fn debug_behind<S: Source, K: Sink>(
+    alloc: Global,
+    program: &[u8],
+    runs: &[Run],
+    commands: &mut S,
+    output: &mut K,
+) -> Result<(), Fault>
+    ensures outcome { Debugs (Some runs.now) program.now result
+        (S.left commands.old) (S.left commands.new) (S.has_failed commands.new)
+        (K.written output.old) (K.written output.new) (K.has_failed output.new) }
+    ensures shown { OnOk result (HasDebuggedFile (Some runs.now) program.now (S.left commands.old) (S.left commands.new)
+        (K.written output.old) (K.written output.new)) }
+    ensures few { GivesFew (S.left commands.old) (S.left commands.new) }
+{
+    workbench::debug::debug_behind(alloc, program, runs, commands, output)
+}
+
+/// Plays the program that a file's bytes are on real threads, writes the trace of the choices that they made, and answers how the
+/// run has ended.
+pub fn live<R: Threads + Wait + Sync, G: Gate + Sync, K: Sink>(
+    threads: &R,
+    alloc: Global,
+    limit: u32,
+    gate: &G,
+    program: &[u8],
+    output: &mut K,
+) -> Result<RunEnd, Fault>
+    requires { limit ≤ 1000000000 }
+    ensures outcome { Lives limit program.now result (K.written output.old) (K.written output.new) (K.has_failed output.new) }
+    ensures shown { OnOk result (HasShownLive limit program.now (K.written output.old) (K.written output.new)) }
+{
+    workbench::live::live(threads, alloc, limit, gate, program, output)
+}
