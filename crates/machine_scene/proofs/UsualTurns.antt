@@ -15,7 +15,6 @@ use Rattle.tier_tree.specs.declared.climb.Climb.TheVariants as climb
 use Rattle.tier_tree.specs.declared.arrived.Arrived.{Arrived}
 use Rattle.tier_tree.specs.declared.arrived.Arrived.TheVariants as arrived
 use Rattle.tier_tree.specs.Forest.{PhaserState, phaser_at, flat_at, root_at}
-use Rattle.tier_tree.specs.Answer.{turns}
 use Rattle.tier_tree.specs.Arrival.{Arrives, climbed, arrival_by, arrival}
 use Rattle.loader.specs.Program.{Program, row_at}
 use Rattle.thread_state.specs.declared.frame.Frame.{Frame}
@@ -31,7 +30,6 @@ use Rattle.machine_scene.specs.Outcomes.{outcome_in, is_ready}
 use Rattle.machine_scene.specs.ReadySet.{is_local_turn}
 use Rattle.machine_scene.specs.Usual.{is_early, is_usual_in}
 use Rattle.machine_scene.proofs.Standings.{Standing, arrival-standings}
-use Rattle.tier_tree.proofs.Stands.{other-is, same-is}
 
 -- a row on registers alone
 pub local_is_usual : (of : Status) (row : Row) (stack : List Frame) (stored : StoredScene) → is_local_turn of row ≡ true → is_usual_in of row stack stored ≡ true
@@ -53,10 +51,6 @@ free_arrival manner p t program scene empty =
     ∙ ap (λ (stack : List Frame). Some (if has_routine p scene && (length stack == 64) then thrown (pos 6) else full)) empty
     ∙ ap (λ (test : Bool). Some (if test then thrown (pos 6) else full)) (and_false (has_routine p scene))
 
-pub free_room : (p t : ℕ) (scene : Scene) → (thread_at scene t).stack ≡ [] → (has_routine p scene && is_full (thread_at scene t)) ≡ false
-free_room p t scene empty =
-    ap (λ (stack : List Frame). has_routine p scene && (length stack == 64)) empty ∙ and_false (has_routine p scene)
-
 -- what an arrival before the last comes to
 pub early : (manner : Manner) (p t : ℕ) (program : Program) (scene : Scene) (phasers : List PhaserState) (phase : ℤ) (turn : Turn)
     → (thread_at scene t).stack ≡ [] → record { phasers = phasers; answer = arrived.At phase } ≡ arrival p manner.leaves scene.phasers
@@ -66,13 +60,6 @@ early manner p t program scene phasers phase turn empty is turned =
     free_arrival manner p t program scene empty
     ∙ ap (λ (all : Arrives). Some (outcome_of_arrived all.answer manner t program (with_phasers all.phasers scene))) (sym is)
     ∙ ap (λ (x : Turn). Some (outcome_of_turn x t (with_phasers phasers scene))) (sym turned)
-
--- an arrival that turns a root is the last there
-pub last_here : (id p : ℕ) (phasers : List PhaserState) (phase : ℤ) (parties : ℕ) → id ≡ p
-    → (arrival id false phasers).answer ≡ arrived.Turning (record { 0 = id }) phase parties
-    → turns p (arrival p false phasers).answer ≡ true
-last_here id p phasers phase parties same is =
-    ap (λ (n : ℕ). turns n (arrival n false phasers).answer) (sym same) ∙ ap (turns id) is ∙ same-is id
 
 -- thread t waits after an arrival that left these phasers
 abbrev pub waiting : ℤ → List PhaserState → ℕ → Scene → Scene

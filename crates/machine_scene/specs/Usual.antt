@@ -5,7 +5,6 @@ use Rattle.instruction_table.specs.declared.row.Row.TheVariants.{Parr, Paaa}
 use Rattle.instruction_table.specs.LocalRows.{is_local_row}
 use Rattle.tier_tree.specs.declared.arrived.Arrived.{Arrived}
 use Rattle.tier_tree.specs.declared.arrived.Arrived.TheVariants as arrived
-use Rattle.tier_tree.specs.Answer.{turns}
 use Rattle.tier_tree.specs.Arrival.{arrival}
 use Rattle.loader.specs.Program.{Program, row_at}
 use Rattle.thread_state.specs.declared.frame.Frame.{Frame}
@@ -49,30 +48,3 @@ abbrev pub is_usual : ℕ → Program → StoredScene → Bool
 is_usual t program stored =
     let thread : ThreadState = thread_at (scene_of stored) t in
     is_usual_in thread.status (row_at program.rows thread.pc) thread.stack stored
-
--- an arrival at phaser p, which is a root, would be the last of its tree
-abbrev pub is_last_at : ℕ → Scene → Bool
-is_last_at p scene = turns p (arrival p false scene.phasers).answer
-
--- such an arrival at `parr` or `paaa`, of a thread with an empty stack
-abbrev pub is_last : Row → List Frame → Scene → Bool
-is_last (Parr into p) stack scene = length stack == 0 && is_last_at p scene
-is_last (Paaa into p) stack scene = length stack == 0 && is_last_at p scene
-is_last _ stack scene = false
-
--- by the thread's status: it has to run
-abbrev pub is_last_in : Status → Row → List Frame → Scene → Bool
-is_last_in status.Runs row stack scene = is_last row stack scene
-is_last_in _ row stack scene = false
-
--- the turn of thread t is the last arrival at a root
-abbrev pub is_last_turn : ℕ → Program → Scene → Bool
-is_last_turn t program scene =
-    let thread : ThreadState = thread_at scene t in
-    is_last_in thread.status (row_at program.rows thread.pc) thread.stack scene
-
--- an arrival at a phaser by a party that stays
-abbrev pub is_arrival : Row → Bool
-is_arrival (Parr into p) = true
-is_arrival (Paaa into p) = true
-is_arrival _ = false

@@ -29,7 +29,6 @@ mod barrier_rows;
 mod call_rows;
 mod data_rows;
 mod getter_rows;
-mod last;
 mod own_rows;
 mod phaser_rows;
 mod ready;

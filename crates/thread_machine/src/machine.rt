@@ -224,31 +224,8 @@ impl Machine {
             self.seldom_step(choice, told);
         } else if !self.stage.is_ready(&self.program, t) {
             self.stay(choice);
-        } else if self.stage.is_at_arrival(&self.program, t) {
-            self.arrival_step(choice, told);
         } else {
             self.ready_step(choice, told);
-        }
-    }
-
-    /// `ready_step`, where it may be the last arrival at a root.
-    #[inline(never)]
-    fn arrival_step(&mut self, choice: Choice, told: &mut Result<Event, StepFault>)
-        requires there { choice.thread < length self.old.scene.threads }
-        requires choices { self.old.choices < 1000000000000 }
-        requires turn { choice.expiry ≡ false }
-        requires steps { self.old.steps < self.old.limit }
-        requires ready { is_ready choice.thread self.old.program (scene_of self.old.scene) ≡ true }
-        requires told { told.old ≡ Ok idle_event }
-        ensures { IsStep self.old choice told.new self.new }
-    {
-        match self.stage.last_turn(&self.program, choice.thread as usize) {
-            Some(event) => {
-                self.choices += 1;
-                self.steps += 1;
-                *told = Ok(event);
-            }
-            None => self.ready_step(choice, told),
         }
     }
 

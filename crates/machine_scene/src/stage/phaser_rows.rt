@@ -1,4 +1,4 @@
-ghost use Rattle.std.specs.Prelude.{◌≡◌, ℕ, ◌<◌, ◌≤◌, ◌&&◌, length, true, false, Some, None, is_some, IfSome};
+ghost use Rattle.std.specs.Prelude.{◌≡◌, ℕ, ◌<◌, ◌≤◌, ◌&&◌, length, true, false, Some, None, is_some};
 ghost use Rattle.tier_tree.specs.Forest.{phaser_at, flat_at, root_at};
 ghost use Rattle.tier_tree.specs.Stored.{phasers_of, ChangedAt};
 ghost use Rattle.instruction_table.specs.Registers.{value_in};
@@ -10,7 +10,6 @@ ghost use Rattle.machine_scene.specs.PhaserRows.{is_own_tree, unless_own, has_ro
 ghost use Rattle.machine_scene.specs.PhaserRows.{outcome_of_ended_phase, outcome_of_phase_end, outcome_of_pending_end, outcome_with_room};
 ghost use Rattle.machine_scene.specs.PhaserRows.{outcome_of_arrival, outcome_of_registration, outcome_of_bulk};
 ghost use Rattle.machine_scene.specs.PhaserRows.{outcome_of_await, outcome_of_force, outcome_of_phaser_row};
-ghost use Rattle.machine_scene.specs.Usual.{is_last_at};
 ghost use Rattle.machine_scene.specs.Undo.{PhasersWithin, reach_of_row};
 ghost use Rattle.machine_scene.specs.Sound.{CanPlay, most_after};
 
@@ -21,7 +20,7 @@ use instruction_table::{Reg, Row};
 use loader::Loaded;
 use packed_phaser::Policy;
 use thread_state::{Event, Mark, Thread, What};
-use tier_tree::{Arrived, LastArrival, PhaserId, Registered};
+use tier_tree::{Arrived, PhaserId, Registered};
 
 /// A thread whose phase hasn't ended waits, as long as it has the patience.
 fn wait_with(thread: &mut Thread, patience: Patience, phase: i32) -> What
@@ -239,40 +238,6 @@ impl Stage {
     {
         let root = self.phasers.root(self.phaser_id(phaser));
         matches!(self.phasers.policy(root), Policy::Routine)
-    }
-
-    /// An arrival of a party that stays, where it is the last at a root that has none above, with the end of its phase or the
-    /// entry into its routine. `None` anywhere else; nothing has changed then.
-    #[inline(always)]
-    pub(super) fn last_arrival(
-        &mut self,
-        program: &Loaded,
-        manner: Manner,
-        phaser: u16,
-        t: usize,
-    ) -> Option<Event>
-        requires phaser { phaser < length self.old.phasers }
-        requires stays { manner.leaves ≡ false }
-        requires room { (has_routine phaser (scene_of self.old) && is_full (thread_at (scene_of self.old) t)) ≡ false }
-        requires routines { length program.now.routines ≡ length self.old.phasers }
-        requires ends { (p : ℕ) → (phaser_at (phasers_of self.old.phasers) p).ends < most_after }
-        requires plays { CanPlay t self.old }
-        ensures last { is_some result ≡ is_last_at phaser (scene_of self.old) }
-        ensures none { result ≡ None → self.new ≡ self.old }
-        ensures outcome { IfSome result (λ event. record { scene = scene_of self.new; event = event }
-            ≡ outcome_with_room manner phaser t program.now (scene_of self.old)) }
-        ensures phasers { ChangedAt phaser self.old.phasers self.new.phasers }
-    {
-        let id = self.phaser_id(phaser);
-        self.phasers.is_forest();
-        match self.phasers.arrive_last(id) {
-            LastArrival::Ended(phase) => Some(self.phase_ended(manner, id, phase, t)),
-            LastArrival::Turned(phase) => {
-                self.phasers.is_forest();
-                Some(self.pending_end(program, manner, id, phase, t))
-            }
-            LastArrival::Elsewhere => None,
-        }
     }
 
     /// The arrival itself.
