@@ -26,4 +26,5 @@ pub mod Steady
 pub mod ReadySets
 pub mod ThreadSets
 pub mod LocalTurns
-pub mod UsualTurns
+pub mod Arrivals
+pub mod CommonTurns

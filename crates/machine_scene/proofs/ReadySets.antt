@@ -15,7 +15,7 @@ use Rattle.machine_scene.specs.declared.ready_set.ReadySet.{ReadySet}
 use Rattle.machine_scene.specs.Scene.{Scene, StoredScene, scene_of, no_thread, thread_at}
 use Rattle.machine_scene.specs.Outcomes.{outcome_in, is_ready}
 use Rattle.machine_scene.specs.Ready.{is_blocked, is_listed, may_be_blocked}
-use Rattle.machine_scene.specs.ReadySet.{is_registration, is_registering_in, is_registering, AreReady, KnowsReady, IsSetAt, AreLooked, IsLooked, AreOthersReady, IsQuiet, Settles, interrupts, changes_tree}
+use Rattle.machine_scene.specs.ReadySet.{is_registration, is_registering_in, is_registering, AreReady, KnowsReady, IsSetAt, AreLooked, IsLooked, AreOthersReady, AreReadyBeside, interrupts, changes_tree, runs_on}
 use Rattle.machine_scene.proofs.Readiness.{seldom_blocked}
 use Rattle.machine_scene.proofs.ReadyThreads.{ready_as_listed}
 use Rattle.machine_scene.proofs.Steady.{other_ready}
@@ -121,33 +121,8 @@ few_ready program t row before others rest set scene turns same was interrupted 
       (λ free. ap (λ (registering : ℕ). has registering u) same ∙ was.registering u (apart_from t u other) free));
 }
 
--- a running thread whose row is none that it may have to wait at
-runs_on : (of : Status) (row : Row) (t : ℕ) (scene : Scene) → of ≡ status.Runs → may_be_blocked row ≡ false → is_listed of row t scene ≡ true
-runs_on of row t scene runs free =
-    ap (λ (s : Status). is_listed s row t scene) runs ∙ ap not (seldom_blocked row t scene free)
-
--- it goes on
-pub goes_on : (program : Program) (t : ℕ) (before after : StoredScene) → after.ready ≡ before.ready
-    → (thread_at (scene_of after) t).status ≡ status.Runs → Settles program t before after
-goes_on program t before after same runs = record {
-  others = λ u apart. ap (λ (set : ReadySet). has set.turns u) same;
-  own = λ was free. ap (λ (set : ReadySet). has set.turns t) same ∙ was
-      ∙ sym (ready_as_listed t program (scene_of after)
-      ∙ runs_on (thread_at (scene_of after) t).status (row_at program.rows (thread_at (scene_of after) t).pc) t (scene_of after) runs free);
-  registering = ap (λ (set : ReadySet). set.registering) same;
-}
-
--- it waits
-pub waits : (program : Program) (t : ℕ) (before after : StoredScene) → IsSetAt t false before.ready.turns after.ready.turns
-    → after.ready.registering ≡ before.ready.registering → is_ready t program (scene_of after) ≡ false → Settles program t before after
-waits program t before after turns same none = record {
-  others = λ u apart. turns u ∙ ap (λ (x : Bool). if x then false else has before.ready.turns u) (other-is t u (λ is. apart (sym is)));
-  own = λ was free. turns t ∙ ap (λ (x : Bool). if x then false else has before.ready.turns t) (same-is t) ∙ sym none;
-  registering = same;
-}
-
--- at such a row nobody is about to register
-seldom_registers : (of : Status) (row : Row) → may_be_blocked row ≡ false → is_registering_in of row ≡ false
+-- at a row at which nobody has to wait nobody is about to register
+pub seldom_registers : (of : Status) (row : Row) → may_be_blocked row ≡ false → is_registering_in of row ≡ false
 seldom_registers status.Runs (Preg into p) free = absurd (cc free)
 seldom_registers status.Runs (Pbulk into p count) free = absurd (cc free)
 seldom_registers status.Runs _ free = refl
@@ -157,70 +132,62 @@ seldom_registers (status.AwaitsBarrier index) row free = refl
 seldom_registers status.Ended row free = refl
 seldom_registers (status.Died code) row free = refl
 
--- after a usual turn, which may change nobody else's readiness
-pub record AfterUsual (program : Program) (row : Row) (t : ℕ) (old mid : StoredScene) (event : Event) : Type 0 where
-  pub at : row ≡ row_at program.rows (thread_at (scene_of old) t).pc
-  pub comes : outcome_in (thread_at (scene_of old) t).status row t program (scene_of old) ≡ Some (record { scene = scene_of mid; event = event })
-  pub quiet : IsQuiet row event
-  pub trees : old.ready.registering ≢ 0 → mid.phasers ≡ old.phasers
-  pub settles : Settles program t old mid
-
-somebody_registers : (set u : ℕ) → has set u ≡ true → set ≢ 0
+-- somebody is in a set that isn't empty
+pub somebody_registers : (set u : ℕ) → has set u ≡ true → set ≢ 0
 somebody_registers set u is none = let empty = nobody u (sym (ap (λ (x : ℕ). has x u) none) ∙ is) in cc empty
 
-others_after : (program : Program) (row : Row) (t : ℕ) (old mid : StoredScene) (event : Event) → AfterUsual program row t old mid event
-    → KnowsReady program old → (u : ℕ) → u ≢ t
-    → (has old.ready.turns u ≡ is_ready u program (scene_of mid)) × (has old.ready.registering u ≡ is_registering u program (scene_of mid))
-others_after program row t old mid event usual knows u apart =
-    other_ready program t u row old mid event knows usual.comes usual.quiet apart
-    (λ is. usual.trees (somebody_registers old.ready.registering u is))
+-- the sets are right of all threads where they are of one, and of all others
+all_beside : (test : ℕ → Bool) (t set : ℕ) → ((u : ℕ) → u ≢ t → has set u ≡ test u) → has set t ≡ test t → (u : ℕ) → has set u ≡ test u
+all_beside test t set others own u = elim (cases_eq u t) as (λ _. has set u ≡ test u) [
+  | inl same ↦ ap (has set) same ∙ own ∙ ap test (sym same)
+  | inr apart ↦ others u apart
+]
 
--- it was looked at anew
-usual_looked : (program : Program) (row : Row) (t : ℕ) (old mid : StoredScene) (event : Event) (set : ReadySet)
-    → AfterUsual program row t old mid event → KnowsReady program old → IsLooked program t mid.ready set (scene_of mid)
-    → AreReady program set (scene_of mid)
-usual_looked program row t old mid event set usual knows is = record {
-  turns = λ u. all_right (t == u) (has set.turns u) (has mid.ready.turns u) (is_ready u program (scene_of mid)) (is.turns u)
-      (λ other. let apart = apart_from t u other in
-      usual.settles.others u apart ∙ (others_after program row t old mid event usual knows u apart).0);
-  registering = λ u. all_right (t == u) (has set.registering u) (has mid.ready.registering u) (is_registering u program (scene_of mid)) (is.registering u)
-      (λ other. ap (λ (registering : ℕ). has registering u) usual.settles.registering
-      ∙ (others_after program row t old mid event usual knows u (apart_from t u other)).1);
+-- nothing changes for a thread that runs on
+pub runs_on_ready : (program : Program) (t : ℕ) (set : ReadySet) (scene : Scene) → AreReadyBeside program t set scene → has set.turns t ≡ true
+    → has set.registering t ≡ false → runs_on (thread_at scene t).status (row_at program.rows (thread_at scene t).pc) ≡ true
+    → AreReady program set scene
+runs_on_ready program t set scene others turn apart runs =
+    let thread = thread_at scene t in
+    let row = row_at program.rows thread.pc in
+    record {
+      turns = all_beside (λ u. is_ready u program scene) t set.turns others.turns
+          (turn ∙ sym (ready_as_listed t program scene ∙ listed thread.status row runs));
+      registering = all_beside (λ u. is_registering u program scene) t set.registering others.registering
+          (apart ∙ sym (unregistering thread.status row runs));
+    }
+  where
+    free : (blocked : Bool) → not blocked ≡ true → blocked ≡ false
+    free true is = absurd (cc is)
+    free false is = refl
+
+    listed : (of : Status) (row : Row) → runs_on of row ≡ true → is_listed of row t scene ≡ true
+    listed status.Runs row is = ap not (seldom_blocked row t scene (free (may_be_blocked row) is))
+    listed _ row is = absurd (cc is)
+
+    unregistering : (of : Status) (row : Row) → runs_on of row ≡ true → is_registering_in of row ≡ false
+    unregistering status.Runs row is = seldom_registers status.Runs row (free (may_be_blocked row) is)
+    unregistering _ row is = absurd (cc is)
+
+-- one that begins to wait is left out
+pub waits_ready : (program : Program) (t : ℕ) (before set : ReadySet) (scene : Scene) → AreReadyBeside program t before scene
+    → IsSetAt t false before.turns set.turns → set.registering ≡ before.registering → has before.registering t ≡ false
+    → (is_ready t program scene ≡ false) × (is_registering t program scene ≡ false) → AreReady program set scene
+waits_ready program t before set scene others turns same apart waits = record {
+  turns = all_beside (λ u. is_ready u program scene) t set.turns
+      (λ u other. turns u ∙ ap (λ (x : Bool). if x then false else has before.turns u) (other-is t u (λ is. other (sym is))) ∙ others.turns u other)
+      (turns t ∙ ap (λ (x : Bool). if x then false else has before.turns t) (same-is t) ∙ sym waits.0);
+  registering = all_beside (λ u. is_registering u program scene) t set.registering
+      (λ u other. ap (λ (registering : ℕ). has registering u) same ∙ others.registering u other)
+      (ap (λ (registering : ℕ). has registering t) same ∙ apart ∙ sym waits.1);
 }
 
--- it needn't be
-usual_same : (program : Program) (row : Row) (t : ℕ) (old mid : StoredScene) (event : Event)
-    → AfterUsual program row t old mid event → KnowsReady program old
-    → may_be_blocked (row_at program.rows (thread_at (scene_of mid) t).pc) ≡ false → KnowsReady program mid
-usual_same program row t old mid event usual knows free = record {
-  turns = λ u. elim (cases_eq u t) as (λ _. has mid.ready.turns u ≡ is_ready u program (scene_of mid)) [
-    | inl same ↦ ap (has mid.ready.turns) same ∙ usual.settles.own was free ∙ ap (λ (n : ℕ). is_ready n program (scene_of mid)) (sym same)
-    | inr apart ↦ usual.settles.others u apart ∙ (others_after program row t old mid event usual knows u apart).0
-  ];
-  registering = λ u. ap (λ (registering : ℕ). has registering u) usual.settles.registering
-      ∙ elim (cases_eq u t) as (λ _. has old.ready.registering u ≡ is_registering u program (scene_of mid)) [
-        | inl same ↦ ap (has old.ready.registering) same ∙ own ∙ ap (λ (n : ℕ). is_registering n program (scene_of mid)) (sym same)
-        | inr apart ↦ (others_after program row t old mid event usual knows u apart).1
-      ];
+-- one is looked at
+pub looked_ready : (program : Program) (t : ℕ) (before set : ReadySet) (scene : Scene) → AreReadyBeside program t before scene
+    → IsLooked program t before set scene → AreReady program set scene
+looked_ready program t before set scene others is = record {
+  turns = λ u. all_right (t == u) (has set.turns u) (has before.turns u) (is_ready u program scene) (is.turns u)
+      (λ other. others.turns u (apart_from t u other));
+  registering = λ u. all_right (t == u) (has set.registering u) (has before.registering u) (is_registering u program scene) (is.registering u)
+      (λ other. others.registering u (apart_from t u other));
 }
-  where
-    was : has old.ready.turns t ≡ true
-    was = knows.turns t
-        ∙ ap (λ (r : Row). is_some (outcome_in (thread_at (scene_of old) t).status r t program (scene_of old))) (sym usual.at) ∙ ap is_some usual.comes
-
-    own : has old.ready.registering t ≡ is_registering t program (scene_of mid)
-    own = knows.registering t
-        ∙ seldom_registers (thread_at (scene_of old) t).status (row_at program.rows (thread_at (scene_of old) t).pc)
-        (ap may_be_blocked (sym usual.at) ∙ usual.quiet.seldom)
-        ∙ sym (seldom_registers (thread_at (scene_of mid) t).status (row_at program.rows (thread_at (scene_of mid) t).pc) free)
-
--- whichever its next row asks for
-pub usual_ready : (program : Program) (row : Row) (t : ℕ) (old mid : StoredScene) (event : Event) (set : ReadySet)
-    → AfterUsual program row t old mid event → KnowsReady program old
-    → (may_be_blocked (row_at program.rows (thread_at (scene_of mid) t).pc) ≡ true → IsLooked program t mid.ready set (scene_of mid))
-    → (may_be_blocked (row_at program.rows (thread_at (scene_of mid) t).pc) ≡ false → set ≡ mid.ready) → AreReady program set (scene_of mid)
-usual_ready program row t old mid event set usual knows looked same = by (may_be_blocked (row_at program.rows (thread_at (scene_of mid) t).pc)) refl
-  where
-    by : (blocked : Bool) → may_be_blocked (row_at program.rows (thread_at (scene_of mid) t).pc) ≡ blocked → AreReady program set (scene_of mid)
-    by true is = usual_looked program row t old mid event set usual knows (looked is)
-    by false is = subst (λ (kept : ReadySet). AreReady program kept (scene_of mid)) (sym (same is)) (usual_same program row t old mid event usual knows is)

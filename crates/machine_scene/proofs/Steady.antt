@@ -48,7 +48,7 @@ use Rattle.machine_scene.specs.BarrierRows.{is_run_by, is_run_by_another, unless
 use Rattle.machine_scene.specs.Unwinding.{outcome_of_popped}
 use Rattle.machine_scene.specs.Waits.{outcome_of_awaited, outcome_of_phase_wait, outcome_of_release, outcome_of_barrier_wait, outcome_of_phase_timeout, outcome_of_barrier_timeout}
 use Rattle.machine_scene.specs.Outcomes.{outcome_in_group, outcome_in, is_ready, timeout_in}
-use Rattle.machine_scene.specs.ReadySet.{is_registration, is_registering_in, is_registering, KnowsReady, AreOthersReady, IsQuiet, interrupts, changes_tree, is_loud, changes_all}
+use Rattle.machine_scene.specs.ReadySet.{is_registration, is_registering_in, is_registering, KnowsReady, AreOthersReady, interrupts, changes_tree, is_loud, changes_all}
 use Rattle.machine_scene.specs.Undo.{PhasersWithin, reach_of_entry, reach_of_row, reach_of_wait, reach_in}
 use Rattle.machine_scene.proofs.Plain.{either}
 use Rattle.machine_scene.specs.Ready.{is_held, registration_is_held, is_blocked, is_awaited, is_released, is_over_at, is_over, is_listed}
@@ -596,11 +596,10 @@ others_ready program t row old new event knows is within quiet =
 -- of one other thread, where the trees are the same or nobody is about to register
 pub other_ready : (program : Program) (t u : ℕ) (row : Row) (old new : StoredScene) (event : Event) → KnowsReady program old
     → outcome_in (thread_at (scene_of old) t).status row t program (scene_of old) ≡ Some (record { scene = scene_of new; event = event })
-    → IsQuiet row event → u ≢ t → (has old.ready.registering u ≡ true → new.phasers ≡ old.phasers)
+    → changes_all row event ≡ false → interrupts u row ≡ false → u ≢ t → (has old.ready.registering u ≡ true → new.phasers ≡ old.phasers)
     → (has old.ready.turns u ≡ is_ready u program (scene_of new)) × (has old.ready.registering u ≡ is_registering u program (scene_of new))
-other_ready program t u row old new event knows is quiet apart same =
-    let leaves = leaves_turn program t row old new event is quiet.few in
-    let free = quiet.interrupts u in (
+other_ready program t u row old new event knows is quiet free apart same =
+    let leaves = leaves_turn program t row old new event is quiet in (
       other_by program t u row old new leaves knows apart free same,
       knows.registering u ∙ sym (registering_same u program (scene_of old) (scene_of new) (leaves.threads u apart free)),
     )

@@ -15,4 +15,3 @@ pub mod ReadySet
 pub mod Sound
 pub mod Undo
 pub mod Played
-pub mod Usual

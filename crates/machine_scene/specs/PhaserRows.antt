@@ -94,6 +94,13 @@ outcome_of_arrival manner p t program scene =
     then outcome_of_turn (turn_of_throw (pos 6) (thread_at scene t)) t scene
     else outcome_with_room manner p t program scene
 
+-- the exception of an arrival at phaser p that doesn't come to it: the thread runs the routine of that tree, or has no room for
+-- one
+abbrev pub refusal_of_arrival : ℕ → ThreadState → Scene → Option ℤ
+refusal_of_arrival p thread scene =
+    if is_own_tree p thread scene then Some (pos 1)
+    else (if has_routine p scene && is_full thread then Some (pos 6) else None)
+
 -- a registration, by its answer; one that would have to wait isn't ready
 abbrev pub outcome_of_registered : Registered → Reg → ℕ → Scene → Option Outcome
 outcome_of_registered (registered.At phase) into t scene = Some (alone (turn_of_answer into phase) t scene)

@@ -1,6 +1,6 @@
 -- The threads whose turn is ready, kept as a set, so that whoever asks for one looks at a bit. A step finds anew the bits that it
 -- may have changed. Nobody has to believe it: it is what proofs go by.
-use Rattle.std.specs.Prelude.{◌≡◌, ◌≢◌, ℕ, ◌==◌, ◌&&◌, ◌||◌, Bool, true, false, if◌then◌else◌}
+use Rattle.std.specs.Prelude.{◌≡◌, ◌≢◌, ℕ, ◌==◌, ◌&&◌, ◌||◌, not, Bool, true, false, if◌then◌else◌}
 use Rattle.instruction_table.specs.declared.row.Row.{Row}
 use Rattle.instruction_table.specs.declared.row.Row.TheVariants.{Ret, Intr, Preg, Pbulk, Parr, Pdereg, Paaa, Pforce, Creset}
 use Rattle.instruction_table.specs.LocalRows.{is_local_row}
@@ -102,17 +102,30 @@ abbrev pub is_local_turn : Status → Row → Bool
 is_local_turn status.Runs row = is_local_row row
 is_local_turn _ row = false
 
--- a step at this row, with this event, by which no other thread's turn changes but one that is about to register; and the
--- row is none at which a thread has to wait before it is played
-pub record IsQuiet (row : Row) (event : Event) : Type 0 where
-  pub few : changes_all row event ≡ false
-  pub interrupts : (u : ℕ) → interrupts u row ≡ false
-  pub seldom : may_be_blocked row ≡ false
+-- but for thread t, the sets are those of the scene
+pub record AreReadyBeside (program : Program) (t : ℕ) (set : ReadySet) (scene : Scene) : Type 0 where
+  pub turns : (u : ℕ) → u ≢ t → has set.turns u ≡ is_ready u program scene
+  pub registering : (u : ℕ) → u ≢ t → has set.registering u ≡ is_registering u program scene
 
--- after a turn of thread t that was ready: of the others the sets are those of before, and its own turn is right but where
--- its next row is one that it may have to wait at
-pub record Settles (program : Program) (t : ℕ) (before after : StoredScene) : Type 0 where
-  pub others : (u : ℕ) → u ≢ t → has after.ready.turns u ≡ has before.ready.turns u
-  pub own : has before.ready.turns t ≡ true → may_be_blocked (row_at program.rows (thread_at (scene_of after) t).pc) ≡ false
-      → has after.ready.turns t ≡ is_ready t program (scene_of after)
-  pub registering : after.ready.registering ≡ before.ready.registering
+-- an arrival by a party that stays
+abbrev pub is_arrival : Row → Bool
+is_arrival (Parr into p) = true
+is_arrival (Paaa into p) = true
+is_arrival _ = false
+
+-- the turn of a thread of this status at this row is of a kind that most turns are of: a row on registers alone, an arrival, or
+-- the end of a wait for a phase
+abbrev pub is_common : Status → Row → Bool
+is_common status.Runs row = is_local_row row || is_arrival row
+is_common (status.AwaitsPhase phase) row = true
+is_common _ row = false
+
+-- a thread of this status runs, and its row is none that it may have to wait at
+abbrev pub runs_on : Status → Row → Bool
+runs_on status.Runs row = not (may_be_blocked row)
+runs_on _ row = false
+
+-- a thread begins to wait
+abbrev pub is_wait : What → Bool
+is_wait what.Waits = true
+is_wait _ = false

@@ -40,8 +40,7 @@ pub fn expiry_and_back(stage: &mut Stage, program: &Loaded, t: usize) -> Event
 {
     let mut note = SceneNote::new();
     stage.note(program, t, &mut note);
-    let row = stage.row_of(program, t);
-    let event = stage.expire(program, row, t);
+    let event = stage.expire(program, t);
     stage.undo(&note);
     event
 }

@@ -3,7 +3,7 @@
 //! `Stage::turn` is one turn: the row at the thread's place, one stack entry popped while it throws, or one finished wait.
 //! `Stage::expire` is a timed wait that runs out. To read it: `specs/Scene.antt` (what there is), `specs/Outcomes.antt` (what
 //! a turn makes of it, by groups of rows), `specs/Ready.antt` (who may take a turn). Then `stage`, whose `turn` finds the row
-//! and calls the function of its group. The most usual turns go a shorter way, by `usual` and `last`.
+//! and calls the function of its group. Most turns are `common_turns`, played where they are asked for.
 #![tactic(auto)]
 
 mod callers;

@@ -12,7 +12,7 @@ ghost use Rattle.machine_scene.specs.Outcomes.{outcome_in, outcome_of, outcome_o
 ghost use Rattle.machine_scene.specs.Outcomes.{timeout_in};
 ghost use Rattle.machine_scene.specs.Sound.{IsSound, StandsAt, most_before, most_after};
 ghost use Rattle.machine_scene.specs.ReadySet.{KnowsReady, AreOthersReady, changes_all};
-ghost use Rattle.machine_scene.specs.Played.{IsPlayed};
+ghost use Rattle.machine_scene.specs.Played.{IsPlayed, IsTurn};
 ghost use Rattle.machine_scene.specs.Undo.{PhasersWithin, reach_of_row, reach_in};
 
 use crate::group::{Group, group_of};
@@ -27,9 +27,9 @@ use tier_tree::{Forest, PhaserId};
 
 mod barrier_rows;
 mod call_rows;
+mod common_turns;
 mod data_rows;
 mod getter_rows;
-mod last;
 mod own_rows;
 mod phaser_rows;
 mod ready;
@@ -37,7 +37,6 @@ mod ready_set;
 mod standing;
 mod undo;
 mod unwinding;
-mod usual;
 mod waits;
 
 /// What the rows act on: the shared cells, the threads, the phasers in their trees, and the barriers.
@@ -241,26 +240,11 @@ impl Stage {
         requires thread { t < length self.now.threads }
         ensures { result ≡ is_some (outcome_of_expiry t program.now (scene_of self.now)) }
     {
-        self.expiring_row(program, t).is_some()
-    }
-
-    /// The row that a thread stands at, where the time of its wait may run out now.
-    pub fn expiring_row(&self, program: &Loaded, t: usize) -> Option<Row>
-        requires sound { IsSound program.now most_before (scene_of self.now) }
-        requires known { KnowsReady program.now self.now }
-        requires thread { t < length self.now.threads }
-        ensures ready { is_some result ≡ is_some (outcome_of_expiry t program.now (scene_of self.now)) }
-        ensures row { IfSome result (λ row. row ≡ row_at program.now.rows (thread_at (scene_of self.now) t).pc) }
-    {
         if self.is_ready(program, t) {
-            return None;
+            return false;
         }
         let row = self.row_of(program, t);
-        if self.has_time(row, t) {
-            Some(row)
-        } else {
-            None
-        }
+        self.has_time(row, t)
     }
 
     /// The turn of a thread that may take a step. `Err` is want of memory for a value put out. Nothing has changed then.
@@ -270,17 +254,26 @@ impl Stage {
         requires known { KnowsReady program.now self.old }
         requires thread { t < length self.old.threads }
         requires ready { is_ready t program.now (scene_of self.old) ≡ true }
-        ensures ok { IfOk result (λ event.
-            IsPlayed (outcome_of t program.now (scene_of self.old)) t program.now self.old self.new event) }
-        ensures err { OnErr result (self.new ≡ self.old) }
-        ensures memory { IsErr result → may_grow
-            (row_at program.now.rows (thread_at (scene_of self.old) t).pc)
-            (thread_at (scene_of self.old) t) ≡ true }
-        ensures known { OnOk result (KnowsReady program.now self.new) }
+        ensures { IsTurn t program.now self.old result self.new }
+    {
+        match self.common_turn(program, t) {
+            Some(event) => Ok(event),
+            None => self.seldom_turn(program, t),
+        }
+    }
+
+    /// `turn`, where it isn't of a common kind: one function when it runs, so that the common ones don't pay for it.
+    #[inline(never)]
+    fn seldom_turn(&mut self, program: &Loaded, t: usize) -> Result<Event, AllocError>
+        requires sound { IsSound program.now most_before (scene_of self.old) }
+        requires known { KnowsReady program.now self.old }
+        requires thread { t < length self.old.threads }
+        requires ready { is_ready t program.now (scene_of self.old) ≡ true }
+        ensures { IsTurn t program.now self.old result self.new }
     {
         let row = self.row_of(program, t);
         let before = self.ready;
-        match self.turn_of_row(program, row, t) {
+        match self.play(program, row, t) {
             Ok(event) => {
                 self.ready = self.ready_after(program, before, row, event, t);
                 Ok(event)
@@ -289,10 +282,10 @@ impl Stage {
         }
     }
 
-    /// `turn` of a thread that stands at this row, but for the sets of those whose turn is ready: the turn may have changed
+    /// The turn of a thread that stands at this row, but for the sets of those whose turn is ready: the turn may have changed
     /// them, which its caller finds out. That the scene stays sound and can be given back is shown here.
     #[inline(always)]
-    fn turn_of_row(&mut self, program: &Loaded, row: Row, t: usize) -> Result<Event, AllocError>
+    fn play(&mut self, program: &Loaded, row: Row, t: usize) -> Result<Event, AllocError>
         requires sound { IsSound program.now most_before (scene_of self.old) }
         requires thread { t < length self.old.threads }
         requires row { row ≡ row_at program.now.rows (thread_at (scene_of self.old) t).pc }
@@ -307,7 +300,7 @@ impl Stage {
     {
         self.phasers_are_stored();
         // The answer goes on as it is: each arm names its case for the proof.
-        match self.turn_at(program, row, t) {
+        match self.play_by_status(program, row, t) {
             Ok(event) => Ok(event),
             Err(refused) => Err(refused),
         }
@@ -316,7 +309,12 @@ impl Stage {
     /// What the thread is doing decides: it plays its row, pops a stack entry, or finishes its wait.
     #[inline(always)]
     #[tactic(auto, using(crate::proofs::Reaches::within_same))]
-    fn turn_at(&mut self, program: &Loaded, row: Row, t: usize) -> Result<Event, AllocError>
+    fn play_by_status(
+        &mut self,
+        program: &Loaded,
+        row: Row,
+        t: usize,
+    ) -> Result<Event, AllocError>
         requires sound { IsSound program.now most_before (scene_of self.old) }
         requires thread { t < length self.old.threads }
         requires at { StandsAt program.now row t self.old }
@@ -331,7 +329,7 @@ impl Stage {
             (top_of (thread_at (scene_of self.old) t).stack)) self.old.phasers self.new.phasers }
     {
         match self.threads[t].status() {
-            Status::Runs => self.row(program, row, t),
+            Status::Runs => self.play_row(program, row, t),
             Status::Throws(code) => Ok(self.unwind(program, code, t)),
             Status::AwaitsPhase(phase) => Ok(self.finish_phase_wait(row, phase, t)),
             Status::AwaitsBarrier(index) => Ok(self.finish_barrier_wait(row, index, t)),
@@ -341,7 +339,7 @@ impl Stage {
 
     /// The row of a running thread, by its group.
     #[tactic(auto, using(crate::proofs::Reaches::within_same))]
-    fn row(&mut self, program: &Loaded, row: Row, t: usize) -> Result<Event, AllocError>
+    fn play_row(&mut self, program: &Loaded, row: Row, t: usize) -> Result<Event, AllocError>
         requires sound { IsSound program.now most_before (scene_of self.old) }
         requires thread { t < length self.old.threads }
         requires at { StandsAt program.now row t self.old }
@@ -364,25 +362,24 @@ impl Stage {
         }
     }
 
-    /// The time of the wait of a thread that stands at this row runs out.
-    pub fn expire(&mut self, program: &Loaded, row: Row, t: usize) -> Event
+    /// The time of a thread's wait runs out.
+    pub fn expire(&mut self, program: &Loaded, t: usize) -> Event
         requires sound { IsSound program.now most_before (scene_of self.old) }
         requires known { KnowsReady program.now self.old }
         requires thread { t < length self.old.threads }
-        requires row { row ≡ row_at program.now.rows (thread_at (scene_of self.old) t).pc }
         requires ready { is_some (outcome_of_expiry t program.now (scene_of self.old)) ≡ true }
         ensures ok { IsPlayed (outcome_of_expiry t program.now (scene_of self.old)) t program.now self.old self.new result }
         ensures known { KnowsReady program.now self.new }
     {
-        self.turn_is_placed(program, row, t);
+        let row = self.row_of(program, t);
         let before = self.ready;
-        let event = self.expiry_of_row(program, row, t);
+        let event = self.run_out(program, row, t);
         self.ready = self.ready_after(program, before, row, event, t);
         event
     }
 
-    /// `expire`, but for the sets of those whose turn is ready, as `turn_of_row` is `turn`.
-    fn expiry_of_row(&mut self, program: &Loaded, row: Row, t: usize) -> Event
+    /// `expire`, but for the sets of those whose turn is ready.
+    fn run_out(&mut self, program: &Loaded, row: Row, t: usize) -> Event
         requires sound { IsSound program.now most_before (scene_of self.old) }
         requires thread { t < length self.old.threads }
         requires row { row ≡ row_at program.now.rows (thread_at (scene_of self.old) t).pc }
@@ -393,11 +390,11 @@ impl Stage {
             → AreOthersReady program.now t row self.old.ready (scene_of self.new) }
     {
         self.phasers_are_stored();
-        self.expire_at(program, row, t)
+        self.run_out_by_status(program, row, t)
     }
 
     /// What the thread waits for decides: a phase, or a barrier, which breaks.
-    fn expire_at(&mut self, program: &Loaded, row: Row, t: usize) -> Event
+    fn run_out_by_status(&mut self, program: &Loaded, row: Row, t: usize) -> Event
         requires thread { t < length self.old.threads }
         requires at { StandsAt program.now row t self.old }
         requires not_ready { is_some (outcome_in (thread_at (scene_of self.old) t).status row t program.now

@@ -1,5 +1,7 @@
--- What a step makes of a machine. Nobody has to believe it: what callers go by, the public steps say clause by clause.
-use Rattle.std.specs.Prelude.{◌≡◌, ◌≢◌, ◌↔◌, ◌+◌, ◌<◌, length, true, Some, None, Result, Err, IfOk, OnOk, OnErr}
+-- What a step makes of a machine.
+use Rattle.std.specs.Prelude.{◌≡◌, ◌≢◌, ◌↔◌, ◌+◌, ◌<◌, ◌==◌, length, true, Option, Some, None, Result, Err, IfOk, OnOk, OnErr, if◌then◌else◌}
+use Rattle.tier_tree.specs.Origin.{Origin, AreTallied}
+use Rattle.tier_tree.specs.Stored.{phasers_of}
 use Rattle.thread_state.specs.declared.event.Event.{Event}
 use Rattle.machine_scene.specs.Undo as scene
 use Rattle.thread_machine.specs.declared.choice.Choice.{Choice}
@@ -7,10 +9,34 @@ use Rattle.thread_machine.specs.declared.fault.StepFault.{StepFault}
 use Rattle.thread_machine.specs.declared.fault.StepFault.TheVariants as fault
 use Rattle.thread_machine.specs.World.{StoredWorld, world_of}
 use Rattle.thread_machine.specs.Step.{played, refusal_of, puts_out}
-use Rattle.thread_machine.specs.Undo.{undone}
+use Rattle.thread_machine.specs.DirectCounts.{counts_after, EndsNoPhaseEarly, NumbersStay}
+use Rattle.thread_machine.specs.Undo.{undone, CanUndo}
 
--- the choice is played and can be undone by what was noted before it, or it is refused for its reason and nothing has changed
-pub record IsStep (old : StoredWorld) (choice : Choice) (result : Result Event StepFault) (new : StoredWorld) : Type 0 where
+-- the choice is played, and what is kept of the world before undoes it; or it is refused for its reason, and nothing has
+-- changed. Memory is wanting only where a value is put out. The direct counts go on, no phase ends early by them, and the
+-- number of a phase changes only as the phase ends
+pub record IsStep (old : StoredWorld) (choice : Choice) (result : Result Event StepFault) (kept : Option scene.Note) (new : StoredWorld) : Type 0 where
+  pub played : IfOk result (λ event. record { world = world_of new; event = event } ≡ played (world_of old) choice)
+  pub undo : OnOk result (undone kept new ≡ old)
+  pub can : OnOk result (CanUndo kept new)
+  pub no_thread : (result ≡ Err fault.NoSuchThread) ↔ (refusal_of (world_of old) choice ≡ Some fault.NoSuchThread)
+  pub limit : (result ≡ Err fault.StepLimit) ↔ (refusal_of (world_of old) choice ≡ Some fault.StepLimit)
+  pub accepted : OnOk result (refusal_of (world_of old) choice ≡ None)
+  pub memory : result ≡ Err fault.Memory → puts_out (world_of old) choice ≡ true
+  pub threads : length new.scene.threads ≡ length old.scene.threads
+  pub counts : OnOk result ((counts : Origin) → AreTallied (phasers_of old.scene.phasers) counts
+      → AreTallied (phasers_of new.scene.phasers) (counts_after (world_of old) choice (world_of new) counts))
+  pub safe : OnOk result ((counts : Origin) → AreTallied (phasers_of old.scene.phasers) counts
+      → EndsNoPhaseEarly (world_of old) choice (world_of new) counts)
+  pub numbers : OnOk result (NumbersStay (phasers_of old.scene.phasers) (phasers_of new.scene.phasers))
+  pub err : OnErr result (new ≡ old)
+
+-- what is to be kept of the world before a choice: nothing of one that took no step
+abbrev pub kept_of : Choice → StoredWorld → StoredWorld → Option scene.Note
+kept_of choice old new = if new.steps == old.steps then None else Some (scene.note_of choice.thread old.program old.scene)
+
+-- as the machine's own functions say it to one another: nobody else has to read it
+pub record HasPlayed (old : StoredWorld) (choice : Choice) (result : Result Event StepFault) (new : StoredWorld) : Type 0 where
   pub played : IfOk result (λ event. record { world = world_of new; event = event } ≡ played (world_of old) choice)
   pub idle : OnOk result (new.steps ≡ old.steps → new ≡ record old { choices = old.choices + 1 })
   pub undo : OnOk result (new.steps ≢ old.steps

@@ -136,170 +136,73 @@ impl Machine {
     /// Plays one choice. An idle choice, a turn of a thread that isn't ready or an expiry of none, only counts as a
     /// choice. `Memory` comes only at the row `out`.
     #[inline(always)]
+    #[tactic(auto, using(crate::proofs::Steps::step_is))]
     pub fn step(&mut self, choice: Choice) -> Result<Event, StepFault>
-        ensures played { IfOk result (λ event.
-            record { world = world_of self.new; event = event } ≡ played (world_of self.old) choice) }
-        ensures no_thread { (result ≡ Err StepFault.NoSuchThread)
-            ↔ (refusal_of (world_of self.old) choice ≡ Some StepFault.NoSuchThread) }
-        ensures limit { (result ≡ Err StepFault.StepLimit)
-            ↔ (refusal_of (world_of self.old) choice ≡ Some StepFault.StepLimit) }
-        ensures accepted { OnOk result (refusal_of (world_of self.old) choice ≡ None) }
-        ensures memory { result ≡ Err StepFault.Memory → puts_out (world_of self.old) choice ≡ true }
-        ensures threads { length self.new.scene.threads ≡ length self.old.scene.threads }
-        ensures counts { OnOk result ((counts : Origin) → AreTallied (phasers_of self.old.scene.phasers) counts
-            → AreTallied (phasers_of self.new.scene.phasers)
-            (counts_after (world_of self.old) choice (world_of self.new) counts)) }
-        ensures safe { OnOk result ((counts : Origin) → AreTallied (phasers_of self.old.scene.phasers) counts
-            → EndsNoPhaseEarly (world_of self.old) choice (world_of self.new) counts) }
-        ensures numbers { OnOk result (NumbersStay (phasers_of self.old.scene.phasers)
-            (phasers_of self.new.scene.phasers)) }
-        ensures err { OnErr result (self.new ≡ self.old) }
+        ensures { IsStep self.old choice result (kept_of choice self.old self.new) self.new }
     {
         self.is_sound();
-        // The answer goes on as it is: each arm names its case for the proof.
-        match self.stepped(choice) {
-            Ok(event) => Ok(event),
-            Err(fault) => Err(fault),
-        }
+        self.play(choice)
     }
 
-    /// `step` where the choice is a turn of the kinds that most turns are of, and isn't refused. It is played where it is asked
-    /// for. `None` where `other_step` has to look, and nothing has changed.
+    /// `step`, but for what follows of it.
     #[inline(always)]
-    fn usual_step(&mut self, choice: Choice) -> Option<Event>
-        ensures usual { choice.expiry ≡ false → choice.thread < length self.old.scene.threads
-            → self.old.choices < 1000000000000 → self.old.steps < self.old.limit
-            → is_some result ≡ is_usual choice.thread self.old.program self.old.scene }
-        ensures none { result ≡ None → self.new ≡ self.old }
-        ensures step { IfSome result (λ event. IsStep self.old choice (Ok event) self.new) }
-        ensures steps { OnSome result (self.new.steps ≡ self.old.steps + 1) }
+    fn play(&mut self, choice: Choice) -> Result<Event, StepFault>
+        ensures { HasPlayed self.old choice result self.new }
     {
-        let t = choice.thread as usize;
-        if choice.expiry
-            || t >= self.stage.thread_count()
-            || self.choices == MOST_CHOICES
-            || self.steps == self.limit
-        {
-            return None;
-        }
-        match self.stage.usual_turn(&self.program, t) {
-            Some(event) => {
-                self.choices += 1;
-                self.steps += 1;
-                Some(event)
-            }
-            None => None,
-        }
-    }
-
-    /// `step`, and what undoes it where it is an effective step, as the count of these tells.
-    #[inline(always)]
-    fn stepped(&mut self, choice: Choice) -> Result<Event, StepFault>
-        ensures { IsStep self.old choice result self.new }
-    {
-        match self.usual_step(choice) {
-            Some(event) => Ok(event),
-            None => {
-                let mut told = Ok(IDLE);
-                self.other_step(choice, &mut told);
-                told
-            }
-        }
-    }
-
-    /// `stepped` where the turn isn't a usual one, so that such a step is one function when it runs. What comes of it is
-    /// written where its caller wants it, in place of an idle choice: so one call hands it to the next as it is.
-    #[inline(never)]
-    fn other_step(&mut self, choice: Choice, told: &mut Result<Event, StepFault>)
-        requires { told.old ≡ Ok idle_event }
-        ensures { IsStep self.old choice told.new self.new }
-    {
-        self.is_sound();
         let t = choice.thread as usize;
         if t >= self.stage.thread_count() {
-            *told = Err(StepFault::NoSuchThread);
-        } else if self.choices == MOST_CHOICES {
-            *told = Err(StepFault::StepLimit);
-        } else if choice.expiry || self.steps == self.limit {
-            self.seldom_step(choice, told);
-        } else if !self.stage.is_ready(&self.program, t) {
-            self.stay(choice);
-        } else if self.stage.is_at_arrival(&self.program, t) {
-            self.arrival_step(choice, told);
-        } else {
-            self.ready_step(choice, told);
+            return Err(StepFault::NoSuchThread);
         }
-    }
-
-    /// `ready_step`, where it may be the last arrival at a root.
-    #[inline(never)]
-    fn arrival_step(&mut self, choice: Choice, told: &mut Result<Event, StepFault>)
-        requires there { choice.thread < length self.old.scene.threads }
-        requires choices { self.old.choices < 1000000000000 }
-        requires turn { choice.expiry ≡ false }
-        requires steps { self.old.steps < self.old.limit }
-        requires ready { is_ready choice.thread self.old.program (scene_of self.old.scene) ≡ true }
-        requires told { told.old ≡ Ok idle_event }
-        ensures { IsStep self.old choice told.new self.new }
-    {
-        match self.stage.last_turn(&self.program, choice.thread as usize) {
-            Some(event) => {
-                self.choices += 1;
-                self.steps += 1;
-                *told = Ok(event);
-            }
-            None => self.ready_step(choice, told),
+        if choice.expiry
+            || self.choices == MOST_CHOICES
+            || self.steps == self.limit
+            || !self.stage.is_ready(&self.program, t)
+        {
+            let mut told = Ok(IDLE);
+            self.seldom_step(choice, &mut told);
+            return told;
         }
-    }
-
-    /// `other_step` of a thread whose turn is ready, where a step is left.
-    #[inline(never)]
-    fn ready_step(&mut self, choice: Choice, told: &mut Result<Event, StepFault>)
-        requires there { choice.thread < length self.old.scene.threads }
-        requires choices { self.old.choices < 1000000000000 }
-        requires turn { choice.expiry ≡ false }
-        requires steps { self.old.steps < self.old.limit }
-        requires ready { is_ready choice.thread self.old.program (scene_of self.old.scene) ≡ true }
-        requires told { told.old ≡ Ok idle_event }
-        ensures { IsStep self.old choice told.new self.new }
-    {
-        match self.stage.turn(&self.program, choice.thread as usize) {
+        match self.stage.turn(&self.program, t) {
             Ok(event) => {
                 self.choices += 1;
                 self.steps += 1;
-                *told = Ok(event);
+                Ok(event)
             }
-            Err(_) => *told = Err(StepFault::Memory),
+            Err(_) => Err(StepFault::Memory),
         }
     }
 
-    /// `other_step` of a choice that isn't idle only where a wait runs out, or where no step is left.
+    /// An expiry, an idle choice of a thread that is there, or one for which nothing is left. What comes of it is written where
+    /// its caller wants it, in place of an idle choice.
     #[inline(never)]
     fn seldom_step(&mut self, choice: Choice, told: &mut Result<Event, StepFault>)
         requires there { choice.thread < length self.old.scene.threads }
-        requires choices { self.old.choices < 1000000000000 }
-        requires seldom { choice.expiry ≡ false → self.old.steps ≡ self.old.limit }
+        requires seldom { choice.expiry ≡ false → self.old.choices < 1000000000000 → self.old.steps < self.old.limit
+            → is_ready choice.thread self.old.program (scene_of self.old.scene) ≡ false }
         requires told { told.old ≡ Ok idle_event }
-        ensures { IsStep self.old choice told.new self.new }
+        ensures { HasPlayed self.old choice told.new self.new }
     {
-        let t = choice.thread as usize;
-        if !choice.expiry {
-            if self.stage.is_ready(&self.program, t) {
-                *told = Err(StepFault::StepLimit);
-                return;
-            }
-            self.stay(choice);
-            return;
-        }
-        let Some(row) = self.stage.expiring_row(&self.program, t) else {
-            self.stay(choice);
-            return;
-        };
-        if self.steps == self.limit {
+        if self.choices == MOST_CHOICES {
             *told = Err(StepFault::StepLimit);
-            return;
+        } else if !self.is_choice_ready(choice) {
+            self.stay(choice);
+        } else if self.steps == self.limit {
+            *told = Err(StepFault::StepLimit);
+        } else {
+            self.expire(choice, told);
         }
-        let event = self.stage.expire(&self.program, row, t);
+    }
+
+    /// The time of a thread's wait runs out.
+    fn expire(&mut self, choice: Choice, told: &mut Result<Event, StepFault>)
+        requires there { choice.thread < length self.old.scene.threads }
+        requires choices { self.old.choices < 1000000000000 }
+        requires steps { self.old.steps < self.old.limit }
+        requires expiry { choice.expiry ≡ true }
+        requires ready { can_expire choice.thread self.old.program (scene_of self.old.scene) ≡ true }
+        ensures { HasPlayed self.old choice told.new self.new }
+    {
+        let event = self.stage.expire(&self.program, choice.thread as usize);
         self.choices += 1;
         self.steps += 1;
         *told = Ok(event);
@@ -308,68 +211,24 @@ impl Machine {
     /// `step`, with what `take_back` needs to undo it written over `undo`. After `Err` the machine is as before, and `undo`
     /// is of no choice.
     #[inline(always)]
-    #[tactic(auto, using(crate::proofs::Sound::idle_undone))]
     pub fn step_into(&mut self, choice: Choice, undo: &mut Undo) -> Result<Event, StepFault>
-        ensures played { IfOk result (λ event.
-            record { world = world_of self.new; event = event } ≡ played (world_of self.old) choice) }
-        ensures undo { OnOk result (undone undo.new self.new ≡ self.old) }
-        ensures can { OnOk result (CanUndo undo.new self.new) }
-        ensures no_thread { (result ≡ Err StepFault.NoSuchThread)
-            ↔ (refusal_of (world_of self.old) choice ≡ Some StepFault.NoSuchThread) }
-        ensures limit { (result ≡ Err StepFault.StepLimit)
-            ↔ (refusal_of (world_of self.old) choice ≡ Some StepFault.StepLimit) }
-        ensures accepted { OnOk result (refusal_of (world_of self.old) choice ≡ None) }
-        ensures memory { result ≡ Err StepFault.Memory → puts_out (world_of self.old) choice ≡ true }
-        ensures threads { length self.new.scene.threads ≡ length self.old.scene.threads }
-        ensures counts { OnOk result ((counts : Origin) → AreTallied (phasers_of self.old.scene.phasers) counts
-            → AreTallied (phasers_of self.new.scene.phasers)
-            (counts_after (world_of self.old) choice (world_of self.new) counts)) }
-        ensures safe { OnOk result ((counts : Origin) → AreTallied (phasers_of self.old.scene.phasers) counts
-            → EndsNoPhaseEarly (world_of self.old) choice (world_of self.new) counts) }
-        ensures numbers { OnOk result (NumbersStay (phasers_of self.old.scene.phasers)
-            (phasers_of self.new.scene.phasers)) }
-        ensures err { OnErr result (self.new ≡ self.old) }
+        ensures { IsStep self.old choice result undo.new self.new }
     {
-        self.is_sound();
         let thread = choice.thread as usize;
         if thread >= self.stage.thread_count() {
-            return Err(StepFault::NoSuchThread);
+            return self.step(choice);
         }
         let before = self.steps;
         self.stage.note(&self.program, thread, &mut undo.note);
-        let event = match self.stepped(choice) {
-            Ok(event) => event,
-            Err(fault) => return Err(fault),
-        };
-        if self.steps == before {
-            undo.is_turn = false;
-            return Ok(event);
-        }
-        undo.is_turn = true;
-        Ok(event)
+        let result = self.step(choice);
+        undo.is_turn = self.steps != before;
+        result
     }
 
     /// `step_into` a new undo.
     pub fn step_noting(&mut self, choice: Choice) -> Result<(Event, Undo), StepFault>
-        ensures played { IfOk result (λ both.
-            record { world = world_of self.new; event = both.0 } ≡ played (world_of self.old) choice) }
-        ensures undo { IfOk result (λ both. undone both.1 self.new ≡ self.old) }
-        ensures can { IfOk result (λ both. CanUndo both.1 self.new) }
-        ensures no_thread { (result ≡ Err StepFault.NoSuchThread)
-            ↔ (refusal_of (world_of self.old) choice ≡ Some StepFault.NoSuchThread) }
-        ensures limit { (result ≡ Err StepFault.StepLimit)
-            ↔ (refusal_of (world_of self.old) choice ≡ Some StepFault.StepLimit) }
-        ensures accepted { OnOk result (refusal_of (world_of self.old) choice ≡ None) }
-        ensures memory { result ≡ Err StepFault.Memory → puts_out (world_of self.old) choice ≡ true }
-        ensures threads { length self.new.scene.threads ≡ length self.old.scene.threads }
-        ensures counts { OnOk result ((counts : Origin) → AreTallied (phasers_of self.old.scene.phasers) counts
-            → AreTallied (phasers_of self.new.scene.phasers)
-            (counts_after (world_of self.old) choice (world_of self.new) counts)) }
-        ensures safe { OnOk result ((counts : Origin) → AreTallied (phasers_of self.old.scene.phasers) counts
-            → EndsNoPhaseEarly (world_of self.old) choice (world_of self.new) counts) }
-        ensures numbers { OnOk result (NumbersStay (phasers_of self.old.scene.phasers)
-            (phasers_of self.new.scene.phasers)) }
-        ensures err { OnErr result (self.new ≡ self.old) }
+        ensures step { IfOk result (λ both. IsStep self.old choice (Ok both.0) both.1 self.new) }
+        ensures refused { IfErr result (λ fault. IsStep self.old choice (Err fault) None self.new) }
     {
         let mut undo = Undo::new();
         match self.step_into(choice, &mut undo) {

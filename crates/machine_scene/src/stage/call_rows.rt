@@ -96,12 +96,12 @@ impl Stage {
         let terminates = self.threads[t].register(Reg::R0) != 0;
         let manner = manner_of(program.rows()[row as usize]);
         self.threads[t].leave_routine(registers, row);
-        self.routine_ended(manner, root, terminates, t)
+        self.take_answer(manner, root, terminates, t)
     }
 
     /// The phase ends, or the tree was terminated while the routine ran; the thread is back at its arrival.
     #[tactic(auto, using(tier_tree::proofs::Changed::changed_nothing))]
-    fn routine_ended(&mut self, manner: Manner, root: PhaserId, terminates: bool, t: usize) -> Event
+    fn take_answer(&mut self, manner: Manner, root: PhaserId, terminates: bool, t: usize) -> Event
         requires there { root.0 < length self.old.phasers }
         requires root { root_at (phasers_of self.old.phasers) root.0 ≡ root.0 }
         requires pending { is_pending (flat_at (phasers_of self.old.phasers) root.0) ≡ true }

@@ -1,4 +1,4 @@
-ghost use Rattle.std.specs.Prelude.{◌≡◌, ℕ, ◌<◌, ◌≤◌, ◌&&◌, length, true, false, Some, None, is_some, IfSome};
+ghost use Rattle.std.specs.Prelude.{◌≡◌, ℕ, ◌<◌, ◌≤◌, ◌&&◌, length, true, false, Some, None, is_some};
 ghost use Rattle.tier_tree.specs.Forest.{phaser_at, flat_at, root_at};
 ghost use Rattle.tier_tree.specs.Stored.{phasers_of, ChangedAt};
 ghost use Rattle.instruction_table.specs.Registers.{value_in};
@@ -6,11 +6,10 @@ ghost use Rattle.loader.specs.Program.{IsNamed};
 ghost use Rattle.thread_state.specs.Thread.{is_full, top_of};
 ghost use Rattle.machine_scene.specs.Scene.{scene_of, counts_in, thread_at};
 ghost use Rattle.machine_scene.specs.PhaserRows.{turn_of_patience, turn_of_await, turn_of_arrival};
-ghost use Rattle.machine_scene.specs.PhaserRows.{is_own_tree, unless_own, has_routine, answer_of_policy};
+ghost use Rattle.machine_scene.specs.PhaserRows.{is_own_tree, unless_own, has_routine, answer_of_policy, refusal_of_arrival};
 ghost use Rattle.machine_scene.specs.PhaserRows.{outcome_of_ended_phase, outcome_of_phase_end, outcome_of_pending_end, outcome_with_room};
 ghost use Rattle.machine_scene.specs.PhaserRows.{outcome_of_arrival, outcome_of_registration, outcome_of_bulk};
 ghost use Rattle.machine_scene.specs.PhaserRows.{outcome_of_await, outcome_of_force, outcome_of_phaser_row};
-ghost use Rattle.machine_scene.specs.Usual.{is_last_at};
 ghost use Rattle.machine_scene.specs.Undo.{PhasersWithin, reach_of_row};
 ghost use Rattle.machine_scene.specs.Sound.{CanPlay, most_after};
 
@@ -21,7 +20,7 @@ use instruction_table::{Reg, Row};
 use loader::Loaded;
 use packed_phaser::Policy;
 use thread_state::{Event, Mark, Thread, What};
-use tier_tree::{Arrived, LastArrival, PhaserId, Registered};
+use tier_tree::{Arrived, PhaserId, Registered};
 
 /// A thread whose phase hasn't ended waits, as long as it has the patience.
 fn wait_with(thread: &mut Thread, patience: Patience, phase: i32) -> What
@@ -64,7 +63,7 @@ fn await_phase(thread: &mut Thread, patience: Patience, into: Reg, phase: i32, v
 }
 
 /// A counted arrival waits for the phase's end, or answers its phase.
-fn arrive_at(thread: &mut Thread, manner: Manner, phase: i32) -> What
+fn wait_or_answer(thread: &mut Thread, manner: Manner, phase: i32) -> What
     requires { thread.old.pc < 65535 }
     ensures { record { thread = thread.new; what = result } ≡ turn_of_arrival manner phase thread.old }
 {
@@ -96,7 +95,7 @@ impl Stage {
                 count,
             } => self.register_many(into, phaser, count, t),
             Row::Parr { phaser, .. } | Row::Pdereg { phaser, .. } | Row::Paaa { phaser, .. } => {
-                self.arrival_unless_own(program, manner_of(row), phaser, t)
+                self.arrival(program, manner_of(row), phaser, t)
             }
             Row::Pawait {
                 into,
@@ -192,8 +191,9 @@ impl Stage {
     }
 
     /// `parr`, `pdereg` and `paaa`.
-    #[tactic(auto, using(tier_tree::proofs::Changed::changed_nothing))]
-    fn arrival_unless_own(
+    #[inline(always)]
+    #[tactic(auto, using(tier_tree::proofs::Changed::changed_nothing, crate::proofs::Arrivals::refused, crate::proofs::Arrivals::comes))]
+    pub(super) fn arrival(
         &mut self,
         program: &Loaded,
         manner: Manner,
@@ -208,28 +208,44 @@ impl Stage {
             (Some (outcome_of_arrival manner phaser t program.now (scene_of self.old)))
             ≡ Some (record { scene = scene_of self.new; event = result }) }
         ensures phasers { ChangedAt phaser self.old.phasers self.new.phasers }
+        ensures ready { (self.new).ready ≡ self.old.ready }
     {
-        if self.is_own_tree(phaser, t) {
-            return alone(self.threads[t].throw(1));
+        match self.refusal(phaser, t) {
+            Some(code) => alone(self.threads[t].throw(code)),
+            None => self.arrive(program, manner, phaser, t),
         }
-        self.arrival(program, manner, phaser, t)
     }
 
-    /// An arrival at a phaser, where a tree with a routine wants room for one stack entry more.
-    #[tactic(auto, using(tier_tree::proofs::Changed::changed_nothing))]
-    fn arrival(&mut self, program: &Loaded, manner: Manner, phaser: u16, t: usize) -> Event
-        requires phaser { phaser < length self.old.phasers }
-        requires routines { length program.now.routines ≡ length self.old.phasers }
-        requires ends { (p : ℕ) → (phaser_at (phasers_of self.old.phasers) p).ends < most_after }
-        requires plays { CanPlay t self.old }
-        ensures outcome { record { scene = scene_of self.new; event = result }
-            ≡ outcome_of_arrival manner phaser t program.now (scene_of self.old) }
-        ensures phasers { ChangedAt phaser self.old.phasers self.new.phasers }
+    /// The exception of an arrival that doesn't come to the phaser. With an empty stack a thread runs no routine, and has room
+    /// for one.
+    #[inline(always)]
+    #[tactic(auto, using(crate::proofs::Arrivals::free))]
+    fn refusal(&self, phaser: u16, t: usize) -> Option<i32>
+        requires phaser { phaser < length self.now.phasers }
+        requires thread { t < length self.now.threads }
+        ensures { result ≡ refusal_of_arrival phaser (thread_at (scene_of self.now) t) (scene_of self.now) }
     {
-        if self.has_routine(phaser) && self.threads[t].is_full() {
-            return alone(self.threads[t].throw(6));
+        if self.threads[t].stack().is_empty() {
+            None
+        } else {
+            self.refusal_by_stack(phaser, t)
         }
-        self.arrival_with_room(program, manner, phaser, t)
+    }
+
+    /// The exception by a look at the thread's stack.
+    #[inline(never)]
+    fn refusal_by_stack(&self, phaser: u16, t: usize) -> Option<i32>
+        requires phaser { phaser < length self.now.phasers }
+        requires thread { t < length self.now.threads }
+        ensures { result ≡ refusal_of_arrival phaser (thread_at (scene_of self.now) t) (scene_of self.now) }
+    {
+        if self.is_own_tree(phaser, t) {
+            Some(1)
+        } else if self.has_routine(phaser) && self.threads[t].is_full() {
+            Some(6)
+        } else {
+            None
+        }
     }
 
     /// Whether the phaser's tree has an advance routine.
@@ -241,42 +257,9 @@ impl Stage {
         matches!(self.phasers.policy(root), Policy::Routine)
     }
 
-    /// An arrival of a party that stays, where it is the last at a root that has none above, with the end of its phase or the
-    /// entry into its routine. `None` anywhere else; nothing has changed then.
-    #[inline(always)]
-    pub(super) fn last_arrival(
-        &mut self,
-        program: &Loaded,
-        manner: Manner,
-        phaser: u16,
-        t: usize,
-    ) -> Option<Event>
-        requires phaser { phaser < length self.old.phasers }
-        requires stays { manner.leaves ≡ false }
-        requires room { (has_routine phaser (scene_of self.old) && is_full (thread_at (scene_of self.old) t)) ≡ false }
-        requires routines { length program.now.routines ≡ length self.old.phasers }
-        requires ends { (p : ℕ) → (phaser_at (phasers_of self.old.phasers) p).ends < most_after }
-        requires plays { CanPlay t self.old }
-        ensures last { is_some result ≡ is_last_at phaser (scene_of self.old) }
-        ensures none { result ≡ None → self.new ≡ self.old }
-        ensures outcome { IfSome result (λ event. record { scene = scene_of self.new; event = event }
-            ≡ outcome_with_room manner phaser t program.now (scene_of self.old)) }
-        ensures phasers { ChangedAt phaser self.old.phasers self.new.phasers }
-    {
-        let id = self.phaser_id(phaser);
-        self.phasers.is_forest();
-        match self.phasers.arrive_last(id) {
-            LastArrival::Ended(phase) => Some(self.phase_ended(manner, id, phase, t)),
-            LastArrival::Turned(phase) => {
-                self.phasers.is_forest();
-                Some(self.pending_end(program, manner, id, phase, t))
-            }
-            LastArrival::Elsewhere => None,
-        }
-    }
-
     /// The arrival itself.
-    fn arrival_with_room(
+    #[inline(always)]
+    fn arrive(
         &mut self,
         program: &Loaded,
         manner: Manner,
@@ -291,10 +274,11 @@ impl Stage {
         ensures outcome { record { scene = scene_of self.new; event = result }
             ≡ outcome_with_room manner phaser t program.now (scene_of self.old) }
         ensures phasers { ChangedAt phaser self.old.phasers self.new.phasers }
+        ensures ready { (self.new).ready ≡ self.old.ready }
     {
         self.phasers.is_forest();
         match self.phasers.arrive(PhaserId(phaser as u8), manner.leaves) {
-            Arrived::At(phase) => alone(arrive_at(&mut self.threads[t], manner, phase)),
+            Arrived::At(phase) => alone(wait_or_answer(&mut self.threads[t], manner, phase)),
             Arrived::Turning { root, phase, .. } => {
                 self.phasers.is_forest();
                 self.pending_end(program, manner, root, phase, t)
@@ -328,6 +312,7 @@ impl Stage {
             ≡ outcome_of_pending_end (answer_of_policy root.0 (scene_of self.old)) manner root.0 phase t
             program.now (scene_of self.old) }
         ensures phasers { ChangedAt root.0 self.old.phasers self.new.phasers }
+        ensures ready { (self.new).ready ≡ self.old.ready }
     {
         let parties = self.phasers.parties(root);
         let answer = self
@@ -362,19 +347,21 @@ impl Stage {
         ensures outcome { record { scene = scene_of self.new; event = result }
             ≡ outcome_of_phase_end manner root.0 phase terminates t (scene_of self.old) }
         ensures phasers { ChangedAt root.0 self.old.phasers self.new.phasers }
+        ensures ready { (self.new).ready ≡ self.old.ready }
     {
         self.phasers.finish_turn(root, terminates);
-        self.phase_ended(manner, root, phase, t)
+        self.answer_last(manner, root, phase, t)
     }
 
-    /// The arrival's answer and the step's mark, behind the phase end.
+    /// The last arrival's answer and the step's mark, behind the phase end.
     #[inline(always)]
-    fn phase_ended(&mut self, manner: Manner, root: PhaserId, phase: i32, t: usize) -> Event
+    fn answer_last(&mut self, manner: Manner, root: PhaserId, phase: i32, t: usize) -> Event
         requires there { root.0 < length self.old.phasers }
         requires plays { CanPlay t self.old }
         ensures outcome { record { scene = scene_of self.new; event = result }
             ≡ outcome_of_ended_phase manner root.0 phase t (scene_of self.old) }
         ensures phasers { self.new.phasers ≡ self.old.phasers }
+        ensures ready { (self.new).ready ≡ self.old.ready }
     {
         let view = self.phasers.phase(root);
         let what = self.threads[t].answer(manner.into, if manner.waits { view } else { phase });

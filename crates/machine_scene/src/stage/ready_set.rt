@@ -4,9 +4,10 @@ ghost use Rattle.loader.specs.Program.{IsNamed, row_at};
 ghost use Rattle.machine_scene.specs.Scene.{scene_of, counts_in, thread_at};
 ghost use Rattle.machine_scene.specs.Outcomes.{is_ready};
 ghost use Rattle.machine_scene.specs.Sound.{IsSound, SeesWait, most_after};
-ghost use Rattle.machine_scene.specs.ReadySet.{AreReady, KnowsReady, IsSetAt, AreLooked, IsLooked, AreOthersReady, is_registration, is_registering, interrupts, changes_tree, is_loud, changes_all, is_local_turn};
+ghost use Rattle.machine_scene.specs.ReadySet.{AreReady, KnowsReady, IsSetAt, AreLooked, IsLooked, AreOthersReady, AreReadyBeside, is_registration, is_registering, interrupts, changes_tree, is_loud, changes_all, is_local_turn, runs_on, is_wait};
 
 use super::Stage;
+use super::ready::may_be_blocked;
 use crate::ready_set::ReadySet;
 use instruction_table::{Row, is_local};
 use loader::Loaded;
@@ -37,7 +38,7 @@ fn first_in(set: u64) -> Option<usize>
 /// The set with this thread, or without it.
 #[inline(always)]
 #[tactic(auto, using(crate::proofs::ThreadSets::set_at))]
-pub(super) fn set_at(set: u64, thread: usize, within: bool) -> u64
+fn set_at(set: u64, thread: usize, within: bool) -> u64
     requires { thread < 64 }
     ensures { IsSetAt thread within set result }
 {
@@ -116,7 +117,7 @@ impl Stage {
 
     /// The row at which a thread stands, after a step as before one.
     #[inline(always)]
-    pub(super) fn place(&self, program: &Loaded, t: usize) -> Row
+    fn place(&self, program: &Loaded, t: usize) -> Row
         requires sound { IsSound program.now most_after (scene_of self.now) }
         requires thread { t < length self.now.threads }
         ensures row { result ≡ row_at program.now.rows (thread_at (scene_of self.now) t).pc }
@@ -189,13 +190,60 @@ impl Stage {
 
     /// A thread is looked at anew.
     #[inline(never)]
-    pub(super) fn look(&mut self, program: &Loaded, t: usize)
+    fn refresh(&mut self, program: &Loaded, t: usize)
         requires sound { IsSound program.now most_after (scene_of self.old) }
         requires thread { t < length self.old.threads }
         ensures stored { self.new ≡ record self.old { ready = self.new.ready } }
         ensures looked { IsLooked program.now t self.old.ready self.new.ready (scene_of self.old) }
     {
         self.ready = self.looked(program, self.ready, t);
+    }
+
+    /// All threads are looked at anew.
+    #[inline(never)]
+    fn refresh_all(&mut self, program: &Loaded)
+        requires sound { IsSound program.now most_after (scene_of self.old) }
+        ensures stored { self.new ≡ record self.old { ready = self.new.ready } }
+        ensures known { AreReady program.now self.new.ready (scene_of self.old) }
+    {
+        self.ready = self.all_looked(program);
+    }
+
+    /// Whether a thread runs, and its row is none that it may have to wait at.
+    #[inline(always)]
+    fn runs_on(&self, program: &Loaded, t: usize) -> bool
+        requires sound { IsSound program.now most_after (scene_of self.now) }
+        requires thread { t < length self.now.threads }
+        ensures { result ≡ runs_on (thread_at (scene_of self.now) t).status
+            (row_at program.now.rows (thread_at (scene_of self.now) t).pc) }
+    {
+        match self.threads[t].status() {
+            Status::Runs => !may_be_blocked(self.place(program, t)),
+            _ => false,
+        }
+    }
+
+    /// Keeps the sets after a turn of a common kind, with this event, of a thread whose turn was ready and that wasn't about to
+    /// register. Most such turns change nobody's readiness.
+    #[inline(always)]
+    pub(super) fn settle(&mut self, program: &Loaded, event: Event, t: usize)
+        requires sound { IsSound program.now most_after (scene_of self.old) }
+        requires thread { t < length self.old.threads }
+        requires turn { has self.old.ready.turns t ≡ true }
+        requires apart { has self.old.ready.registering t ≡ false }
+        requires beside { is_loud event ≡ false → AreReadyBeside program.now t self.old.ready (scene_of self.old) }
+        requires waits { is_wait event.what ≡ true → (is_ready t program.now (scene_of self.old) ≡ false)
+            × (is_registering t program.now (scene_of self.old) ≡ false) }
+        ensures stored { self.new ≡ record self.old { ready = self.new.ready } }
+        ensures known { AreReady program.now self.new.ready (scene_of self.old) }
+    {
+        if is_loud(event) {
+            self.refresh_all(program);
+        } else if matches!(event.what, What::Waits) {
+            self.ready.turns = set_at(self.ready.turns, t, false);
+        } else if !self.runs_on(program, t) {
+            self.refresh(program, t);
+        }
     }
 
     /// The sets with all threads looked at.

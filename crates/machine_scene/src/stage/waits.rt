@@ -25,6 +25,7 @@ impl Stage {
     }
 
     /// Finishes a thread's wait for a phase.
+    #[inline(always)]
     pub(super) fn finish_phase_wait(&mut self, row: Row, phase: i32, t: usize) -> Event
         requires ready { is_some (outcome_of_phase_wait row phase t (scene_of self.old)) ≡ true }
         requires named { IsNamed (counts_in self.old) row }
@@ -32,6 +33,7 @@ impl Stage {
         ensures outcome { outcome_of_phase_wait row phase t (scene_of self.old)
             ≡ Some (record { scene = scene_of self.new; event = result }) }
         ensures phasers { self.new.phasers ≡ self.old.phasers }
+        ensures ready { (self.new).ready ≡ self.old.ready }
     {
         match row {
             Row::Paaa { into, phaser } => self.finish_awaited(false, into, phaser, phase, t),
@@ -43,6 +45,7 @@ impl Stage {
     }
 
     /// By the phase's end first, or by an interruption.
+    #[inline(always)]
     fn finish_awaited(&mut self, looks: bool, into: Reg, phaser: u16, phase: i32, t: usize) -> Event
         requires ready { is_some (outcome_of_awaited looks into phaser phase t (scene_of self.old)) ≡ true }
         requires phaser { phaser < length self.old.phasers }
@@ -50,6 +53,7 @@ impl Stage {
         ensures outcome { outcome_of_awaited looks into phaser phase t (scene_of self.old)
             ≡ Some (record { scene = scene_of self.new; event = result }) }
         ensures phasers { self.new.phasers ≡ self.old.phasers }
+        ensures ready { (self.new).ready ≡ self.old.ready }
     {
         let view = self.phasers.phase(self.phaser_id(phaser));
         if view != phase {

@@ -8,17 +8,17 @@ use Rattle.machine_scene.proofs.Undoing.{played_still}
 use Rattle.machine_scene.proofs.stage.Stage.expire.Goals as goal
 
 pub ready_after-self-inside-requires-clause-sound : goal.ready_after-self-inside-requires-clause-sound
-ready_after-self-inside-requires-clause-sound c = c.expiry_of_row-event.ensures.ok.sound 2147483646 (omega arith) c.requires.sound
+ready_after-self-inside-requires-clause-sound c = c.run_out-event.ensures.ok.sound 2147483646 (omega arith) c.requires.sound
 
 pub ready_after-self-inside-requires-clause-named : goal.ready_after-self-inside-requires-clause-named
 ready_after-self-inside-requires-clause-named c =
-    named_still c.args.program.now c.args.row c.args.t c.args.self.now c.expiry_of_row-event.new.self c.requires.sound c.requires.thread
-    c.requires.row (ready_after-self-inside-requires-clause-sound c)
+    named_still c.args.program.now c.row_of-row.result c.args.t c.args.self.now c.run_out-event.new.self c.requires.sound c.requires.thread
+    c.row_of-row.ensures.row (ready_after-self-inside-requires-clause-sound c)
 
 pub returns-clause-ok : goal.returns-clause-ok
 returns-clause-ok c =
-    played_still _ c.args.t c.args.program.now c.args.self.now _ c.ready_after-self-inside.result c.expiry_of_row-event.result
-    (subst (λ (s : StoredScene). IsPlayed (outcome_of_expiry c.args.t c.args.program.now (scene_of c.args.self.now)) c.args.t c.args.program.now c.args.self.now s c.expiry_of_row-event.result) (sym c.self-2.view_is) c.expiry_of_row-event.ensures.ok)
+    played_still _ c.args.t c.args.program.now c.args.self.now _ c.ready_after-self-inside.result c.run_out-event.result
+    (subst (λ (s : StoredScene). IsPlayed (outcome_of_expiry c.args.t c.args.program.now (scene_of c.args.self.now)) c.args.t c.args.program.now c.args.self.now s c.run_out-event.result) (sym c.self-2.view_is) c.run_out-event.ensures.ok)
 
 pub returns-clause-known : goal.returns-clause-known
 returns-clause-known c =

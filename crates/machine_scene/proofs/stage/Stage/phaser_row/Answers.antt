@@ -20,4 +20,4 @@ returns-in-Parr-clause-outcome c =
         | inr waits ↦ ap played waits.1 ∙ sym (ap (λ (r : Row). by (manner_of r)) waits.1)
       ]
     ] in
-    same ∙ ap (λ (r : Row). by (manner_of r)) (sym c.in-Parr.row-is) ∙ sym (ap by c.manner_of.ensures) ∙ c.arrival_unless_own.ensures.outcome
+    same ∙ ap (λ (r : Row). by (manner_of r)) (sym c.in-Parr.row-is) ∙ sym (ap by c.manner_of.ensures) ∙ c.arrival.ensures.outcome

@@ -8,7 +8,7 @@ use Rattle.thread_state.specs.Thread.{is_full}
 use Rattle.machine_scene.specs.Scene.{Scene, StoredScene, scene_of, thread_at}
 use Rattle.machine_scene.specs.PhaserRows.{has_routine}
 use Rattle.machine_scene.proofs.Room.{room_left}
-use Rattle.machine_scene.proofs.stage.Stage.arrival_with_room.Goals as goal
+use Rattle.machine_scene.proofs.stage.Stage.arrive.Goals as goal
 
 pub pending_end-requires-clause-room : goal.pending_end-requires-clause-room
 pending_end-requires-clause-room c none =

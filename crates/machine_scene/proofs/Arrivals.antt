@@ -1,0 +1,64 @@
+-- Arrivals: the exception that they meet before they come to a phaser.
+use Rattle.std.proofs.Common.{◌≡◌, ◌∙◌, ℕ, ℤ, pos, ◌==◌, ◌&&◌, Bool, true, false, List, [], ap, refl, if◌then◌else◌}
+use Rattle.std.specs.Prelude.{length, Some, None}
+use Rattle.std.specs.List.{list_any}
+use Rattle.std.proofs.lemmas.Option.{same_Some}
+use Rattle.tier_tree.specs.Forest.{root_at}
+use Rattle.loader.specs.Program.{Program}
+use Rattle.thread_state.specs.declared.frame.Frame.{Frame}
+use Rattle.thread_state.specs.Frame.{is_advance}
+use Rattle.thread_state.specs.Thread.{ThreadState, is_full, turn_of_throw}
+use Rattle.machine_scene.specs.declared.manner.Manner.{Manner}
+use Rattle.machine_scene.specs.Scene.{Scene, Outcome, thread_at, outcome_of_turn}
+use Rattle.machine_scene.specs.PhaserRows.{is_own_tree, has_routine, unless_own, outcome_with_room, outcome_of_arrival, refusal_of_arrival}
+
+and_false : (test : Bool) → (test && false) ≡ false
+and_false true = refl
+and_false false = refl
+
+-- a thread with an empty stack comes to it
+pub free : (p : ℕ) (thread : ThreadState) (scene : Scene) → thread.stack ≡ [] → refusal_of_arrival p thread scene ≡ None
+free p thread scene empty =
+    ap (λ (stack : List Frame). if list_any (is_advance (root_at scene.phasers p)) stack then Some (pos 1)
+    else (if has_routine p scene && (length stack == 64) then Some (pos 6) else None)) empty
+    ∙ ap (λ (test : Bool). if test then Some (pos 6) else None) (and_false (has_routine p scene))
+
+thrown_by : (own full : Bool) (thrown : ℤ → Outcome) (comes : Outcome) (code : ℤ)
+    → (if own then Some (pos 1) else (if full then Some (pos 6) else None)) ≡ Some code
+    → (if own then Some (thrown (pos 1)) else Some (if full then thrown (pos 6) else comes)) ≡ Some (thrown code)
+thrown_by true full thrown comes code is = ap (λ (c : ℤ). Some (thrown c)) (same_Some _ _ is)
+thrown_by false true thrown comes code is = ap (λ (c : ℤ). Some (thrown c)) (same_Some _ _ is)
+thrown_by false false thrown comes code is = absurd (cc is)
+
+-- one that meets an exception throws it
+pub refused : (manner : Manner) (p t : ℕ) (program : Program) (scene : Scene) (code : ℤ)
+    → refusal_of_arrival p (thread_at scene t) scene ≡ Some code
+    → unless_own p t scene (Some (outcome_of_arrival manner p t program scene))
+    ≡ Some (outcome_of_turn (turn_of_throw code (thread_at scene t)) t scene)
+refused manner p t program scene code is =
+    thrown_by (is_own_tree p (thread_at scene t) scene) (has_routine p scene && is_full (thread_at scene t))
+    (λ c. outcome_of_turn (turn_of_throw c (thread_at scene t)) t scene) (outcome_with_room manner p t program scene) code is
+
+come_by : (own full : Bool) (thrown : ℤ → Outcome) (comes : Outcome)
+    → (if own then Some (pos 1) else (if full then Some (pos 6) else None)) ≡ None
+    → (if own then Some (thrown (pos 1)) else Some (if full then thrown (pos 6) else comes)) ≡ Some comes
+come_by true full thrown comes is = absurd (cc is)
+come_by false true thrown comes is = absurd (cc is)
+come_by false false thrown comes is = refl
+
+-- any other comes to it
+pub comes : (manner : Manner) (p t : ℕ) (program : Program) (scene : Scene) → refusal_of_arrival p (thread_at scene t) scene ≡ None
+    → unless_own p t scene (Some (outcome_of_arrival manner p t program scene)) ≡ Some (outcome_with_room manner p t program scene)
+comes manner p t program scene is =
+    come_by (is_own_tree p (thread_at scene t) scene) (has_routine p scene && is_full (thread_at scene t))
+    (λ c. outcome_of_turn (turn_of_throw c (thread_at scene t)) t scene) (outcome_with_room manner p t program scene) is
+
+room_by : (own full : Bool) → (if own then Some (pos 1) else (if full then Some (pos 6) else None)) ≡ None → full ≡ false
+room_by true full is = absurd (cc is)
+room_by false true is = absurd (cc is)
+room_by false false is = refl
+
+-- with room for a routine, where there is one
+pub room : (p t : ℕ) (scene : Scene) → refusal_of_arrival p (thread_at scene t) scene ≡ None
+    → (has_routine p scene && is_full (thread_at scene t)) ≡ false
+room p t scene is = room_by (is_own_tree p (thread_at scene t) scene) (has_routine p scene && is_full (thread_at scene t)) is
