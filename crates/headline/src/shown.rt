@@ -1,10 +1,17 @@
 //! The commands that play a program: under a schedule, by commands, or on real threads. Each is the one of `workbench`, which says
 //! what has come about whatever it answers; here it also says, in the words of one page, what is shown where all went well.
-ghost use Rattle.std.specs.Prelude.{◌≤◌, None, OnOk, Some};
-ghost use Rattle.headline.specs.EndToEnd.{HasDebuggedFile, HasShownFile, HasShownLive, HasShownText};
+ghost use Rattle.std.specs.Prelude.{◌≡◌, ◌≢◌, ◌<◌, ◌≤◌, ℕ, List, [], None, OnOk, Option, Some};
+ghost use Rattle.assembler.specs.Meaning.{StandsFor};
+ghost use Rattle.loader.specs.Fault.{first_fault};
+ghost use Rattle.loader.specs.declared.load_fault.LoadFault.{LoadFault};
+ghost use Rattle.row_code.specs.declared.image.Image.{Image};
+ghost use Rattle.thread_machine.specs.declared.choice.Choice.{Choice};
+ghost use Rattle.headline.specs.EndToEnd.{HasDebuggedFile, HasShownFile, HasShownLive, HasShownText, IsLiveRun};
+ghost use Rattle.headline.specs.Headline.{Accepted};
 ghost use Rattle.workbench.specs.Debug.{Debugs, GivesFew};
 ghost use Rattle.workbench.specs.Live.{Lives};
 ghost use Rattle.workbench.specs.Outcome.{PlaysFile, PlaysText};
+ghost use Rattle.workbench.specs.RunLine.{program_part};
 
 use byte_ports::{Sink, Source};
 use schedule_reader::Run;
@@ -89,3 +96,16 @@ pub fn live<R: Threads + Wait + Sync, G: Gate + Sync, K: Sink>(
 {
     workbench::live::live(threads, alloc, limit, gate, program, output)
 }
+
+/// A text whose program the loader refuses is never shown, as an empty thread's that runs past its last row.
+pub fn what_is_refused_is_never_shown()
+    ensures { (text : List ℕ) (image : Image) (why : LoadFault) (before after : Option (List ℕ))
+        → StandsFor (program_part text) image → first_fault image ≡ Some why
+        → HasShownText text before after → ⊥ }
+{}
+
+/// A live run that may take a step makes a choice: no accepted program is over before its first one.
+pub fn a_live_run_chooses()
+    ensures { (limit : ℕ) (image : Image) (choices : List Choice)
+        → 0 < limit → Accepted image → IsLiveRun limit image choices → choices ≢ [] }
+{}

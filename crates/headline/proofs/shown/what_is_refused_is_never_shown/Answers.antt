@@ -1,5 +1,5 @@
 use Rattle.headline.proofs.Shown.{never-shown}
-use Rattle.headline.proofs.law.what_is_refused_is_never_shown.Goals as goal
+use Rattle.headline.proofs.shown.what_is_refused_is_never_shown.Goals as goal
 
 pub returns : goal.returns
 returns c = never-shown
