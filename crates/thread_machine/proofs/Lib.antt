@@ -3,6 +3,7 @@ pub mod Limits
 pub mod Readiness
 pub mod Idling
 pub mod Sound
+pub mod Steps
 pub mod PhaseNumbers
 pub mod PhaseEnds
 pub mod DirectCounts

@@ -1,22 +1,18 @@
-ghost use Rattle.std.specs.Prelude.{◌≡◌, ◌↔◌, ◌+◌, ◌<◌, ◌≤◌, length, map, is_some, IfSome, IfOk, OnOk, OnErr, Ok, Err, true, false, Some, None, slice_get};
-ghost use Rattle.std.specs.Option.{option_map, OnSome};
+ghost use Rattle.std.specs.Prelude.{◌≡◌, ◌+◌, ◌<◌, ◌≤◌, length, map, IfOk, IfErr, Ok, Err, true, false, Some, None, slice_get};
+ghost use Rattle.std.specs.Option.{option_map};
 ghost use Rattle.instruction_table.specs.Registers.{value_in};
-ghost use Rattle.tier_tree.specs.Origin.{Origin, AreTallied};
-ghost use Rattle.tier_tree.specs.Stored.{phasers_of};
 ghost use Rattle.thread_state.specs.Frame.{entry_of};
 ghost use Rattle.machine_scene.specs.Scene.{scene_of, first_scene, thread_at, cell_at, barrier_at, starting};
 ghost use Rattle.machine_scene.specs.Outcomes.{is_ready};
 ghost use Rattle.machine_scene.specs.ReadySet.{KnowsReady};
-ghost use Rattle.machine_scene.specs.Usual.{is_usual};
 ghost use Rattle.thread_machine.specs.World.{world_of, first_world};
 ghost use Rattle.thread_machine.specs.Idle.{idle_event};
 ghost use Rattle.thread_machine.specs.Ready.{can_expire, is_choice_ready, has_ended, is_stuck, some_ready};
 ghost use Rattle.thread_machine.specs.Standing.{standing_of};
-ghost use Rattle.thread_machine.specs.DirectCounts.{counts_after, EndsNoPhaseEarly, NumbersStay};
 ghost use Rattle.thread_machine.specs.Sound.{IsMachine};
-ghost use Rattle.thread_machine.specs.Step.{played, refusal_of, puts_out};
+ghost use Rattle.thread_machine.specs.Step.{played};
 ghost use Rattle.thread_machine.specs.Undo.{undone, CanUndo};
-ghost use Rattle.thread_machine.specs.Stepped.{IsStep};
+ghost use Rattle.thread_machine.specs.Stepped.{HasPlayed, IsStep, kept_of};
 
 mod idle;
 
