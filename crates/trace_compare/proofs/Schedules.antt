@@ -197,9 +197,9 @@ piece-stops fault.Memory told bytes longer first before was schedule_before sche
 piece-stops fault.Write told bytes longer first before was schedule_before schedule_after old known new failed other start runs now next
     empty up consumed adds read err writes = writes
 piece-stops fault.Read told bytes longer first before was schedule_before schedule_after old known new failed other start runs now next
-    empty up consumed adds read err no = absurd no
+    empty up consumed adds read err never = absurd never
 piece-stops (fault.Load f) told bytes longer first before was schedule_before schedule_after old known new failed other start runs now next
-    empty up consumed adds read err no = absurd no
+    empty up consumed adds read err never = absurd never
 
 -- and behind its last token
 pub end-stops : (f : RunFault) (told : Result (Unit {0}) ScheduleFault) (bytes : List ℕ) (first before : World) (was : Bool)
@@ -241,6 +241,19 @@ end-stops fault.Memory told bytes first before was schedule_before schedule_afte
 end-stops fault.Write told bytes first before was schedule_before schedule_after old known new failed other start runs now
     empty up consumed end adds answer writes = writes
 end-stops fault.Read told bytes first before was schedule_before schedule_after old known new failed other start runs now
-    empty up consumed end adds answer no = absurd no
+    empty up consumed end adds answer never = absurd never
 end-stops (fault.Load f) told bytes first before was schedule_before schedule_after old known new failed other start runs now
-    empty up consumed end adds answer no = absurd no
+    empty up consumed end adds answer never = absurd never
+
+pub end-stopped : {A : Type 0} (result : Result A RunFault) (told : Result (Unit {0}) ScheduleFault) (bytes : List ℕ) (first before : World) (was : Bool)
+    (schedule_before schedule_after old known new : Option (List ℕ)) (failed other : Bool) (start runs : List Run) (now : Progress)
+    → start ≡ [] → IsUpTo first before bytes now was old known → Consumes schedule_before schedule_after bytes → IsAtEnd schedule_after
+    → Adds told (open_schedule bytes) (finished_schedule bytes) start runs
+    → (told ≡ Err Memory) ⊎ (told ≡ answer_of (finished_schedule bytes))
+    → IfErr result (λ f. StopsAt f told before was (choices_of runs) known new other)
+    → IfErr result (λ f. StopsFrom first f schedule_before schedule_after failed old new other)
+end-stopped (Ok x) told bytes first before was schedule_before schedule_after old known new failed other start runs now
+    empty up consumed end adds answer stops = stops
+end-stopped (Err f) told bytes first before was schedule_before schedule_after old known new failed other start runs now
+    empty up consumed end adds answer stops =
+    end-stops f told bytes first before was schedule_before schedule_after old known new failed other start runs now empty up consumed end adds answer stops

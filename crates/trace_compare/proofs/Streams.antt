@@ -131,7 +131,7 @@ stops (fault.Schedule f) image world schedule_before schedule_after old new fail
 stops fault.Memory image world schedule_before schedule_after old new failed other begins from = inr (world, (begins, from))
 stops fault.Read image world schedule_before schedule_after old new failed other begins from = (world, (begins, from))
 stops fault.Write image world schedule_before schedule_after old new failed other begins from = (world, (begins, from))
-stops (fault.Load f) image world schedule_before schedule_after old new failed other begins from = absurd from
+stops (fault.Load f) image world schedule_before schedule_after old new failed other begins never = absurd never
 
 -- the verdict on a trace, beside the program that it is of
 pub begun-verdict : (image : Image) (world : World) (choices : List Choice) → Begins image world → All IsNamed choices

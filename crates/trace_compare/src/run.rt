@@ -1,10 +1,9 @@
 ghost use Rattle.std.specs.Prelude.{◌≡◌, ◌+◌, ◌≤◌, [], Ok, Err, IfErr, IfOk, OnOk};
 ghost use Rattle.schedule_reader.specs.Schedule.{choices_of};
 ghost use Rattle.thread_machine.specs.World.{world_of};
-ghost use Rattle.trace_compare.specs.declared.run.RunFault.TheVariants as run_fault;
 ghost use Rattle.trace_compare.specs.declared.run_end.RunEnd.{RunEnd};
 ghost use Rattle.trace_compare.specs.Outcome.{ComesTo, Stops, StopsFrom};
-ghost use Rattle.trace_compare.specs.Playing.{HasPlayedAll, IsToldOf, PlaysOn, StopsAt, begun_fault, played_fault};
+ghost use Rattle.trace_compare.specs.Playing.{HasPlayedAll, IsToldOf, PlaysOn, StopsAt};
 
 use crate::kept_line::KeptLine;
 use crate::play::{PlayFault, play_runs};
@@ -14,7 +13,7 @@ use byte_ports::{Sink, Source};
 use loader::LoadFault;
 use row_code::Image;
 use schedule_reader::{Reader, Run, ScheduleFault};
-use std::alloc::{AllocError, Global};
+use std::alloc::Global;
 use thread_machine::Machine;
 
 /// How many bytes of a schedule are read at a time.
@@ -39,36 +38,6 @@ pub enum RunFault {
     Read,
     /// The trace can't be written.
     Write,
-}
-
-impl From<AllocError> for RunFault {
-    ghost from_gives = { λ _ fault. fault ≡ run_fault.Memory };
-
-    fn from(_error: AllocError) -> RunFault {
-        RunFault::Memory
-    }
-}
-
-impl From<StartFault> for RunFault {
-    ghost from_gives = { λ why fault. fault ≡ begun_fault why };
-
-    fn from(why: StartFault) -> RunFault {
-        match why {
-            StartFault::Load(fault) => RunFault::Load(fault),
-            StartFault::Memory => RunFault::Memory,
-        }
-    }
-}
-
-impl From<PlayFault> for RunFault {
-    ghost from_gives = { λ why fault. fault ≡ played_fault why };
-
-    fn from(why: PlayFault) -> RunFault {
-        match why {
-            PlayFault::Memory => RunFault::Memory,
-            PlayFault::Write => RunFault::Write,
-        }
-    }
 }
 
 /// What comes of a schedule whose reader told this, where all choices so far were accepted or not.
@@ -106,7 +75,11 @@ fn play_told<W: Sink>(
     }
     let played = play_runs(machine, runs.as_slice(), line, output);
     runs.clear();
-    told_of(told, played?)
+    match played {
+        Ok(all) => told_of(told, all),
+        Err(PlayFault::Memory) => Err(RunFault::Memory),
+        Err(PlayFault::Write) => Err(RunFault::Write),
+    }
 }
 
 /// Plays a schedule to its end; whether all choices were accepted. `line` keeps the last line.
@@ -160,11 +133,24 @@ pub fn run_to_end<S: Source, W: Sink>(
         (W.written output.old) (W.written output.new) (W.has_failed output.new) }
     ensures reads { S.reads schedule.new ≤ S.reads schedule.old + 1000000000 }
 {
-    let mut machine = first_machine(alloc, image)?;
-    let mut runs = Vec::with_capacity(alloc, MOST_RUNS)?;
+    let mut machine = match first_machine(alloc, image) {
+        Ok(machine) => machine,
+        Err(StartFault::Load(fault)) => return Err(RunFault::Load(fault)),
+        Err(StartFault::Memory) => return Err(RunFault::Memory),
+    };
+    let Ok(mut runs) = Vec::with_capacity(alloc, MOST_RUNS) else {
+        return Err(RunFault::Memory);
+    };
     let mut line = KeptLine::new();
-    let accepted = play_stream(&mut machine, schedule, &mut runs, &mut line, output)?;
-    Ok(push_end(alloc, &machine, refused_in(accepted, line), output)?)
+    let accepted = match play_stream(&mut machine, schedule, &mut runs, &mut line, output) {
+        Ok(accepted) => accepted,
+        Err(fault) => return Err(fault),
+    };
+    match push_end(alloc, &machine, refused_in(accepted, line), output) {
+        Ok(end) => Ok(end),
+        Err(PlayFault::Memory) => Err(RunFault::Memory),
+        Err(PlayFault::Write) => Err(RunFault::Write),
+    }
 }
 
 /// `run_to_end`, where nobody asks how the run has ended.
@@ -182,6 +168,8 @@ pub fn run_text<S: Source, W: Sink>(
         (W.written output.old) (W.written output.new) (W.has_failed output.new)) }
     ensures reads { S.reads schedule.new ≤ S.reads schedule.old + 1000000000 }
 {
-    run_to_end(alloc, image, schedule, output)?;
-    Ok(())
+    match run_to_end(alloc, image, schedule, output) {
+        Ok(_) => Ok(()),
+        Err(fault) => Err(fault),
+    }
 }

@@ -1,13 +1,9 @@
 -- What becomes of a run that was recorded.
-use Rattle.std.proofs.Common.{◌≡◌, ◌∙◌, ◌⊎◌, ℕ, List, Ok, Result, Option, Some, None, inl, inr, refl, sym, arith}
+use Rattle.std.proofs.Common.{◌≡◌, ◌∙◌, ℕ, List, Ok, Result, Option, Some, None, inl, inr, sym}
 use Rattle.row_code.specs.declared.image.Image.{Image}
-use Rattle.line_reader.specs.FaultNumber.{asm_number}
-use Rattle.row_code.specs.FaultNumber.{image_number}
 use Rattle.loader.specs.Fault.{first_fault}
-use Rattle.loader.specs.FaultNumber.{load_number}
 use Rattle.loader.specs.Program.{IsProgramOf, Program}
 use Rattle.assembler.proofs.ReadLines.{one_image}
-use Rattle.schedule_reader.specs.FaultNumber.{schedule_number}
 use Rattle.thread_machine.proofs.Firsts.{is_first}
 use Rattle.thread_machine.specs.declared.choice.Choice.{Choice}
 use Rattle.thread_machine.specs.World.{World, first_world}
@@ -17,9 +13,6 @@ use Rattle.thread_runner.specs.Replay.{IsReplay}
 use Rattle.trace_compare.specs.declared.run_end.RunEnd.{RunEnd}
 use Rattle.trace_compare.specs.RunText.{AreTraced}
 use Rattle.trace_compare.specs.Trace.{AppendsPartOf, lines_of}
-use Rattle.workbench.specs.declared.fault.Fault.{Fault}
-use Rattle.workbench.specs.declared.fault.Fault.TheVariants as fault
-use Rattle.workbench.specs.Fault.{refusal_status, status_of}
 use Rattle.workbench.specs.Live.{IsLived, IsLivedAtMost, IsRecorded}
 use Rattle.workbench.specs.ProgramFile.{IsProgramFile}
 
@@ -92,24 +85,3 @@ lived_in_part limit file program choices old new known part =
         ),
       ),
     )
-
-refusal_port : (number : Option ℕ) → refusal_status number ≡ 5 → ⊥
-refusal_port (Some n) five = absurd (omega (arith, five))
-refusal_port None five = absurd (omega (arith, five))
-
-first_two : {A B C : Type 0} → A ⊎ B → A ⊎ (B ⊎ C)
-first_two (inl a) = inl a
-first_two (inr b) = inr (inl b)
-
--- who fails has a port that failed, or too much to read
-pub port_of : (f : Fault) (A B C : Type 0) → (f ≡ fault.Read → A ⊎ B) → (f ≡ fault.Write → C) → status_of f ≡ 5
-    → A ⊎ (B ⊎ C)
-port_of fault.Read A B C read write five = first_two (read refl)
-port_of fault.Write A B C read write five = inr (inr (write refl))
-port_of fault.Memory A B C read write five = absurd (omega (arith, five))
-port_of fault.Spawn A B C read write five = absurd (omega (arith, five))
-port_of (fault.Asm f) A B C read write five = absurd (refusal_port (asm_number f.kind) five)
-port_of (fault.Image f) A B C read write five = absurd (refusal_port (image_number f) five)
-port_of (fault.Load f) A B C read write five = absurd (refusal_port (load_number f) five)
-port_of (fault.Schedule f) A B C read write five = absurd (refusal_port (schedule_number f) five)
-port_of (fault.TooLong kind) A B C read write five = absurd (omega (arith, five))

@@ -9,8 +9,8 @@ use Rattle.trace_compare.specs.Trace.{AppendsPartOf, lines_of}
 use Rattle.workbench.proofs.Lives.{lived, lived_in_part}
 use Rattle.workbench.proofs.live.live.Goals as goal
 
-pub returns-in-Ok-run_loaded-clause-done : goal.returns-in-Ok-run_loaded-clause-done
-returns-in-Ok-run_loaded-clause-done g c =
+pub returns-in-Ok-run_loaded : goal.returns-in-Ok-run_loaded
+returns-in-Ok-run_loaded g c =
     let program = c.in-Ok-loaded.program in
     let runs = c.as_slice.result.now in
     let recorded = c.in-Ok-recorded.ensures.replay in
@@ -31,8 +31,8 @@ returns-in-Ok-run_loaded-clause-done g c =
     (g.K.Sink.written c.args.output.now) (g.K.Sink.written c.run_loaded.new.output))
     c.in-Ok-copy.ensures c.in-Ok-run_loaded.ensures.traced)
 
-pub returns-in-Err-Memory-clause-memory : goal.returns-in-Err-Memory-clause-memory
-returns-in-Err-Memory-clause-memory g c = λ _.
+pub returns-in-Err-Memory : goal.returns-in-Err-Memory
+returns-in-Err-Memory g c =
     let program = c.in-Ok-loaded.program in
     let runs = c.as_slice.result.now in
     let recorded = c.in-Ok-recorded.ensures.replay in
