@@ -453,9 +453,14 @@ function drawThreads(box, e, s, was) {
   s.threads.forEach((thread, t) => {
     const old = was.threads[t], row = add(body, "tr", e && e.thread === t ? "its" : "");
     chip(head(row, "row"), t, s, 8);
-    changed(add(row, "td", "num", "" + thread.row), thread.row !== old.row);
+    const number = (name, value, was) => {
+      const cell = add(row, "td", "num", "" + value);
+      cell.setAttribute("data-name", name);
+      changed(cell, value !== was);
+    };
+    number("row", thread.row, old.row);
     changed(add(row, "td", "", doing(s, t)), thread.status !== old.status || thread.flag !== old.flag);
-    for (const k of uses.registers) changed(add(row, "td", "num", "" + thread.regs[k]), thread.regs[k] !== old.regs[k]);
+    for (const k of uses.registers) number("r" + k, thread.regs[k], old.regs[k]);
   });
 }
 // what all threads have of a kind, a line each; those that have nothing are left out

@@ -108,6 +108,8 @@ function show(i) {
   markProgram(e, s);
   id("after").textContent = stateTitle(i);
   drawState(id("things"), i);
+  id("things").classList.remove("slim");
+  id("things").classList.toggle("slim", !isWide() && isWider(id("things")));
   bringTimeline(i);
   markLines();
   markMap();

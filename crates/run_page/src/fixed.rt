@@ -7,7 +7,7 @@ pub const HEAD: &[u8] = br###"<!doctype html>
 <head>
 <meta charset="utf-8">
 <meta name="viewport" content="width=device-width, initial-scale=1">
-<meta http-equiv="Content-Security-Policy" content="default-src 'none'; style-src 'sha256-89DoSmP8LVe+Gri/fpN/idAl5i2ZUwKLpnfR1JrQxsY='; script-src 'sha256-vWZKClc/lveeeo7tiYn/58mklsJBWbYWSMDC7+TL3Ro='">
+<meta http-equiv="Content-Security-Policy" content="default-src 'none'; style-src 'sha256-y+UH8WDCDn1C0RVzfvgowPMCv9Y3W5tHuOZ6G3MLYHo='; script-src 'sha256-lXIob0FhgYUXVUZK4M4jrE4z2YB1Q2Qhdn/rn+u+DRs='">
 <meta name="generator" content="vuthgal show">
 <title>A run, step by step</title>
 <style>
@@ -27,7 +27,7 @@ pub const HEAD: &[u8] = br###"<!doctype html>
   }
 }
 @media (prefers-contrast: more) {
-  :root { --soft: #333; --faint: #555; --rule: #777; --line: #444 }
+  :root { --soft: #333; --faint: #4d4d4d; --rule: #777; --line: #444 }
 }
 @media screen and (prefers-contrast: more) and (prefers-color-scheme: dark) {
   :root:not(.paper) { --soft: #e4e4e4; --faint: #bdbdbd; --rule: #999; --line: #ccc }
@@ -123,7 +123,7 @@ th { text-align: left; font-weight: 600 }
 #lanes .gap td { padding: 0; height: auto }
 #lanes thead th { position: sticky; top: 0; z-index: 4; background: var(--paper); border-bottom: 2px solid var(--edge); vertical-align: bottom; padding-bottom: .15rem }
 #lanes tbody tr[data-i] { cursor: pointer }
-#lanes .n { text-align: right; color: var(--soft); font-variant-numeric: tabular-nums; width: 3.5rem; min-width: 3.5rem; font-weight: 400; position: sticky; left: 0; z-index: 5; background: var(--paper) }
+#lanes .n { text-align: right; color: var(--soft); font-variant-numeric: tabular-nums; width: 4rem; min-width: 4rem; font-weight: 400; position: sticky; left: 0; z-index: 5; background: var(--paper) }
 #lanes thead .n { z-index: 6 }
 #lanes .t { position: relative; padding-left: 1.6rem; padding-right: .2rem; min-width: var(--column) }
 #lanes thead .t { padding-left: .1rem; position: sticky }
@@ -235,6 +235,11 @@ th { text-align: left; font-weight: 600 }
 .facts .grid thead th { border-bottom: 2px solid var(--edge); font-size: .85rem; position: sticky; top: 0; background: var(--paper); z-index: 1 }
 .facts .grid th.num { text-align: right }
 .facts .all { width: 100% }
+/* on a phone: of tables that are wider than their room, each line in several, and numbers behind their names */
+.slim thead { display: none }
+.slim tr { display: flex; flex-wrap: wrap; align-items: baseline; border-bottom: 1px solid var(--rule) }
+.slim.facts .grid th, .slim.facts .grid td { border-bottom: 0 }
+.slim td[data-name]::before { content: attr(data-name) " "; color: var(--soft); font-size: .85rem; font-weight: 400 }
 .new { background: var(--now); outline: 2px solid var(--ink); outline-offset: -1px; font-weight: 700; print-color-adjust: exact; -webkit-print-color-adjust: exact }
 .dots { display: inline-block; white-space: nowrap; margin-right: .35rem }
 .party { display: inline-block; width: .85rem; height: .85rem; border: 2px solid var(--ink); border-radius: 50%; margin: 0 .12rem -.1rem 0; background: var(--paper); print-color-adjust: exact; -webkit-print-color-adjust: exact }
@@ -1354,9 +1359,14 @@ function drawThreads(box, e, s, was) {
   s.threads.forEach((thread, t) => {
     const old = was.threads[t], row = add(body, "tr", e && e.thread === t ? "its" : "");
     chip(head(row, "row"), t, s, 8);
-    changed(add(row, "td", "num", "" + thread.row), thread.row !== old.row);
+    const number = (name, value, was) => {
+      const cell = add(row, "td", "num", "" + value);
+      cell.setAttribute("data-name", name);
+      changed(cell, value !== was);
+    };
+    number("row", thread.row, old.row);
     changed(add(row, "td", "", doing(s, t)), thread.status !== old.status || thread.flag !== old.flag);
-    for (const k of uses.registers) changed(add(row, "td", "num", "" + thread.regs[k]), thread.regs[k] !== old.regs[k]);
+    for (const k of uses.registers) number("r" + k, thread.regs[k], old.regs[k]);
   });
 }
 // what all threads have of a kind, a line each; those that have nothing are left out
@@ -1576,6 +1586,8 @@ function show(i) {
   markProgram(e, s);
   id("after").textContent = stateTitle(i);
   drawState(id("things"), i);
+  id("things").classList.remove("slim");
+  id("things").classList.toggle("slim", !isWide() && isWider(id("things")));
   bringTimeline(i);
   markLines();
   markMap();
