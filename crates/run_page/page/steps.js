@@ -109,7 +109,7 @@ function show(i) {
   id("after").textContent = stateTitle(i);
   drawState(id("things"), i);
   id("things").classList.remove("slim");
-  id("things").classList.toggle("slim", !isWide() && isWider(id("things")));
+  id("things").classList.toggle("slim", layout.isSlim && isWider(id("things")));
   bringTimeline(i);
   markLines();
   markMap();
@@ -154,7 +154,7 @@ function remembered() {
   try { return +localStorage.getItem(SIZE) || 0; } catch (error) { return 0; }
 }
 function choose(to) {
-  chosenSize = to && Math.max(.6, Math.min(3, to));
+  chosenSize = Math.round(1e4 * (to && Math.max(.6, Math.min(3, to)))) / 1e4;
   try { localStorage.setItem(SIZE, chosenSize); } catch (error) { /* a page may have no such place */ }
   arrange();
 }
@@ -172,10 +172,15 @@ const isWider = box => box.scrollWidth > box.clientWidth;
 const isTaller = box => box.scrollHeight > box.clientHeight;
 const isWide = () => document.body.classList.contains("wide");
 
-// The layouts: the panes side by side, with wide columns or narrow ones in the timeline; in two columns; below one another.
-const LAYOUTS = [{ columns: 3, isWide: true }, { columns: 3, isWide: false }, { columns: 2, isWide: true }, { columns: 1, isWide: true }];
+// The layouts: the panes side by side, with wide columns or narrow ones in the timeline; in two columns; the same with tables
+// that may be slim; below one another.
+const LAYOUTS = [
+  { columns: 3, isWide: true, isSlim: false }, { columns: 3, isWide: false, isSlim: false }, { columns: 2, isWide: true, isSlim: false },
+  { columns: 3, isWide: false, isSlim: true }, { columns: 2, isWide: true, isSlim: true }, { columns: 1, isWide: true, isSlim: true }
+];
+let layout = LAYOUTS[0];
 
-function draw(layout) {
+function draw() {
   document.body.classList.toggle("wide", layout.columns > 1);
   id("panes").classList.toggle("two", layout.columns === 2);
   drawProgram();
@@ -183,23 +188,23 @@ function draw(layout) {
   at = -1;
   show(fullest);
 }
-// draws in the first layout in which nothing is wider than its room, and answers it
+// draws in the first of the layouts that the window has room for in which nothing is wider than its box
 function layOut() {
-  const most = innerWidth / rem() < 56 || innerHeight / rem() < 34 ? 1 : isCrowd() ? 2 : 3, all = LAYOUTS.filter(layout => layout.columns <= most);
-  const boxes = [codeBox(), id("things")].concat(isCrowd() ? [] : timeBox());
-  return all.find(layout => {
-    draw(layout);
-    return !boxes.some(isWider);
-  }) || all[all.length - 1];
+  const wide = innerWidth / rem(), tall = innerHeight / rem(), boxes = [codeBox(), id("things")].concat(isCrowd() ? [] : timeBox());
+  const hasRoom = columns => columns === 1 || (wide >= 56 && tall >= 34 && (isCrowd() ? columns === 2 : columns === 3 || tall >= 46));
+  for (layout of LAYOUTS.filter(one => hasRoom(one.columns))) {
+    draw();
+    if (!boxes.some(isWider)) return;
+  }
 }
 // makes the text larger as long as the panes hold all of it, of a long timeline some lines, and its columns stay as they are
-function grow(layout) {
+function grow() {
   const time = timeBox(), rest = [codeBox(), id("things")], wasNarrow = isNarrow, least = isTaller(time) ? LINES : Infinity;
   const hasRoom = () => !rest.some(isTaller) && !rest.concat(time).some(isWider) && isNarrow === wasNarrow
     && time.clientHeight >= Math.min(time.scrollHeight, least * linePitch());
   const drawAt = to => {
     setSize(to);
-    draw(layout);
+    draw();
   };
   while (size < GROWN && hasRoom()) drawAt(size * GROWTH);
   if (size > 1 && !hasRoom()) drawAt(size / GROWTH);
@@ -208,8 +213,8 @@ function grow(layout) {
 function arrange() {
   const now = at < 0 ? fromAddress() : at;
   setSize(chosenSize || 1);
-  const layout = layOut();
-  if (!chosenSize && layout.columns > 1) grow(layout);
+  layOut();
+  if (!chosenSize && isWide()) grow();
   at = -1;
   show(now);
 }

@@ -7,7 +7,7 @@ pub const HEAD: &[u8] = br###"<!doctype html>
 <head>
 <meta charset="utf-8">
 <meta name="viewport" content="width=device-width, initial-scale=1">
-<meta http-equiv="Content-Security-Policy" content="default-src 'none'; style-src 'sha256-y+UH8WDCDn1C0RVzfvgowPMCv9Y3W5tHuOZ6G3MLYHo='; script-src 'sha256-lXIob0FhgYUXVUZK4M4jrE4z2YB1Q2Qhdn/rn+u+DRs='">
+<meta http-equiv="Content-Security-Policy" content="default-src 'none'; style-src 'sha256-KctzKgm+HPOPmwxY4Kht2+8M/l5n1tLSjaBLDyaSWoc='; script-src 'sha256-zGLjUEVzzAuoy+u5ZUNNi/7K2VcXWiKK4edihUKQS+I='">
 <meta name="generator" content="vuthgal show">
 <title>A run, step by step</title>
 <style>
@@ -235,7 +235,7 @@ th { text-align: left; font-weight: 600 }
 .facts .grid thead th { border-bottom: 2px solid var(--edge); font-size: .85rem; position: sticky; top: 0; background: var(--paper); z-index: 1 }
 .facts .grid th.num { text-align: right }
 .facts .all { width: 100% }
-/* on a phone: of tables that are wider than their room, each line in several, and numbers behind their names */
+/* of tables that are wider than their room, each line in several, and numbers behind their names */
 .slim thead { display: none }
 .slim tr { display: flex; flex-wrap: wrap; align-items: baseline; border-bottom: 1px solid var(--rule) }
 .slim.facts .grid th, .slim.facts .grid td { border-bottom: 0 }
@@ -1587,7 +1587,7 @@ function show(i) {
   id("after").textContent = stateTitle(i);
   drawState(id("things"), i);
   id("things").classList.remove("slim");
-  id("things").classList.toggle("slim", !isWide() && isWider(id("things")));
+  id("things").classList.toggle("slim", layout.isSlim && isWider(id("things")));
   bringTimeline(i);
   markLines();
   markMap();
@@ -1632,7 +1632,7 @@ function remembered() {
   try { return +localStorage.getItem(SIZE) || 0; } catch (error) { return 0; }
 }
 function choose(to) {
-  chosenSize = to && Math.max(.6, Math.min(3, to));
+  chosenSize = Math.round(1e4 * (to && Math.max(.6, Math.min(3, to)))) / 1e4;
   try { localStorage.setItem(SIZE, chosenSize); } catch (error) { /* a page may have no such place */ }
   arrange();
 }
@@ -1650,10 +1650,15 @@ const isWider = box => box.scrollWidth > box.clientWidth;
 const isTaller = box => box.scrollHeight > box.clientHeight;
 const isWide = () => document.body.classList.contains("wide");
 
-// The layouts: the panes side by side, with wide columns or narrow ones in the timeline; in two columns; below one another.
-const LAYOUTS = [{ columns: 3, isWide: true }, { columns: 3, isWide: false }, { columns: 2, isWide: true }, { columns: 1, isWide: true }];
+// The layouts: the panes side by side, with wide columns or narrow ones in the timeline; in two columns; the same with tables
+// that may be slim; below one another.
+const LAYOUTS = [
+  { columns: 3, isWide: true, isSlim: false }, { columns: 3, isWide: false, isSlim: false }, { columns: 2, isWide: true, isSlim: false },
+  { columns: 3, isWide: false, isSlim: true }, { columns: 2, isWide: true, isSlim: true }, { columns: 1, isWide: true, isSlim: true }
+];
+let layout = LAYOUTS[0];
 
-function draw(layout) {
+function draw() {
   document.body.classList.toggle("wide", layout.columns > 1);
   id("panes").classList.toggle("two", layout.columns === 2);
   drawProgram();
@@ -1661,23 +1666,23 @@ function draw(layout) {
   at = -1;
   show(fullest);
 }
-// draws in the first layout in which nothing is wider than its room, and answers it
+// draws in the first of the layouts that the window has room for in which nothing is wider than its box
 function layOut() {
-  const most = innerWidth / rem() < 56 || innerHeight / rem() < 34 ? 1 : isCrowd() ? 2 : 3, all = LAYOUTS.filter(layout => layout.columns <= most);
-  const boxes = [codeBox(), id("things")].concat(isCrowd() ? [] : timeBox());
-  return all.find(layout => {
-    draw(layout);
-    return !boxes.some(isWider);
-  }) || all[all.length - 1];
+  const wide = innerWidth / rem(), tall = innerHeight / rem(), boxes = [codeBox(), id("things")].concat(isCrowd() ? [] : timeBox());
+  const hasRoom = columns => columns === 1 || (wide >= 56 && tall >= 34 && (isCrowd() ? columns === 2 : columns === 3 || tall >= 46));
+  for (layout of LAYOUTS.filter(one => hasRoom(one.columns))) {
+    draw();
+    if (!boxes.some(isWider)) return;
+  }
 }
 // makes the text larger as long as the panes hold all of it, of a long timeline some lines, and its columns stay as they are
-function grow(layout) {
+function grow() {
   const time = timeBox(), rest = [codeBox(), id("things")], wasNarrow = isNarrow, least = isTaller(time) ? LINES : Infinity;
   const hasRoom = () => !rest.some(isTaller) && !rest.concat(time).some(isWider) && isNarrow === wasNarrow
     && time.clientHeight >= Math.min(time.scrollHeight, least * linePitch());
   const drawAt = to => {
     setSize(to);
-    draw(layout);
+    draw();
   };
   while (size < GROWN && hasRoom()) drawAt(size * GROWTH);
   if (size > 1 && !hasRoom()) drawAt(size / GROWTH);
@@ -1686,8 +1691,8 @@ function grow(layout) {
 function arrange() {
   const now = at < 0 ? fromAddress() : at;
   setSize(chosenSize || 1);
-  const layout = layOut();
-  if (!chosenSize && layout.columns > 1) grow(layout);
+  layOut();
+  if (!chosenSize && isWide()) grow();
   at = -1;
   show(now);
 }
