@@ -33,6 +33,7 @@
     }
   }
 
+  if (innerWidth !== asked.width || innerHeight !== asked.height) wrong.add("the window is " + innerWidth + " by " + innerHeight);
   if (sessionStorage.getItem("chosen") === null) {
     lookForCuts("at first");
     lookForRoom();
