@@ -49,6 +49,8 @@
   if (size() <= usual) wrong.add("+ makes nothing larger");
   press(document.body, "-");
   if (Math.abs(size() - usual) > .01) wrong.add("- doesn't undo +");
+  press(document.body, "0");
+  if (Math.abs(size() - usual) > .01) wrong.add("0 doesn't bring the usual size back");
   id("first").click();
   lookAtHeads(boxes.state.querySelector("tbody").rows.length);
   for (const element of [id("slider"), id("play"), id("speed"), id("hide"), id("things"), boxes.timeline, document.body]) {
@@ -60,5 +62,5 @@
     if (id("forth").disabled) break;
     id("forth").click();
   }
-  id("noted").textContent = "\n" + [...wrong].slice(0, 5).join("\n") + "\n";
+  id("noted").textContent = "\n" + [...wrong].slice(0, 5).join("\n") + "\nlooked\n";
 })();

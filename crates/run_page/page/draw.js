@@ -27,21 +27,22 @@ function chip(parent, t, s, most) {
   element.title = threadTitle(t);
   return element;
 }
-// the colours of what is painted: those of the page, which are others in the dark and where the reader forces them
-let colours = {};
+// the colours of what is painted: those of the page, which are others in the dark and where the reader forces them; and those
+// of what comes later
+let colours = {}, pale = {};
 
 function readColours() {
   const style = getComputedStyle(document.documentElement), of = name => style.getPropertyValue("--" + name).trim();
-  colours = { ink: of("ink"), paper: of("paper"), mark: of("map-mark"), lanes: LANES.map(lane => of("map-" + lane)), hues: [] };
-  for (let k = 0; k < HUES; k++) colours.hues.push(of("h" + k));
-  hatch = null;
+  const hues = Array.from({ length: HUES }, (_, k) => of("h" + k)), paper = of("paper"), faint = of("faint");
+  colours = { ink: of("ink"), paper: paper, hues: hues, mark: of("map-mark"), lanes: LANES.map(lane => of("map-" + lane)) };
+  pale = document.documentElement.classList.contains("paper") ? colours : { ink: faint, paper: paper, hues: hues.map(() => faint) };
 }
 
 // ---- the timeline: a column for each thread, a line for each choice; idle choices behind one another may have one line
 // together. Where the columns are wide, a choice's words stand in its thread's column; where they are narrow, in one column
-// behind all. Of a long run only the lines in view are there.
+// behind all, on a phone together with what ended for all. Of a long run only the lines in view are there.
 const WIDE = 6, WHOLE = 3000, MARGIN = 20;
-let isNarrow = false, lineOf = new Map(), drawn = { from: 0, to: 0 };
+let isNarrow = false, isNarrowest = false, lineOf = new Map(), drawn = { from: 0, to: 0 };
 // the moments that have a line, each the last of its line, and the number of each moment's line
 let shown = [], lineNumber = [];
 
@@ -75,7 +76,7 @@ function drawHead(table) {
     if (names.T[t] && !isNarrow) add(cell, "span", "kind", " t" + t);
   });
   if (isNarrow) add(head(line, "col", "w"), "span", "unseen", "What");
-  add(head(line, "col", "m"), "span", "unseen", "Ends for all");
+  if (!isNarrowest) add(head(line, "col", "m"), "span", "unseen", "Ends for all");
 }
 // the lines of these numbers
 function drawLines(from, to) {
@@ -115,7 +116,7 @@ function widest(texts, kind) {
 // the width of narrow columns: they share what the words behind them leave. `--need` is what the timeline asks for
 function narrowColumn() {
   const em = rem(), events = moments.filter(m => m.event && m.event.thread < threads.length).map(m => m.event), named = threads.map((_, t) => shortName(t, LETTERS));
-  const marks = moments.map((_, i) => wordsForAll(i));
+  const marks = moments.map((_, i) => [wordsForAll(i), strays[i] ? shortStray(strays[i]) : ""].filter(text => text).join(" \u2014 "));
   const words = widest(named, "who in-line") + widest(events.map(tagText), "tag") + widest(marks, "mark") + 5.6 * em;
   const name = widest(named, "who brief") + 2, most = isCrowd() ? 1.2 * em : Math.max(2.4 * em, name + .4 * em);
   const least = em * (isCrowd() ? Math.max(.5, Math.min(.8, 32 / threads.length)) : name < 2.6 * em ? Math.max(1.5, name / em) : 1.5);
@@ -126,7 +127,8 @@ function narrowColumn() {
 function drawColumns() {
   const table = id("lanes");
   table.textContent = "";
-  table.className = (isNarrow ? "narrow" : "") + (id("hide").checked ? " hiding" : "");
+  isNarrowest = isNarrow && !isWide();
+  table.className = (isNarrow ? "narrow" : "") + (isNarrowest && isWhole() ? " folds" : "");
   table.style.removeProperty("--column");
   id("panes").style.removeProperty("--need");
   if (isNarrow) {
@@ -138,16 +140,19 @@ function drawColumns() {
   drawn = { from: 0, to: 0 };
   drawLines(0, isWhole() ? shown.length : Math.min(shown.length, 2 * MARGIN));
 }
-// with wide columns where they fit, else with narrow ones
-function drawTimeline() {
+// with wide columns where they fit, or would with more room, else with narrow ones
+function drawTimeline(isWideTried) {
   readColours();
   fold();
   drawMap();
-  isNarrow = threads.length > WIDE;
+  isNarrow = !isWideTried || threads.length > WIDE;
   drawColumns();
-  if (!isNarrow && timeBox().scrollWidth > timeBox().clientWidth) {
-    isNarrow = true;
-    drawColumns();
+  if (!isNarrow && isWider(timeBox())) {
+    id("panes").style.setProperty("--need", id("time").offsetWidth + timeBox().scrollWidth - timeBox().clientWidth + 1 + "px");
+    if (isWider(timeBox())) {
+      isNarrow = true;
+      drawColumns();
+    }
   }
   drawNames();
   drawMap();
@@ -174,7 +179,7 @@ function drawLane(line, k, t, took, turns) {
 }
 // ---- many threads: the columns of a line are one picture, and its words tell whose turn it was
 const isCrowd = () => threads.length > 2 * WIDE;
-let column = 0, hatch = null;
+let column = 0;
 
 // the names above the columns: where those are too narrow for a name each, every second one, or every third
 function drawCast(cell) {
@@ -192,78 +197,79 @@ function drawCast(cell) {
   });
   cast.style.height = tall + "px";
 }
-function picture(cell, height, paint) {
-  const canvas = add(cell, "canvas"), scale = Math.max(1, Math.min(2, devicePixelRatio || 1)), width = column * threads.length;
+function picture(canvas, height, ink, paint) {
+  const scale = Math.max(1, Math.min(2, devicePixelRatio || 1)), width = column * threads.length;
   canvas.width = width * scale;
   canvas.height = height * scale;
   canvas.style.width = width + "px";
   canvas.style.height = height + "px";
   const pen = canvas.getContext("2d");
   pen.scale(scale, scale);
-  pen.strokeStyle = colours.ink;
+  pen.strokeStyle = ink;
   paint(pen);
 }
-function hatched() {
-  if (hatch) return hatch;
+function hatched(inks) {
+  if (inks.hatch) return inks.hatch;
   const tile = document.createElement("canvas"), pen = (tile.width = tile.height = 6, tile.getContext("2d"));
-  pen.fillStyle = colours.paper;
+  pen.fillStyle = inks.paper;
   pen.fillRect(0, 0, 6, 6);
-  pen.strokeStyle = colours.ink;
+  pen.strokeStyle = inks.ink;
   pen.lineWidth = 2;
   for (const x of [-6, 0, 6]) pen.stroke(new Path2D("M" + x + " 6 l6 -6"));
-  return hatch = pen.createPattern(tile, "repeat");
+  return inks.hatch = pen.createPattern(tile, "repeat");
 }
 // half of a thread's line
-function paintLane(pen, lane, t, top, height) {
+function paintLane(pen, inks, lane, t, top, height) {
   const middle = (t + .5) * column, wide = Math.min(12, column - 2);
   if (lane === OVER) return;
-  pen.fillStyle = colours.hues[t % HUES];
+  pen.fillStyle = inks.hues[t % HUES];
   if (lane === RUNS) pen.fillRect(middle - 1.5, top, 3, height);
   else if (lane === HELD) for (let y = top; y < top + height; y += 6) pen.fillRect(middle - 1.5, y, 3, 3);
   else if (lane === THROWS) for (const x of [-2.5, 1.5]) pen.fillRect(middle + x, top, 1, height);
   else {
-    pen.fillStyle = lane === WAITS ? hatched() : colours.paper;
+    pen.fillStyle = lane === WAITS ? hatched(inks) : inks.paper;
     pen.fillRect(middle - wide / 2, top, wide, height);
-    pen.fillStyle = colours.ink;
+    pen.fillStyle = inks.ink;
     for (const x of [-wide / 2, wide / 2 - 1]) pen.fillRect(middle + x, top, 1, height);
   }
 }
-function paintDiamond(pen, t, y, size, inside) {
-  const x = (t + .5) * column, path = new Path2D("M" + x + " " + (y - size) + " l" + size + " " + size + " l-" + size + " " + size + " l-" + size + " -" + size + " z");
-  pen.fillStyle = inside;
-  pen.fill(path);
+function paintPath(pen, x, y, path, inside) {
+  const moved = new Path2D("M" + x + " " + y + path);
   pen.lineWidth = 2;
-  pen.stroke(path);
+  pen.fillStyle = inside;
+  pen.fill(moved);
+  pen.stroke(moved);
 }
-function paintChoice(pen, e, t, y) {
-  const size = Math.min(6, column / 2), x = (t + .5) * column;
-  if (e.what === "throw" || e.what === "die") paintDiamond(pen, t, y, size, e.what === "die" ? colours.ink : colours.paper);
-  else {
-    const path = new Path2D();
-    if (e.what === "end") path.rect(x - size + 1, y - size + 1, 2 * size - 2, 2 * size - 2);
-    else path.arc(x, y, size - 1, 0, 7);
-    pen.fillStyle = e.what === "end" ? colours.ink : e.what === "idle" ? colours.paper : colours.hues[t % HUES];
-    pen.fill(path);
-    pen.lineWidth = 2;
-    pen.stroke(path);
-  }
+// a circle; a cross of what throws, a square at an end, and a cross in a square at a death
+function paintChoice(pen, inks, e, t, y) {
+  const size = Math.min(6, column / 2), x = (t + .5) * column, side = 2 * size - 2;
+  const cross = "m" + (1 - size) + " " + (1 - size) + "l" + side + " " + side + "m0 " + -side + "l" + -side + " " + side;
+  const square = "m" + (1 - size) + " " + (1 - size) + "h" + side + "v" + side + "h" + -side + "z";
+  const circle = "m" + (1 - size) + " 0a" + (size - 1) + " " + (size - 1) + " 0 1 0 " + side + " 0a" + (size - 1) + " " + (size - 1) + " 0 1 0 " + -side + " 0";
+  if (e.what === "end" || e.what === "die") paintPath(pen, x, y, square, inks.ink);
+  else if (e.what !== "throw") paintPath(pen, x, y, circle, e.what === "idle" ? inks.paper : inks.hues[t % HUES]);
+  if (e.what === "die") pen.strokeStyle = inks.paper;
+  if (e.what === "die" || e.what === "throw") paintPath(pen, x, y, cross, inks.ink);
+  pen.strokeStyle = inks.ink;
 }
-function paintTook(pen, e, took, y) {
-  const list = [...took], first = (Math.min(...list) + .5) * column, final = (Math.max(...list) + .5) * column;
-  pen.fillStyle = colours.ink;
+function paintTook(pen, inks, e, took, y) {
+  const list = [...took], first = (Math.min(...list) + .5) * column, final = (Math.max(...list) + .5) * column, size = Math.min(7, column / 2 + 1);
+  const diamond = "m0 " + -size + "l" + size + " " + size + "l" + -size + " " + size + "l" + -size + " " + -size + "z";
+  pen.fillStyle = inks.ink;
   for (const x of e.mark.kind === "-b" ? [-1] : [-2.5, 1.5]) pen.fillRect(first, y + x, final - first, e.mark.kind === "-b" ? 2 : 1);
   for (let x = final; x < column * threads.length; x += 4) pen.fillRect(x, y - 1, 2, 2);
-  for (const t of took) paintDiamond(pen, t, y, Math.min(7, column / 2 + 1), colours.paper);
+  for (const t of took) paintPath(pen, (t + .5) * column, y, diamond, inks.paper);
 }
-function drawCrowd(line, k, took, turns) {
+// the columns of the line of this number
+function paintCrowd(canvas, k, inks) {
   const i = shown[k], first = firstOf(k), e = moments[i].event, height = Math.round(linePitch()), half = height / 2;
-  picture(add(line, "td", "crowd"), height, pen => {
+  picture(canvas, height, inks.ink, pen => {
     threads.forEach((_, t) => {
-      if (first) paintLane(pen, laneOf(first - 1, t), t, 0, half);
-      paintLane(pen, laneOf(i, t), t, half, height - half);
+      if (first) paintLane(pen, inks, laneOf(first - 1, t), t, 0, half);
+      paintLane(pen, inks, laneOf(i, t), t, half, height - half);
     });
-    if (took) paintTook(pen, e, took, half);
-    for (const t of turns.keys()) if (t < threads.length) paintChoice(pen, e, t, half);
+    if (parts[i]) paintTook(pen, inks, e, parts[i], half);
+    if (e) for (const t of turnsOf(k).keys()) if (t < threads.length) paintChoice(pen, inks, e, t, half);
   });
 }
 
@@ -295,12 +301,13 @@ function drawMoment(body, k) {
   line.setAttribute("data-i", i);
   if (i === moments.length - 1) line.className = "final";
   head(line, "row", "n", !e ? "start" : isFolded(k) ? moments[firstOf(k)].event.step + "-" + e.step : "" + e.step);
-  if (isCrowd()) drawCrowd(line, k, took, turns);
+  if (isCrowd()) paintCrowd(add(add(line, "td", "crowd"), "canvas"), k, colours);
   else threads.forEach((_, t) => drawLane(line, k, t, took, turns));
   if (isNarrow) drawWords(line, k, took, turns);
-  const cell = add(line, "td", "m"), words = wordsForAll(i);
-  if (took) add(cell, "span", "across lead ends");
+  const cell = isNarrowest ? line.lastChild : add(line, "td", "m"), words = wordsForAll(i);
+  if (took && !isNarrowest) add(cell, "span", "across lead ends");
   if (words) add(cell, "span", "mark", words);
+  if (strays[i]) add(cell, "span", "mark stray", shortStray(strays[i]));
 }
 // what is said behind the last line
 function closingWords() {
@@ -318,13 +325,15 @@ function drawClose(body) {
     add(add(line, "td", "t u-off l-off"), "span", isNarrow ? "unseen" : "", word);
   });
   const cell = add(line, "td", isNarrow ? "w" : "m", closingWords());
-  if (isNarrow) cell.colSpan = 2;
+  if (isNarrow && !isNarrowest) cell.colSpan = 2;
 }
 // which lines are later than the one that is shown
 function markLines() {
   const final = moments.length - 1;
   for (const [i, line] of lineOf) {
-    line.classList.toggle("later", i > at && !(i > final && at === final));
+    const isLater = i > at && !(i > final && at === final), canvas = line.querySelector("canvas");
+    if (canvas && line.classList.contains("later") !== isLater) paintCrowd(canvas, lineNumber[i], isLater ? pale : colours);
+    line.classList.toggle("later", isLater);
     line.classList.toggle("now", i === at);
     if (i === at) line.setAttribute("aria-current", "step");
     else line.removeAttribute("aria-current");
@@ -368,10 +377,10 @@ function markMap() {
 // ---- the program
 const placeOfRow = [], lineOfRow = [];
 
-// a row's line as it was written, or its call in Java behind its label
+// a row's line as it was written, or Java's words behind its label
 function programText(entry) {
-  const row = rows[entry.row], call = inJava() ? callWith(row, register => register) : "", text = entry.code.trimEnd();
-  return call ? /^(\s*\S+:)?\s*/.exec(text)[0] + (row.kinds[0] === "r" ? row.operands[0] + " = " : "") + call : text;
+  const text = entry.code.trimEnd();
+  return inJava() ? /^(\s*\S+:)?\s*/.exec(text)[0] + javaText(rows[entry.row]) : text;
 }
 function drawProgram() {
   id("rows").textContent = "";
@@ -429,13 +438,13 @@ function findUses() {
 }
 const changed = (cell, is) => { if (is) cell.className += " new"; };
 
-function title(text, count) {
-  const block = add(id("things"), "div", "block");
+function title(box, text, count) {
+  const block = add(box, "div", "block");
   add(block, "h3", "", text);
   return count === undefined ? block : add(add(block, "table", "grid"), "tbody");
 }
-function drawThreads(e, s, was) {
-  const block = title("Threads"), grid = add(block, "table", "grid"), line = add(add(grid, "thead"), "tr");
+function drawThreads(box, e, s, was) {
+  const block = title(box, "Threads"), grid = add(block, "table", "grid"), line = add(add(grid, "thead"), "tr");
   add(head(line, "col", ""), "span", "unseen", "Thread");
   head(line, "col", "num", "Row");
   head(line, "col", "", "Doing");
@@ -444,15 +453,20 @@ function drawThreads(e, s, was) {
   s.threads.forEach((thread, t) => {
     const old = was.threads[t], row = add(body, "tr", e && e.thread === t ? "its" : "");
     chip(head(row, "row"), t, s, 8);
-    changed(add(row, "td", "num", "" + thread.row), thread.row !== old.row);
+    const number = (name, value, was) => {
+      const cell = add(row, "td", "num", "" + value);
+      cell.setAttribute("data-name", name);
+      changed(cell, value !== was);
+    };
+    number("row", thread.row, old.row);
     changed(add(row, "td", "", doing(s, t)), thread.status !== old.status || thread.flag !== old.flag);
-    for (const k of uses.registers) changed(add(row, "td", "num", "" + thread.regs[k]), thread.regs[k] !== old.regs[k]);
+    for (const k of uses.registers) number("r" + k, thread.regs[k], old.regs[k]);
   });
 }
 // what all threads have of a kind, a line each; those that have nothing are left out
-function drawOf(s, was, text, of, put) {
+function drawOf(box, s, was, text, of, put) {
   if (!s.threads.some(thread => of(thread).length)) return;
-  const body = title(text, 0);
+  const body = title(box, text, 0);
   s.threads.forEach((thread, t) => {
     if (!of(thread).length) return;
     const row = add(body, "tr");
@@ -472,9 +486,9 @@ function dots(cell, filled, all) {
 function phaserOrder(parent, depth) {
   return phasers.flatMap((p, n) => p.parent === parent ? [{ p: n, depth: depth }].concat(phaserOrder(n, depth + 1)) : []);
 }
-function drawPhasers(s, was) {
+function drawPhasers(box, s, was) {
   if (!phasers.length) return;
-  const body = title("Phasers", 0);
+  const body = title(box, "Phasers", 0);
   for (const place of phaserOrder(-1, 0)) {
     const p = s.phasers[place.p], old = was.phasers[place.p], row = add(body, "tr");
     head(row, "row", "", (place.depth ? "\u2514 " : "") + nameOf("P", place.p)).style.paddingLeft = .35 + .8 * place.depth + "rem";
@@ -485,9 +499,9 @@ function drawPhasers(s, was) {
     add(cell, "span", "note", p.arrived + " of " + p.parties + " arrived");
   }
 }
-function drawBarriers(s, was) {
+function drawBarriers(box, s, was) {
   if (!barriers.length) return;
-  const body = title("Barriers", 0);
+  const body = title(box, "Barriers", 0);
   s.barriers.forEach((b, n) => {
     const old = was.barriers[n], row = add(body, "tr");
     head(row, "row", "", nameOf("B", n));
@@ -498,22 +512,23 @@ function drawBarriers(s, was) {
     changed(add(row, "td", "", b.broken ? "broken" : ""), b.broken !== old.broken);
   });
 }
-function drawCells(s, was) {
+function drawCells(box, s, was) {
   const shown = new Set([...uses.cells, ...Object.keys(s.cells).map(Number)]);
   if (!shown.size) return;
-  const block = title("Cells");
+  const block = title(box, "Cells");
   for (const n of [...shown].sort((a, b) => a - b)) {
     changed(add(block, "span", "chip", nameOf("C", n) + " = " + (s.cells[n] || 0)), (s.cells[n] || 0) !== (was.cells[n] || 0));
   }
 }
-function drawState(i) {
-  const s = stateAt(i), was = stateAt(Math.max(0, i - 1)), number = s.choices;
-  id("after").textContent = moments[i].event ? "After choice " + number : "At the start";
-  id("things").textContent = "";
-  drawThreads(moments[i].event, s, was);
-  drawPhasers(s, was);
-  drawBarriers(s, was);
-  drawCells(s, was);
-  if (uses.stack) drawOf(s, was, "Stacks, the top last", thread => thread.stack, (cell, list) => list.forEach(entry => add(cell, "span", "chip", entryText(entry))));
-  if (uses.out) drawOf(s, was, "Output", thread => thread.out, (cell, list) => cell.appendChild(document.createTextNode(list.join(" "))));
+// the state after a choice, in a box
+function drawState(box, i) {
+  const s = stateAt(i), was = stateAt(Math.max(0, i - 1));
+  box.textContent = "";
+  drawThreads(box, moments[i].event, s, was);
+  drawPhasers(box, s, was);
+  drawBarriers(box, s, was);
+  drawCells(box, s, was);
+  if (uses.stack) drawOf(box, s, was, "Stacks, the top last", thread => thread.stack, (cell, list) => list.forEach(entry => add(cell, "span", "chip", entryText(entry))));
+  if (uses.out) drawOf(box, s, was, "Output", thread => thread.out, (cell, list) => cell.appendChild(document.createTextNode(list.join(" "))));
 }
+const stateTitle = i => moments[i].event ? "After choice " + stateAt(i).choices : "At the start";

@@ -182,6 +182,9 @@ function readRun() {
   need(at === lines.length, "there are lines behind the run's end: " + lines[at]);
 }
 
+// a moment's text
+const stateText = i => lines.slice(moments[i].from, i + 1 < moments.length ? moments[i + 1].from - 1 : lines.length).join("\n");
+
 // ---- a moment's state in full; some are kept
 let kept = new Map();
 
@@ -213,16 +216,40 @@ function stateAt(i) {
 }
 
 // ---- who took part in what each choice ended: who arrived on that tree since its last end, by the lines up to it, and who
-// waits there
+// waits there. And where more arrive than are registered: an arrival that finds no party still to arrive, which is refused,
+// and one by which more threads have arrived at a phaser than parties were registered there.
 const ARRIVES = { parr: true, pdereg: true, paaa: true };
-const parts = [];
+const parts = [], strays = [];
+
+// a phaser's parties in a moment, and those of them that haven't arrived
+function partiesAt(i, p) {
+  const m = PHASER.exec(lines[moments[i].from + 1 + threads.length + p]);
+  return { all: +m[3], missing: +m[5] };
+}
+// whether a choice is an arrival that its phaser counted
+function isCounted(e, i) {
+  return ARRIVES[rows[e.row].word] && [RUNS, HELD].includes(laneOf(i - 1, e.thread))
+    && (e.what === "wait" || e.what === "enter" || (e.what === "=" && (e.value >= 0 || e.mark !== null)));
+}
+function readStrays() {
+  const came = phasers.map(() => new Set()), registered = phasers.map((_, p) => partiesAt(0, p).all);
+  for (let i = 1; i < moments.length && !moments[i].refused; i++) {
+    const e = moments[i].event, row = rows[e.row], p = operandOf(row, "P");
+    if (isCounted(e, i) && came[p].size < came[p].add(e.thread).size && came[p].size > registered[p]) {
+      strays[i] = { on: p, came: came[p].size, registered: registered[p] };
+    }
+    if (ARRIVES[row.word] && e.what === "throw" && !partiesAt(i - 1, p).missing && !isInside(i - 1, e.thread)) strays[i] = { on: p, came: 0 };
+    phasers.forEach((_, n) => { registered[n] += Math.max(0, partiesAt(i, n).all - partiesAt(i - 1, n).all); });
+  }
+}
+// whether a thread is inside an advance routine or an action
+const isInside = (i, t) => /[AX]/.test(THREAD.exec(lines[moments[i].from + 1 + t])[6]);
 
 function readParts() {
   const arrived = {};
   for (let i = 1; i < moments.length; i++) {
     const e = moments[i].event, row = e.row < 0 ? null : rows[e.row], took = new Set();
-    if (row && ARRIVES[row.word] && [RUNS, HELD].includes(laneOf(i - 1, e.thread))
-        && (e.what === "wait" || e.what === "enter" || (e.what === "=" && e.value >= 0))) {
+    if (row && isCounted(e, i)) {
       const root = rootOf(operandOf(row, "P"));
       (arrived[root] = arrived[root] || new Set()).add(e.thread);
     }

@@ -88,6 +88,8 @@ function copy(schedule) {
   box.hidden = false;
   try { navigator.clipboard.writeText(schedule).catch(mark); } catch (error) { mark(); }
 }
+// what a moment's line says
+const saidOf = i => isFolded(lineNumber[i]) ? foldedText(lineNumber[i]) : sentence(i);
 const eventsTo = i => moments.slice(1, i + 1).map(moment => moment.event);
 
 function show(i) {
@@ -100,16 +102,19 @@ function show(i) {
   id("where").textContent = e ? "choice " + e.step + " of " + moments[final].event.step : "start";
   id("back").disabled = id("first").disabled = i === 0;
   id("forth").disabled = id("last").disabled = i === final;
-  fill(id("what"), isFolded(lineNumber[i]) ? foldedText(lineNumber[i]) : sentence(i));
+  fill(id("what"), saidOf(i));
   fillNext(i, false);
   id("next").className = s.word === "stuck" ? "halt" : "";
   markProgram(e, s);
-  drawState(i);
+  id("after").textContent = stateTitle(i);
+  drawState(id("things"), i);
+  id("things").classList.remove("slim");
+  id("things").classList.toggle("slim", layout.isSlim && isWider(id("things")));
   bringTimeline(i);
   markLines();
   markMap();
   bringThread();
-  if (e && e.row >= 0) bring(id("code").querySelector(".scroll"), lineOfRow[e.row], 0);
+  if (e && e.row >= 0) bring(codeBox(), lineOfRow[e.row], 0);
   try { history.replaceState(null, "", "#" + (e ? e.step : 0)); } catch (error) { /* a page in a frame may not */ }
 }
 function stop() {
@@ -140,22 +145,81 @@ function fromAddress() {
   const wanted = +location.hash.slice(1), first = moments.length > 1 ? moments[1].event.step : 1;
   return /^#\d+$/.test(location.hash) && wanted >= first ? wanted - first + 1 : 0;
 }
-// all of it is drawn anew: the columns fit the room
-function arrange() {
-  const now = at;
-  drawProgram();
-  drawTimeline();
-  at = -1;
-  show(now < 0 ? fromAddress() : now);
+// ---- size and layout. The reader's size is remembered, where the browser has a place for it. Without one, the text grows in a
+// wide window while all has room.
+const SIZE = "vuthgal-size", STEP = 1.1, GROWTH = 1.05, GROWN = 1.8, LINES = 14;
+let size = 1, chosenSize = 0, fullest = 0;
+
+function remembered() {
+  try { return +localStorage.getItem(SIZE) || 0; } catch (error) { return 0; }
 }
-let zoom = 1;
-function resize(by) {
-  zoom = Math.max(.6, Math.min(3, zoom * by));
-  document.documentElement.style.setProperty("--zoom", zoom);
+function choose(to) {
+  chosenSize = Math.round(1e4 * (to && Math.max(.6, Math.min(3, to)))) / 1e4;
+  try { localStorage.setItem(SIZE, chosenSize); } catch (error) { /* a page may have no such place */ }
   arrange();
 }
+function setSize(to) {
+  size = to;
+  document.documentElement.style.setProperty("--zoom", size);
+}
+// the moment with the most to be shown
+function findFullest() {
+  const lengthOf = i => moments[i].refused ? 0 : stateText(i).length;
+  moments.forEach((_, i) => { if (lengthOf(i) > lengthOf(fullest)) fullest = i; });
+}
+const codeBox = () => id("code").querySelector(".scroll");
+const isWider = box => box.scrollWidth > box.clientWidth;
+const isTaller = box => box.scrollHeight > box.clientHeight;
+const isWide = () => document.body.classList.contains("wide");
+
+// The layouts: the panes side by side, with wide columns or narrow ones in the timeline; in two columns; the same with tables
+// that may be slim; below one another.
+const LAYOUTS = [
+  { columns: 3, isWide: true, isSlim: false }, { columns: 3, isWide: false, isSlim: false }, { columns: 2, isWide: true, isSlim: false },
+  { columns: 3, isWide: false, isSlim: true }, { columns: 2, isWide: true, isSlim: true }, { columns: 1, isWide: true, isSlim: true }
+];
+let layout = LAYOUTS[0];
+
+function draw() {
+  document.body.classList.toggle("wide", layout.columns > 1);
+  id("panes").classList.toggle("two", layout.columns === 2);
+  drawProgram();
+  drawTimeline(layout.isWide);
+  at = -1;
+  show(fullest);
+}
+// draws in the first of the layouts that the window has room for in which nothing is wider than its box
+function layOut() {
+  const wide = innerWidth / rem(), tall = innerHeight / rem(), boxes = [codeBox(), id("things")].concat(isCrowd() ? [] : timeBox());
+  const hasRoom = columns => columns === 1 || (wide >= 56 && tall >= 34 && (isCrowd() ? columns === 2 : columns === 3 || tall >= 46));
+  for (layout of LAYOUTS.filter(one => hasRoom(one.columns))) {
+    draw();
+    if (!boxes.some(isWider)) return;
+  }
+}
+// makes the text larger as long as the panes hold all of it, of a long timeline some lines, and its columns stay as they are
+function grow() {
+  const time = timeBox(), rest = [codeBox(), id("things")], wasNarrow = isNarrow, least = isTaller(time) ? LINES : Infinity;
+  const hasRoom = () => !rest.some(isTaller) && !rest.concat(time).some(isWider) && isNarrow === wasNarrow
+    && time.clientHeight >= Math.min(time.scrollHeight, least * linePitch());
+  const drawAt = to => {
+    setSize(to);
+    draw();
+  };
+  while (size < GROWN && hasRoom()) drawAt(size * GROWTH);
+  if (size > 1 && !hasRoom()) drawAt(size / GROWTH);
+}
+// all of it is drawn anew
+function arrange() {
+  const now = at < 0 ? fromAddress() : at;
+  setSize(chosenSize || 1);
+  layOut();
+  if (!chosenSize && isWide()) grow();
+  at = -1;
+  show(now);
+}
 function standAlone() {
-  document.body.classList.toggle("alone");
+  document.body.classList.toggle("alone", id("alone").checked);
   arrange();
 }
 // what a key does, wherever the focus is but in a box that has a use for it of its own
@@ -167,7 +231,8 @@ function actionOf(key, on) {
   if (key === "ArrowRight" || (key === (slides ? "ArrowUp" : "ArrowDown") && !scrolls)) return () => go(next(1));
   if (key === "ArrowLeft" || (key === (slides ? "ArrowDown" : "ArrowUp") && !scrolls)) return () => go(next(-1));
   if (key === " ") return slides || !/^(INPUT|BUTTON|SUMMARY)$/.test(on.tagName) ? play : null;
-  return { Home: () => go(0), End: () => go(moments.length - 1), "+": () => resize(1.1), "=": () => resize(1.1), "-": () => resize(1 / 1.1), f: standAlone }[key];
+  return { Home: () => go(0), End: () => go(moments.length - 1), "+": () => choose(size * STEP), "=": () => choose(size * STEP), "-": () => choose(size / STEP),
+    0: () => choose(0), f: () => id("alone").click() }[key];
 }
 function pressed(event) {
   const act = event.altKey || event.ctrlKey || event.metaKey ? null : actionOf(event.key, event.target);
@@ -186,8 +251,11 @@ function listen() {
   id("whole").onclick = () => copy(scheduleOf(eventsTo(moments.length - 1)));
   id("slider").oninput = () => go(+id("slider").value);
   id("fold").onchange = id("java").onchange = arrange;
+  id("alone").onchange = standAlone;
+  id("states").onclick = () => print("states");
+  id("sheet").onclick = () => print("sheet");
   id("hide").onchange = () => {
-    id("lanes").classList.toggle("hiding", id("hide").checked);
+    document.body.classList.toggle("hiding", id("hide").checked);
     markMap();
   };
   id("lanes").onclick = event => {
@@ -206,15 +274,18 @@ function listen() {
     drawInView();
     markMap();
   };
-  let width = innerWidth;
+  // on a phone the height changes as the page is scrolled
+  let width = innerWidth, height = innerHeight;
   window.onresize = () => {
-    if (innerWidth === width) return;
+    if (innerWidth === width && (innerHeight === height || !isWide())) return;
     width = innerWidth;
+    height = innerHeight;
     arrange();
   };
   for (const way of ["(prefers-color-scheme: dark)", "(forced-colors: active)"]) matchMedia(way).onchange = arrange;
   window.onhashchange = () => go(fromAddress());
-  window.onbeforeprint = () => { if (!isWhole()) { drawLines(Math.max(0, lineNumber[at] - 200), Math.min(shown.length, lineNumber[at] + 200)); markLines(); } };
+  window.onbeforeprint = beforePrint;
+  window.onafterprint = afterPrint;
   document.addEventListener("keydown", pressed);
 }
 function nameThePage() {
@@ -230,13 +301,17 @@ function begin() {
   readSource();
   readRun();
   readParts();
+  readStrays();
   nameThePage();
   findUses();
   id("slider").max = moments.length - 1;
-  id("panes").className = isCrowd() ? "crowd" : "";
+  id("panes").classList.toggle("crowd", isCrowd());
   id("tool").hidden = id("view").hidden = false;
   id("text").open = false;
-  document.body.className = "wide";
+  document.body.classList.toggle("hiding", id("hide").checked);
+  document.body.classList.toggle("alone", id("alone").checked);
+  chosenSize = remembered();
+  findFullest();
   listen();
   arrange();
 }

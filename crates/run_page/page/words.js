@@ -25,13 +25,28 @@ function callWith(row, value) {
   return (object ? object + "." : "") + filled;
 }
 const callOf = (row, thread) => callWith(row, register => thread.regs[+register[1]]);
-function rowText(row) {
-  const operands = row.operands.map((operand, k) => {
+// a row's operands, by their names
+function operandNames(row) {
+  return row.operands.map((operand, k) => {
     const kind = row.kinds[k], n = +operand.slice(1);
     if (kind === "r" || kind === "n") return operand;
     return kind === "L" ? (names.L[n] ? names.L[n][0] : "row " + n) : nameOf(kind, n);
   });
-  return [row.word].concat(operands).join(" ");
+}
+const rowText = row => [row.word].concat(operandNames(row)).join(" ");
+
+// What the rows that are no call are in Java, where a register is a variable and a cell a field. Java keeps the word `goto`,
+// and has no such statement.
+const STATEMENTS = { halt: "return", ldi: "$0 = $1", mov: "$0 = $1", add: "$0 = $1 + $2", sub: "$0 = $1 - $2", jmp: "goto $0",
+  beq: "if ($0 == $1) goto $2", bne: "if ($0 != $1) goto $2", blt: "if ($0 < $1) goto $2", call: "$0()", ret: "return",
+  try: "try { // catch: $0", endtry: "}", throw: "throw $0", out: "System.out.println($0)", lds: "$0 = $1", sts: "$1 = $0",
+  self: "$0 = Thread.currentThread().getId()" };
+
+// a row in Java's words
+function javaText(row) {
+  const call = callWith(row, register => register), operands = operandNames(row);
+  if (call) return (row.kinds[0] === "r" ? row.operands[0] + " = " : "") + call;
+  return STATEMENTS[row.word].replace(/\$(\d)/g, (_, k) => operands[k].replace(" ", ""));
 }
 function entryText(entry) {
   const n = +entry.slice(1), kind = entry[0];
@@ -63,6 +78,16 @@ function markText(mark, was) {
   const name = nameOf("P", mark.on), old = phaseOf(was.phasers[mark.on].view);
   if (mark.view < 0) return "Phase " + old + " of " + name + " was its last: it is terminated.";
   return "Phase " + old + " of " + name + " ends, phase " + mark.view + " begins.";
+}
+// what is to be said of an arrival by more than are registered
+function strayText(stray) {
+  const name = nameOf("P", stray.on), more = stray.came - stray.registered;
+  if (!stray.came) return "More arrive at " + name + " than are registered: none of its parties is still to arrive.";
+  return "More have arrived at " + name + " than are registered: " + stray.came + " threads for " + stray.registered
+    + (stray.registered === 1 ? " party" : " parties") + ", so " + (more === 1 ? "one was a stray." : more + " were strays.");
+}
+function shortStray(stray) {
+  return only(nameOf("P", stray.on) + ": ", stray.came ? "stray, " + stray.came + " threads for " + stray.registered : "one too many");
 }
 function shortMark(mark, was) {
   const name = nameOf(mark.kind[1] === "p" ? "P" : "B", mark.on);
@@ -148,6 +173,7 @@ function sentence(i) {
   if (e.what === "limit") return ["No more choices or steps are allowed: choice " + e.step + " is refused, and the run stops here."];
   const was = stateAt(i - 1), row = rows[e.row], before = was.threads[e.thread];
   const out = eventText(e, row, before, s.threads[e.thread], [threadName(e.thread)]);
+  if (strays[i]) out.push(" ", [strayText(strays[i])]);
   if (e.mark) out.push(" ", [markText(e.mark, was)]);
   else if (before.status !== "waits" && (e.what === "wait" || (e.what === "=" && e.value >= 0 && ARRIVES[row.word]))) out.push(" " + countText(row, s));
   return out;
@@ -192,16 +218,17 @@ function doing(s, t) {
 const inJava = () => id("java").checked;
 
 // a row in the timeline: its word and its object, or Java's words
-function shortRow(row) {
-  const call = inJava() && KINDS[row.word][1], object = objectOf(row);
-  if (!call) return row.word + only(" " + object, "").trimEnd();
+function shortRow(row, e) {
+  const call = KINDS[row.word][1], object = objectOf(row);
+  if (!inJava()) return row.word + only(" " + object, "").trimEnd();
+  if (!call) return e.value === null || row.kinds[0] !== "r" ? javaText(row).replace(/ (goto|\/\/) .*/, "") : row.operands[0];
   return (object && only(object + ".", "")) + call.split("(")[0].replace("@", () => threadName(operandOf(row, "T")));
 }
 // the few words of a choice in the timeline
 function tagText(e) {
-  const row = e.row < 0 ? null : rows[e.row], head = row ? shortRow(row) + " " : "";
+  const row = e.row < 0 ? null : rows[e.row], head = row ? shortRow(row, e) + " " : "";
   const said = { none: "refused", limit: "refused", idle: "can't go", end: "ends", wait: head + "waits", enter: head + "enters",
-    out: "out " + e.value, "=": head + "= " + e.value, die: "dies of " + e.value, catch: "catches " + e.value, unwind: "unwinds",
+    out: inJava() ? "println(" + e.value + ")" : "out " + e.value, "=": head + "= " + e.value, die: "dies of " + e.value, catch: "catches " + e.value, unwind: "unwinds",
     throw: (e.expiry ? "time is up: " : "") + "throws " + e.value, ok: head.trimEnd() };
   return said[e.what];
 }

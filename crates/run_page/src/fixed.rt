@@ -7,37 +7,43 @@ pub const HEAD: &[u8] = br###"<!doctype html>
 <head>
 <meta charset="utf-8">
 <meta name="viewport" content="width=device-width, initial-scale=1">
-<meta http-equiv="Content-Security-Policy" content="default-src 'none'; style-src 'sha256-PY5uEiUUFjXMISV4uNuHfCFrVXNHbluZHbBPkZ4EaPo='; script-src 'sha256-PnsrDDNHBHyorAEnAiHzTUjPD0xMgXL5zHS/7ptAc6A='">
+<meta http-equiv="Content-Security-Policy" content="default-src 'none'; style-src 'sha256-KctzKgm+HPOPmwxY4Kht2+8M/l5n1tLSjaBLDyaSWoc='; script-src 'sha256-zGLjUEVzzAuoy+u5ZUNNi/7K2VcXWiKK4edihUKQS+I='">
 <meta name="generator" content="vuthgal show">
 <title>A run, step by step</title>
 <style>
 :root {
   color-scheme: light;
   --ink: #111; --soft: #505050; --faint: #666; --rule: #bbb; --line: #777; --paper: #fff; --now: #fff3b8; --edge: #111; --face: #f2f2f2; --pressed: #ddd; --focus: #0b57d0;
-  --h0: #0072b2; --h1: #d55e00; --h2: #009e73; --h3: #b5588f; --h4: #8a6d00; --h5: #2aa0d8; --h6: #7a5195; --h7: #555;
-  --map-off: #fff; --map-run: #c9d7e6; --map-held: #e2e2e2; --map-wait: #222; --map-free: #8a8a8a; --map-throw: #b00000; --map-mark: #d00000;
+  --h0: #4664d1; --h1: #d56819; --h2: #599462; --h3: #b280af; --h4: #5a5200; --h5: #0098ff; --h6: #31318d; --h7: #78002f;
+  --map-off: #fff; --map-run: #7cc0fa; --map-held: #bab7b0; --map-wait: #222; --map-free: #5d6b7e; --map-throw: #fd8c20; --map-mark: #913b08;
   --lane: .75rem; --column: 6rem; --need: 0px; --code: 0px;
 }
 @media screen and (prefers-color-scheme: dark) {
-  :root {
+  :root:not(.paper) {
     color-scheme: dark;
     --ink: #f0f0f0; --soft: #bdbdbd; --faint: #9a9a9a; --rule: #555; --line: #999; --paper: #17191c; --now: #4a3f00; --edge: #d8d8d8; --face: #2a2d31; --pressed: #44484e; --focus: #8ab4f8;
-    --h0: #5aaee8; --h1: #f5904a; --h2: #3ecf9c; --h3: #e392c0; --h4: #d8b32e; --h5: #86d4fa; --h6: #bf9fe0; --h7: #b5b5b5;
-    --map-off: #17191c; --map-run: #34495f; --map-held: #3c3c3c; --map-wait: #f0f0f0; --map-free: #8a8a8a; --map-throw: #ff7a6b; --map-mark: #ff5a4a;
+    --h0: #99adf6; --h1: #e47913; --h2: #35c27b; --h3: #ac6ea5; --h4: #cfde04; --h5: #98f4fa; --h6: #6b75ff; --h7: #b2514e;
+    --map-off: #17191c; --map-run: #3a45c4; --map-held: #5d5558; --map-wait: #f0f0f0; --map-free: #7d9dc2; --map-throw: #f5bb05; --map-mark: #ce3a10;
   }
+}
+@media (prefers-contrast: more) {
+  :root { --soft: #333; --faint: #4d4d4d; --rule: #777; --line: #444 }
+}
+@media screen and (prefers-contrast: more) and (prefers-color-scheme: dark) {
+  :root:not(.paper) { --soft: #e4e4e4; --faint: #bdbdbd; --rule: #999; --line: #ccc }
 }
 /* where the reader forces colours there are two, and what is drawn goes by shape and pattern */
 @media (forced-colors: active) {
-  :root {
-    --ink: CanvasText; --soft: CanvasText; --faint: GrayText; --rule: CanvasText; --line: CanvasText; --paper: Canvas; --now: Canvas; --edge: CanvasText; --focus: Highlight;
+  :root:root {
+    --ink: CanvasText; --soft: CanvasText; --faint: CanvasText; --rule: CanvasText; --line: CanvasText; --paper: Canvas; --now: Canvas; --edge: CanvasText; --focus: Highlight;
     --h0: CanvasText; --h1: CanvasText; --h2: CanvasText; --h3: CanvasText; --h4: CanvasText; --h5: CanvasText; --h6: CanvasText; --h7: CanvasText;
     --map-off: Canvas; --map-run: Canvas; --map-held: Canvas; --map-wait: CanvasText; --map-free: GrayText; --map-throw: Highlight; --map-mark: Highlight;
   }
-  .t::before, .t::after, .dot, .part, .across, .party, #legend i, .new, tr.now > *, .tag.throw, .tag.die, .choice.asked { forced-color-adjust: none }
+  .t::before, .t::after, .dot, .part, .across, .party, #legend .bar, .new, tr.now > *, .tag.throw, .tag.die, .choice.asked { forced-color-adjust: none }
   .new, tr.now > *, .dot { color: CanvasText }
 }
 * { box-sizing: border-box }
-html { font-size: calc(clamp(14px, .5vw + 8.6px, 26px) * var(--zoom, 1)) }
+html { font-size: calc(clamp(14px, .5vw + 8.6px, 26px) * var(--zoom, 1)); scroll-padding-top: 40vh }
 body { margin: 0; padding: .6rem 1rem .8rem; color: var(--ink); background: var(--paper); font-family: system-ui, "Segoe UI", "DejaVu Sans", Arial, sans-serif; line-height: 1.35 }
 h1 { font-size: 1.45rem; line-height: 1.2; margin: 0 }
 h2 { font-size: 1rem; margin: 0 0 .35rem }
@@ -50,6 +56,8 @@ pre { white-space: pre-wrap; overflow-wrap: anywhere; content-visibility: auto; 
 header { display: flex; flex-wrap: wrap; align-items: baseline; gap: 0 1rem }
 #title { flex: 1 1 auto }
 #view { display: flex; flex-wrap: wrap; gap: 0 .9rem; font-size: .92rem }
+#view label { display: inline-flex; align-items: center; gap: .35rem; min-height: 24px }
+#view input { width: .9rem; height: .9rem; margin: 0 }
 #about { flex: 1 0 100%; color: var(--soft); font-size: .92rem }
 .unseen { position: absolute; width: 1px; height: 1px; overflow: hidden; clip-path: inset(50%); white-space: nowrap }
 [hidden] { display: none !important }
@@ -57,40 +65,43 @@ header { display: flex; flex-wrap: wrap; align-items: baseline; gap: 0 1rem }
 
 /* the steps */
 #bar { display: flex; flex-wrap: wrap; gap: .35rem .55rem; align-items: center; margin: .45rem 0 .3rem }
+button, select, #copied { min-height: 24px; min-width: 24px }
+summary { min-height: 24px }
 button { font: inherit; font-weight: 600; color: var(--ink); background: var(--face); border: 2px solid var(--edge); border-radius: .35rem; padding: .15rem .65rem; cursor: pointer }
 button:hover { background: var(--pressed) }
-button:disabled { opacity: .4; cursor: default }
+button:disabled { color: var(--faint); border-style: dashed; cursor: default }
 :focus-visible { outline: 3px solid var(--focus); outline-offset: 2px }
 select { font: inherit; color: var(--ink); background: var(--face); border: 2px solid var(--edge); border-radius: .35rem; padding: .15rem .2rem }
-#slider { flex: 1 1 10rem; min-width: 8rem; accent-color: var(--ink); height: 1.6rem }
+#slider { flex: 1 1 10rem; min-width: 8rem; accent-color: var(--ink); height: max(1.6rem, 24px) }
 #where { font-weight: 600; white-space: nowrap }
 #said { border: 2px solid var(--edge); border-left-width: .6rem; border-radius: .3rem; background: var(--now); padding: .3rem .7rem; font-size: 1.18rem; min-height: 3.9rem; margin: 0 0 .25rem }
 #next { display: block; font-size: .95rem; color: var(--soft) }
 #next.halt { font-weight: 700; color: var(--ink) }
 
-.choice { border: 1px solid var(--line); border-bottom: 3px solid var(--hue, var(--line)); border-radius: .25rem; background: var(--paper); padding: 0 .3rem; font-weight: 600; line-height: 1.25 }
+.choice { display: inline-block; vertical-align: middle; border: 1px solid var(--line); border-bottom: 3px solid var(--hue, var(--line)); border-radius: .25rem; background: var(--paper); padding: 0 .3rem; font-weight: 600; line-height: 1.25 }
 .choice.asked { background: var(--ink); color: var(--paper) }
 #if { display: flex; flex-wrap: wrap; align-items: center; gap: .2rem .5rem; min-height: 2.2rem; margin: 0 0 .45rem }
 #would { flex: 1 1 20rem }
 #if button { font-size: .88rem; padding: .05rem .5rem }
 #copied { font: inherit; font-size: .88rem; width: 14rem; color: var(--ink); background: var(--paper); border: 1px solid var(--line); border-radius: .25rem; padding: .1rem .3rem }
 
-/* the panes: beside one another where there is room; with many threads the timeline has the left side to itself */
+/* The panes. They fill the window where there is room: side by side, or the timeline beside the two others (`two`), which is so
+   with many threads. Else they stand below one another, and the steps and what they say stay in view above them. */
 #panes { display: grid; gap: .6rem; grid-template-columns: minmax(0, 1fr) }
 #panes > section { border: 1px solid var(--rule); border-radius: .3rem; padding: .4rem .55rem; min-width: 0; display: flex; flex-direction: column }
 .inner { display: flex; min-height: 0; min-width: 0; gap: .4rem }
 .inner .scroll { flex: 1 1 0; min-width: 0 }
 .scroll { overflow: auto; position: relative }
 @media screen {
-  #time .scroll { max-height: 70vh; overflow-y: scroll }
-  #map { height: 70vh }
-}
-@media screen and (min-width: 60rem) {
+  #time .scroll { max-height: 60vh; overflow-y: scroll }
+  #map { height: 60vh }
+  body:not(.wide) #top { position: sticky; top: 0; z-index: 20; padding-bottom: .2rem; background: var(--paper) }
+  body:not(.wide) #said { max-height: 40vh; overflow: auto }
   .wide { display: flex; flex-direction: column; height: 100vh; overflow: hidden }
   .wide #tool { display: flex; flex-direction: column; flex: 1 1 0; min-height: 16rem }
   .wide #panes { flex: 1 1 0; min-height: 0; grid-template-columns: minmax(min(var(--need), 50%), 1.75fr) minmax(min(var(--code), 27%), 1fr) minmax(0, 1.15fr); grid-template-rows: minmax(0, 1fr) }
-  .wide #panes.crowd { grid-template-columns: minmax(min(var(--need), 72%), 2fr) minmax(0, 1fr); grid-template-rows: minmax(10rem, 2fr) minmax(0, 3fr) }
-  .wide #panes.crowd #time { grid-row: 1 / 3 }
+  .wide #panes.two { grid-template-columns: minmax(min(var(--need), 72%), 2fr) minmax(0, 1fr); grid-template-rows: minmax(10rem, 2fr) minmax(0, 3fr) }
+  .wide #panes.two #time { grid-row: 1 / 3 }
   .wide #panes > section { min-height: 0 }
   .wide .scroll { flex: 1 1 0; min-height: 0; max-height: none }
   .wide .inner { flex: 1 1 0 }
@@ -112,7 +123,7 @@ th { text-align: left; font-weight: 600 }
 #lanes .gap td { padding: 0; height: auto }
 #lanes thead th { position: sticky; top: 0; z-index: 4; background: var(--paper); border-bottom: 2px solid var(--edge); vertical-align: bottom; padding-bottom: .15rem }
 #lanes tbody tr[data-i] { cursor: pointer }
-#lanes .n { text-align: right; color: var(--soft); font-variant-numeric: tabular-nums; width: 3.5rem; min-width: 3.5rem; font-weight: 400; position: sticky; left: 0; z-index: 5; background: var(--paper) }
+#lanes .n { text-align: right; color: var(--soft); font-variant-numeric: tabular-nums; width: 4rem; min-width: 4rem; font-weight: 400; position: sticky; left: 0; z-index: 5; background: var(--paper) }
 #lanes thead .n { z-index: 6 }
 #lanes .t { position: relative; padding-left: 1.6rem; padding-right: .2rem; min-width: var(--column) }
 #lanes thead .t { padding-left: .1rem; position: sticky }
@@ -128,6 +139,8 @@ th { text-align: left; font-weight: 600 }
 #lanes.narrow thead .who { writing-mode: vertical-rl; padding: .25rem 0; border-width: 2px; border-left-width: 4px; font-size: .85rem }
 #lanes.narrow .who.brief, #lanes.brief thead .who { writing-mode: horizontal-tb; padding: 0 .15rem; font-size: .85rem; border-width: 2px; border-bottom-width: 4px }
 #lanes.narrow .w { min-width: 4rem }
+#lanes.narrow.folds .w { white-space: normal }
+#lanes.narrow.folds .mark { margin: .1rem .1rem .15rem }
 /* the names of very many threads, above their columns */
 .cast { position: relative }
 .cast span { position: absolute; bottom: 0; writing-mode: vertical-rl; font-size: .75rem; line-height: 1; white-space: nowrap; border-bottom: 3px solid var(--hue) }
@@ -147,9 +160,12 @@ th { text-align: left; font-weight: 600 }
 /* a choice, on its thread's line */
 .dot { position: absolute; left: var(--lane); top: 50%; width: .85rem; height: .85rem; margin: -.425rem 0 0 -.425rem; background: var(--hue); border: 2px solid var(--ink); border-radius: 50%; z-index: 3; print-color-adjust: exact; -webkit-print-color-adjust: exact }
 .dot.idle { background: var(--paper) }
-.dot.end { border-radius: 0; background: var(--ink) }
-.dot.die, .dot.throw { border-radius: 0; background: var(--paper); transform: rotate(45deg) }
-.dot.die { background: var(--ink) }
+.dot.end, .dot.die { border-radius: 0; background: var(--ink) }
+.dot.throw { border: 0; border-radius: 0; background: var(--ink); width: 1.15rem; height: 1.15rem; margin: -.575rem 0 0 -.575rem }
+.dot.die { width: 1.15rem; height: 1.15rem; margin: -.575rem 0 0 -.575rem }
+.part + .dot.throw { width: .8rem; height: .8rem; margin: -.4rem 0 0 -.4rem }
+.dot.die::before { content: ""; position: absolute; inset: 0; background: var(--paper) }
+.dot.throw, .dot.die::before { clip-path: polygon(0 22%, 22% 0, 50% 28%, 78% 0, 100% 22%, 72% 50%, 100% 78%, 78% 100%, 50% 72%, 22% 100%, 0 78%, 28% 50%) }
 .tag { vertical-align: middle; position: relative; z-index: 3; display: inline-block; background: var(--paper); border: 1px solid var(--line); border-radius: .25rem; padding: 0 .3rem; line-height: 1.35; font-size: .95rem }
 .tag.wait { border-color: var(--ink); font-style: italic }
 .tag.idle { border-style: dotted; color: var(--soft) }
@@ -163,23 +179,26 @@ th { text-align: left; font-weight: 600 }
 .across.final { right: auto; width: var(--lane) }
 .across.lead { border-top: 2px dotted var(--ink); margin-top: -1px }
 .across.lead.begins { left: var(--lane) }
-.m .across.lead.ends { right: auto; width: .5rem }
+.m .across.lead.ends, .folds .across.lead.ends { right: auto; width: .5rem }
 .across.broke { border-top-style: dashed; border-top-width: 3px }
 .part { position: absolute; left: var(--lane); top: 50%; width: 1.15rem; height: 1.15rem; margin: -.575rem 0 0 -.575rem; border: 3px solid var(--ink); background: var(--paper); transform: rotate(45deg); z-index: 2; print-color-adjust: exact; -webkit-print-color-adjust: exact }
 .mark { position: relative; z-index: 3; background: var(--paper); border: 2px solid var(--ink); border-radius: .25rem; padding: .05rem .35rem; display: inline-block; line-height: 1.2 }
+.mark + .mark { margin-left: .35rem }
+.mark.stray { border-style: dashed }
 #lanes tr.now > * { background: var(--now); border-top: 2px solid var(--edge); border-bottom: 2px solid var(--edge); print-color-adjust: exact; -webkit-print-color-adjust: exact }
 #lanes tr.now .n { color: var(--ink); font-weight: 700 }
 #lanes tr.now .n::before { content: "\25B6"; font-size: .7rem; position: absolute; left: 0 }
 @media screen {
+  /* what comes later: without the threads' colours, in one that can still be read */
+  tr.later > *, tr.now:not(.final) .t::after { --ink: var(--faint); --line: var(--faint); --hue: var(--faint) !important }
   tr.later > * { color: var(--faint) }
-  tr.later canvas, tr.later .dot, tr.later .tag, tr.later .mark, tr.later .across, tr.later .part, tr.later .in-line, tr.later .t::before, tr.later .t::after { opacity: .38 }
-  tr.now:not(.final) .t::after { opacity: .38 }
-  .hiding tr.later { visibility: hidden }
-  .alone #about, .alone #code, .alone #state, .alone #keys, .alone #text { display: none }
-  .alone #panes.crowd, .alone #panes { grid-template-columns: minmax(0, 1fr); grid-template-rows: minmax(0, 1fr) }
-  .alone #panes.crowd #time { grid-row: 1 }
-  .hiding tr.now:not(.final) .t::after { visibility: hidden }
+  tr.later .who { --hue: var(--faint) !important }
+  #lanes tr.later .tag, #lanes tr.later .mark { font-weight: 400; border-style: dashed }
+  .alone #about, .alone #code, .alone #state, .alone #foot, .alone #text { display: none }
+  .wide.alone #panes.two, .wide.alone #panes { grid-template-columns: minmax(0, 1fr); grid-template-rows: minmax(0, 1fr) }
+  .wide.alone #panes.two #time { grid-row: 1 }
 }
+.hiding tr.later, .hiding tr.now:not(.final) .t::after { visibility: hidden }
 #lanes tr.close > * { border-top: 2px solid var(--edge); font-weight: 600 }
 #lanes:not(.narrow) tr.close td.t { padding-left: .35rem }
 
@@ -210,12 +229,17 @@ th { text-align: left; font-weight: 600 }
 #rows tr.rule code { color: var(--soft) }
 
 /* the state */
-#state table { width: 100% }
-#state .grid th, #state .grid td { border-bottom: 1px solid var(--rule); padding: .1rem .3rem; vertical-align: baseline }
-#state .grid th, #state .grid .line { white-space: nowrap }
-#state .grid thead th { border-bottom: 2px solid var(--edge); font-size: .85rem; position: sticky; top: 0; background: var(--paper); z-index: 1 }
-#state .grid th.num { text-align: right }
-#state .all { width: 100% }
+.facts table { width: 100% }
+.facts .grid th, .facts .grid td { border-bottom: 1px solid var(--rule); padding: .1rem .3rem; vertical-align: baseline }
+.facts .grid th, .facts .grid .line { white-space: nowrap }
+.facts .grid thead th { border-bottom: 2px solid var(--edge); font-size: .85rem; position: sticky; top: 0; background: var(--paper); z-index: 1 }
+.facts .grid th.num { text-align: right }
+.facts .all { width: 100% }
+/* of tables that are wider than their room, each line in several, and numbers behind their names */
+.slim thead { display: none }
+.slim tr { display: flex; flex-wrap: wrap; align-items: baseline; border-bottom: 1px solid var(--rule) }
+.slim.facts .grid th, .slim.facts .grid td { border-bottom: 0 }
+.slim td[data-name]::before { content: attr(data-name) " "; color: var(--soft); font-size: .85rem; font-weight: 400 }
 .new { background: var(--now); outline: 2px solid var(--ink); outline-offset: -1px; font-weight: 700; print-color-adjust: exact; -webkit-print-color-adjust: exact }
 .dots { display: inline-block; white-space: nowrap; margin-right: .35rem }
 .party { display: inline-block; width: .85rem; height: .85rem; border: 2px solid var(--ink); border-radius: 50%; margin: 0 .12rem -.1rem 0; background: var(--paper); print-color-adjust: exact; -webkit-print-color-adjust: exact }
@@ -230,32 +254,53 @@ th { text-align: left; font-weight: 600 }
 #text summary { cursor: pointer; font-weight: 600 }
 #legend { display: flex; flex-wrap: wrap; gap: .1rem .9rem; font-size: .82rem; color: var(--soft); margin: .35rem 0 0; padding: .3rem 0 0; border-top: 1px solid var(--rule); list-style: none }
 #legend li { display: flex; align-items: center; gap: .35rem }
-#legend i { display: inline-block; flex: none; border: solid var(--ink); border-width: 0 2px; width: .8rem; height: 1rem; print-color-adjust: exact; -webkit-print-color-adjust: exact }
+#legend i { flex: none; print-color-adjust: exact; -webkit-print-color-adjust: exact }
+#legend .bar { border: solid var(--ink); border-width: 0 2px; width: .8rem; height: 1rem }
 #legend .wait { background: repeating-linear-gradient(135deg, var(--ink) 0 2px, var(--paper) 2px 6px) }
-#legend .took { border-width: 3px; width: .75rem; height: .75rem; transform: rotate(45deg) }
-#legend .ends { background: var(--ink); width: .75rem; height: .75rem }
-#legend .hits { border-width: 2px; width: .7rem; height: .7rem; transform: rotate(45deg) }
-#keys { color: var(--soft); font-size: .85rem; margin: .35rem 0 0 }
+#legend .dot, #legend .part { position: relative; left: 0; top: 0; margin: 0 }
+#legend .part { width: .8rem; height: .8rem; margin: 0 .15rem }
+#foot { display: flex; flex-wrap: wrap; align-items: center; gap: .2rem .8rem; margin: .35rem 0 0 }
+#keys { flex: 1 1 30rem }
+#paper { display: flex; gap: .5rem }
+#paper button { font-size: .88rem; padding: .05rem .5rem }
+#keys { color: var(--soft); font-size: .85rem; margin: 0 }
 kbd { border: 1px solid var(--line); border-bottom-width: 2px; border-radius: .2rem; padding: 0 .25rem; font: inherit; font-size: .85em }
 @media screen and (max-width: 40rem) {
   body { padding: .5rem .5rem .8rem }
   button { padding: .2rem .5rem }
+  #speed { max-width: 8rem }
+  #slider { min-width: 5rem }
   #keys { display: none }
 }
 @media print {
   @page { margin: 12mm }
   html { font-size: 9.5pt }
   body { padding: 0 }
-  #bar, #view, #if, #keys, #map { display: none }
+  #bar, #view, #if, #foot, #map { display: none }
   #panes, .inner { display: block }
   #panes > section { display: block; border: 0; padding: 0; margin-top: 5mm }
   .scroll { overflow: visible !important }
   #lanes thead th { position: static }
   #lanes .n { position: static }
   #lanes .gap { display: none }
-  #lanes tr, #rows tr, #state .block { break-inside: avoid }
+  #lanes tr, #rows tr, #state .block, .moment { break-inside: avoid }
   h2, h3 { break-after: avoid }
-  #text:not([open]) { display: none }
+  #text:not([open]), .hiding #text, .sheet #text, .states #state, body:not(.states) #handout { display: none }
+  /* all states: of each choice what it did, and its tables beside one another */
+  .moment { margin-top: 3mm; padding-top: 1mm; border-top: 1px solid var(--line) }
+  .moment .facts { display: flex; flex-wrap: wrap; gap: 1mm 6mm }
+  .moment .facts table { width: auto }
+  .moment h3 { margin: .1rem 0 }
+  /* a worksheet: of what comes later, whose turn it is, and lines to write on */
+  .sheet tr.later { visibility: visible }
+  .sheet tr.later > * { border-bottom: 1px solid var(--line) }
+  .sheet tr.later > * > *, .sheet tr.later .t::before, .sheet tr.later .t::after, .sheet tr.close { visibility: hidden }
+  .sheet tr.later .dot, .sheet tr.later .in-line { visibility: visible }
+  .sheet tr.later .dot { width: .85rem; height: .85rem; margin: -.425rem 0 0 -.425rem; border: 2px solid var(--ink); border-radius: 50%; background: var(--paper); clip-path: none }
+  .sheet tr.later .dot::before { display: none }
+}
+@media screen {
+  #handout { display: none }
 }
 </style>
 </head>
@@ -266,12 +311,14 @@ kbd { border: 1px solid var(--line); border-bottom-width: 2px; border-radius: .2
 <label><input type="checkbox" id="hide"> hide what comes later</label>
 <label><input type="checkbox" id="fold"> fold idle choices</label>
 <label><input type="checkbox" id="java"> Java's words</label>
+<label><input type="checkbox" id="alone"> timeline alone</label>
 </div>
 <p id="about" hidden></p>
 </header>
 <noscript><p class="alarm">The picture of this run needs this page's script. Without it, the run stands below as text.</p></noscript>
 <p id="broken" class="alarm" hidden>This page's text can't be read as a run, so nothing is drawn from it: <span id="why"></span>.</p>
 <main id="tool" hidden>
+<div id="top">
 <div id="bar" role="group" aria-label="Steps">
 <button type="button" id="first" title="To the start (Home)" aria-label="To the start">|&lt;</button>
 <button type="button" id="back" title="One choice back (left arrow)">&lt; Back</button>
@@ -289,6 +336,7 @@ kbd { border: 1px solid var(--line); border-bottom-width: 2px; border-radius: .2
 <output id="where" for="slider"></output>
 </div>
 <p id="said" role="status" aria-live="polite"><span id="what"></span> <span id="next"></span></p>
+</div>
 <div id="if" role="group" aria-label="What if">
 <span id="would" aria-live="polite"></span>
 <button type="button" id="branch" hidden>Copy the schedule up to here with this choice</button>
@@ -303,18 +351,26 @@ kbd { border: 1px solid var(--line); border-bottom-width: 2px; border-radius: .2
 <div class="scroll" tabindex="0" role="region" aria-label="Timeline: a column for each thread, a line for each choice"><table id="lanes"></table></div>
 </div>
 <ul id="legend">
-<li><i class="wait"></i> waits</li>
-<li><i></i> may go on</li>
-<li><i class="took"></i> took part</li>
-<li><i class="hits"></i> throws</li>
-<li><i class="ends"></i> ends</li>
+<li><i class="bar wait"></i> waits</li>
+<li><i class="bar"></i> may go on</li>
+<li><i class="part"></i> took part</li>
+<li><i class="dot throw"></i> throws</li>
+<li><i class="dot die"></i> dies</li>
+<li><i class="dot end"></i> ends</li>
 </ul>
 <details id="names" hidden><summary>Names of the threads</summary><ul></ul></details>
 </section>
 <section id="code" aria-label="Program"><h2>Program</h2><div class="scroll" tabindex="0" role="region" aria-label="Program, with the row of each thread"><table id="rows"></table></div></section>
-<section id="state" aria-label="State"><h2 id="after">State</h2><div class="scroll" tabindex="0" role="region" aria-label="State after this choice" id="things"></div></section>
+<section id="state" aria-label="State"><h2 id="after">State</h2><div class="scroll facts" tabindex="0" role="region" aria-label="State after this choice" id="things"></div></section>
 </div>
-<p id="keys">Keys: <kbd>&#8594;</kbd> or <kbd>Page Down</kbd> forward, <kbd>&#8592;</kbd> or <kbd>Page Up</kbd> back, <kbd>Home</kbd>, <kbd>End</kbd>, <kbd>space</kbd> plays, <kbd>+</kbd> and <kbd>-</kbd> the size, <kbd>f</kbd> the timeline alone. A click on a line goes there; the address names the choice.</p>
+<section id="handout" aria-label="State after each choice"></section>
+<div id="foot">
+<p id="keys">Keys: <kbd>&#8594;</kbd> or <kbd>Page Down</kbd> forward, <kbd>&#8592;</kbd> or <kbd>Page Up</kbd> back, <kbd>Home</kbd>, <kbd>End</kbd>, <kbd>space</kbd> plays, <kbd>+</kbd> and <kbd>-</kbd> the size, <kbd>0</kbd> the one that fits, <kbd>f</kbd> the timeline alone.</p>
+<div id="paper" role="group" aria-label="Print">
+<button type="button" id="states" title="The program, the timeline, and of each choice its sentence and the state after it">Print all states</button>
+<button type="button" id="sheet" title="The timeline with empty lines from the next choice on">Print a worksheet</button>
+</div>
+</div>
 </main>
 <details id="text" open>
 <summary>The text that this page draws</summary>
@@ -528,6 +584,9 @@ function readRun() {
   need(at === lines.length, "there are lines behind the run's end: " + lines[at]);
 }
 
+// a moment's text
+const stateText = i => lines.slice(moments[i].from, i + 1 < moments.length ? moments[i + 1].from - 1 : lines.length).join("\n");
+
 // ---- a moment's state in full; some are kept
 let kept = new Map();
 
@@ -559,16 +618,40 @@ function stateAt(i) {
 }
 
 // ---- who took part in what each choice ended: who arrived on that tree since its last end, by the lines up to it, and who
-// waits there
+// waits there. And where more arrive than are registered: an arrival that finds no party still to arrive, which is refused,
+// and one by which more threads have arrived at a phaser than parties were registered there.
 const ARRIVES = { parr: true, pdereg: true, paaa: true };
-const parts = [];
+const parts = [], strays = [];
+
+// a phaser's parties in a moment, and those of them that haven't arrived
+function partiesAt(i, p) {
+  const m = PHASER.exec(lines[moments[i].from + 1 + threads.length + p]);
+  return { all: +m[3], missing: +m[5] };
+}
+// whether a choice is an arrival that its phaser counted
+function isCounted(e, i) {
+  return ARRIVES[rows[e.row].word] && [RUNS, HELD].includes(laneOf(i - 1, e.thread))
+    && (e.what === "wait" || e.what === "enter" || (e.what === "=" && (e.value >= 0 || e.mark !== null)));
+}
+function readStrays() {
+  const came = phasers.map(() => new Set()), registered = phasers.map((_, p) => partiesAt(0, p).all);
+  for (let i = 1; i < moments.length && !moments[i].refused; i++) {
+    const e = moments[i].event, row = rows[e.row], p = operandOf(row, "P");
+    if (isCounted(e, i) && came[p].size < came[p].add(e.thread).size && came[p].size > registered[p]) {
+      strays[i] = { on: p, came: came[p].size, registered: registered[p] };
+    }
+    if (ARRIVES[row.word] && e.what === "throw" && !partiesAt(i - 1, p).missing && !isInside(i - 1, e.thread)) strays[i] = { on: p, came: 0 };
+    phasers.forEach((_, n) => { registered[n] += Math.max(0, partiesAt(i, n).all - partiesAt(i - 1, n).all); });
+  }
+}
+// whether a thread is inside an advance routine or an action
+const isInside = (i, t) => /[AX]/.test(THREAD.exec(lines[moments[i].from + 1 + t])[6]);
 
 function readParts() {
   const arrived = {};
   for (let i = 1; i < moments.length; i++) {
     const e = moments[i].event, row = e.row < 0 ? null : rows[e.row], took = new Set();
-    if (row && ARRIVES[row.word] && [RUNS, HELD].includes(laneOf(i - 1, e.thread))
-        && (e.what === "wait" || e.what === "enter" || (e.what === "=" && e.value >= 0))) {
+    if (row && isCounted(e, i)) {
       const root = rootOf(operandOf(row, "P"));
       (arrived[root] = arrived[root] || new Set()).add(e.thread);
     }
@@ -614,13 +697,28 @@ function callWith(row, value) {
   return (object ? object + "." : "") + filled;
 }
 const callOf = (row, thread) => callWith(row, register => thread.regs[+register[1]]);
-function rowText(row) {
-  const operands = row.operands.map((operand, k) => {
+// a row's operands, by their names
+function operandNames(row) {
+  return row.operands.map((operand, k) => {
     const kind = row.kinds[k], n = +operand.slice(1);
     if (kind === "r" || kind === "n") return operand;
     return kind === "L" ? (names.L[n] ? names.L[n][0] : "row " + n) : nameOf(kind, n);
   });
-  return [row.word].concat(operands).join(" ");
+}
+const rowText = row => [row.word].concat(operandNames(row)).join(" ");
+
+// What the rows that are no call are in Java, where a register is a variable and a cell a field. Java keeps the word `goto`,
+// and has no such statement.
+const STATEMENTS = { halt: "return", ldi: "$0 = $1", mov: "$0 = $1", add: "$0 = $1 + $2", sub: "$0 = $1 - $2", jmp: "goto $0",
+  beq: "if ($0 == $1) goto $2", bne: "if ($0 != $1) goto $2", blt: "if ($0 < $1) goto $2", call: "$0()", ret: "return",
+  try: "try { // catch: $0", endtry: "}", throw: "throw $0", out: "System.out.println($0)", lds: "$0 = $1", sts: "$1 = $0",
+  self: "$0 = Thread.currentThread().getId()" };
+
+// a row in Java's words
+function javaText(row) {
+  const call = callWith(row, register => register), operands = operandNames(row);
+  if (call) return (row.kinds[0] === "r" ? row.operands[0] + " = " : "") + call;
+  return STATEMENTS[row.word].replace(/\$(\d)/g, (_, k) => operands[k].replace(" ", ""));
 }
 function entryText(entry) {
   const n = +entry.slice(1), kind = entry[0];
@@ -652,6 +750,16 @@ function markText(mark, was) {
   const name = nameOf("P", mark.on), old = phaseOf(was.phasers[mark.on].view);
   if (mark.view < 0) return "Phase " + old + " of " + name + " was its last: it is terminated.";
   return "Phase " + old + " of " + name + " ends, phase " + mark.view + " begins.";
+}
+// what is to be said of an arrival by more than are registered
+function strayText(stray) {
+  const name = nameOf("P", stray.on), more = stray.came - stray.registered;
+  if (!stray.came) return "More arrive at " + name + " than are registered: none of its parties is still to arrive.";
+  return "More have arrived at " + name + " than are registered: " + stray.came + " threads for " + stray.registered
+    + (stray.registered === 1 ? " party" : " parties") + ", so " + (more === 1 ? "one was a stray." : more + " were strays.");
+}
+function shortStray(stray) {
+  return only(nameOf("P", stray.on) + ": ", stray.came ? "stray, " + stray.came + " threads for " + stray.registered : "one too many");
 }
 function shortMark(mark, was) {
   const name = nameOf(mark.kind[1] === "p" ? "P" : "B", mark.on);
@@ -737,6 +845,7 @@ function sentence(i) {
   if (e.what === "limit") return ["No more choices or steps are allowed: choice " + e.step + " is refused, and the run stops here."];
   const was = stateAt(i - 1), row = rows[e.row], before = was.threads[e.thread];
   const out = eventText(e, row, before, s.threads[e.thread], [threadName(e.thread)]);
+  if (strays[i]) out.push(" ", [strayText(strays[i])]);
   if (e.mark) out.push(" ", [markText(e.mark, was)]);
   else if (before.status !== "waits" && (e.what === "wait" || (e.what === "=" && e.value >= 0 && ARRIVES[row.word]))) out.push(" " + countText(row, s));
   return out;
@@ -781,16 +890,17 @@ function doing(s, t) {
 const inJava = () => id("java").checked;
 
 // a row in the timeline: its word and its object, or Java's words
-function shortRow(row) {
-  const call = inJava() && KINDS[row.word][1], object = objectOf(row);
-  if (!call) return row.word + only(" " + object, "").trimEnd();
+function shortRow(row, e) {
+  const call = KINDS[row.word][1], object = objectOf(row);
+  if (!inJava()) return row.word + only(" " + object, "").trimEnd();
+  if (!call) return e.value === null || row.kinds[0] !== "r" ? javaText(row).replace(/ (goto|\/\/) .*/, "") : row.operands[0];
   return (object && only(object + ".", "")) + call.split("(")[0].replace("@", () => threadName(operandOf(row, "T")));
 }
 // the few words of a choice in the timeline
 function tagText(e) {
-  const row = e.row < 0 ? null : rows[e.row], head = row ? shortRow(row) + " " : "";
+  const row = e.row < 0 ? null : rows[e.row], head = row ? shortRow(row, e) + " " : "";
   const said = { none: "refused", limit: "refused", idle: "can't go", end: "ends", wait: head + "waits", enter: head + "enters",
-    out: "out " + e.value, "=": head + "= " + e.value, die: "dies of " + e.value, catch: "catches " + e.value, unwind: "unwinds",
+    out: inJava() ? "println(" + e.value + ")" : "out " + e.value, "=": head + "= " + e.value, die: "dies of " + e.value, catch: "catches " + e.value, unwind: "unwinds",
     throw: (e.expiry ? "time is up: " : "") + "throws " + e.value, ok: head.trimEnd() };
   return said[e.what];
 }
@@ -823,21 +933,22 @@ function chip(parent, t, s, most) {
   element.title = threadTitle(t);
   return element;
 }
-// the colours of what is painted: those of the page, which are others in the dark and where the reader forces them
-let colours = {};
+// the colours of what is painted: those of the page, which are others in the dark and where the reader forces them; and those
+// of what comes later
+let colours = {}, pale = {};
 
 function readColours() {
   const style = getComputedStyle(document.documentElement), of = name => style.getPropertyValue("--" + name).trim();
-  colours = { ink: of("ink"), paper: of("paper"), mark: of("map-mark"), lanes: LANES.map(lane => of("map-" + lane)), hues: [] };
-  for (let k = 0; k < HUES; k++) colours.hues.push(of("h" + k));
-  hatch = null;
+  const hues = Array.from({ length: HUES }, (_, k) => of("h" + k)), paper = of("paper"), faint = of("faint");
+  colours = { ink: of("ink"), paper: paper, hues: hues, mark: of("map-mark"), lanes: LANES.map(lane => of("map-" + lane)) };
+  pale = document.documentElement.classList.contains("paper") ? colours : { ink: faint, paper: paper, hues: hues.map(() => faint) };
 }
 
 // ---- the timeline: a column for each thread, a line for each choice; idle choices behind one another may have one line
 // together. Where the columns are wide, a choice's words stand in its thread's column; where they are narrow, in one column
-// behind all. Of a long run only the lines in view are there.
+// behind all, on a phone together with what ended for all. Of a long run only the lines in view are there.
 const WIDE = 6, WHOLE = 3000, MARGIN = 20;
-let isNarrow = false, lineOf = new Map(), drawn = { from: 0, to: 0 };
+let isNarrow = false, isNarrowest = false, lineOf = new Map(), drawn = { from: 0, to: 0 };
 // the moments that have a line, each the last of its line, and the number of each moment's line
 let shown = [], lineNumber = [];
 
@@ -871,7 +982,7 @@ function drawHead(table) {
     if (names.T[t] && !isNarrow) add(cell, "span", "kind", " t" + t);
   });
   if (isNarrow) add(head(line, "col", "w"), "span", "unseen", "What");
-  add(head(line, "col", "m"), "span", "unseen", "Ends for all");
+  if (!isNarrowest) add(head(line, "col", "m"), "span", "unseen", "Ends for all");
 }
 // the lines of these numbers
 function drawLines(from, to) {
@@ -911,7 +1022,7 @@ function widest(texts, kind) {
 // the width of narrow columns: they share what the words behind them leave. `--need` is what the timeline asks for
 function narrowColumn() {
   const em = rem(), events = moments.filter(m => m.event && m.event.thread < threads.length).map(m => m.event), named = threads.map((_, t) => shortName(t, LETTERS));
-  const marks = moments.map((_, i) => wordsForAll(i));
+  const marks = moments.map((_, i) => [wordsForAll(i), strays[i] ? shortStray(strays[i]) : ""].filter(text => text).join(" \u2014 "));
   const words = widest(named, "who in-line") + widest(events.map(tagText), "tag") + widest(marks, "mark") + 5.6 * em;
   const name = widest(named, "who brief") + 2, most = isCrowd() ? 1.2 * em : Math.max(2.4 * em, name + .4 * em);
   const least = em * (isCrowd() ? Math.max(.5, Math.min(.8, 32 / threads.length)) : name < 2.6 * em ? Math.max(1.5, name / em) : 1.5);
@@ -922,7 +1033,8 @@ function narrowColumn() {
 function drawColumns() {
   const table = id("lanes");
   table.textContent = "";
-  table.className = (isNarrow ? "narrow" : "") + (id("hide").checked ? " hiding" : "");
+  isNarrowest = isNarrow && !isWide();
+  table.className = (isNarrow ? "narrow" : "") + (isNarrowest && isWhole() ? " folds" : "");
   table.style.removeProperty("--column");
   id("panes").style.removeProperty("--need");
   if (isNarrow) {
@@ -934,16 +1046,19 @@ function drawColumns() {
   drawn = { from: 0, to: 0 };
   drawLines(0, isWhole() ? shown.length : Math.min(shown.length, 2 * MARGIN));
 }
-// with wide columns where they fit, else with narrow ones
-function drawTimeline() {
+// with wide columns where they fit, or would with more room, else with narrow ones
+function drawTimeline(isWideTried) {
   readColours();
   fold();
   drawMap();
-  isNarrow = threads.length > WIDE;
+  isNarrow = !isWideTried || threads.length > WIDE;
   drawColumns();
-  if (!isNarrow && timeBox().scrollWidth > timeBox().clientWidth) {
-    isNarrow = true;
-    drawColumns();
+  if (!isNarrow && isWider(timeBox())) {
+    id("panes").style.setProperty("--need", id("time").offsetWidth + timeBox().scrollWidth - timeBox().clientWidth + 1 + "px");
+    if (isWider(timeBox())) {
+      isNarrow = true;
+      drawColumns();
+    }
   }
   drawNames();
   drawMap();
@@ -970,7 +1085,7 @@ function drawLane(line, k, t, took, turns) {
 }
 // ---- many threads: the columns of a line are one picture, and its words tell whose turn it was
 const isCrowd = () => threads.length > 2 * WIDE;
-let column = 0, hatch = null;
+let column = 0;
 
 // the names above the columns: where those are too narrow for a name each, every second one, or every third
 function drawCast(cell) {
@@ -988,78 +1103,79 @@ function drawCast(cell) {
   });
   cast.style.height = tall + "px";
 }
-function picture(cell, height, paint) {
-  const canvas = add(cell, "canvas"), scale = Math.max(1, Math.min(2, devicePixelRatio || 1)), width = column * threads.length;
+function picture(canvas, height, ink, paint) {
+  const scale = Math.max(1, Math.min(2, devicePixelRatio || 1)), width = column * threads.length;
   canvas.width = width * scale;
   canvas.height = height * scale;
   canvas.style.width = width + "px";
   canvas.style.height = height + "px";
   const pen = canvas.getContext("2d");
   pen.scale(scale, scale);
-  pen.strokeStyle = colours.ink;
+  pen.strokeStyle = ink;
   paint(pen);
 }
-function hatched() {
-  if (hatch) return hatch;
+function hatched(inks) {
+  if (inks.hatch) return inks.hatch;
   const tile = document.createElement("canvas"), pen = (tile.width = tile.height = 6, tile.getContext("2d"));
-  pen.fillStyle = colours.paper;
+  pen.fillStyle = inks.paper;
   pen.fillRect(0, 0, 6, 6);
-  pen.strokeStyle = colours.ink;
+  pen.strokeStyle = inks.ink;
   pen.lineWidth = 2;
   for (const x of [-6, 0, 6]) pen.stroke(new Path2D("M" + x + " 6 l6 -6"));
-  return hatch = pen.createPattern(tile, "repeat");
+  return inks.hatch = pen.createPattern(tile, "repeat");
 }
 // half of a thread's line
-function paintLane(pen, lane, t, top, height) {
+function paintLane(pen, inks, lane, t, top, height) {
   const middle = (t + .5) * column, wide = Math.min(12, column - 2);
   if (lane === OVER) return;
-  pen.fillStyle = colours.hues[t % HUES];
+  pen.fillStyle = inks.hues[t % HUES];
   if (lane === RUNS) pen.fillRect(middle - 1.5, top, 3, height);
   else if (lane === HELD) for (let y = top; y < top + height; y += 6) pen.fillRect(middle - 1.5, y, 3, 3);
   else if (lane === THROWS) for (const x of [-2.5, 1.5]) pen.fillRect(middle + x, top, 1, height);
   else {
-    pen.fillStyle = lane === WAITS ? hatched() : colours.paper;
+    pen.fillStyle = lane === WAITS ? hatched(inks) : inks.paper;
     pen.fillRect(middle - wide / 2, top, wide, height);
-    pen.fillStyle = colours.ink;
+    pen.fillStyle = inks.ink;
     for (const x of [-wide / 2, wide / 2 - 1]) pen.fillRect(middle + x, top, 1, height);
   }
 }
-function paintDiamond(pen, t, y, size, inside) {
-  const x = (t + .5) * column, path = new Path2D("M" + x + " " + (y - size) + " l" + size + " " + size + " l-" + size + " " + size + " l-" + size + " -" + size + " z");
-  pen.fillStyle = inside;
-  pen.fill(path);
+function paintPath(pen, x, y, path, inside) {
+  const moved = new Path2D("M" + x + " " + y + path);
   pen.lineWidth = 2;
-  pen.stroke(path);
+  pen.fillStyle = inside;
+  pen.fill(moved);
+  pen.stroke(moved);
 }
-function paintChoice(pen, e, t, y) {
-  const size = Math.min(6, column / 2), x = (t + .5) * column;
-  if (e.what === "throw" || e.what === "die") paintDiamond(pen, t, y, size, e.what === "die" ? colours.ink : colours.paper);
-  else {
-    const path = new Path2D();
-    if (e.what === "end") path.rect(x - size + 1, y - size + 1, 2 * size - 2, 2 * size - 2);
-    else path.arc(x, y, size - 1, 0, 7);
-    pen.fillStyle = e.what === "end" ? colours.ink : e.what === "idle" ? colours.paper : colours.hues[t % HUES];
-    pen.fill(path);
-    pen.lineWidth = 2;
-    pen.stroke(path);
-  }
+// a circle; a cross of what throws, a square at an end, and a cross in a square at a death
+function paintChoice(pen, inks, e, t, y) {
+  const size = Math.min(6, column / 2), x = (t + .5) * column, side = 2 * size - 2;
+  const cross = "m" + (1 - size) + " " + (1 - size) + "l" + side + " " + side + "m0 " + -side + "l" + -side + " " + side;
+  const square = "m" + (1 - size) + " " + (1 - size) + "h" + side + "v" + side + "h" + -side + "z";
+  const circle = "m" + (1 - size) + " 0a" + (size - 1) + " " + (size - 1) + " 0 1 0 " + side + " 0a" + (size - 1) + " " + (size - 1) + " 0 1 0 " + -side + " 0";
+  if (e.what === "end" || e.what === "die") paintPath(pen, x, y, square, inks.ink);
+  else if (e.what !== "throw") paintPath(pen, x, y, circle, e.what === "idle" ? inks.paper : inks.hues[t % HUES]);
+  if (e.what === "die") pen.strokeStyle = inks.paper;
+  if (e.what === "die" || e.what === "throw") paintPath(pen, x, y, cross, inks.ink);
+  pen.strokeStyle = inks.ink;
 }
-function paintTook(pen, e, took, y) {
-  const list = [...took], first = (Math.min(...list) + .5) * column, final = (Math.max(...list) + .5) * column;
-  pen.fillStyle = colours.ink;
+function paintTook(pen, inks, e, took, y) {
+  const list = [...took], first = (Math.min(...list) + .5) * column, final = (Math.max(...list) + .5) * column, size = Math.min(7, column / 2 + 1);
+  const diamond = "m0 " + -size + "l" + size + " " + size + "l" + -size + " " + size + "l" + -size + " " + -size + "z";
+  pen.fillStyle = inks.ink;
   for (const x of e.mark.kind === "-b" ? [-1] : [-2.5, 1.5]) pen.fillRect(first, y + x, final - first, e.mark.kind === "-b" ? 2 : 1);
   for (let x = final; x < column * threads.length; x += 4) pen.fillRect(x, y - 1, 2, 2);
-  for (const t of took) paintDiamond(pen, t, y, Math.min(7, column / 2 + 1), colours.paper);
+  for (const t of took) paintPath(pen, (t + .5) * column, y, diamond, inks.paper);
 }
-function drawCrowd(line, k, took, turns) {
+// the columns of the line of this number
+function paintCrowd(canvas, k, inks) {
   const i = shown[k], first = firstOf(k), e = moments[i].event, height = Math.round(linePitch()), half = height / 2;
-  picture(add(line, "td", "crowd"), height, pen => {
+  picture(canvas, height, inks.ink, pen => {
     threads.forEach((_, t) => {
-      if (first) paintLane(pen, laneOf(first - 1, t), t, 0, half);
-      paintLane(pen, laneOf(i, t), t, half, height - half);
+      if (first) paintLane(pen, inks, laneOf(first - 1, t), t, 0, half);
+      paintLane(pen, inks, laneOf(i, t), t, half, height - half);
     });
-    if (took) paintTook(pen, e, took, half);
-    for (const t of turns.keys()) if (t < threads.length) paintChoice(pen, e, t, half);
+    if (parts[i]) paintTook(pen, inks, e, parts[i], half);
+    if (e) for (const t of turnsOf(k).keys()) if (t < threads.length) paintChoice(pen, inks, e, t, half);
   });
 }
 
@@ -1091,12 +1207,13 @@ function drawMoment(body, k) {
   line.setAttribute("data-i", i);
   if (i === moments.length - 1) line.className = "final";
   head(line, "row", "n", !e ? "start" : isFolded(k) ? moments[firstOf(k)].event.step + "-" + e.step : "" + e.step);
-  if (isCrowd()) drawCrowd(line, k, took, turns);
+  if (isCrowd()) paintCrowd(add(add(line, "td", "crowd"), "canvas"), k, colours);
   else threads.forEach((_, t) => drawLane(line, k, t, took, turns));
   if (isNarrow) drawWords(line, k, took, turns);
-  const cell = add(line, "td", "m"), words = wordsForAll(i);
-  if (took) add(cell, "span", "across lead ends");
+  const cell = isNarrowest ? line.lastChild : add(line, "td", "m"), words = wordsForAll(i);
+  if (took && !isNarrowest) add(cell, "span", "across lead ends");
   if (words) add(cell, "span", "mark", words);
+  if (strays[i]) add(cell, "span", "mark stray", shortStray(strays[i]));
 }
 // what is said behind the last line
 function closingWords() {
@@ -1114,13 +1231,15 @@ function drawClose(body) {
     add(add(line, "td", "t u-off l-off"), "span", isNarrow ? "unseen" : "", word);
   });
   const cell = add(line, "td", isNarrow ? "w" : "m", closingWords());
-  if (isNarrow) cell.colSpan = 2;
+  if (isNarrow && !isNarrowest) cell.colSpan = 2;
 }
 // which lines are later than the one that is shown
 function markLines() {
   const final = moments.length - 1;
   for (const [i, line] of lineOf) {
-    line.classList.toggle("later", i > at && !(i > final && at === final));
+    const isLater = i > at && !(i > final && at === final), canvas = line.querySelector("canvas");
+    if (canvas && line.classList.contains("later") !== isLater) paintCrowd(canvas, lineNumber[i], isLater ? pale : colours);
+    line.classList.toggle("later", isLater);
     line.classList.toggle("now", i === at);
     if (i === at) line.setAttribute("aria-current", "step");
     else line.removeAttribute("aria-current");
@@ -1164,10 +1283,10 @@ function markMap() {
 // ---- the program
 const placeOfRow = [], lineOfRow = [];
 
-// a row's line as it was written, or its call in Java behind its label
+// a row's line as it was written, or Java's words behind its label
 function programText(entry) {
-  const row = rows[entry.row], call = inJava() ? callWith(row, register => register) : "", text = entry.code.trimEnd();
-  return call ? /^(\s*\S+:)?\s*/.exec(text)[0] + (row.kinds[0] === "r" ? row.operands[0] + " = " : "") + call : text;
+  const text = entry.code.trimEnd();
+  return inJava() ? /^(\s*\S+:)?\s*/.exec(text)[0] + javaText(rows[entry.row]) : text;
 }
 function drawProgram() {
   id("rows").textContent = "";
@@ -1225,13 +1344,13 @@ function findUses() {
 }
 const changed = (cell, is) => { if (is) cell.className += " new"; };
 
-function title(text, count) {
-  const block = add(id("things"), "div", "block");
+function title(box, text, count) {
+  const block = add(box, "div", "block");
   add(block, "h3", "", text);
   return count === undefined ? block : add(add(block, "table", "grid"), "tbody");
 }
-function drawThreads(e, s, was) {
-  const block = title("Threads"), grid = add(block, "table", "grid"), line = add(add(grid, "thead"), "tr");
+function drawThreads(box, e, s, was) {
+  const block = title(box, "Threads"), grid = add(block, "table", "grid"), line = add(add(grid, "thead"), "tr");
   add(head(line, "col", ""), "span", "unseen", "Thread");
   head(line, "col", "num", "Row");
   head(line, "col", "", "Doing");
@@ -1240,15 +1359,20 @@ function drawThreads(e, s, was) {
   s.threads.forEach((thread, t) => {
     const old = was.threads[t], row = add(body, "tr", e && e.thread === t ? "its" : "");
     chip(head(row, "row"), t, s, 8);
-    changed(add(row, "td", "num", "" + thread.row), thread.row !== old.row);
+    const number = (name, value, was) => {
+      const cell = add(row, "td", "num", "" + value);
+      cell.setAttribute("data-name", name);
+      changed(cell, value !== was);
+    };
+    number("row", thread.row, old.row);
     changed(add(row, "td", "", doing(s, t)), thread.status !== old.status || thread.flag !== old.flag);
-    for (const k of uses.registers) changed(add(row, "td", "num", "" + thread.regs[k]), thread.regs[k] !== old.regs[k]);
+    for (const k of uses.registers) number("r" + k, thread.regs[k], old.regs[k]);
   });
 }
 // what all threads have of a kind, a line each; those that have nothing are left out
-function drawOf(s, was, text, of, put) {
+function drawOf(box, s, was, text, of, put) {
   if (!s.threads.some(thread => of(thread).length)) return;
-  const body = title(text, 0);
+  const body = title(box, text, 0);
   s.threads.forEach((thread, t) => {
     if (!of(thread).length) return;
     const row = add(body, "tr");
@@ -1268,9 +1392,9 @@ function dots(cell, filled, all) {
 function phaserOrder(parent, depth) {
   return phasers.flatMap((p, n) => p.parent === parent ? [{ p: n, depth: depth }].concat(phaserOrder(n, depth + 1)) : []);
 }
-function drawPhasers(s, was) {
+function drawPhasers(box, s, was) {
   if (!phasers.length) return;
-  const body = title("Phasers", 0);
+  const body = title(box, "Phasers", 0);
   for (const place of phaserOrder(-1, 0)) {
     const p = s.phasers[place.p], old = was.phasers[place.p], row = add(body, "tr");
     head(row, "row", "", (place.depth ? "\u2514 " : "") + nameOf("P", place.p)).style.paddingLeft = .35 + .8 * place.depth + "rem";
@@ -1281,9 +1405,9 @@ function drawPhasers(s, was) {
     add(cell, "span", "note", p.arrived + " of " + p.parties + " arrived");
   }
 }
-function drawBarriers(s, was) {
+function drawBarriers(box, s, was) {
   if (!barriers.length) return;
-  const body = title("Barriers", 0);
+  const body = title(box, "Barriers", 0);
   s.barriers.forEach((b, n) => {
     const old = was.barriers[n], row = add(body, "tr");
     head(row, "row", "", nameOf("B", n));
@@ -1294,24 +1418,63 @@ function drawBarriers(s, was) {
     changed(add(row, "td", "", b.broken ? "broken" : ""), b.broken !== old.broken);
   });
 }
-function drawCells(s, was) {
+function drawCells(box, s, was) {
   const shown = new Set([...uses.cells, ...Object.keys(s.cells).map(Number)]);
   if (!shown.size) return;
-  const block = title("Cells");
+  const block = title(box, "Cells");
   for (const n of [...shown].sort((a, b) => a - b)) {
     changed(add(block, "span", "chip", nameOf("C", n) + " = " + (s.cells[n] || 0)), (s.cells[n] || 0) !== (was.cells[n] || 0));
   }
 }
-function drawState(i) {
-  const s = stateAt(i), was = stateAt(Math.max(0, i - 1)), number = s.choices;
-  id("after").textContent = moments[i].event ? "After choice " + number : "At the start";
-  id("things").textContent = "";
-  drawThreads(moments[i].event, s, was);
-  drawPhasers(s, was);
-  drawBarriers(s, was);
-  drawCells(s, was);
-  if (uses.stack) drawOf(s, was, "Stacks, the top last", thread => thread.stack, (cell, list) => list.forEach(entry => add(cell, "span", "chip", entryText(entry))));
-  if (uses.out) drawOf(s, was, "Output", thread => thread.out, (cell, list) => cell.appendChild(document.createTextNode(list.join(" "))));
+// the state after a choice, in a box
+function drawState(box, i) {
+  const s = stateAt(i), was = stateAt(Math.max(0, i - 1));
+  box.textContent = "";
+  drawThreads(box, moments[i].event, s, was);
+  drawPhasers(box, s, was);
+  drawBarriers(box, s, was);
+  drawCells(box, s, was);
+  if (uses.stack) drawOf(box, s, was, "Stacks, the top last", thread => thread.stack, (cell, list) => list.forEach(entry => add(cell, "span", "chip", entryText(entry))));
+  if (uses.out) drawOf(box, s, was, "Output", thread => thread.out, (cell, list) => cell.appendChild(document.createTextNode(list.join(" "))));
+}
+const stateTitle = i => moments[i].event ? "After choice " + stateAt(i).choices : "At the start";
+
+// ---- what is printed: the page as it stands, the states after all choices, or a worksheet, whose lines are empty from the
+// next choice on. What is hidden isn't printed. Of a long run there are only the lines near the one that is shown.
+const NEAR = 200;
+
+function linesOnPaper() {
+  const near = isWhole() ? shown.length : NEAR, k = lineNumber[at];
+  return { from: Math.max(0, k - near), to: Math.min(shown.length, k + near + 1) };
+}
+function drawHandout() {
+  const lines = linesOnPaper(), box = id("handout"), to = id("hide").checked ? lineNumber[at] + 1 : lines.to;
+  for (let k = lines.from; k < to; k++) {
+    const moment = add(box, "div", "moment");
+    add(moment, "h3", "", stateTitle(shown[k]));
+    fill(add(moment, "p"), saidOf(shown[k]));
+    drawState(add(moment, "div", "facts"), shown[k]);
+  }
+}
+// prints with the page as one of these: `states` or `sheet`
+function print(kind) {
+  if (kind === "states") drawHandout();
+  document.body.classList.add(kind);
+  window.print();
+}
+// paper is light
+function beforePrint() {
+  const lines = linesOnPaper();
+  document.documentElement.classList.add("paper");
+  readColours();
+  drawLines(lines.from, lines.to);
+  markLines();
+}
+function afterPrint() {
+  document.documentElement.classList.remove("paper");
+  document.body.classList.remove("states", "sheet");
+  id("handout").textContent = "";
+  arrange();
 }
 
 // ---- steps
@@ -1403,6 +1566,8 @@ function copy(schedule) {
   box.hidden = false;
   try { navigator.clipboard.writeText(schedule).catch(mark); } catch (error) { mark(); }
 }
+// what a moment's line says
+const saidOf = i => isFolded(lineNumber[i]) ? foldedText(lineNumber[i]) : sentence(i);
 const eventsTo = i => moments.slice(1, i + 1).map(moment => moment.event);
 
 function show(i) {
@@ -1415,16 +1580,19 @@ function show(i) {
   id("where").textContent = e ? "choice " + e.step + " of " + moments[final].event.step : "start";
   id("back").disabled = id("first").disabled = i === 0;
   id("forth").disabled = id("last").disabled = i === final;
-  fill(id("what"), isFolded(lineNumber[i]) ? foldedText(lineNumber[i]) : sentence(i));
+  fill(id("what"), saidOf(i));
   fillNext(i, false);
   id("next").className = s.word === "stuck" ? "halt" : "";
   markProgram(e, s);
-  drawState(i);
+  id("after").textContent = stateTitle(i);
+  drawState(id("things"), i);
+  id("things").classList.remove("slim");
+  id("things").classList.toggle("slim", layout.isSlim && isWider(id("things")));
   bringTimeline(i);
   markLines();
   markMap();
   bringThread();
-  if (e && e.row >= 0) bring(id("code").querySelector(".scroll"), lineOfRow[e.row], 0);
+  if (e && e.row >= 0) bring(codeBox(), lineOfRow[e.row], 0);
   try { history.replaceState(null, "", "#" + (e ? e.step : 0)); } catch (error) { /* a page in a frame may not */ }
 }
 function stop() {
@@ -1455,22 +1623,81 @@ function fromAddress() {
   const wanted = +location.hash.slice(1), first = moments.length > 1 ? moments[1].event.step : 1;
   return /^#\d+$/.test(location.hash) && wanted >= first ? wanted - first + 1 : 0;
 }
-// all of it is drawn anew: the columns fit the room
-function arrange() {
-  const now = at;
-  drawProgram();
-  drawTimeline();
-  at = -1;
-  show(now < 0 ? fromAddress() : now);
+// ---- size and layout. The reader's size is remembered, where the browser has a place for it. Without one, the text grows in a
+// wide window while all has room.
+const SIZE = "vuthgal-size", STEP = 1.1, GROWTH = 1.05, GROWN = 1.8, LINES = 14;
+let size = 1, chosenSize = 0, fullest = 0;
+
+function remembered() {
+  try { return +localStorage.getItem(SIZE) || 0; } catch (error) { return 0; }
 }
-let zoom = 1;
-function resize(by) {
-  zoom = Math.max(.6, Math.min(3, zoom * by));
-  document.documentElement.style.setProperty("--zoom", zoom);
+function choose(to) {
+  chosenSize = Math.round(1e4 * (to && Math.max(.6, Math.min(3, to)))) / 1e4;
+  try { localStorage.setItem(SIZE, chosenSize); } catch (error) { /* a page may have no such place */ }
   arrange();
 }
+function setSize(to) {
+  size = to;
+  document.documentElement.style.setProperty("--zoom", size);
+}
+// the moment with the most to be shown
+function findFullest() {
+  const lengthOf = i => moments[i].refused ? 0 : stateText(i).length;
+  moments.forEach((_, i) => { if (lengthOf(i) > lengthOf(fullest)) fullest = i; });
+}
+const codeBox = () => id("code").querySelector(".scroll");
+const isWider = box => box.scrollWidth > box.clientWidth;
+const isTaller = box => box.scrollHeight > box.clientHeight;
+const isWide = () => document.body.classList.contains("wide");
+
+// The layouts: the panes side by side, with wide columns or narrow ones in the timeline; in two columns; the same with tables
+// that may be slim; below one another.
+const LAYOUTS = [
+  { columns: 3, isWide: true, isSlim: false }, { columns: 3, isWide: false, isSlim: false }, { columns: 2, isWide: true, isSlim: false },
+  { columns: 3, isWide: false, isSlim: true }, { columns: 2, isWide: true, isSlim: true }, { columns: 1, isWide: true, isSlim: true }
+];
+let layout = LAYOUTS[0];
+
+function draw() {
+  document.body.classList.toggle("wide", layout.columns > 1);
+  id("panes").classList.toggle("two", layout.columns === 2);
+  drawProgram();
+  drawTimeline(layout.isWide);
+  at = -1;
+  show(fullest);
+}
+// draws in the first of the layouts that the window has room for in which nothing is wider than its box
+function layOut() {
+  const wide = innerWidth / rem(), tall = innerHeight / rem(), boxes = [codeBox(), id("things")].concat(isCrowd() ? [] : timeBox());
+  const hasRoom = columns => columns === 1 || (wide >= 56 && tall >= 34 && (isCrowd() ? columns === 2 : columns === 3 || tall >= 46));
+  for (layout of LAYOUTS.filter(one => hasRoom(one.columns))) {
+    draw();
+    if (!boxes.some(isWider)) return;
+  }
+}
+// makes the text larger as long as the panes hold all of it, of a long timeline some lines, and its columns stay as they are
+function grow() {
+  const time = timeBox(), rest = [codeBox(), id("things")], wasNarrow = isNarrow, least = isTaller(time) ? LINES : Infinity;
+  const hasRoom = () => !rest.some(isTaller) && !rest.concat(time).some(isWider) && isNarrow === wasNarrow
+    && time.clientHeight >= Math.min(time.scrollHeight, least * linePitch());
+  const drawAt = to => {
+    setSize(to);
+    draw();
+  };
+  while (size < GROWN && hasRoom()) drawAt(size * GROWTH);
+  if (size > 1 && !hasRoom()) drawAt(size / GROWTH);
+}
+// all of it is drawn anew
+function arrange() {
+  const now = at < 0 ? fromAddress() : at;
+  setSize(chosenSize || 1);
+  layOut();
+  if (!chosenSize && isWide()) grow();
+  at = -1;
+  show(now);
+}
 function standAlone() {
-  document.body.classList.toggle("alone");
+  document.body.classList.toggle("alone", id("alone").checked);
   arrange();
 }
 // what a key does, wherever the focus is but in a box that has a use for it of its own
@@ -1482,7 +1709,8 @@ function actionOf(key, on) {
   if (key === "ArrowRight" || (key === (slides ? "ArrowUp" : "ArrowDown") && !scrolls)) return () => go(next(1));
   if (key === "ArrowLeft" || (key === (slides ? "ArrowDown" : "ArrowUp") && !scrolls)) return () => go(next(-1));
   if (key === " ") return slides || !/^(INPUT|BUTTON|SUMMARY)$/.test(on.tagName) ? play : null;
-  return { Home: () => go(0), End: () => go(moments.length - 1), "+": () => resize(1.1), "=": () => resize(1.1), "-": () => resize(1 / 1.1), f: standAlone }[key];
+  return { Home: () => go(0), End: () => go(moments.length - 1), "+": () => choose(size * STEP), "=": () => choose(size * STEP), "-": () => choose(size / STEP),
+    0: () => choose(0), f: () => id("alone").click() }[key];
 }
 function pressed(event) {
   const act = event.altKey || event.ctrlKey || event.metaKey ? null : actionOf(event.key, event.target);
@@ -1501,8 +1729,11 @@ function listen() {
   id("whole").onclick = () => copy(scheduleOf(eventsTo(moments.length - 1)));
   id("slider").oninput = () => go(+id("slider").value);
   id("fold").onchange = id("java").onchange = arrange;
+  id("alone").onchange = standAlone;
+  id("states").onclick = () => print("states");
+  id("sheet").onclick = () => print("sheet");
   id("hide").onchange = () => {
-    id("lanes").classList.toggle("hiding", id("hide").checked);
+    document.body.classList.toggle("hiding", id("hide").checked);
     markMap();
   };
   id("lanes").onclick = event => {
@@ -1521,15 +1752,18 @@ function listen() {
     drawInView();
     markMap();
   };
-  let width = innerWidth;
+  // on a phone the height changes as the page is scrolled
+  let width = innerWidth, height = innerHeight;
   window.onresize = () => {
-    if (innerWidth === width) return;
+    if (innerWidth === width && (innerHeight === height || !isWide())) return;
     width = innerWidth;
+    height = innerHeight;
     arrange();
   };
   for (const way of ["(prefers-color-scheme: dark)", "(forced-colors: active)"]) matchMedia(way).onchange = arrange;
   window.onhashchange = () => go(fromAddress());
-  window.onbeforeprint = () => { if (!isWhole()) { drawLines(Math.max(0, lineNumber[at] - 200), Math.min(shown.length, lineNumber[at] + 200)); markLines(); } };
+  window.onbeforeprint = beforePrint;
+  window.onafterprint = afterPrint;
   document.addEventListener("keydown", pressed);
 }
 function nameThePage() {
@@ -1545,13 +1779,17 @@ function begin() {
   readSource();
   readRun();
   readParts();
+  readStrays();
   nameThePage();
   findUses();
   id("slider").max = moments.length - 1;
-  id("panes").className = isCrowd() ? "crowd" : "";
+  id("panes").classList.toggle("crowd", isCrowd());
   id("tool").hidden = id("view").hidden = false;
   id("text").open = false;
-  document.body.className = "wide";
+  document.body.classList.toggle("hiding", id("hide").checked);
+  document.body.classList.toggle("alone", id("alone").checked);
+  chosenSize = remembered();
+  findFullest();
   listen();
   arrange();
 }
