@@ -21,7 +21,9 @@ use Rattle.trace_compare.specs.NumberedLine.{NumberedLine}
 use Rattle.trace_compare.specs.declared.run.RunFault.{RunFault}
 use Rattle.trace_compare.specs.declared.run.RunFault.TheVariants as fault
 use Rattle.trace_compare.specs.Outcome.{EndsFrom, Stops, StopsFrom}
-use Rattle.trace_compare.specs.Playing.{HasPlayedAll}
+use Rattle.trace_compare.specs.declared.play.PlayFault.{PlayFault}
+use Rattle.trace_compare.specs.declared.play.PlayFault.TheVariants as play
+use Rattle.trace_compare.specs.Playing.{HasPlayedAll, played_fault}
 use Rattle.trace_compare.specs.RunText.{AreTraced, HasWrittenTheSame, IsEndOf}
 use Rattle.trace_compare.specs.Start.{Begins}
 use Rattle.row_code.specs.declared.image.Image.{Image}
@@ -132,6 +134,16 @@ stops fault.Memory image world schedule_before schedule_after old new failed oth
 stops fault.Read image world schedule_before schedule_after old new failed other begins from = (world, (begins, from))
 stops fault.Write image world schedule_before schedule_after old new failed other begins from = (world, (begins, from))
 stops (fault.Load f) image world schedule_before schedule_after old new failed other begins never = absurd never
+
+-- a run stops whose state can't be written
+pub unfinished : (f : PlayFault) (image : Image) (first last : World) (all : Bool) (schedule_before schedule_after old between new : Option (List ℕ))
+    (failed other : Bool) → Begins image first → HasPlayedAll first last all schedule_before schedule_after old between
+    → (f ≡ play.Memory → new ≡ between) → (f ≡ play.Write → IsTrue other)
+    → Stops image (played_fault f) schedule_before schedule_after failed old new other
+unfinished play.Memory image first last all schedule_before schedule_after old between new failed other begins played same write =
+    inr (first, (begins, broken_off first last all schedule_before schedule_after old between new failed other played (same refl)))
+unfinished play.Write image first last all schedule_before schedule_after old between new failed other begins played same write =
+    (first, (begins, write refl))
 
 -- the verdict on a trace, beside the program that it is of
 pub begun-verdict : (image : Image) (world : World) (choices : List Choice) → Begins image world → All IsNamed choices

@@ -9,6 +9,8 @@ use Rattle.schedule_reader.specs.Schedule.{open_schedule, finished_schedule, cho
 use Rattle.thread_machine.specs.declared.choice.Choice.{Choice}
 use Rattle.thread_machine.specs.Idle.{idle_event}
 use Rattle.thread_machine.specs.World.{World}
+use Rattle.trace_compare.specs.declared.play.PlayFault.{PlayFault}
+use Rattle.trace_compare.specs.declared.play.PlayFault.TheVariants as play
 use Rattle.trace_compare.specs.declared.run.RunFault.{RunFault}
 use Rattle.trace_compare.specs.declared.run.RunFault.TheVariants as fault
 use Rattle.trace_compare.specs.Lines.{event_text}
@@ -54,6 +56,11 @@ abbrev pub IsToldOf : RunFault → Result (Unit {0}) ScheduleFault → Type 0
 IsToldOf (fault.Schedule f) told = (told ≡ Err f) × (f ≢ schedule.Memory)
 IsToldOf fault.Memory told = told ≡ Err schedule.Memory
 IsToldOf _ told = ⊥
+
+-- what a run stops for whose choices can't be played on
+abbrev pub played_fault : PlayFault → RunFault
+played_fault play.Memory = fault.Memory
+played_fault play.Write = fault.Write
 
 -- a run stopped for this fault with these choices, or behind them because its reader told one
 abbrev pub StopsAt : RunFault → Result (Unit {0}) ScheduleFault → World → Bool → List Choice → Option (List ℕ) → Option (List ℕ) → Bool → Type 0

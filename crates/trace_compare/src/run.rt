@@ -3,7 +3,7 @@ ghost use Rattle.schedule_reader.specs.Schedule.{choices_of};
 ghost use Rattle.thread_machine.specs.World.{world_of};
 ghost use Rattle.trace_compare.specs.declared.run_end.RunEnd.{RunEnd};
 ghost use Rattle.trace_compare.specs.Outcome.{ComesTo, Stops, StopsFrom};
-ghost use Rattle.trace_compare.specs.Playing.{HasPlayedAll, IsToldOf, PlaysOn, StopsAt};
+ghost use Rattle.trace_compare.specs.Playing.{HasPlayedAll, IsToldOf, PlaysOn, StopsAt, played_fault};
 
 use crate::kept_line::KeptLine;
 use crate::play::{PlayFault, play_runs};
@@ -38,6 +38,18 @@ pub enum RunFault {
     Read,
     /// The trace can't be written.
     Write,
+}
+
+impl RunFault {
+    /// What a run stops for whose choices can't be played on.
+    fn of_play(fault: PlayFault) -> RunFault
+        ensures { result ≡ played_fault fault }
+    {
+        match fault {
+            PlayFault::Memory => RunFault::Memory,
+            PlayFault::Write => RunFault::Write,
+        }
+    }
 }
 
 /// What comes of a schedule whose reader told this, where all choices so far were accepted or not.
@@ -77,8 +89,7 @@ fn play_told<W: Sink>(
     runs.clear();
     match played {
         Ok(all) => told_of(told, all),
-        Err(PlayFault::Memory) => Err(RunFault::Memory),
-        Err(PlayFault::Write) => Err(RunFault::Write),
+        Err(fault) => Err(RunFault::of_play(fault)),
     }
 }
 
@@ -148,8 +159,7 @@ pub fn run_to_end<S: Source, W: Sink>(
     };
     match push_end(alloc, &machine, refused_in(accepted, line), output) {
         Ok(end) => Ok(end),
-        Err(PlayFault::Memory) => Err(RunFault::Memory),
-        Err(PlayFault::Write) => Err(RunFault::Write),
+        Err(fault) => Err(RunFault::of_play(fault)),
     }
 }
 
@@ -168,8 +178,9 @@ pub fn run_text<S: Source, W: Sink>(
         (W.written output.old) (W.written output.new) (W.has_failed output.new)) }
     ensures reads { S.reads schedule.new ≤ S.reads schedule.old + 1000000000 }
 {
-    match run_to_end(alloc, image, schedule, output) {
-        Ok(_) => Ok(()),
-        Err(fault) => Err(fault),
-    }
+    let _end = match run_to_end(alloc, image, schedule, output) {
+        Ok(end) => end,
+        Err(fault) => return Err(fault),
+    };
+    Ok(())
 }

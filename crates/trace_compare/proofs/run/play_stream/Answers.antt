@@ -1,4 +1,4 @@
-use Rattle.std.proofs.Common.{◌≡◌, ◌++◌, ◌<◌, Ok, take, length, refl, arith, rules}
+use Rattle.std.proofs.Common.{◌≡◌, ◌++◌, ◌<◌, Bool, Result, Ok, take, length, refl, arith, rules}
 use Rattle.trace_compare.specs.declared.run.RunFault.{RunFault}
 use Rattle.std.proofs.lemmas.List.{length-take}
 use Rattle.std.proofs.KnownBytes.{Consumes-trans}
@@ -51,8 +51,9 @@ loop-preserved g c =
     let consumed = Consumes-trans _ _ _ bytes _ stream.1.0 c.in-Ok.ensures.bytes.0 in
     let some : 0 < c.in-Ok.count = omega (arith, c.if-count-eq0.false) in
     let size : length c.pull.new.buffer ≡ 4096 = search rules in
+    let played : Result Bool RunFault = Ok c.in-Ok-play_told.all in
     record {
-      empty = c.play_told-2.ensures.runs;
+      empty = c.play_told-in-loop.ensures.runs;
       few = omega (arith, f.read, c.loop.invariant.few, size, length-take c.in-Ok.count c.pull.new.buffer, c.in-Ok.ensures.bound);
       reads = omega (arith, c.pull.ensures.reads, c.loop.invariant.reads);
       stream = (
@@ -60,7 +61,7 @@ loop-preserved g c =
         (
           consumed,
           longer_by_piece bytes c.pull.new.buffer piece c.in-Ok.count c.loop.counter refl c.in-Ok.ensures.bound some stream.1.1,
-          piece-plays (Ok {E = RunFault} c.in-Ok-play_told.all) c.feed-told.result bytes (bytes ++ piece) first _ _ _ _ _ _ _ _ _ _ c.loop.invariant.empty stream.1.2
+          piece-plays played c.feed-told.result bytes (bytes ++ piece) first _ _ _ _ _ _ _ _ _ _ c.loop.invariant.empty stream.1.2
               c.in-Ok-play_told.ensures.told (f.runs bytes stream.1.2.reads) (f.stream bytes stream.1.2.reads) c.in-Ok-play_told.ensures.plays,
         ),
       );
