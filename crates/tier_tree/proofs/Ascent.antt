@@ -1,5 +1,5 @@
 -- A climb along a line.
-use Rattle.std.proofs.Common.{inl, inr, ◌≡◌, ◌≢◌, ◌∙◌, ℕ, zero, suc, ◌+◌, ◌-◌, ◌<◌, ◌≤◌, drop, ◌==◌, Bool, true, false, List, [], ◌∷◌, length, get_or, ap, refl, sym, subst, arith, if◌then◌else◌}
+use Rattle.std.proofs.Common.{inl, inr, ◌≡◌, ◌≢◌, ◌∙◌, ℕ, zero, suc, ◌+◌, ◌<◌, ◌≤◌, drop, ◌==◌, Bool, true, false, List, [], ◌∷◌, length, get_or, ap, refl, sym, subst, arith, if◌then◌else◌}
 use Rattle.std.specs.Prelude.{All, ℤ, pos, take, slice_set}
 use Rattle.std.proofs.lemmas.Bool.Decides.{nat_tests}
 use Rattle.std.proofs.lemmas.List.{get_or_read, get_or-set_same, drop_all}
@@ -13,7 +13,7 @@ use Rattle.tier_tree.specs.declared.climb.Climb.TheVariants as climb
 use Rattle.tier_tree.specs.declared.arrived.Arrived.TheVariants as arrived
 use Rattle.tier_tree.specs.Forest.{PhaserState, no_phaser, phaser_at, flat_at, root_at, with_flat}
 use Rattle.tier_tree.specs.Sound.{IsForest}
-use Rattle.tier_tree.specs.Stored.{Stored, no_stored, stored_at, kept_flat, IsStored, ChangedOnly, ChangedAt, phasers_of}
+use Rattle.tier_tree.specs.Stored.{Stored, no_stored, stored_at, kept_flat, IsStored, ChangedOnly, phasers_of}
 use Rattle.tier_tree.specs.Arrival.{Climbed, is_top, passed_on, with_child, climbed_by, climbed, arrival_by, arrival}
 use Rattle.tier_tree.specs.Ascent.{IsOfPhase, written}
 use Rattle.tier_tree.proofs.Changed.{there_shown}
@@ -158,8 +158,8 @@ pub of_phase_line : (forest : List Stored) (line words : List ℕ) (k top : ℕ)
 of_phase_line forest line words k top stored there tops live all =
     All-take (λ (id : ℕ). All (IsOfPhase (flat_at (phasers_of forest) id)) words) k line
     (λ m d here.
-        let id = in_phase forest (get_or line m d) top stored (there m d here) (tops m d here) live in
-        λ n e within. let word = all n e within in (word.0 ∙ sym id.0, word.1))
+    let id = in_phase forest (get_or line m d) top stored (there m d here) (tops m d here) live in
+    λ n e within. let word = all n e within in (word.0 ∙ sym id.0, word.1))
 
 -- a phaser's new word, where those above have theirs
 abbrev pub passes : ℕ → ℕ → Climb → List PhaserState → Climbed
@@ -360,10 +360,10 @@ one_lower line words high low word before mid after next here room read live pha
     record {
       with_words = set
           ∙ ap (λ (ps : List PhaserState). with_flat ps id (record_of word))
-              (above.with_words ∙ ap (λ (n : ℕ). written (drop n line) (drop n words) (phasers_of before)) (sym next))
+          (above.with_words ∙ ap (λ (n : ℕ). written (drop n line) (drop n words) (phasers_of before)) (sym next))
           ∙ ap (λ (l : List ℕ). written l (word ∷ drop (suc low) words) (phasers_of before)) (sym (drop-cons line low 0 here))
           ∙ ap (λ (ws : List ℕ). written (drop low line) ws (phasers_of before))
-              (ap (λ (w : ℕ). w ∷ drop (suc low) words) read ∙ sym (drop-cons words low word room));
+          (ap (λ (w : ℕ). w ∷ drop (suc low) words) read ∙ sym (drop-cons words low word room));
       late = λ n.
           let now = with_flat-late (phasers_of mid) id n (record_of word) (fits.0 ∙ sym was.0, fits.1 ∙ sym (was.1 ∙ live low 0 here)) in
           let first : IsAsLate (flat_at (phasers_of after) n) (flat_at (phasers_of mid) n) =

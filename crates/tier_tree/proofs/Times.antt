@@ -1,10 +1,8 @@
 -- A climb changes no phase and terminates nobody.
-use Rattle.std.proofs.Common.{◌≡◌, ◌∙◌, ℕ, zero, suc, ◌==◌, ◌-◌, ◌+◌, Bool, true, false, List, [], ◌∷◌, ap, refl, sym, subst, if◌then◌else◌}
+use Rattle.std.proofs.Common.{◌≡◌, ◌∙◌, ℕ, zero, suc, ◌==◌, ◌-◌, ◌+◌, Bool, true, false, List, [], ◌∷◌, refl, sym, subst, if◌then◌else◌}
 use Rattle.packed_phaser.specs.Flat.{Flat, Arrival, Counts, Turns, ComesLate, IsUnregistered, arrive, settled, view_of}
-use Rattle.tier_tree.specs.declared.climb.Climb.{Climb}
-use Rattle.tier_tree.specs.declared.climb.Climb.TheVariants as climb
 use Rattle.tier_tree.specs.Forest.{PhaserState, flat_at, with_flat}
-use Rattle.tier_tree.specs.Arrival.{Climbed, is_top, passed_on, with_child, climbed_by, climbed}
+use Rattle.tier_tree.specs.Arrival.{passed_on}
 
 -- the phase, and whether it is terminated
 abbrev pub IsAsLate : Flat → Flat → Type 0
@@ -56,4 +54,3 @@ passed_on-late f = by_case (f.parties == 0)
     by_case : (none : Bool) → IsAsLate (if none then record f { turned = false } else f) f
     by_case true = (refl, refl)
     by_case false = (refl, refl)
-

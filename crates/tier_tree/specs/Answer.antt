@@ -44,7 +44,7 @@ pub record MakesPending (root : ℕ) (before : List PhaserState) (after : List P
   pub unturned_before : (flat_at before root).turned ≡ false
   pub live_before : (flat_at before root).ended ≡ false
 
--- the trees are the same: each phaser has its line and its policy
+-- the trees stay: each phaser has its line and its policy
 pub record KeepsPlaces (before : List PhaserState) (after : List PhaserState) : Type 0 where
   pub places : places_of after ≡ places_of before
   pub roots : (id : ℕ) → root_at after id ≡ root_at before id

@@ -1,9 +1,9 @@
 -- The end of a tree's phase, and its termination.
 use Rattle.std.specs.Prelude.{ℕ, ◌+◌, ◌==◌, Bool, if◌then◌else◌, List, map, slice_set}
 use Rattle.packed_phaser.specs.Flat.{Flat, advance, renew, force}
-use Rattle.tier_tree.specs.Forest.{PhaserState, phaser_at, flat_at, root_of, root_at}
+use Rattle.tier_tree.specs.Forest.{PhaserState, phaser_at, root_of, root_at}
 
--- the same parties in the root's phase: all are still to arrive, or they are terminated with the root
+-- its parties in the root's phase: all are still to arrive, or they are terminated with the root
 abbrev pub follow : ℕ → Bool → Flat → Flat
 follow phase ended flat = if ended then force (renew phase flat) else renew phase flat
 

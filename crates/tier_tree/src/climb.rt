@@ -89,6 +89,7 @@ fn look(nodes: &[Node], line: &[u8], top: Word, leave: bool, words: &mut [Word])
                         levels: k + 1,
                     };
                 }
+                // Whoever stays leaves no phaser without parties.
                 leaves = leaves && word.parties() == 0;
                 words[k] = if leaves { word.vacate() } else { word };
             }
@@ -120,7 +121,8 @@ fn write(nodes: &mut [Node], line: &[u8], words: &[Word])
     }
 }
 
-/// `arrive`, by a look from the phaser up to its root.
+/// `arrive`, by one look from the phaser up to its root and one write. It is compiled twice, for parties that leave and for
+/// those that stay, who are most.
 #[inline(never)]
 fn ascend<const LEAVE: bool>(nodes: &mut [Node], i: usize) -> Arrived
     requires stored { IsStored nodes.old }

@@ -70,7 +70,7 @@ impl Forest {
         })
     }
 
-    /// The same forest, word for word.
+    /// A forest equal to it, word for word.
     pub fn copy(&self, alloc: Global) -> Result<Forest, AllocError>
         ensures { IfOk result (λ forest. forest ≡ self.now) }
     {

@@ -17,9 +17,11 @@ look-ascent-requires-clause-live g c =
 
 pub look-ascent-requires-clause-before : goal.look-ascent-requires-clause-before
 look-ascent-requires-clause-before g c =
-    All-replicate (IsOfPhase (record_of c.top_at-top.result)) 8 c.top_at-top.result
-    (refl, live_top c.args.nodes.now c.args.i c.top_at-top.result (flat_at (phasers_of c.args.nodes.now) c.args.i) c.requires.there c.top_at-top.ensures
-    refl c.requires.live)
+    All-replicate (IsOfPhase (record_of c.top_at-top.result)) 8 c.top_at-top.result (
+      refl,
+      live_top c.args.nodes.now c.args.i c.top_at-top.result (flat_at (phasers_of c.args.nodes.now) c.args.i) c.requires.there c.top_at-top.ensures
+          refl c.requires.live,
+    )
 
 pub write-requires-clause-there : goal.write-requires-clause-there
 write-requires-clause-there g c =

@@ -1,4 +1,4 @@
-use Rattle.std.proofs.Common.{inl, inr, ◌≡◌, ◌∙◌, ◌<◌, ◌==◌, ℕ, Bool, length, get_or, if◌then◌else◌, arith, rules, false, refl, sym, ap, subst}
+use Rattle.std.proofs.Common.{inl, inr, ◌≡◌, ◌∙◌, ◌==◌, ℕ, Bool, get_or, if◌then◌else◌, arith, rules, false, sym, ap, subst}
 use Rattle.packed_phaser.specs.declared.word.Arrived.{Arrived}
 use Rattle.packed_phaser.specs.Answer.{arrival_of}
 use Rattle.packed_phaser.specs.Flat.{Counts, Turns}

@@ -1,5 +1,4 @@
 use Rattle.std.proofs.Common.{◌≤◌, length}
-
 use Rattle.tier_tree.proofs.Ascent.{IsWritten}
 use Rattle.tier_tree.proofs.climb.write.Given as goal
 
