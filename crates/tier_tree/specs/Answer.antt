@@ -1,5 +1,5 @@
 -- What a caller learns from an answer, and what stays through a call.
-use Rattle.std.specs.Prelude.{◌≡◌, ℕ, ◌<◌, ◌==◌, Bool, true, false, List, length}
+use Rattle.std.specs.Prelude.{◌≡◌, ℕ, ◌<◌, true, false, List, length}
 use Rattle.tier_tree.specs.declared.id.PhaserId.{PhaserId}
 use Rattle.tier_tree.specs.declared.registered.Registered.{Registered}
 use Rattle.tier_tree.specs.declared.registered.Registered.TheVariants as registered
@@ -28,13 +28,6 @@ IfTurning (arrived.At phase) P = Unit {0}
 IfTurning (arrived.Turning root phase parties) P = P root
 IfTurning (arrived.Dead view) P = Unit {0}
 IfTurning arrived.NotThere P = Unit {0}
-
--- the arrival was the last of the tree of this phaser, which is a root
-abbrev pub turns : ℕ → Arrived → Bool
-turns id (arrived.At phase) = false
-turns id (arrived.Turning root phase parties) = root.0 == id
-turns id (arrived.Dead view) = false
-turns id arrived.NotThere = false
 
 -- the phase end of this root is pending, and wasn't before
 pub record MakesPending (root : ℕ) (before : List PhaserState) (after : List PhaserState) : Type 0 where
