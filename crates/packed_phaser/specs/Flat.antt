@@ -96,7 +96,7 @@ advance ends f = record {
 abbrev pub vacate : Flat → Flat
 vacate f = record f { turned = false }
 
--- the same parties at the start of another phase
+-- its parties at the start of another phase
 abbrev pub renew : ℕ → Flat → Flat
 renew phase f = fresh phase f.parties
 

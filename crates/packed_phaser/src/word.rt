@@ -8,16 +8,7 @@ ghost use Rattle.packed_phaser.specs.Answer.{registration_of, arrival_of};
 use phase_number::Phase;
 use std::marker::Model;
 
-/// A phaser without tiers in 64 bits.
-///
-/// From the lowest bit: 16 bits of parties that haven't arrived yet, 16 of registered parties, 31
-/// of the phase, and one that is set once the phaser is terminated. So an arrival takes one from
-/// the word, and 0 in the lowest field says that nobody is waited for: the phaser is turned, its
-/// phase is about to end. Parties 0 with unarrived 1 is a phaser that nobody has joined, which no
-/// arrival may turn; parties 0 with unarrived 0 one whose last party has left. After termination
-/// the lowest field means nothing.
-///
-/// Contracts see a word as its number. `record_of` in `specs/Word.antt` says which phaser that is.
+/// A phaser without tiers in 64 bits: the crate's head has the fields and what they mean.
 #[derive(Clone, Copy, Debug, PartialEq, Eq)]
 pub struct Word {
     bits: u64,
@@ -339,7 +330,7 @@ impl Word {
         })
     }
 
-    /// The same parties at the start of this phase, whatever the word was.
+    /// Its parties at the start of this phase, whatever the word was.
     pub fn renew(self, phase: Phase) -> Word
         ensures { record_of result ≡ renew phase (record_of self) }
     {

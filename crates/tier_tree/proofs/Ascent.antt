@@ -1,34 +1,25 @@
 -- A climb along a line.
-use Rattle.std.proofs.Common.{inl, inr, ◌≡◌, ◌≢◌, ◌∙◌, ℕ, zero, suc, ◌+◌, ◌-◌, ◌<◌, ◌≤◌, drop, ◌==◌, Bool, true, false, List, [], ◌∷◌, length, get_or, ap, refl, sym, subst, arith, if◌then◌else◌}
-use Rattle.std.specs.Prelude.{All, ℤ, pos, slice_set, Some}
-use Rattle.std.proofs.lemmas.Bool.{cases_eq}
+use Rattle.std.proofs.Common.{inl, inr, ◌≡◌, ◌≢◌, ◌∙◌, ℕ, zero, suc, ◌+◌, ◌<◌, ◌≤◌, drop, ◌==◌, Bool, true, false, List, [], ◌∷◌, length, get_or, ap, refl, sym, subst, arith, if◌then◌else◌}
+use Rattle.std.specs.Prelude.{All, ℤ, pos, take, slice_set}
 use Rattle.std.proofs.lemmas.Bool.Decides.{nat_tests}
-use Rattle.std.proofs.lemmas.List.Elements.{All-cons, All-nil}
+use Rattle.std.proofs.lemmas.List.{get_or_read, get_or-set_same, drop_all}
+use Rattle.std.proofs.lemmas.List.Elements.{All-cons, All-nil, All-take, All-set}
+use Rattle.std.proofs.Math.Seq.{drop-cons}
 use Rattle.packed_phaser.specs.Flat.{Flat, Arrival, Counts, Turns, ComesLate, IsUnregistered, arrive, settled, view_of}
-use Rattle.packed_phaser.specs.declared.word.Arrived.{Arrived as Answer}
-use Rattle.packed_phaser.specs.declared.word.Arrived.TheVariants as answer
-use Rattle.packed_phaser.specs.Answer.{arrival_of}
-use Rattle.packed_phaser.specs.declared.policy.Policy.{Policy}
-use Rattle.packed_phaser.specs.declared.policy.Policy.TheVariants as policy
-use Rattle.packed_phaser.specs.Policy.{ends}
 use Rattle.packed_phaser.specs.Word.{record_of}
+use Rattle.phase_number.specs.Phase.{phase_view}
 use Rattle.tier_tree.specs.declared.climb.Climb.{Climb}
 use Rattle.tier_tree.specs.declared.climb.Climb.TheVariants as climb
 use Rattle.tier_tree.specs.declared.arrived.Arrived.TheVariants as arrived
 use Rattle.tier_tree.specs.Forest.{PhaserState, no_phaser, phaser_at, flat_at, root_at, with_flat}
 use Rattle.tier_tree.specs.Sound.{IsForest}
-use Rattle.tier_tree.specs.Stored.{Stored, no_stored, stored_at, IsStored, ChangedOnly, phasers_of}
-use Rattle.tier_tree.specs.Answer.{turns}
-use Rattle.tier_tree.specs.Arrival.{Climbed, is_top, with_child, climbed_by, climbed, Arrives, arrival_by, arrival}
-use Rattle.tier_tree.specs.PhaseEnd.{after_phase_end, EndsAtRoot}
-use Rattle.std.proofs.lemmas.List.{get_or_read, get_or-set_same, get_or-set_other, drop_all}
-use Rattle.std.proofs.Math.Seq.{drop-cons}
-use Rattle.tier_tree.proofs.Changed.{there_shown, root-line}
-use Rattle.tier_tree.proofs.Shown.{shown_at, root_shown, only_same}
-use Rattle.tier_tree.proofs.Stands.{other-is}
+use Rattle.tier_tree.specs.Stored.{Stored, no_stored, stored_at, kept_flat, IsStored, ChangedOnly, phasers_of}
+use Rattle.tier_tree.specs.Arrival.{Climbed, is_top, passed_on, with_child, climbed_by, climbed, arrival_by, arrival}
+use Rattle.tier_tree.specs.Ascent.{IsOfPhase, written}
+use Rattle.tier_tree.proofs.Changed.{there_shown}
+use Rattle.tier_tree.proofs.Shown.{top_at, shown_at, flat_shown, root_shown, present-phase, present-ended}
 use Rattle.tier_tree.proofs.Safe.{linked, line_own, rest_of, root-parent}
-use Rattle.phase_number.specs.Phase.{phase_view}
-use Rattle.tier_tree.proofs.Times.{IsAsLate, IsArrival, arrival_is, climb_ready}
+use Rattle.tier_tree.proofs.Times.{IsAsLate, found, with_flat-late, passed_on-late}
 
 -- all phasers of a line are in one tree
 pub line_tree : (phasers : List PhaserState) → IsForest phasers → (line : List ℕ) (id : ℕ) → id < length phasers → (phaser_at phasers id).line ≡ line
@@ -75,30 +66,205 @@ own_line forest i stored there =
     let own = line_own (phasers_of forest) i stored.places (there_shown forest i there) in
     (own.0, ap (λ (p : PhaserState). p.line) (sym (shown_at forest i there)) ∙ own.1, own.1)
 
-pub first_is : (slice line above : List ℕ) (id i : ℕ) → slice ≡ line → slice ≡ id ∷ above → get_or line 0 0 ≡ i → line ≡ i ∷ above
-first_is slice line above id i read is own =
-    let split : line ≡ id ∷ above = sym read ∙ is in
-    split ∙ ap (λ (n : ℕ). n ∷ above) (sym (ap (λ (l : List ℕ). get_or l 0 0) split) ∙ own)
-
 -- the phasers of one tree have one word above them
 pub one_top : (forest : List Stored) (i top : ℕ) (line : List ℕ) → top ≡ (stored_at forest (root_at (phasers_of forest) i)).word
     → All (λ (n : ℕ). root_at (phasers_of forest) n ≡ root_at (phasers_of forest) i) line
     → All (λ (n : ℕ). top ≡ (stored_at forest (root_at (phasers_of forest) n)).word) line
 one_top forest i top line is tree k d there = is ∙ ap (λ (n : ℕ). (stored_at forest n).word) (sym (tree k d there))
 
--- a climb that is refused is an arrival that is
-pub arrival_refused : (id : ℕ) (leave : Bool) (line : List ℕ) (phasers mid after : List PhaserState) → (flat_at phasers id).ended ≡ false
-    → line ≡ (phaser_at phasers id).line → record { phasers = mid; climb = climb.Refused } ≡ climbed line leave phasers → after ≡ phasers
-    → record { phasers = after; answer = arrived.NotThere } ≡ arrival id leave phasers
-arrival_refused id leave line phasers mid after live is found same =
+-- 1. what an arrival at one phaser makes of the whole one
+
+-- a climb, told as an arrival
+pub arrives : (id : ℕ) (leave : Bool) (phasers after : List PhaserState) (c : Climb) → (flat_at phasers id).ended ≡ false
+    → record { phasers = after; climb = c } ≡ climbed (phaser_at phasers id).line leave phasers
+    → arrival_by c id after phasers ≡ arrival id leave phasers
+arrives id leave phasers after c live is =
     let all = climbed (phaser_at phasers id).line leave phasers in
-    ap (λ (ps : List PhaserState). record { phasers = ps; answer = arrived.NotThere }) same
-    ∙ ap (λ (c : Climb). arrival_by c id all.phasers phasers)
-    (ap (λ (r : Climbed). r.climb) found ∙ ap (λ (l : List ℕ). (climbed l leave phasers).climb) is)
+    ap (λ (r : Climbed). arrival_by r.climb id r.phasers phasers) is
     ∙ sym (ap (λ (e : Bool). if e then record { phasers = phasers; answer = arrived.Dead (view_of (flat_at phasers id)) }
     else arrival_by all.climb id all.phasers phasers) live)
 
--- the last party that stays leaves parties
+-- the climb from a phaser of this line, by what the arrival comes to there
+first_climbed : (leave : Bool) (line above : List ℕ) (id : ℕ) (phasers : List PhaserState) (a : Arrival) → line ≡ id ∷ above
+    → a ≡ arrive leave (flat_at phasers id)
+    → climbed_by a id (is_top above) (λ leaves. climbed above leaves phasers) phasers ≡ climbed line leave phasers
+first_climbed leave line above id phasers a is arrives =
+    ap (λ (b : Arrival). climbed_by b id (is_top above) (λ leaves. climbed above leaves phasers) phasers) arrives
+    ∙ ap (λ (l : List ℕ). climbed l leave phasers) (sym is)
+
+-- the view of a word after an arrival that was counted
+view_is : (f g : Flat) → IsAsLate g f × (f.ended ≡ false) → view_of g ≡ pos f.phase
+view_is f g late = ap (λ (n : ℕ). phase_view n g.ended) late.0.0 ∙ ap (phase_view f.phase) (late.0.1 ∙ late.1)
+
+pub counted_here : (i : ℕ) (leave : Bool) (above : List ℕ) (phasers after : List PhaserState) (g : Flat) → (phaser_at phasers i).line ≡ i ∷ above
+    → Counts g ≡ arrive leave (flat_at phasers i) → after ≡ with_flat phasers i g
+    → record { phasers = after; answer = arrived.At (view_of g) } ≡ arrival i leave phasers
+counted_here i leave above phasers after g line is set =
+    let late = found leave (flat_at phasers i) (Counts g) is in
+    ap (λ (z : ℤ). record { phasers = after; answer = arrived.At z }) (view_is (flat_at phasers i) g late)
+    ∙ arrives i leave phasers after climb.Counted late.1
+    (ap (λ (ps : List PhaserState). record { phasers = ps; climb = climb.Counted }) set
+    ∙ first_climbed leave (phaser_at phasers i).line above i phasers (Counts g) line is)
+
+pub turned_here : (i root : ℕ) (leave : Bool) (phasers after : List PhaserState) (g : Flat) → (phaser_at phasers i).line ≡ i ∷ [] → i < length phasers
+    → root ≡ root_at phasers i → root ≡ i → Turns g ≡ arrive leave (flat_at phasers i) → after ≡ with_flat phasers i g
+    → record { phasers = after; answer = arrived.Turning (record { 0 = root }) (view_of g) g.parties } ≡ arrival i leave phasers
+turned_here i root leave phasers after g line there root_is top is set =
+    let late = found leave (flat_at phasers i) (Turns g) is in
+    let own : flat_at after root ≡ g =
+    ap (flat_at after) top ∙ ap (λ (ps : List PhaserState). flat_at ps i) set
+    ∙ ap (λ (p : PhaserState). p.flat) (get_or-set_same phasers i (record (phaser_at phasers i) { flat = g }) no_phaser there) in
+    ap (λ (z : ℤ). record { phasers = after; answer = arrived.Turning (record { 0 = root }) z g.parties }) (view_is (flat_at phasers i) g late)
+    ∙ ap (λ (f : Flat). record { phasers = after; answer = arrived.Turning (record { 0 = root }) (pos (flat_at phasers i).phase) f.parties }) (sym own)
+    ∙ ap (λ (n : ℕ). record { phasers = after; answer = arrived.Turning (record { 0 = n }) (pos (flat_at phasers i).phase) (flat_at after n).parties }) root_is
+    ∙ arrives i leave phasers after climb.Turned late.1
+    (ap (λ (ps : List PhaserState). record { phasers = ps; climb = climb.Turned }) set
+    ∙ first_climbed leave (phaser_at phasers i).line [] i phasers (Turns g) line is)
+
+pub none_here : (i : ℕ) (leave : Bool) (above : List ℕ) (phasers : List PhaserState) → (phaser_at phasers i).line ≡ i ∷ above
+    → IsUnregistered ≡ arrive leave (flat_at phasers i)
+    → record { phasers = phasers; answer = arrived.NotThere } ≡ arrival i leave phasers
+none_here i leave above phasers line is =
+    arrives i leave phasers phasers climb.Refused (found leave (flat_at phasers i) IsUnregistered is)
+    (first_climbed leave (phaser_at phasers i).line above i phasers IsUnregistered line is)
+
+-- 2. a look, phaser after phaser
+
+-- all phasers of a tree that isn't terminated are of its root's phase
+pub in_phase : (forest : List Stored) (id top : ℕ) → IsStored forest → id < length forest
+    → top ≡ (stored_at forest (root_at (phasers_of forest) id)).word → (record_of top).ended ≡ false
+    → ((flat_at (phasers_of forest) id).phase ≡ (record_of top).phase) × ((flat_at (phasers_of forest) id).ended ≡ false)
+in_phase forest id top stored there is live =
+    let own = kept_flat (stored_at forest id) in
+    let above = kept_flat (stored_at forest (top_at forest id)) in
+    let same : record_of top ≡ above = ap record_of (is ∙ ap (λ (n : ℕ). (stored_at forest n).word) (root_shown forest id there)) in (
+      ap (λ (f : Flat). f.phase) (flat_shown forest id there) ∙ present-phase above own ∙ ap (λ (f : Flat). f.phase) (sym same),
+      ap (λ (f : Flat). f.ended) (flat_shown forest id there) ∙ present-ended above own (stored.live id there)
+          ∙ ap (λ (f : Flat). f.ended) (sym same) ∙ live,
+    )
+
+-- a word of its root's phase is of each phaser's
+pub live_line : (forest : List Stored) (line : List ℕ) (k top : ℕ) → IsStored forest → All (λ (id : ℕ). id < length forest) line
+    → All (λ (id : ℕ). top ≡ (stored_at forest (root_at (phasers_of forest) id)).word) line → (record_of top).ended ≡ false
+    → All (λ (id : ℕ). (flat_at (phasers_of forest) id).ended ≡ false) (take k line)
+live_line forest line k top stored there tops live =
+    All-take (λ (id : ℕ). (flat_at (phasers_of forest) id).ended ≡ false) k line
+    (λ m d here. (in_phase forest (get_or line m d) top stored (there m d here) (tops m d here) live).1)
+
+pub of_phase_line : (forest : List Stored) (line words : List ℕ) (k top : ℕ) → IsStored forest → All (λ (id : ℕ). id < length forest) line
+    → All (λ (id : ℕ). top ≡ (stored_at forest (root_at (phasers_of forest) id)).word) line → (record_of top).ended ≡ false
+    → All (IsOfPhase (record_of top)) words
+    → All (λ (id : ℕ). All (IsOfPhase (flat_at (phasers_of forest) id)) words) (take k line)
+of_phase_line forest line words k top stored there tops live all =
+    All-take (λ (id : ℕ). All (IsOfPhase (flat_at (phasers_of forest) id)) words) k line
+    (λ m d here.
+    let id = in_phase forest (get_or line m d) top stored (there m d here) (tops m d here) live in
+    λ n e within. let word = all n e within in (word.0 ∙ sym id.0, word.1))
+
+-- a phaser's new word, where those above have theirs
+abbrev pub passes : ℕ → ℕ → Climb → List PhaserState → Climbed
+passes id word climb.Counted above = record { phasers = with_flat above id (record_of word); climb = climb.Counted }
+passes id word climb.Turned above = record { phasers = with_flat above id (record_of word); climb = climb.Turned }
+passes id word climb.Refused above = record { phasers = above; climb = climb.Refused }
+
+-- the climb from the first phasers of a line, by the climb from those above
+abbrev pub from_below : ℕ → List ℕ → List ℕ → Climbed → Climbed
+from_below zero line words rest = rest
+from_below (suc k) [] words rest = rest
+from_below (suc k) (id ∷ line) [] rest = rest
+from_below (suc k) (id ∷ line) (word ∷ words) rest =
+    let above = from_below k line words rest in passes id word above.climb above.phasers
+
+one_higher : (k : ℕ) (line words : List ℕ) (word : ℕ) (rest : Climbed) → k < length line → k < length words
+    → from_below k line words (passes (get_or line k 0) word rest.climb rest.phasers) ≡ from_below (suc k) line (slice_set words k word) rest
+one_higher k [] words word rest here room = absurd (omega (arith, here))
+one_higher k (id ∷ line) [] word rest here room = absurd (omega (arith, room))
+one_higher zero (id ∷ line) (first ∷ words) word rest here room = refl
+one_higher (suc k) (id ∷ line) (first ∷ words) word rest here room =
+    ap (λ (r : Climbed). passes id first r.climb r.phasers) (one_higher k line words word rest (omega (arith, here)) (omega (arith, room)))
+
+from_refused : (k : ℕ) (line words : List ℕ) (phasers : List PhaserState)
+    → from_below k line words (record { phasers = phasers; climb = climb.Refused }) ≡ record { phasers = phasers; climb = climb.Refused }
+from_refused zero line words phasers = refl
+from_refused (suc k) [] words phasers = refl
+from_refused (suc k) (id ∷ line) [] phasers = refl
+from_refused (suc k) (id ∷ line) (word ∷ words) phasers =
+    ap (λ (r : Climbed). passes id word r.climb r.phasers) (from_refused k line words phasers)
+
+written_by : (id word : ℕ) (c : Climb) (above : List PhaserState) → c ≢ climb.Refused
+    → passes id word c above ≡ record { phasers = with_flat above id (record_of word); climb = c }
+written_by id word climb.Counted above not = refl
+written_by id word climb.Turned above not = refl
+written_by id word climb.Refused above not = absurd (not refl)
+
+from_written : (k : ℕ) (line words : List ℕ) (phasers : List PhaserState) (c : Climb) → c ≢ climb.Refused
+    → from_below k line words (record { phasers = phasers; climb = c }) ≡ record { phasers = written (take k line) words phasers; climb = c }
+from_written zero line words phasers c not = refl
+from_written (suc k) [] words phasers c not = refl
+from_written (suc k) (id ∷ line) [] phasers c not = refl
+from_written (suc k) (id ∷ line) (word ∷ words) phasers c not =
+    ap (λ (r : Climbed). passes id word r.climb r.phasers) (from_written k line words phasers c not)
+    ∙ written_by id word c (written (take k line) words phasers) not
+
+-- the phaser waits for nobody, or is terminated
+abbrev pub IsRefusal : Arrival → Type 0
+IsRefusal (Counts flat) = ⊥
+IsRefusal (Turns flat) = ⊥
+IsRefusal (ComesLate view) = Unit {0}
+IsRefusal IsUnregistered = Unit {0}
+
+refused_climb : (a : Arrival) (id : ℕ) (top : Bool) (above : Bool → Climbed) (phasers : List PhaserState) → IsRefusal a
+    → climbed_by a id top above phasers ≡ record { phasers = phasers; climb = climb.Refused }
+refused_climb (Counts flat) id top above phasers refuses = absurd refuses
+refused_climb (Turns flat) id top above phasers refuses = absurd refuses
+refused_climb (ComesLate view) id top above phasers refuses = refl
+refused_climb IsUnregistered id top above phasers refuses = refl
+
+-- so far all phasers of the line have turned, and their words are found
+pub record IsFound (line words : List ℕ) (k : ℕ) (leave leaves : Bool) (top : ℕ) (phasers : List PhaserState) : Type 0 where
+  pub climbs : climbed line leave phasers ≡ from_below k line words (climbed (drop k line) leaves phasers)
+  pub phase : All (IsOfPhase (record_of top)) words
+
+from_here : (line : List ℕ) (k : ℕ) → k < length line → drop k line ≡ get_or line k 0 ∷ drop (k + 1) line
+from_here line k here =
+    let next : suc k ≡ k + 1 = omega arith in drop-cons line k 0 here ∙ ap (λ (n : ℕ). get_or line k 0 ∷ drop n line) next
+
+one_more : (line words : List ℕ) (k word : ℕ) (leave leaves : Bool) (phasers : List PhaserState) (rest : Climbed) → k < length line → k < length words
+    → climbed line leave phasers ≡ from_below k line words (climbed (drop k line) leaves phasers)
+    → climbed (drop k line) leaves phasers ≡ passes (get_or line k 0) word rest.climb rest.phasers
+    → climbed line leave phasers ≡ from_below (k + 1) line (slice_set words k word) rest
+one_more line words k word leave leaves phasers rest here room climbs is =
+    let next : suc k ≡ k + 1 = omega arith in
+    climbs ∙ ap (from_below k line words) is ∙ one_higher k line words word rest here room
+    ∙ ap (λ (n : ℕ). from_below n line (slice_set words k word) rest) next
+
+-- it ends at this one
+ends_here : (line words : List ℕ) (k word : ℕ) (leave leaves : Bool) (phasers : List PhaserState) (c : Climb) → c ≢ climb.Refused
+    → k < length line → k < length words
+    → climbed line leave phasers ≡ from_below k line words (climbed (drop k line) leaves phasers)
+    → climbed (drop k line) leaves phasers ≡ passes (get_or line k 0) word c phasers
+    → record { phasers = written (take (k + 1) line) (slice_set words k word) phasers; climb = c } ≡ climbed line leave phasers
+ends_here line words k word leave leaves phasers c not here room climbs is =
+    sym (one_more line words k word leave leaves phasers (record { phasers = phasers; climb = c }) here room climbs is
+    ∙ from_written (k + 1) line (slice_set words k word) phasers c not)
+
+pub counted_there : (line words : List ℕ) (k word : ℕ) (leave leaves : Bool) (top : ℕ) (phasers : List PhaserState) → k < length line → k < length words
+    → IsFound line words k leave leaves top phasers → Counts (record_of word) ≡ arrive leaves (flat_at phasers (get_or line k 0))
+    → record { phasers = written (take (k + 1) line) (slice_set words k word) phasers; climb = climb.Counted } ≡ climbed line leave phasers
+counted_there line words k word leave leaves top phasers here room so_far is =
+    ends_here line words k word leave leaves phasers climb.Counted (λ no. absurd (cc no)) here room so_far.climbs
+    (sym (first_climbed leaves (drop k line) (drop (k + 1) line) (get_or line k 0) phasers (Counts (record_of word)) (from_here line k here) is))
+
+pub turned_there : (line words : List ℕ) (k word : ℕ) (leave leaves : Bool) (top : ℕ) (phasers : List PhaserState) → k < length line → k < length words
+    → k + 1 ≡ length line → IsFound line words k leave leaves top phasers → Turns (record_of word) ≡ arrive leaves (flat_at phasers (get_or line k 0))
+    → record { phasers = written (take (k + 1) line) (slice_set words k word) phasers; climb = climb.Turned } ≡ climbed line leave phasers
+turned_there line words k word leave leaves top phasers here room last so_far is =
+    let alone : drop k line ≡ get_or line k 0 ∷ [] =
+    from_here line k here ∙ ap (λ (l : List ℕ). get_or line k 0 ∷ l) (drop_all (k + 1) line (omega (arith, last))) in
+    ends_here line words k word leave leaves phasers climb.Turned (λ no. absurd (cc no)) here room so_far.climbs
+    (sym (first_climbed leaves (drop k line) [] (get_or line k 0) phasers (Turns (record_of word)) alone is))
+
+-- a party that stays leaves no phaser without parties
 abbrev pub Stays : Arrival → Type 0
 Stays (Counts g) = Unit {0}
 Stays (Turns g) = (g.parties == 0) ≡ false
@@ -119,336 +285,103 @@ arrival_stays f = by_case f.ended (f.arrived == f.parties)
     by_case false true = tt
     by_case false false = settled_stays f (f.arrived + 1 == f.parties) refl
 
--- a child that is turned by a party that stays, where those above have counted
-child_counted : (id : ℕ) (phasers mid : List PhaserState) (g : Flat) → (g.parties == 0) ≡ false
-    → with_child id g climb.Counted mid ≡ record { phasers = with_flat mid id g; climb = climb.Counted }
-child_counted id phasers mid g some =
-    ap (λ (t : Bool). record { phasers = with_flat mid id (if t then record g { turned = false } else g); climb = climb.Counted }) some
+pub stays : (f g : Flat) (leave : Bool) → Turns g ≡ arrive leave f → leave ≡ false → (g.parties == 0) ≡ false
+stays f g leave is not = subst Stays (sym (is ∙ ap (λ (b : Bool). arrive b f) not)) (arrival_stays f)
 
-turned_child : (id : ℕ) (above : List ℕ) (phasers : List PhaserState) (g : Flat) → Turns g ≡ arrive false (flat_at phasers id) → is_top above ≡ false
-    → climbed (id ∷ above) false phasers ≡ with_child id g (climbed above false phasers).climb (climbed above false phasers).phasers
-turned_child id above phasers g turns under =
-    let some : (g.parties == 0) ≡ false = subst Stays (sym turns) (arrival_stays (flat_at phasers id)) in
-    ap (λ (a : Arrival). climbed_by a id (is_top above) (λ leaves. climbed above leaves phasers) phasers) (sym turns)
-    ∙ ap (λ (t : Bool). climbed_by (Turns g) id t (λ leaves. climbed above leaves phasers) phasers) under
-    ∙ ap (λ (t : Bool). with_child id g (climbed above t phasers).climb (climbed above t phasers).phasers) some
+-- it goes on above
+child_passes : (id word : ℕ) (g : Flat) (c : Climb) (above : List PhaserState) → record_of word ≡ passed_on g
+    → with_child id g c above ≡ passes id word c above
+child_passes id word g climb.Counted above is = ap (λ (f : Flat). record { phasers = with_flat above id f; climb = climb.Counted }) (sym is)
+child_passes id word g climb.Turned above is = ap (λ (f : Flat). record { phasers = with_flat above id f; climb = climb.Turned }) (sym is)
+child_passes id word g climb.Refused above is = refl
 
-under_counted : (above : List ℕ) (phasers mid : List PhaserState) → record { phasers = mid; climb = climb.Counted } ≡ climbed above false phasers
-    → is_top above ≡ false
-under_counted [] phasers mid is = absurd (cc (ap (λ (r : Climbed). r.climb) is))
-under_counted (id ∷ above) phasers mid is = refl
+pub goes_on : (line words : List ℕ) (k word : ℕ) (g : Flat) (leave leaves next : Bool) (top : ℕ) (phasers : List PhaserState) → k < length line
+    → k < length words → k + 1 ≢ length line → IsFound line words k leave leaves top phasers
+    → Turns g ≡ arrive leaves (flat_at phasers (get_or line k 0)) → next ≡ (g.parties == 0) → record_of word ≡ passed_on g
+    → climbed line leave phasers ≡ from_below (k + 1) line (slice_set words k word) (climbed (drop (k + 1) line) next phasers)
+goes_on line words k word g leave leaves next top phasers here room more so_far is leaves_is passed =
+    let id = get_or line k 0 in
+    let above = drop (k + 1) line in
+    let rest = climbed above next phasers in
+    let none_is_top = ap is_top (from_here line (k + 1) (omega (arith, here, more))) in
+    one_more line words k word leave leaves phasers rest here room so_far.climbs
+    (sym (first_climbed leaves (drop k line) above id phasers (Turns g) (from_here line k here) is)
+    ∙ ap (λ (t : Bool). climbed_by (Turns g) id t (λ (b : Bool). climbed above b phasers) phasers) none_is_top
+    ∙ ap (λ (b : Bool). with_child id g (climbed above b phasers).climb (climbed above b phasers).phasers) (sym leaves_is)
+    ∙ child_passes id word g rest.climb rest.phasers passed)
 
-pub counted_above : (line above : List ℕ) (id : ℕ) (phasers mid after : List PhaserState) (f g : Flat) → line ≡ id ∷ above → f ≡ flat_at phasers id
-    → Turns g ≡ arrive false f → record { phasers = mid; climb = climb.Counted } ≡ climbed above false phasers → after ≡ with_flat mid id g
-    → record { phasers = after; climb = climb.Counted } ≡ climbed line false phasers
-counted_above line above id phasers mid after f g is found arrives counted set =
-    let turns : Turns g ≡ arrive false (flat_at phasers id) = arrives ∙ ap (arrive false) found in
-    let some : (g.parties == 0) ≡ false = subst Stays (sym turns) (arrival_stays (flat_at phasers id)) in
-    ap (λ (ps : List PhaserState). record { phasers = ps; climb = climb.Counted }) set
-    ∙ sym (child_counted id phasers mid g some)
-    ∙ ap (λ (r : Climbed). with_child id g r.climb r.phasers) counted
-    ∙ sym (turned_child id above phasers g turns (under_counted above phasers mid counted))
-    ∙ ap (λ (l : List ℕ). climbed l false phasers) (sym is)
+-- it is refused there
+pub refused_there : (line words : List ℕ) (k : ℕ) (leave leaves : Bool) (top : ℕ) (phasers : List PhaserState) (a : Arrival) → k < length line
+    → IsFound line words k leave leaves top phasers → a ≡ arrive leaves (flat_at phasers (get_or line k 0)) → IsRefusal a
+    → record { phasers = phasers; climb = climb.Refused } ≡ climbed line leave phasers
+refused_there line words k leave leaves top phasers a here so_far is refuses =
+    sym (so_far.climbs
+    ∙ ap (from_below k line words) (sym (first_climbed leaves (drop k line) (drop (k + 1) line) (get_or line k 0) phasers a (from_here line k here) is)
+    ∙ refused_climb a (get_or line k 0) (is_top (drop (k + 1) line)) (λ (b : Bool). climbed (drop (k + 1) line) b phasers) phasers refuses)
+    ∙ from_refused k line words phasers)
 
--- nobody above counts it
-child_uncounted : (id : ℕ) (g : Flat) (c : Climb) (above : List PhaserState) → c ≢ climb.Counted → (with_child id g c above).climb ≢ climb.Counted
-child_uncounted id g climb.Counted above not is = not refl
-child_uncounted id g climb.Turned above not is = absurd (cc is)
-child_uncounted id g climb.Refused above not is = absurd (cc is)
+pub refused_past : (line words : List ℕ) (k : ℕ) (leave leaves : Bool) (top : ℕ) (phasers : List PhaserState) → length line ≤ k
+    → IsFound line words k leave leaves top phasers → record { phasers = phasers; climb = climb.Refused } ≡ climbed line leave phasers
+refused_past line words k leave leaves top phasers past so_far =
+    sym (so_far.climbs ∙ ap (λ (l : List ℕ). from_below k line words (climbed l leaves phasers)) (drop_all k line past) ∙ from_refused k line words phasers)
 
-pub last_above : (line above : List ℕ) (id : ℕ) (phasers : List PhaserState) (f g : Flat) → line ≡ id ∷ above → f ≡ flat_at phasers id
-    → Turns g ≡ arrive false f → (climbed above false phasers).climb ≢ climb.Counted → (climbed line false phasers).climb ≢ climb.Counted
-last_above line [] id phasers f g is found arrives not counted =
-    let turns : Turns g ≡ arrive false (flat_at phasers id) = arrives ∙ ap (arrive false) found in
-    absurd (cc (sym (ap (λ (a : Arrival). (climbed_by a id true (λ leaves. climbed [] leaves phasers) phasers).climb) (sym turns))
-    ∙ ap (λ (l : List ℕ). (climbed l false phasers).climb) (sym is) ∙ counted))
-last_above line (next ∷ above) id phasers f g is found arrives not counted =
-    let turns : Turns g ≡ arrive false (flat_at phasers id) = arrives ∙ ap (arrive false) found in
-    let rest = climbed (next ∷ above) false phasers in
-    child_uncounted id g rest.climb rest.phasers not
-    (sym (ap (λ (r : Climbed). r.climb) (turned_child id (next ∷ above) phasers g turns refl))
-    ∙ ap (λ (l : List ℕ). (climbed l false phasers).climb) (sym is) ∙ counted)
+-- a new word is of the root's phase
+pub new_word : (forest : List Stored) (line words : List ℕ) (top k word : ℕ) → IsStored forest → All (λ (id : ℕ). id < length forest) line
+    → All (λ (id : ℕ). top ≡ (stored_at forest (root_at (phasers_of forest) id)).word) line → (record_of top).ended ≡ false → k < length line
+    → IsAsLate (record_of word) (flat_at (phasers_of forest) (get_or line k 0)) → All (IsOfPhase (record_of top)) words
+    → All (IsOfPhase (record_of top)) (slice_set words k word)
+new_word forest line words top k word stored there tops live here late all =
+    let id = in_phase forest (get_or line k 0) top stored (there k 0 here) (tops k 0 here) live in
+    All-set (IsOfPhase (record_of top)) words k word (late.0 ∙ id.0, late.1 ∙ id.1) all
 
--- the line of a root
-alone : (line above : List ℕ) (id : ℕ) → line ≡ id ∷ above → (length line == 1) ≡ true → above ≡ []
-alone line [] id is one = refl
-alone line (next ∷ above) id is one =
-    let long : length line ≡ suc (suc (length above)) = ap (λ (l : List ℕ). length l) is in absurd (grind (arith, nat_tests, long, one))
+pub passed_late : (g f : Flat) (word : ℕ) → record_of word ≡ passed_on g → IsAsLate g f → IsAsLate (record_of word) f
+passed_late g f word is late =
+    let passed = passed_on-late g in
+    (ap (λ (x : Flat). x.phase) is ∙ passed.0 ∙ late.0, ap (λ (x : Flat). x.ended) is ∙ passed.1 ∙ late.1)
 
--- the last party of a root
-pub last_of_root : (line above : List ℕ) (id : ℕ) (phasers : List PhaserState) (f g : Flat) → line ≡ id ∷ above → (length line == 1) ≡ true
-    → f ≡ flat_at phasers id → Turns g ≡ arrive false f → (climbed line false phasers).climb ≢ climb.Counted
-last_of_root line above id phasers f g is one found arrives =
-    last_above line above id phasers f g is found arrives
-    (subst (λ (l : List ℕ). (climbed l false phasers).climb ≢ climb.Counted) (sym (alone line above id is one)) (λ counted. absurd (cc counted)))
+-- 3. the words are written, from the highest one down
 
--- the root of such a line
-pub alone_top : (line above : List ℕ) (id : ℕ) → line ≡ id ∷ above → (length line == 1) ≡ true → get_or line (length line - 1) 0 ≡ id
-alone_top line above id is one =
-    ap (λ (l : List ℕ). get_or l (length l - 1) 0) (is ∙ ap (λ (rest : List ℕ). id ∷ rest) (alone line above id is one))
-
--- the last arrival at a root turns it
-pub turned_here : (i : ℕ) (line above : List ℕ) (phasers after : List PhaserState) (f g : Flat) → line ≡ i ∷ above → (length line == 1) ≡ true
-    → line ≡ (phaser_at phasers i).line → f ≡ flat_at phasers i → f.ended ≡ false → Turns g ≡ arrive false f → after ≡ with_flat phasers i g
-    → arrival i false phasers ≡ record { phasers = after; answer = arrived.Turning (record { 0 = i }) (pos f.phase) (flat_at after i).parties }
-turned_here i line above phasers after f g is one line_is found live arrives set =
-    let full = climbed (phaser_at phasers i).line false phasers in
-    let top : root_at phasers i ≡ i = ap (λ (l : List ℕ). get_or l (length l - 1) 0) (sym line_is) ∙ alone_top line above i is one in
-    let comes : full ≡ record { phasers = with_flat phasers i g; climb = climb.Turned } =
-    ap (λ (l : List ℕ). climbed l false phasers) (sym line_is ∙ is ∙ ap (λ (rest : List ℕ). i ∷ rest) (alone line above i is one))
-    ∙ ap (λ (a : Arrival). climbed_by a i true (λ leaves. climbed [] leaves phasers) phasers) (sym (arrives ∙ ap (arrive false) found)) in
-    ap (λ (e : Bool). if e then record { phasers = phasers; answer = arrived.Dead (view_of (flat_at phasers i)) }
-    else arrival_by full.climb i full.phasers phasers) (ap (λ (x : Flat). x.ended) (sym found) ∙ live)
-    ∙ ap (λ (r : Climbed). arrival_by r.climb i r.phasers phasers) comes
-    ∙ ap (λ (n : ℕ). record { phasers = with_flat phasers i g; answer = arrived.Turning (record { 0 = n }) (pos (flat_at phasers i).phase) (flat_at (with_flat phasers i g) n).parties }) top
-    ∙ ap (λ (x : Flat). record { phasers = with_flat phasers i g; answer = arrived.Turning (record { 0 = i }) (pos x.phase) (flat_at (with_flat phasers i g) i).parties }) (sym found)
-    ∙ ap (λ (ps : List PhaserState). record { phasers = ps; answer = arrived.Turning (record { 0 = i }) (pos f.phase) (flat_at ps i).parties }) (sym set)
-
--- the phaser that has another word now
-pub put_here : (i : ℕ) (phasers after : List PhaserState) (g : Flat) → i < length phasers → after ≡ with_flat phasers i g
-    → phaser_at after i ≡ record (phaser_at phasers i) { flat = g }
-put_here i phasers after g there set =
-    ap (λ (ps : List PhaserState). phaser_at ps i) set ∙ get_or-set_same phasers i (record (phaser_at phasers i) { flat = g }) no_phaser there
-
--- so it is told with the view of its word
-pub turns_root : (i : ℕ) (line above : List ℕ) (phasers mid : List PhaserState) (f g : Flat) → line ≡ i ∷ above → (length line == 1) ≡ true
-    → line ≡ (phaser_at phasers i).line → f ≡ flat_at phasers i → IsAsLate g f × (f.ended ≡ false) → Turns g ≡ arrive false f
-    → mid ≡ with_flat phasers i g
-    → record { phasers = mid; answer = arrived.Turning (record { 0 = i }) (view_of g) (flat_at mid i).parties } ≡ arrival i false phasers
-turns_root i line above phasers mid f g is one line_is found late arrives set =
-    ap (λ (z : ℤ). record { phasers = mid; answer = arrived.Turning (record { 0 = i }) z (flat_at mid i).parties })
-    (ap (λ (n : ℕ). phase_view n g.ended) late.0.0 ∙ ap (phase_view f.phase) (late.0.1 ∙ late.1))
-    ∙ sym (turned_here i line above phasers mid f g is one line_is found late.1 arrives set)
-
--- and the end of its phase, where the policy is the default one: parties are left
-pub ends_at_root : (i : ℕ) (line above : List ℕ) (phasers mid now : List PhaserState) (f g : Flat) → line ≡ i ∷ above → (length line == 1) ≡ true
-    → line ≡ (phaser_at phasers i).line → f ≡ flat_at phasers i → IsAsLate g f × (f.ended ≡ false) → Turns g ≡ arrive false f → i < length phasers
-    → mid ≡ with_flat phasers i g → (phaser_at phasers i).policy ≡ policy.Default → now ≡ after_phase_end i false mid
-    → EndsAtRoot i (view_of g) phasers now
-ends_at_root i line above phasers mid now f g is one line_is found late arrives there set default ended = record {
-  last = ap (λ (a : Arrives). a.answer) comes
-      ∙ ap (λ (z : ℤ). arrived.Turning (record { 0 = i }) z (flat_at mid i).parties) (sym view)
-      ∙ ap (λ (ps : List PhaserState). arrived.Turning (record { 0 = i }) (view_of g) (flat_at ps i).parties) (sym phasers_are);
-  goes_on = ap (λ (ps : List PhaserState). ends (phaser_at ps i).policy (flat_at ps i).phase (flat_at ps i).parties) phasers_are
-      ∙ ap (λ (p : PhaserState). ends p.policy p.flat.phase p.flat.parties) (put_here i phasers mid g there set)
-      ∙ ap (λ (q : Policy). ends q g.phase g.parties) default ∙ ap Some some;
-  after = ended ∙ ap (after_phase_end i false) (sym phasers_are);
-}
-  where
-    comes : arrival i false phasers ≡ record { phasers = mid; answer = arrived.Turning (record { 0 = i }) (pos f.phase) (flat_at mid i).parties }
-    comes = turned_here i line above phasers mid f g is one line_is found late.1 arrives set
-
-    phasers_are : (arrival i false phasers).phasers ≡ mid
-    phasers_are = ap (λ (a : Arrives). a.phasers) comes
-
-    view : view_of g ≡ pos f.phase
-    view = ap (λ (n : ℕ). phase_view n g.ended) late.0.0 ∙ ap (phase_view f.phase) (late.0.1 ∙ late.1)
-
-    some : (g.parties == 0) ≡ false
-    some = subst Stays (sym (arrives ∙ ap (arrive false) found)) (arrival_stays (flat_at phasers i))
-
--- the phaser waits for nobody, or is terminated
-abbrev pub IsRefusal : Arrival → Type 0
-IsRefusal (Counts flat) = ⊥
-IsRefusal (Turns flat) = ⊥
-IsRefusal (ComesLate view) = Unit {0}
-IsRefusal IsUnregistered = Unit {0}
-
-refused_climb : (a : Arrival) (id : ℕ) (top : Bool) (above : Bool → Climbed) (phasers : List PhaserState) → IsRefusal a
-    → (climbed_by a id top above phasers).climb ≡ climb.Refused
-refused_climb (Counts flat) id top above phasers refuses = absurd refuses
-refused_climb (Turns flat) id top above phasers refuses = absurd refuses
-refused_climb (ComesLate view) id top above phasers refuses = refl
-refused_climb IsUnregistered id top above phasers refuses = refl
-
-pub none_counts : (line above : List ℕ) (id : ℕ) (phasers : List PhaserState) (f : Flat) (a : Arrival) → line ≡ id ∷ above → f ≡ flat_at phasers id
-    → a ≡ arrive false f → IsRefusal a → (climbed line false phasers).climb ≢ climb.Counted
-none_counts line above id phasers f a is found arrives refuses counted =
-    absurd (cc (sym (refused_climb a id (is_top above) (λ leaves. climbed above leaves phasers) phasers refuses)
-    ∙ ap (λ (b : Arrival). (climbed_by b id (is_top above) (λ leaves. climbed above leaves phasers) phasers).climb) (arrives ∙ ap (arrive false) found)
-    ∙ ap (λ (l : List ℕ). (climbed l false phasers).climb) (sym is) ∙ counted))
-
--- an arrival that is counted
-pub counted_here : (i : ℕ) (line above : List ℕ) (phasers after : List PhaserState) (f g : Flat) → line ≡ i ∷ above → f ≡ flat_at phasers i
-    → Counts g ≡ arrive false f → after ≡ with_flat phasers i g → record { phasers = after; climb = climb.Counted } ≡ climbed line false phasers
-counted_here i line above phasers after f g is found arrives set =
-    ap (λ (ps : List PhaserState). record { phasers = ps; climb = climb.Counted }) set
-    ∙ ap (λ (a : Arrival). climbed_by a i (is_top above) (λ leaves. climbed above leaves phasers) phasers) (arrives ∙ ap (arrive false) found)
-    ∙ ap (λ (l : List ℕ). climbed l false phasers) (sym is)
-
-pub arrives_early : (i : ℕ) (line : List ℕ) (phasers after : List PhaserState) (f g : Flat) → f ≡ flat_at phasers i
-    → IsAsLate g f × (f.ended ≡ false)
-    → line ≡ (phaser_at phasers i).line → record { phasers = after; climb = climb.Counted } ≡ climbed line false phasers
-    → record { phasers = after; answer = arrived.At (view_of g) } ≡ arrival i false phasers
-arrives_early i line phasers after f g found late line_is counted =
-    let live : (flat_at phasers i).ended ≡ false = ap (λ (x : Flat). x.ended) (sym found) ∙ late.1 in
-    let all = climbed (phaser_at phasers i).line false phasers in
-    ap (λ (n : ℕ). record { phasers = after; answer = arrived.At (phase_view n g.ended) }) (late.0.0 ∙ ap (λ (x : Flat). x.phase) found)
-    ∙ ap (λ (e : Bool). record { phasers = after; answer = arrived.At (phase_view (flat_at phasers i).phase e) }) (late.0.1 ∙ late.1)
-    ∙ ap (λ (r : Climbed). arrival_by r.climb i r.phasers phasers) (counted ∙ ap (λ (l : List ℕ). climbed l false phasers) line_is)
-    ∙ sym (ap (λ (e : Bool). if e then record { phasers = phasers; answer = arrived.Dead (view_of (flat_at phasers i)) }
-    else arrival_by all.climb i all.phasers phasers) live)
-
--- and one that isn't
-otherwise : (c : Climb) (i : ℕ) (after phasers : List PhaserState) (phase : ℤ) → c ≢ climb.Counted → (arrival_by c i after phasers).answer ≢ arrived.At phase
-otherwise climb.Counted i after phasers phase not is = not refl
-otherwise climb.Turned i after phasers phase not is = absurd (cc is)
-otherwise climb.Refused i after phasers phase not is = absurd (cc is)
-
-pub arrives_otherwise : (i : ℕ) (line : List ℕ) (phasers : List PhaserState) → line ≡ (phaser_at phasers i).line
-    → (climbed line false phasers).climb ≢ climb.Counted → (phase : ℤ) → (arrival i false phasers).answer ≢ arrived.At phase
-arrives_otherwise i line phasers line_is not phase = by_end (flat_at phasers i).ended
-  where
-    by_end : (ended : Bool) → (if ended then record { phasers = phasers; answer = arrived.Dead (view_of (flat_at phasers i)) }
-        else arrival_by (climbed (phaser_at phasers i).line false phasers).climb i (climbed (phaser_at phasers i).line false phasers).phasers phasers).answer
-        ≢ arrived.At phase
-    by_end true is = absurd (cc is)
-    by_end false is =
-        otherwise (climbed (phaser_at phasers i).line false phasers).climb i (climbed (phaser_at phasers i).line false phasers).phasers phasers phase
-        (subst (λ (l : List ℕ). (climbed l false phasers).climb ≢ climb.Counted) line_is not) is
-
--- and one that turns no root, or another one
-not_turned : (c : Climb) (i : ℕ) (after phasers : List PhaserState) → (c ≡ climb.Turned → root_at phasers i ≢ i)
-    → turns i (arrival_by c i after phasers).answer ≡ false
-not_turned climb.Counted i after phasers other = refl
-not_turned climb.Turned i after phasers other = other-is (root_at phasers i) i (other refl)
-not_turned climb.Refused i after phasers other = refl
-
-turns_elsewhere : (i : ℕ) (phasers : List PhaserState)
-    → ((climbed (phaser_at phasers i).line false phasers).climb ≡ climb.Turned → root_at phasers i ≢ i)
-    → turns i (arrival i false phasers).answer ≡ false
-turns_elsewhere i phasers other = by_end (flat_at phasers i).ended
-  where
-    by_end : (ended : Bool) → turns i (if ended then record { phasers = phasers; answer = arrived.Dead (view_of (flat_at phasers i)) }
-        else arrival_by (climbed (phaser_at phasers i).line false phasers).climb i (climbed (phaser_at phasers i).line false phasers).phasers phasers).answer
-        ≡ false
-    by_end true = refl
-    by_end false =
-        not_turned (climbed (phaser_at phasers i).line false phasers).climb i (climbed (phaser_at phasers i).line false phasers).phasers phasers other
-
--- a phaser that has one above isn't its root
-pub turns_above : (forest : List Stored) (i : ℕ) → IsStored forest → i < length forest
-    → (length (phaser_at (phasers_of forest) i).line == 1) ≡ false
-    → turns i (arrival i false (phasers_of forest)).answer ≡ false
-turns_above forest i stored there more = turns_elsewhere i (phasers_of forest) (λ _ top.
-    let line : (phaser_at (phasers_of forest) i).line ≡ i ∷ [] =
-    ap (λ (p : PhaserState). p.line) (shown_at forest i there) ∙ root-line forest i stored there (sym (root_shown forest i there) ∙ top) in
-    absurd (cc (sym more ∙ ap (λ (l : List ℕ). length l == 1) line)))
-
--- not all have arrived at it
-unturned_climb : (a : Answer) (id : ℕ) (top : Bool) (above : Bool → Climbed) (phasers : List PhaserState)
-    → ((word : ℕ) → a ≢ answer.Turned word) → (climbed_by (arrival_of a) id top above phasers).climb ≢ climb.Turned
-unturned_climb (answer.Counted word) id top above phasers not is = absurd (cc is)
-unturned_climb (answer.Turned word) id top above phasers not is = not word refl
-unturned_climb (answer.Dead view) id top above phasers not is = absurd (cc is)
-unturned_climb answer.NotThere id top above phasers not is = absurd (cc is)
-
-pub turns_not_yet : (line above : List ℕ) (id : ℕ) (phasers : List PhaserState) (a : Answer) → line ≡ id ∷ above
-    → line ≡ (phaser_at phasers id).line → arrival_of a ≡ arrive false (flat_at phasers id) → ((word : ℕ) → a ≢ answer.Turned word)
-    → turns id (arrival id false phasers).answer ≡ false
-turns_not_yet line above id phasers a is line_is arrives not = turns_elsewhere id phasers (λ turned.
-    absurd (unturned_climb a id (is_top above) (λ leaves. climbed above leaves phasers) phasers not
-    (ap (λ (b : Arrival). (climbed_by b id (is_top above) (λ leaves. climbed above leaves phasers) phasers).climb) arrives
-    ∙ ap (λ (l : List ℕ). (climbed l false phasers).climb) (sym is ∙ line_is) ∙ turned)))
-
--- a climb of one look at each phaser, and then of one write at each: so far each is turned by a party that stays
-abbrev pub HaveTurned : List ℕ → List ℕ → ℕ → List PhaserState → Type 0
-HaveTurned line words k phasers =
-    (m d : ℕ) → m < k → Turns (record_of (get_or words m d)) ≡ arrive false (flat_at phasers (get_or line m 0))
-
--- and from this place on up all are written
-pub record IsWritten (line : List ℕ) (before after : List Stored) (low : ℕ) : Type 0 where
-  pub counted : record { phasers = phasers_of after; climb = climb.Counted } ≡ climbed (drop low line) false (phasers_of before)
+pub record IsWritten (line words : List ℕ) (low : ℕ) (before after : List Stored) : Type 0 where
+  pub with_words : phasers_of after ≡ written (drop low line) (drop low words) (phasers_of before)
+  pub late : (id : ℕ) → IsAsLate (flat_at (phasers_of after) id) (flat_at (phasers_of before) id)
   pub stored : IsStored after
   pub only : ChangedOnly line before after
 
-pub one_more_turned : (line words : List ℕ) (k word : ℕ) (phasers : List PhaserState) → k < length words → HaveTurned line words k phasers
-    → Turns (record_of word) ≡ arrive false (flat_at phasers (get_or line k 0)) → HaveTurned line (slice_set words k word) (k + 1) phasers
-one_more_turned line words k word phasers room so_far turns m d below =
-    elim (cases_eq m k) as (λ _. Turns (record_of (get_or (slice_set words k word) m d)) ≡ arrive false (flat_at phasers (get_or line m 0))) [
-      | inl same ↦
-          subst (λ (n : ℕ). Turns (record_of (get_or (slice_set words k word) n d)) ≡ arrive false (flat_at phasers (get_or line n 0))) (sym same)
-          (ap (λ (w : ℕ). Turns (record_of w)) (get_or-set_same words k word d room) ∙ turns)
-      | inr other ↦
-          ap (λ (w : ℕ). Turns (record_of w)) (get_or-set_other words k m word d other)
-          ∙ so_far m d (omega (arith, below, other))
-    ]
-
-pub only_more_of : (line : List ℕ) (k : ℕ) (before mid after : List Stored) → k < length line → ChangedOnly line before mid
-    → ChangedOnly (get_or line k 0 ∷ []) mid after → ChangedOnly line before after
-only_more_of line k before mid after here first second = record {
-  many = second.many ∙ first.many;
-  places = λ id. second.places id ∙ first.places id;
-  others = λ id away.
-      second.others id (All-cons (λ (n : ℕ). id ≢ n) (get_or line k 0) [] (away k 0 here) (All-nil (λ (n : ℕ). id ≢ n))) ∙ first.others id away;
-}
-
-pub written_first : (line : List ℕ) (k : ℕ) (before nodes after : List Stored) (g : Flat) → nodes ≡ before → k < length line
-    → Counts g ≡ arrive false (flat_at (phasers_of nodes) (get_or line k 0))
-    → phasers_of after ≡ with_flat (phasers_of nodes) (get_or line k 0) g → IsStored after → ChangedOnly (get_or line k 0 ∷ []) nodes after
-    → IsWritten line before after k
-written_first line k before nodes after g same here counts set stored only =
-    let ps = phasers_of nodes in
-    subst (λ (b : List Stored). IsWritten line b after k) same (record {
-      counted = counted_here (get_or line k 0) (drop k line) (drop (suc k) line) ps (phasers_of after) (flat_at ps (get_or line k 0)) g
-          (drop-cons line k 0 here) refl counts set;
-      stored = stored;
-      only = only_more_of line k nodes nodes after here (only_same line nodes) only;
-    })
-
--- the word of the next one below is of its phase
-pub record IsNext (id word : ℕ) (nodes : List Stored) : Type 0 where
-  pub phase : (record_of word).phase ≡ (flat_at (phasers_of nodes) id).phase
-  pub before : (flat_at (phasers_of nodes) id).ended ≡ false
-  pub live : (record_of word).ended ≡ false
-
-pub next_ready : (line words : List ℕ) (k high low d : ℕ) (before nodes : List Stored) → high ≤ k → 0 < high → low ≡ high - 1
-    → HaveTurned line words k (phasers_of before) → IsWritten line before nodes high → IsNext (get_or line low 0) (get_or words low d) nodes
-next_ready line words k high low d before nodes within some is turned written =
-    let below : low < k = omega (arith, within, some, is) in
-    let ps = phasers_of before in
+pub one_lower : (line words : List ℕ) (high low word : ℕ) (before mid after : List Stored) → suc low ≡ high → low < length line → low < length words
+    → word ≡ get_or words low word
+    → All (λ (id : ℕ). (flat_at (phasers_of before) id).ended ≡ false) line
+    → All (λ (id : ℕ). All (IsOfPhase (flat_at (phasers_of before) id)) words) line → IsWritten line words high before mid
+    → phasers_of after ≡ with_flat (phasers_of mid) (get_or line low 0) (record_of word) → IsStored after
+    → ChangedOnly (get_or line low 0 ∷ []) mid after → IsWritten line words low before after
+one_lower line words high low word before mid after next here room read live phase above set stored only =
     let id = get_or line low 0 in
-    let g = record_of (get_or words low d) in
-    let late : IsArrival (flat_at ps id) (Turns g) = subst (IsArrival (flat_at ps id)) (sym (turned low d below)) (arrival_is false (flat_at ps id)) in
-    let ready = climb_ready (drop high line) false false ps (phasers_of nodes) climb.Counted id (flat_at ps id) g written.counted refl (turned low d below) in
-    record { phase = ready.0; before = ready.1; live = late.0.1 ∙ late.1 }
-
-pub written_next : (line words : List ℕ) (k high low d : ℕ) (before nodes after : List Stored) → high ≤ k → 0 < high → low ≡ high - 1 → k < length line
-    → HaveTurned line words k (phasers_of before) → IsWritten line before nodes high
-    → phasers_of after ≡ with_flat (phasers_of nodes) (get_or line low 0) (record_of (get_or words low d)) → IsStored after
-    → ChangedOnly (get_or line low 0 ∷ []) nodes after → IsWritten line before after low
-written_next line words k high low d before nodes after within some is here turned written set stored only =
-    let ps = phasers_of before in
-    let below : low < k = omega (arith, within, some, is) in
-    let there : low < length line = omega (arith, below, here) in
-    let suc_is : suc low ≡ high = omega (arith, some, is) in
-    let split : drop low line ≡ get_or line low 0 ∷ drop high line =
-    drop-cons line low 0 there ∙ ap (λ (n : ℕ). get_or line low 0 ∷ drop n line) suc_is in
+    let fits = subst (IsOfPhase (flat_at (phasers_of before) id)) (sym read) (phase low 0 here low word room) in
+    let was = above.late id in
     record {
-      counted = counted_above (drop low line) (drop high line) (get_or line low 0) ps (phasers_of nodes) (phasers_of after)
-          (flat_at ps (get_or line low 0)) (record_of (get_or words low d)) split refl (turned low d below) written.counted set;
+      with_words = set
+          ∙ ap (λ (ps : List PhaserState). with_flat ps id (record_of word))
+          (above.with_words ∙ ap (λ (n : ℕ). written (drop n line) (drop n words) (phasers_of before)) (sym next))
+          ∙ ap (λ (l : List ℕ). written l (word ∷ drop (suc low) words) (phasers_of before)) (sym (drop-cons line low 0 here))
+          ∙ ap (λ (ws : List ℕ). written (drop low line) ws (phasers_of before))
+          (ap (λ (w : ℕ). w ∷ drop (suc low) words) read ∙ sym (drop-cons words low word room));
+      late = λ n.
+          let now = with_flat-late (phasers_of mid) id n (record_of word) (fits.0 ∙ sym was.0, fits.1 ∙ sym (was.1 ∙ live low 0 here)) in
+          let first : IsAsLate (flat_at (phasers_of after) n) (flat_at (phasers_of mid) n) =
+          subst (λ (ps : List PhaserState). IsAsLate (flat_at ps n) (flat_at (phasers_of mid) n)) (sym set) now in
+          (first.0 ∙ (above.late n).0, first.1 ∙ (above.late n).1);
       stored = stored;
-      only = only_more_of line low before nodes after there written.only only;
+      only = record {
+        many = only.many ∙ above.only.many;
+        places = λ n. only.places n ∙ above.only.places n;
+        others = λ n away.
+            only.others n (All-cons (λ (m : ℕ). n ≢ m) id [] (away low 0 here) (All-nil (λ (m : ℕ). n ≢ m))) ∙ above.only.others n away;
+      };
     }
 
--- a climb that isn't counted further up isn't counted
-pub last_along : (line words : List ℕ) (k : ℕ) (phasers : List PhaserState) → k ≤ length line → HaveTurned line words k phasers
-    → (climbed (drop k line) false phasers).climb ≢ climb.Counted → (climbed line false phasers).climb ≢ climb.Counted
-last_along line words zero phasers here turned not = not
-last_along line words (suc k) phasers here turned not =
-    let there : k < length line = omega (arith, here) in
-    last_along line words k phasers (omega (arith, here)) (λ m d below. turned m d (omega (arith, below)))
-    (last_above (drop k line) (drop (suc k) line) (get_or line k 0) phasers (flat_at phasers (get_or line k 0)) (record_of (get_or words k 0))
-    (drop-cons line k 0 there) refl (turned k 0 (omega arith)) not)
-
-pub last_here : (line words : List ℕ) (k : ℕ) (phasers : List PhaserState) (a : Arrival) → k < length line → HaveTurned line words k phasers
-    → a ≡ arrive false (flat_at phasers (get_or line k 0)) → IsRefusal a → (climbed line false phasers).climb ≢ climb.Counted
-last_here line words k phasers a here turned is refuses =
-    last_along line words k phasers (omega (arith, here)) turned
-    (none_counts (drop k line) (drop (suc k) line) (get_or line k 0) phasers (flat_at phasers (get_or line k 0)) a (drop-cons line k 0 here) refl is refuses)
-
-pub last_of_all : (line words : List ℕ) (k : ℕ) (phasers : List PhaserState) → k ≡ length line → HaveTurned line words k phasers
-    → (climbed line false phasers).climb ≢ climb.Counted
-last_of_all line words k phasers all turned =
-    last_along line words k phasers (omega (arith, all)) turned
-    (λ is. absurd (cc (sym (ap (λ (l : List ℕ). (climbed l false phasers).climb) (drop_all k line (omega (arith, all)))) ∙ is)))
+-- what changed some phasers of a line changed the line at most
+pub only_take : (line : List ℕ) (k : ℕ) (before after : List Stored) → ChangedOnly (take k line) before after → ChangedOnly line before after
+only_take line k before after only = record {
+  many = only.many;
+  places = only.places;
+  others = λ n away. only.others n (All-take (λ (m : ℕ). n ≢ m) k line away);
+}

@@ -354,17 +354,17 @@ below_read forest i top own_word own f stored there read is_own is_top is =
     ∙ sym (flat_shown forest i there)
 
 -- an arrival below a terminated root
-comes_late : (top own : Flat) → top.ended ≡ true → ComesLate (view_of top) ≡ arrive false (present top own)
-comes_late top own ended =
+comes_late : (leave : Bool) (top own : Flat) → top.ended ≡ true → ComesLate (view_of top) ≡ arrive leave (present top own)
+comes_late leave top own ended =
     ap (λ (e : Bool). ComesLate (phase_view top.phase e)) ended
-    ∙ ap (λ (e : Bool). arrive false (if e then force (renew top.phase own) else (if own.phase == top.phase then own else renew top.phase own))) (sym ended)
+    ∙ ap (λ (e : Bool). arrive leave (if e then force (renew top.phase own) else (if own.phase == top.phase then own else renew top.phase own))) (sym ended)
 
-pub late_read : (forest : List Stored) (i top own_word : ℕ) (own : Stored) → IsStored forest → i < length forest → own ≡ get_or forest i own
+pub late_read : (leave : Bool) (forest : List Stored) (i top own_word : ℕ) (own : Stored) → IsStored forest → i < length forest → own ≡ get_or forest i own
     → own_word ≡ own.word → top ≡ (stored_at forest (root_at (phasers_of forest) i)).word → (record_of top).ended ≡ true
-    → ComesLate (view_of (record_of top)) ≡ arrive false (flat_at (phasers_of forest) i)
-late_read forest i top own_word own stored there read is_own is_top ended =
-    comes_late (record_of top) (record_of own_word) ended
-    ∙ ap (arrive false) (below_read forest i top own_word own (present (record_of top) (record_of own_word)) stored there read is_own is_top (λ _. refl))
+    → ComesLate (view_of (record_of top)) ≡ arrive leave (flat_at (phasers_of forest) i)
+late_read leave forest i top own_word own stored there read is_own is_top ended =
+    comes_late leave (record_of top) (record_of own_word) ended
+    ∙ ap (arrive leave) (below_read forest i top own_word own (present (record_of top) (record_of own_word)) stored there read is_own is_top (λ _. refl))
 
 -- the phase that a phaser shows is that of its root
 view-present : (top own : Flat) → (top.ended ≡ false → own.ended ≡ false) → view_of (present top own) ≡ view_of top

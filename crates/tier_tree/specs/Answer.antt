@@ -1,5 +1,5 @@
 -- What a caller learns from an answer, and what stays through a call.
-use Rattle.std.specs.Prelude.{◌≡◌, ℕ, ◌<◌, ◌==◌, Bool, true, false, List, length}
+use Rattle.std.specs.Prelude.{◌≡◌, ℕ, ◌<◌, true, false, List, length}
 use Rattle.tier_tree.specs.declared.id.PhaserId.{PhaserId}
 use Rattle.tier_tree.specs.declared.registered.Registered.{Registered}
 use Rattle.tier_tree.specs.declared.registered.Registered.TheVariants as registered
@@ -29,13 +29,6 @@ IfTurning (arrived.Turning root phase parties) P = P root
 IfTurning (arrived.Dead view) P = Unit {0}
 IfTurning arrived.NotThere P = Unit {0}
 
--- the arrival was the last of the tree of this phaser, which is a root
-abbrev pub turns : ℕ → Arrived → Bool
-turns id (arrived.At phase) = false
-turns id (arrived.Turning root phase parties) = root.0 == id
-turns id (arrived.Dead view) = false
-turns id arrived.NotThere = false
-
 -- the phase end of this root is pending, and wasn't before
 pub record MakesPending (root : ℕ) (before : List PhaserState) (after : List PhaserState) : Type 0 where
   pub top : root_at after root ≡ root
@@ -44,7 +37,7 @@ pub record MakesPending (root : ℕ) (before : List PhaserState) (after : List P
   pub unturned_before : (flat_at before root).turned ≡ false
   pub live_before : (flat_at before root).ended ≡ false
 
--- the trees are the same: each phaser has its line and its policy
+-- the trees stay: each phaser has its line and its policy
 pub record KeepsPlaces (before : List PhaserState) (after : List PhaserState) : Type 0 where
   pub places : places_of after ≡ places_of before
   pub roots : (id : ℕ) → root_at after id ≡ root_at before id

@@ -1,6 +1,7 @@
 pub mod Forest
 pub mod Registration
 pub mod Arrival
+pub mod Ascent
 pub mod PhaseEnd
 pub use Rattle.packed_phaser.specs.Flat
 pub use Rattle.packed_phaser.specs.Policy

@@ -1,12 +1,9 @@
 -- The end of a tree's phase, and its termination.
-use Rattle.std.specs.Prelude.{◌≡◌, ℕ, ℤ, ◌+◌, ◌==◌, Bool, false, if◌then◌else◌, List, map, slice_set, Some}
+use Rattle.std.specs.Prelude.{ℕ, ◌+◌, ◌==◌, Bool, if◌then◌else◌, List, map, slice_set}
 use Rattle.packed_phaser.specs.Flat.{Flat, advance, renew, force}
-use Rattle.packed_phaser.specs.Policy.{ends as policy_ends}
-use Rattle.tier_tree.specs.declared.arrived.Arrived.TheVariants.{Turning}
-use Rattle.tier_tree.specs.Forest.{PhaserState, phaser_at, flat_at, root_of, root_at}
-use Rattle.tier_tree.specs.Arrival.{arrival}
+use Rattle.tier_tree.specs.Forest.{PhaserState, phaser_at, root_of, root_at}
 
--- the same parties in the root's phase: all are still to arrive, or they are terminated with the root
+-- its parties in the root's phase: all are still to arrive, or they are terminated with the root
 abbrev pub follow : ℕ → Bool → Flat → Flat
 follow phase ended flat = if ended then force (renew phase flat) else renew phase flat
 
@@ -25,14 +22,6 @@ after_phase_end root terminates phasers =
     let before = phaser_at phasers root in
     let flat = advance terminates before.flat in
     slice_set (map (in_step root flat.phase flat.ended) phasers) root (record before { flat = flat; ends = before.ends + 1 })
-
--- the last arrival at a root by a party that stays, and the end of this phase, which its policy lets go on
-pub record EndsAtRoot (root : ℕ) (phase : ℤ) (before : List PhaserState) (now : List PhaserState) : Type 0 where
-  pub last : (arrival root false before).answer
-      ≡ Turning (record { 0 = root }) phase (flat_at (arrival root false before).phasers root).parties
-  pub goes_on : policy_ends (phaser_at (arrival root false before).phasers root).policy
-      (flat_at (arrival root false before).phasers root).phase (flat_at (arrival root false before).phasers root).parties ≡ Some false
-  pub after : now ≡ after_phase_end root false (arrival root false before).phasers
 
 -- a phaser of the tree is terminated
 abbrev pub terminated : ℕ → PhaserState → PhaserState

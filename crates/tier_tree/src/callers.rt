@@ -85,12 +85,12 @@ pub fn undo_two(
 }
 
 // A root of one party and a child of one, the first phase of which both parties end.
-fn two_meet(alloc: Global) -> Result<(Option<i32>, Arrived), DeclareFault> {
+fn two_meet(alloc: Global) -> Result<(Arrived, Arrived), DeclareFault> {
     let phase = Phase::prevailing(0);
     let mut forest = Forest::new(alloc).map_err(|_| DeclareFault::Memory)?;
     let root = forest.declare(None, 1, Policy::Default, phase)?;
     let child = forest.declare(Some(root), 1, Policy::Default, phase)?;
-    let first = forest.arrive_early(child);
+    let first = forest.arrive(child, false);
     let last = arrive_through(&mut forest, root, false);
     Ok((first, last))
 }
@@ -107,7 +107,7 @@ mod tests {
             phase: 0,
             parties: 2,
         };
-        assert!(rt; two_meet(rt.alloc()) == Ok((Some(0), turning)));
+        assert!(rt; two_meet(rt.alloc()) == Ok((Arrived::At(0), turning)));
         Ok(())
     }
 }

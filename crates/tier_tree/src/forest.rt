@@ -1,6 +1,5 @@
-ghost use Rattle.std.specs.Prelude.{◌≡◌, ◌≢◌, ℕ, ℤ, ◌<◌, List, [], length, true, false, None, IfOk, IfSome};
-ghost use Rattle.packed_phaser.specs.declared.policy.Policy.TheVariants as policy;
-ghost use Rattle.tier_tree.specs.Answer.{DoesntJoin, DoesntArrive, IfTurning, turns, MakesPending};
+ghost use Rattle.std.specs.Prelude.{◌≡◌, ℕ, ◌<◌, List, [], length, true, false, IfOk};
+ghost use Rattle.tier_tree.specs.Answer.{DoesntJoin, DoesntArrive, IfTurning, MakesPending};
 ghost use Rattle.tier_tree.specs.Answer.{KeepsPlaces, KeepsEnds, HaveOnePhase};
 ghost use Rattle.tier_tree.specs.Arrival.{arrival};
 ghost use Rattle.tier_tree.specs.Declaration.{AreAllFresh};
@@ -8,14 +7,13 @@ ghost use Rattle.tier_tree.specs.Forest.{phaser_at, flat_at, root_at};
 ghost use Rattle.tier_tree.specs.Law.{NobodyComesBetween};
 ghost use Rattle.tier_tree.specs.Origin.{Origin, AreTallied, Carries, HaveAllArrived};
 ghost use Rattle.tier_tree.specs.Origin.{origin_after_registration, origin_after_arrival, origin_after_phase_end};
-ghost use Rattle.tier_tree.specs.PhaseEnd.{most_ends, after_phase_end, after_force, EndsAtRoot};
+ghost use Rattle.tier_tree.specs.PhaseEnd.{most_ends, after_phase_end, after_force};
 ghost use Rattle.tier_tree.specs.Registration.{registration, after_registration};
 ghost use Rattle.tier_tree.specs.Stored.{Stored, IsStored, ChangedAt, phasers_of};
 ghost use Rattle.tier_tree.specs.Undo.{saved_of, IsSavedOf, restored};
 
 use crate::arrived::Arrived;
 use crate::id::PhaserId;
-use crate::last_arrival::LastArrival;
 use crate::node::Node;
 use crate::registered::Registered;
 use crate::saved::{self, Saved};
@@ -72,7 +70,7 @@ impl Forest {
         })
     }
 
-    /// The same forest, word for word.
+    /// A forest equal to it, word for word.
     pub fn copy(&self, alloc: Global) -> Result<Forest, AllocError>
         ensures { IfOk result (λ forest. forest ≡ self.now) }
     {
@@ -108,6 +106,7 @@ impl Forest {
 
     /// `arrive`, or `arriveAndDeregister` where the party leaves. `Turning` leaves the root turned,
     /// until `finish_turn`.
+    #[inline(always)]
     pub fn arrive(&mut self, id: PhaserId, leave: bool) -> Arrived
         requires { id.0 < length self.old }
         ensures arrival { record { phasers = phasers_of self.new; answer = result }
@@ -125,62 +124,6 @@ impl Forest {
             (phasers_of self.old) (phasers_of self.new) }
     {
         climb::arrive(self.nodes.as_mut_slice(), id.0 as usize, leave)
-    }
-
-    /// `arrive` of a party that stays, where others are still to arrive in its tree: the phase that it
-    /// arrived at. `None` where none are, or where nobody could arrive; nothing has changed then.
-    #[inline(always)]
-    pub fn arrive_early(&mut self, id: PhaserId) -> Option<i32>
-        requires { id.0 < length self.old }
-        ensures arrival { IfSome result (λ phase.
-            record { phasers = phasers_of self.new; answer = Arrived.At phase }
-            ≡ arrival id.0 false (phasers_of self.old)) }
-        ensures none { result ≡ None → self.new ≡ self.old }
-        ensures last { result ≡ None → (phase : ℤ)
-            → (arrival id.0 false (phasers_of self.old)).answer ≢ Arrived.At phase }
-        ensures only { ChangedAt id.0 self.old self.new }
-        ensures many { length self.new ≡ length self.old }
-        ensures places { KeepsPlaces (phasers_of self.old) (phasers_of self.new) }
-        ensures ends { KeepsEnds (phasers_of self.old) (phasers_of self.new) }
-        ensures origin { IfSome result (λ phase. Carries
-            (origin_after_arrival (Arrived.At phase) id.0 (root_at (phasers_of self.old) id.0) false)
-            (phasers_of self.old) (phasers_of self.new)) }
-    {
-        climb::arrive_early(self.nodes.as_mut_slice(), id.0 as usize)
-    }
-
-    /// `arrive` of a party that stays, where it is the last at a root that has none above, and `finish_turn` where the policy
-    /// is the default one. Anywhere else nothing has changed.
-    #[inline(always)]
-    pub fn arrive_last(&mut self, id: PhaserId) -> LastArrival
-        requires there { id.0 < length self.old }
-        requires ends { (phaser_at (phasers_of self.old) id.0).ends < most_ends }
-        ensures ended { (phase : ℤ) → result ≡ LastArrival.Ended phase
-            → EndsAtRoot id.0 phase (phasers_of self.old) (phasers_of self.new) }
-        ensures turned { (phase : ℤ) → result ≡ LastArrival.Turned phase
-            → record {
-              phasers = phasers_of self.new;
-              answer = Arrived.Turning id phase (flat_at (phasers_of self.new) id.0).parties;
-            }
-            ≡ arrival id.0 false (phasers_of self.old) }
-        ensures pending { (phase : ℤ) → result ≡ LastArrival.Turned phase
-            → (id.0 ≡ root_at (phasers_of self.old) id.0)
-            × MakesPending id.0 (phasers_of self.old) (phasers_of self.new) }
-        ensures places { (phase : ℤ) → result ≡ LastArrival.Turned phase
-            → KeepsPlaces (phasers_of self.old) (phasers_of self.new) }
-        ensures phase_ends { (phase : ℤ) → result ≡ LastArrival.Turned phase
-            → KeepsEnds (phasers_of self.old) (phasers_of self.new) }
-        ensures default { (phase : ℤ) → result ≡ LastArrival.Ended phase
-            → (phaser_at (phasers_of self.old) id.0).policy ≡ policy.Default }
-        ensures other { (phase : ℤ) → result ≡ LastArrival.Turned phase
-            → (phaser_at (phasers_of self.old) id.0).policy ≢ policy.Default }
-        ensures elsewhere { result ≡ LastArrival.Elsewhere
-            → turns id.0 (arrival id.0 false (phasers_of self.old)).answer ≡ false }
-        ensures none { result ≡ LastArrival.Elsewhere → self.new ≡ self.old }
-        ensures only { ChangedAt id.0 self.old self.new }
-        ensures many { length self.new ≡ length self.old }
-    {
-        climb::arrive_last(self.nodes.as_mut_slice(), id.0 as usize)
     }
 
     /// Ends the phase of a turned root, after `onAdvance` answered: `ends` is its answer. Where the

@@ -1,4 +1,4 @@
-ghost use Rattle.std.specs.Prelude.{◌≡◌, ◌<◌, ◌≤◌, ◌==◌, [], ◌∷◌, length, false, All, slice_index_or};
+ghost use Rattle.std.specs.Prelude.{◌≡◌, ◌<◌, [], ◌∷◌, length, false, All, slice_index_or};
 ghost use Rattle.packed_phaser.specs.Flat.{view_of};
 ghost use Rattle.packed_phaser.specs.Word.{record_of};
 ghost use Rattle.tier_tree.specs.Forest.{phaser_at, flat_at, root_at, with_flat};
@@ -68,16 +68,6 @@ pub fn root_of(nodes: &[Node], i: usize) -> u8
     ensures top { root_at (phasers_of nodes.now) result ≡ result }
 {
     nodes[i].root()
-}
-
-/// Whether a phaser has none above.
-#[inline(always)]
-pub fn is_root(nodes: &[Node], i: usize) -> bool
-    requires stored { IsStored nodes.now }
-    requires there { i < length nodes.now }
-    ensures { result ≡ (length (phaser_at (phasers_of nodes.now) i).line == 1) }
-{
-    line_at(nodes, i).len() == 1
 }
 
 /// The word of one phaser's root.

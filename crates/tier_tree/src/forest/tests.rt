@@ -526,7 +526,7 @@ fn undo_phase_end(forest: &mut Forest, id: PhaserId, words: &[(u8, u64)]) -> (Ar
     (answer, are_these)
 }
 
-/// The same for the phaser of this number, and how many phases have ended once it is undone.
+/// `undo_phase_end` at the phaser of this number, and how many phases have ended once it is undone.
 fn phase_end_undone(
     forest: &mut Forest,
     id: u8,
