@@ -68,6 +68,35 @@ is_calm status.Runs row t program scene outcome common is = calm_row row common
 is_calm (status.AwaitsPhase phase) row t program scene outcome common is = calm_wait row phase t scene outcome is
 is_calm _ row t program scene outcome common is = absurd (cc common)
 
+-- where there is an outcome, its event shows no more than a turn
+abbrev CalmIf : Option Outcome → Type 0
+CalmIf None = Unit {0}
+CalmIf (Some outcome) = is_loud outcome.event ≡ false
+
+local_calm : (row : Row) (t : ℕ) (program : Program) (scene : Scene) → is_local_row row ≡ true → CalmIf (outcome_of_row row t program scene)
+local_calm (Ldi into value) t program scene is = refl
+local_calm (Mov into from) t program scene is = refl
+local_calm (Add into left right) t program scene is = refl
+local_calm (Sub into left right) t program scene is = refl
+local_calm (Jmp target) t program scene is = refl
+local_calm (Beq left right target) t program scene is = refl
+local_calm (Bne left right target) t program scene is = refl
+local_calm (Blt left right target) t program scene is = refl
+local_calm _ t program scene is = absurd (cc is)
+
+wait_calm : (row : Row) (phase : ℤ) (t : ℕ) (scene : Scene) → is_local_row row ≡ true → CalmIf (outcome_of_phase_wait row phase t scene)
+wait_calm (Paaa into p) phase t scene is = absurd (cc is)
+wait_calm (Pawait into p number) phase t scene is = absurd (cc is)
+wait_calm (Pawaiti into p number) phase t scene is = absurd (cc is)
+wait_calm (Pawaitt into p number time) phase t scene is = absurd (cc is)
+wait_calm _ phase t scene is = tt
+
+calm_in : (of : Status) (row : Row) (t : ℕ) (program : Program) (scene : Scene) → is_common of row ≡ true → is_local_row row ≡ true
+    → CalmIf (outcome_in of row t program scene)
+calm_in status.Runs row t program scene common is = local_calm row t program scene is
+calm_in (status.AwaitsPhase phase) row t program scene common is = wait_calm row phase t scene is
+calm_in _ row t program scene common is = absurd (cc common)
+
 -- where a thread begins to wait in an outcome, its turn isn't ready after it, and it isn't about to register
 abbrev WaitsIf : ℕ → Program → Option Outcome → Type 0
 WaitsIf t program None = Unit {0}
@@ -240,3 +269,9 @@ pub waits_kept : (program : Program) (row : Row) (t : ℕ) (old mid : StoredScen
     → is_wait event.what ≡ true → (is_ready t program (scene_of mid) ≡ false) × (is_registering t program (scene_of mid) ≡ false)
 waits_kept program row t old mid event after =
     subst (WaitsIf t program) after.comes (waits_in (thread_at (scene_of old) t).status row t program (scene_of old) after.common after.at after.there)
+
+-- at a row on registers alone the event shows no more than a turn
+pub local_kept : (program : Program) (row : Row) (t : ℕ) (old mid : StoredScene) (event : Event) → AfterCommon program row t old mid event
+    → is_local_row row ≡ true → is_loud event ≡ false
+local_kept program row t old mid event after is =
+    subst CalmIf after.comes (calm_in (thread_at (scene_of old) t).status row t program (scene_of old) after.common is)
