@@ -1,5 +1,5 @@
 -- Turns of the common kinds: what they leave of the sets of ready threads.
-use Rattle.std.proofs.Common.{inl, inr, ◌≡◌, ◌≢◌, ◌∙◌, ℕ, ℤ, pos, ◌<◌, ◌==◌, ◌&&◌, ◌||◌, not, Bool, true, false, List, ap, refl, sym, subst, if◌then◌else◌}
+use Rattle.std.proofs.Common.{◌≡◌, ◌≢◌, ◌∙◌, ℕ, ℤ, pos, ◌<◌, ◌&&◌, ◌||◌, not, Bool, true, false, List, ap, refl, sym, subst, if◌then◌else◌}
 use Rattle.std.specs.Prelude.{length, is_some, Option, Some, None}
 use Rattle.std.specs.Ordering.{int_eq}
 use Rattle.std.proofs.lemmas.Bool.Decides.{Decides-int_eq}
@@ -144,8 +144,8 @@ waits_at program into p t scene phase row there is =
     let past : is_past p phase after ≡ false = ap not (same_number (view_of (flat_at phasers p)) phase (view_after p scene.phasers phase is)) in
     let own : thread_at after t ≡ thread = get_or-set_same scene.threads t thread no_thread there in (
       ap (λ (x : ThreadState). is_some (outcome_in x.status (row_at program.rows x.pc) t program after)) own
-      ∙ ap (λ (r : Row). is_some (outcome_in (status.AwaitsPhase phase) r t program after)) (sym row)
-      ∙ ap (λ (x : Bool). is_some (if x then Some (outcome_of_view into p t after) else None)) past,
+          ∙ ap (λ (r : Row). is_some (outcome_in (status.AwaitsPhase phase) r t program after)) (sym row)
+          ∙ ap (λ (x : Bool). is_some (if x then Some (outcome_of_view into p t after) else None)) past,
       ap (λ (x : ThreadState). is_registering_in x.status (row_at program.rows x.pc)) own,
     )
 

@@ -321,12 +321,7 @@ impl Stage {
     /// What the thread is doing decides: it plays its row, pops a stack entry, or finishes its wait.
     #[inline(always)]
     #[tactic(auto, using(crate::proofs::Reaches::within_same))]
-    fn play_by_status(
-        &mut self,
-        program: &Loaded,
-        row: Row,
-        t: usize,
-    ) -> Result<Event, AllocError>
+    fn play_by_status(&mut self, program: &Loaded, row: Row, t: usize) -> Result<Event, AllocError>
         requires sound { IsSound program.now most_before (scene_of self.old) }
         requires thread { t < length self.old.threads }
         requires at { StandsAt program.now row t self.old }
