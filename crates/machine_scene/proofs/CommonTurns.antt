@@ -1,5 +1,5 @@
 -- Turns of the common kinds: what they leave of the sets of ready threads.
-use Rattle.std.proofs.Common.{inl, inr, ◌≡◌, ◌≢◌, ◌∙◌, ℕ, ℤ, pos, ◌<◌, ◌==◌, ◌&&◌, ◌||◌, not, Bool, true, false, List, ap, refl, sym, subst, if◌then◌else◌}
+use Rattle.std.proofs.Common.{◌≡◌, ◌≢◌, ◌∙◌, ℕ, ℤ, pos, ◌<◌, ◌&&◌, ◌||◌, not, Bool, true, false, List, ap, refl, sym, subst, if◌then◌else◌}
 use Rattle.std.specs.Prelude.{length, is_some, Option, Some, None}
 use Rattle.std.specs.Ordering.{int_eq}
 use Rattle.std.proofs.lemmas.Bool.Decides.{Decides-int_eq}
@@ -68,6 +68,35 @@ is_calm status.Runs row t program scene outcome common is = calm_row row common
 is_calm (status.AwaitsPhase phase) row t program scene outcome common is = calm_wait row phase t scene outcome is
 is_calm _ row t program scene outcome common is = absurd (cc common)
 
+-- where there is an outcome, its event shows no more than a turn
+abbrev CalmIf : Option Outcome → Type 0
+CalmIf None = Unit {0}
+CalmIf (Some outcome) = is_loud outcome.event ≡ false
+
+local_calm : (row : Row) (t : ℕ) (program : Program) (scene : Scene) → is_local_row row ≡ true → CalmIf (outcome_of_row row t program scene)
+local_calm (Ldi into value) t program scene is = refl
+local_calm (Mov into from) t program scene is = refl
+local_calm (Add into left right) t program scene is = refl
+local_calm (Sub into left right) t program scene is = refl
+local_calm (Jmp target) t program scene is = refl
+local_calm (Beq left right target) t program scene is = refl
+local_calm (Bne left right target) t program scene is = refl
+local_calm (Blt left right target) t program scene is = refl
+local_calm _ t program scene is = absurd (cc is)
+
+wait_calm : (row : Row) (phase : ℤ) (t : ℕ) (scene : Scene) → is_local_row row ≡ true → CalmIf (outcome_of_phase_wait row phase t scene)
+wait_calm (Paaa into p) phase t scene is = absurd (cc is)
+wait_calm (Pawait into p number) phase t scene is = absurd (cc is)
+wait_calm (Pawaiti into p number) phase t scene is = absurd (cc is)
+wait_calm (Pawaitt into p number time) phase t scene is = absurd (cc is)
+wait_calm _ phase t scene is = tt
+
+calm_in : (of : Status) (row : Row) (t : ℕ) (program : Program) (scene : Scene) → is_common of row ≡ true → is_local_row row ≡ true
+    → CalmIf (outcome_in of row t program scene)
+calm_in status.Runs row t program scene common is = local_calm row t program scene is
+calm_in (status.AwaitsPhase phase) row t program scene common is = wait_calm row phase t scene is
+calm_in _ row t program scene common is = absurd (cc common)
+
 -- where a thread begins to wait in an outcome, its turn isn't ready after it, and it isn't about to register
 abbrev WaitsIf : ℕ → Program → Option Outcome → Type 0
 WaitsIf t program None = Unit {0}
@@ -115,8 +144,8 @@ waits_at program into p t scene phase row there is =
     let past : is_past p phase after ≡ false = ap not (same_number (view_of (flat_at phasers p)) phase (view_after p scene.phasers phase is)) in
     let own : thread_at after t ≡ thread = get_or-set_same scene.threads t thread no_thread there in (
       ap (λ (x : ThreadState). is_some (outcome_in x.status (row_at program.rows x.pc) t program after)) own
-      ∙ ap (λ (r : Row). is_some (outcome_in (status.AwaitsPhase phase) r t program after)) (sym row)
-      ∙ ap (λ (x : Bool). is_some (if x then Some (outcome_of_view into p t after) else None)) past,
+          ∙ ap (λ (r : Row). is_some (outcome_in (status.AwaitsPhase phase) r t program after)) (sym row)
+          ∙ ap (λ (x : Bool). is_some (if x then Some (outcome_of_view into p t after) else None)) past,
       ap (λ (x : ThreadState). is_registering_in x.status (row_at program.rows x.pc)) own,
     )
 
@@ -240,3 +269,9 @@ pub waits_kept : (program : Program) (row : Row) (t : ℕ) (old mid : StoredScen
     → is_wait event.what ≡ true → (is_ready t program (scene_of mid) ≡ false) × (is_registering t program (scene_of mid) ≡ false)
 waits_kept program row t old mid event after =
     subst (WaitsIf t program) after.comes (waits_in (thread_at (scene_of old) t).status row t program (scene_of old) after.common after.at after.there)
+
+-- at a row on registers alone the event shows no more than a turn
+pub local_kept : (program : Program) (row : Row) (t : ℕ) (old mid : StoredScene) (event : Event) → AfterCommon program row t old mid event
+    → is_local_row row ≡ true → is_loud event ≡ false
+local_kept program row t old mid event after is =
+    subst CalmIf after.comes (calm_in (thread_at (scene_of old) t).status row t program (scene_of old) after.common is)

@@ -1,19 +1,16 @@
 -- Turns of running threads at rows on registers alone.
-use Rattle.std.proofs.Common.{◌≡◌, ◌∙◌, ℕ, ◌<◌, true, false, ap, refl, sym, subst}
-use Rattle.std.specs.Prelude.{length, Some}
-use Rattle.std.proofs.lemmas.List.{get_or-set_same}
-use Rattle.std.proofs.lemmas.Option.{same_Some}
+use Rattle.std.proofs.Common.{◌≡◌, ◌∙◌, ℕ, true, ap, refl}
+use Rattle.std.specs.Prelude.{Some}
 use Rattle.instruction_table.specs.declared.row.Row.{Row}
 use Rattle.instruction_table.specs.declared.row.Row.TheVariants.{Ldi, Mov, Add, Sub, Jmp, Beq, Bne, Blt}
 use Rattle.instruction_table.specs.LocalRows.{is_local_row}
 use Rattle.loader.specs.Program.{Program}
-use Rattle.thread_state.specs.declared.event.Event.{Event}
 use Rattle.thread_state.specs.declared.status.Status.{Status}
 use Rattle.thread_state.specs.declared.status.Status.TheVariants as status
-use Rattle.thread_state.specs.Thread.{ThreadState, turn_of_local}
+use Rattle.thread_state.specs.Thread.{turn_of_local}
 use Rattle.machine_scene.specs.declared.group.Group.{Group}
 use Rattle.machine_scene.specs.declared.group.Group.TheVariants.{Own}
-use Rattle.machine_scene.specs.Scene.{Scene, Outcome, no_thread, thread_at, outcome_of_turn}
+use Rattle.machine_scene.specs.Scene.{Scene, Outcome, thread_at, outcome_of_turn}
 use Rattle.machine_scene.specs.Group.{group_of}
 use Rattle.machine_scene.specs.OwnRows.{outcome_of_own_row}
 use Rattle.machine_scene.specs.Outcomes.{outcome_in_group, outcome_in}

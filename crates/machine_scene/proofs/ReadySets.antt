@@ -1,24 +1,22 @@
 -- The sets that are kept of a scene: threads that aren't there, and what a step leaves of the sets.
-use Rattle.std.proofs.Common.{◌≡◌, ◌≢◌, ◌∙◌, ℕ, arith, ◌+◌, ◌<◌, ◌≤◌, ◌==◌, ◌&&◌, not, Bool, true, false, inl, inr, ap, refl, sym, subst, if◌then◌else◌}
-use Rattle.std.specs.Prelude.{length, is_some, nat_lt, Some}
+use Rattle.std.proofs.Common.{◌≡◌, ◌≢◌, ◌∙◌, ℕ, arith, ◌+◌, ◌<◌, ◌≤◌, ◌==◌, ◌&&◌, not, Bool, true, false, inl, inr, ap, refl, sym, if◌then◌else◌}
+use Rattle.std.specs.Prelude.{length, is_some, nat_lt}
 use Rattle.std.proofs.Math.ListN.{get_or-eq_default}
 use Rattle.std.proofs.lemmas.Bool.{cases_eq, cases_lt}
 use Rattle.instruction_table.specs.declared.row.Row.{Row}
 use Rattle.instruction_table.specs.declared.row.Row.TheVariants.{Preg, Pbulk}
 use Rattle.cyclic_barrier.specs.ThreadSet.{has}
 use Rattle.loader.specs.Program.{Program, row_at}
-use Rattle.thread_state.specs.declared.event.Event.{Event}
 use Rattle.thread_state.specs.declared.status.Status.{Status}
 use Rattle.thread_state.specs.declared.status.Status.TheVariants as status
 use Rattle.thread_state.specs.Thread.{ThreadState}
 use Rattle.machine_scene.specs.declared.ready_set.ReadySet.{ReadySet}
-use Rattle.machine_scene.specs.Scene.{Scene, StoredScene, scene_of, no_thread, thread_at}
+use Rattle.machine_scene.specs.Scene.{Scene, no_thread, thread_at}
 use Rattle.machine_scene.specs.Outcomes.{outcome_in, is_ready}
-use Rattle.machine_scene.specs.Ready.{is_blocked, is_listed, may_be_blocked}
-use Rattle.machine_scene.specs.ReadySet.{is_registration, is_registering_in, is_registering, AreReady, KnowsReady, IsSetAt, AreLooked, IsLooked, AreOthersReady, AreReadyBeside, interrupts, changes_tree, runs_on}
+use Rattle.machine_scene.specs.Ready.{is_listed, may_be_blocked}
+use Rattle.machine_scene.specs.ReadySet.{is_registering_in, is_registering, AreReady, IsSetAt, AreLooked, IsLooked, AreOthersReady, AreReadyBeside, interrupts, changes_tree, runs_on}
 use Rattle.machine_scene.proofs.Readiness.{seldom_blocked}
 use Rattle.machine_scene.proofs.ReadyThreads.{ready_as_listed}
-use Rattle.machine_scene.proofs.Steady.{other_ready}
 use Rattle.machine_scene.proofs.ThreadSets.{tested_at, all_right, apart_from, nobody, IsFilledTo, filled_none, filled_more, filled_all, not_below}
 use Rattle.tier_tree.proofs.Stands.{same-is, other-is}
 use Rattle.cyclic_barrier.proofs.WaitsLemmas.{has-none}

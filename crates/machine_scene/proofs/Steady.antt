@@ -1,7 +1,7 @@
 -- A step leaves every other thread as ready as it was, unless its event shows more than a turn of its own thread, its row
 -- interrupts that thread, or the thread is about to register and the step changes a tree.
-use Rattle.std.proofs.Common.{◌≡◌, ◌≢◌, ◌∙◌, ℕ, ℤ, pos, zero, suc, ◌+◌, ◌<◌, ◌==◌, ◌||◌, ◌&&◌, not, Bool, true, false, List, [], ◌∷◌, ap, refl, sym, subst}
-use Rattle.std.specs.Prelude.{nat_abs, int_lt, is_some, length, Option, Some, None, slice_set, slice_index_or}
+use Rattle.std.proofs.Common.{◌≡◌, ◌≢◌, ◌∙◌, ℕ, ℤ, pos, zero, suc, ◌+◌, ◌==◌, ◌||◌, ◌&&◌, not, Bool, true, false, List, [], ◌∷◌, ap, refl, sym, subst}
+use Rattle.std.specs.Prelude.{nat_abs, int_lt, is_some, Option, Some, None, slice_set, slice_index_or}
 use Rattle.std.specs.List.{list_any}
 use Rattle.std.specs.Ordering.{int_eq}
 use Rattle.std.proofs.lemmas.List.{get_or-set_other}

@@ -9,7 +9,7 @@ use thread_state::{Frame, Status};
 pub enum Reach {
     Nothing,
     Cell(u16),
-    /// Another thread, or the same.
+    /// A thread, another or itself.
     Thread(u16),
     /// The words of a phaser and of those above it.
     Tree(u16),

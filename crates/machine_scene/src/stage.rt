@@ -12,7 +12,7 @@ ghost use Rattle.machine_scene.specs.Outcomes.{outcome_in, outcome_of, outcome_o
 ghost use Rattle.machine_scene.specs.Outcomes.{timeout_in};
 ghost use Rattle.machine_scene.specs.Sound.{IsSound, StandsAt, most_before, most_after};
 ghost use Rattle.machine_scene.specs.ReadySet.{KnowsReady, AreOthersReady, changes_all};
-ghost use Rattle.machine_scene.specs.Played.{IsPlayed, IsTurn};
+ghost use Rattle.machine_scene.specs.Played.{IsPlayed};
 ghost use Rattle.machine_scene.specs.Undo.{PhasersWithin, reach_of_row, reach_in};
 
 use crate::group::{Group, group_of};
@@ -254,7 +254,13 @@ impl Stage {
         requires known { KnowsReady program.now self.old }
         requires thread { t < length self.old.threads }
         requires ready { is_ready t program.now (scene_of self.old) ≡ true }
-        ensures { IsTurn t program.now self.old result self.new }
+        ensures ok { IfOk result (λ event.
+            IsPlayed (outcome_of t program.now (scene_of self.old)) t program.now self.old self.new event) }
+        ensures known { OnOk result (KnowsReady program.now self.new) }
+        ensures memory { IsErr result → may_grow
+            (row_at program.now.rows (thread_at (scene_of self.old) t).pc)
+            (thread_at (scene_of self.old) t) ≡ true }
+        ensures err { OnErr result (self.new ≡ self.old) }
     {
         match self.common_turn(program, t) {
             Some(event) => Ok(event),
@@ -269,7 +275,13 @@ impl Stage {
         requires known { KnowsReady program.now self.old }
         requires thread { t < length self.old.threads }
         requires ready { is_ready t program.now (scene_of self.old) ≡ true }
-        ensures { IsTurn t program.now self.old result self.new }
+        ensures ok { IfOk result (λ event.
+            IsPlayed (outcome_of t program.now (scene_of self.old)) t program.now self.old self.new event) }
+        ensures known { OnOk result (KnowsReady program.now self.new) }
+        ensures memory { IsErr result → may_grow
+            (row_at program.now.rows (thread_at (scene_of self.old) t).pc)
+            (thread_at (scene_of self.old) t) ≡ true }
+        ensures err { OnErr result (self.new ≡ self.old) }
     {
         let row = self.row_of(program, t);
         let before = self.ready;
@@ -309,12 +321,7 @@ impl Stage {
     /// What the thread is doing decides: it plays its row, pops a stack entry, or finishes its wait.
     #[inline(always)]
     #[tactic(auto, using(crate::proofs::Reaches::within_same))]
-    fn play_by_status(
-        &mut self,
-        program: &Loaded,
-        row: Row,
-        t: usize,
-    ) -> Result<Event, AllocError>
+    fn play_by_status(&mut self, program: &Loaded, row: Row, t: usize) -> Result<Event, AllocError>
         requires sound { IsSound program.now most_before (scene_of self.old) }
         requires thread { t < length self.old.threads }
         requires at { StandsAt program.now row t self.old }

@@ -1,5 +1,5 @@
 -- What follows of a choice that was played: what undoes it, and how the direct counts go on.
-use Rattle.std.proofs.Common.{inl, inr, ◌≡◌, ◌≢◌, ◌∙◌, ℕ, ◌+◌, ◌-◌, ◌==◌, Bool, true, false, ap, refl, sym, subst, arith, if◌then◌else◌}
+use Rattle.std.proofs.Common.{inl, inr, ◌≡◌, ◌≢◌, ◌∙◌, ℕ, ◌+◌, ◌-◌, ◌==◌, Bool, ap, sym, subst, arith, if◌then◌else◌}
 use Rattle.std.specs.Prelude.{Option, Some, None, Result, Ok, Err, OnOk}
 use Rattle.std.proofs.lemmas.Bool.{cases_eq}
 use Rattle.tier_tree.proofs.Stands.{same-is, other-is}

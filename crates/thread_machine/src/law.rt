@@ -42,7 +42,7 @@ pub fn no_phase_ends_early(program: &Loaded)
     program.phasers().is_forest();
 }
 
-/// The same of every image without a fault, whether or not it is ever loaded.
+/// Nor does any phase of an image without a fault, whether or not it is ever loaded.
 pub fn no_phase_of_an_image_ends_early()
     ensures { (image : Image) (limit : ℕ) → IsImage image → first_fault image ≡ None → limit ≤ 1000000000
         → NoPhaseEndsEarlyFrom (first_of image limit) (declared_origin image.phasers) }

@@ -116,7 +116,7 @@ impl Machine {
         })
     }
 
-    /// The same machine, word for word.
+    /// A copy of the machine, word for word.
     pub fn copy(&self, alloc: Global) -> Result<Machine, AllocError>
         ensures { IfOk result (λ copy. copy ≡ self.now) }
     {

@@ -70,7 +70,7 @@ impl Thread {
         })
     }
 
-    /// The same thread, with the same room.
+    /// A copy of the thread, with as much room.
     pub fn copy(&self, alloc: Global) -> Result<Thread, AllocError>
         ensures { IfOk result (λ copy. copy ≡ self.now) }
     {

@@ -35,7 +35,7 @@ impl Stage {
         self.phasers_are_stored();
         match self.common_by_status(program, row, t) {
             Some(event) => {
-                self.settle(program, event, t);
+                self.settle(program, row, event, t);
                 Some(event)
             }
             None => None,

@@ -259,13 +259,7 @@ impl Stage {
 
     /// The arrival itself.
     #[inline(always)]
-    fn arrive(
-        &mut self,
-        program: &Loaded,
-        manner: Manner,
-        phaser: u16,
-        t: usize,
-    ) -> Event
+    fn arrive(&mut self, program: &Loaded, manner: Manner, phaser: u16, t: usize) -> Event
         requires phaser { phaser < length self.old.phasers }
         requires room { (has_routine phaser (scene_of self.old) && is_full (thread_at (scene_of self.old) t)) ≡ false }
         requires routines { length program.now.routines ≡ length self.old.phasers }

@@ -1,4 +1,5 @@
 ghost use Rattle.std.specs.Prelude.{◌≡◌, ◌≢◌, ℕ, ◌<◌, ◌&&◌, nat_lt, length, true, false, None, IfSome, if◌then◌else◌};
+ghost use Rattle.instruction_table.specs.LocalRows.{is_local_row};
 ghost use Rattle.cyclic_barrier.specs.ThreadSet.{has};
 ghost use Rattle.loader.specs.Program.{IsNamed, row_at};
 ghost use Rattle.machine_scene.specs.Scene.{scene_of, counts_in, thread_at};
@@ -223,25 +224,44 @@ impl Stage {
         }
     }
 
-    /// Keeps the sets after a turn of a common kind, with this event, of a thread whose turn was ready and that wasn't about to
-    /// register. Most such turns change nobody's readiness.
+    /// Keeps the sets after a turn of a common kind at this row, with this event, of a thread whose turn was ready and that
+    /// wasn't about to register. Most such turns change nobody's readiness.
     #[inline(always)]
-    pub(super) fn settle(&mut self, program: &Loaded, event: Event, t: usize)
+    pub(super) fn settle(&mut self, program: &Loaded, row: Row, event: Event, t: usize)
         requires sound { IsSound program.now most_after (scene_of self.old) }
         requires thread { t < length self.old.threads }
         requires turn { has self.old.ready.turns t ≡ true }
         requires apart { has self.old.ready.registering t ≡ false }
+        requires local { is_local_row row ≡ true → is_loud event ≡ false }
         requires beside { is_loud event ≡ false → AreReadyBeside program.now t self.old.ready (scene_of self.old) }
         requires waits { is_wait event.what ≡ true → (is_ready t program.now (scene_of self.old) ≡ false)
             × (is_registering t program.now (scene_of self.old) ≡ false) }
         ensures stored { self.new ≡ record self.old { ready = self.new.ready } }
         ensures known { AreReady program.now self.new.ready (scene_of self.old) }
     {
-        if is_loud(event) {
+        if is_local(row) {
+            self.look_ahead(program, t);
+        } else if is_loud(event) {
             self.refresh_all(program);
         } else if matches!(event.what, What::Waits) {
             self.ready.turns = set_at(self.ready.turns, t, false);
-        } else if !self.runs_on(program, t) {
+        } else {
+            self.look_ahead(program, t);
+        }
+    }
+
+    /// A thread is looked at anew unless it runs, and its row is none that it may have to wait at.
+    #[inline(always)]
+    fn look_ahead(&mut self, program: &Loaded, t: usize)
+        requires sound { IsSound program.now most_after (scene_of self.old) }
+        requires thread { t < length self.old.threads }
+        requires turn { has self.old.ready.turns t ≡ true }
+        requires apart { has self.old.ready.registering t ≡ false }
+        requires beside { AreReadyBeside program.now t self.old.ready (scene_of self.old) }
+        ensures stored { self.new ≡ record self.old { ready = self.new.ready } }
+        ensures known { AreReady program.now self.new.ready (scene_of self.old) }
+    {
+        if !self.runs_on(program, t) {
             self.refresh(program, t);
         }
     }

@@ -1,6 +1,6 @@
-use Rattle.std.proofs.Common.{arith, rules}
+use Rattle.std.proofs.Common.{rules}
 use Rattle.machine_scene.specs.Scene.{scene_of}
-use Rattle.machine_scene.proofs.ReadySets.{all_start, all_more, all_ready}
+use Rattle.machine_scene.proofs.ReadySets.{all_ready}
 use Rattle.machine_scene.proofs.stage.Stage.all_looked.Goals as goal
 
 pub returns : goal.returns

@@ -1,4 +1,4 @@
-use Rattle.std.proofs.Common.{inl, inr, ◌≡◌, ◌∙◌, true, ap, sym}
+use Rattle.std.proofs.Common.{inl, inr, ◌≡◌, ◌∙◌, ap, sym}
 use Rattle.std.specs.Prelude.{Option, Some}
 use Rattle.instruction_table.specs.declared.row.Row.{Row}
 use Rattle.machine_scene.specs.declared.manner.Manner.{Manner}

@@ -1,4 +1,4 @@
-use Rattle.std.proofs.Common.{◌≡◌, ◌∙◌, ◌||◌, Bool, true, ap, sym}
+use Rattle.std.proofs.Common.{◌∙◌, sym}
 use Rattle.machine_scene.specs.Scene.{scene_of, thread_at}
 use Rattle.machine_scene.proofs.LocalTurns.{is_local, local_turn}
 use Rattle.machine_scene.proofs.Reaches.{within_same}

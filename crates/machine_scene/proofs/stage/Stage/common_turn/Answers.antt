@@ -3,7 +3,7 @@ use Rattle.machine_scene.specs.Scene.{Scene, StoredScene, scene_of}
 use Rattle.machine_scene.specs.Outcomes.{outcome_of}
 use Rattle.machine_scene.specs.ReadySet.{AreReady}
 use Rattle.machine_scene.specs.Played.{IsPlayed}
-use Rattle.machine_scene.proofs.CommonTurns.{AfterCommon, turn_kept, apart_kept, beside_kept, waits_kept}
+use Rattle.machine_scene.proofs.CommonTurns.{AfterCommon, turn_kept, apart_kept, local_kept, beside_kept, waits_kept}
 use Rattle.machine_scene.proofs.Undoing.{turn_played, played_still}
 use Rattle.machine_scene.proofs.stage.Stage.common_turn.Goals as goal
 
@@ -38,6 +38,9 @@ settle-requires-clause-turn c = turn_kept _ _ _ _ _ _ (after c) c.requires.known
 
 pub settle-requires-clause-apart : goal.settle-requires-clause-apart
 settle-requires-clause-apart c = apart_kept _ _ _ _ _ _ (after c) c.requires.known
+
+pub settle-requires-clause-local : goal.settle-requires-clause-local
+settle-requires-clause-local c = local_kept _ _ _ _ _ _ (after c)
 
 pub settle-requires-clause-beside : goal.settle-requires-clause-beside
 settle-requires-clause-beside c = beside_kept _ _ _ _ _ _ (after c) c.requires.known

@@ -1,4 +1,4 @@
-use Rattle.std.proofs.Common.{sym, subst, arith, rules}
+use Rattle.std.proofs.Common.{sym, subst, arith}
 use Rattle.machine_scene.specs.Scene.{StoredScene, scene_of}
 use Rattle.machine_scene.specs.ReadySet.{AreReady}
 use Rattle.machine_scene.specs.Outcomes.{outcome_of}
@@ -15,11 +15,11 @@ ready_after-self-inside-requires-clause-named c =
     named_still c.args.program.now c.row_of-row.result c.args.t c.args.self.now c.play.new.self c.requires.sound c.requires.thread
     c.row_of-row.ensures.row (ready_after-self-inside-requires-clause-sound c)
 
-pub returns-in-Ok : goal.returns-in-Ok
-returns-in-Ok c = record {
-  ok = played_still _ c.args.t c.args.program.now c.args.self.now _ c.ready_after-self-inside.result c.in-Ok.event
-      (subst (λ (s : StoredScene). IsPlayed (outcome_of c.args.t c.args.program.now (scene_of c.args.self.now)) c.args.t c.args.program.now c.args.self.now s c.in-Ok.event) (sym c.self-2.view_is) c.in-Ok.ensures.ok);
-  known = subst (λ (s : StoredScene). AreReady c.args.program.now c.ready_after-self-inside.result (scene_of s)) (sym c.self-2.view_is) c.ready_after-self-inside.ensures;
-  memory = search rules;
-  err = tt;
-}
+pub returns-in-Ok-clause-ok : goal.returns-in-Ok-clause-ok
+returns-in-Ok-clause-ok c =
+    played_still _ c.args.t c.args.program.now c.args.self.now _ c.ready_after-self-inside.result c.in-Ok.event
+    (subst (λ (s : StoredScene). IsPlayed (outcome_of c.args.t c.args.program.now (scene_of c.args.self.now)) c.args.t c.args.program.now c.args.self.now s c.in-Ok.event) (sym c.self-2.view_is) c.in-Ok.ensures.ok)
+
+pub returns-in-Ok-clause-known : goal.returns-in-Ok-clause-known
+returns-in-Ok-clause-known c =
+    subst (λ (s : StoredScene). AreReady c.args.program.now c.ready_after-self-inside.result (scene_of s)) (sym c.self-2.view_is) c.ready_after-self-inside.ensures
