@@ -4,6 +4,7 @@ import java.io.ByteArrayOutputStream;
 import java.io.File;
 import java.io.IOException;
 import java.io.PrintStream;
+import java.io.UncheckedIOException;
 import java.nio.charset.StandardCharsets;
 import java.nio.file.Files;
 import java.nio.file.Path;
@@ -40,16 +41,18 @@ final class CommandChecks {
     private static final long SOON = 10_000 * MILLISECOND;
     /** So many times as long as the right port takes, which is less than ten seconds where the machine isn't busy. */
     private static final int TIMES_THE_RIGHT_ONE = 6;
+    /** In place of the status of a command that doesn't end. */
+    private static final int NO_END = -1;
 
     private final Path kit;
     private final Path vuthgal;
-    private final Taker to;
+    private final Part part;
     private final Path room;
 
-    CommandChecks(Path kit, Path vuthgal, Taker to) throws IOException {
+    CommandChecks(Path kit, Path vuthgal, Part part) throws IOException {
         this.kit = kit.toAbsolutePath().normalize();
         this.vuthgal = vuthgal.toAbsolutePath();
-        this.to = to;
+        this.part = part;
         room = Files.createTempDirectory("vuthgal-commands");
     }
 
@@ -58,7 +61,6 @@ final class CommandChecks {
         String reset = folder("reset");
         String one = reset + "/a-timed-wait.txt";
         List<Check> checks = List.of(
-            new Check(2, "there is no case in", room.toString()),
             new Check(2, "there is no case in", reset, room.toString()),
             new Check(2, "--random" + NO_NUMBER, "--random", "-5"),
             new Check(2, "--random" + NO_NUMBER, "--random", "0"),
@@ -76,24 +78,25 @@ final class CommandChecks {
             new Check(2, "--for" + NO_NUMBER, "--for", "0"),
             new Check(0, " bursts of ", "--for", "1", "--burst", "1000000000"),
             new Check(0, "round 5 didn't fail in 3 tries\n", "--burst", "3", "--round", "5"),
+            new Check(1, "the port doesn't answer: case", "--port", "exec sleep 600", one),
+            new Check(0, "2 left out: it makes no phaser\n", "--factory", BarriersAlone.class.getName(), folder("action")),
+            new Check(2, "nothing was compared\n", "--factory", BarriersAlone.class.getName(), folder("policies")),
+            new Check(0, " left out: it makes no phaser\n", "--factory", BarriersAlone.class.getName(), "--random", "30"));
+        AtOnce.each(checks, this::check);
+        AtOnce.each(List.of(
+            new Check(2, "there is no case in", room.toString()),
             new Check(0, "<testsuite name=\"bursts\" tests=\"20\" failures=\"0\" errors=\"0\" skipped=\"0\"",
                 "--burst", "20", "--report", "/dev/stdout"),
             new Check(1, "burst 1 0 meetings\n  the port has ended before its first answer",
                 "--burst", "1", "--port", "./nosuch"),
             new Check(1, "with status 127 (no such command)", "--port", "./nosuch", reset),
             new Check(1, "the run ends here, since there is no answer in 3 cases in a row", "--port", "./nosuch", reset),
-            new Check(1, " different, 0 left out\n", "--keep-going", "--port", "./nosuch", reset),
-            new Check(1, "the port doesn't answer: case", "--port", "exec sleep 600", one),
-            new Check(0, "2 left out: it makes no phaser\n", "--factory", BarriersAlone.class.getName(), folder("action")),
-            new Check(2, "nothing was compared\n", "--factory", BarriersAlone.class.getName(), folder("policies")),
-            new Check(0, " left out: it makes no phaser\n", "--factory", BarriersAlone.class.getName(), "--random", "30"));
-        checks.parallelStream().forEach(this::check);
+            new Check(1, " different, 0 left out\n", "--keep-going", "--port", "./nosuch", reset)), this::checkScript);
         checkNothingIsWritten();
-        checkForms();
     }
 
     /** The files that make a case, and those that make none. */
-    private void checkForms() throws IOException {
+    void checkForms() throws IOException {
         Path forms = Files.createTempDirectory("vuthgal-forms");
         String program = ".phaser p 1\n.thread ann main\nmain: parr r0 p\n halt\n";
         write(forms.resolve("one.txt"), program + " .run ; its schedule\nt0*2\n");
@@ -103,7 +106,7 @@ final class CommandChecks {
         write(forms.resolve("by-name.plan"), "ann.\n");
         write(forms.resolve("alone.asm"), program);
         write(forms.resolve("read-me.txt"), "how to .run it\n");
-        List.of(
+        AtOnce.each(List.of(
             new Check(0, "\n3 same, 0 different, 0 left out\n", forms.toString()),
             new Check(0, "same\n1 calls asked", forms.resolve("one.txt").toString()),
             new Check(0, "same\n1 calls asked", forms.resolve("two.asm").toString()),
@@ -113,7 +116,7 @@ final class CommandChecks {
             new Check(2, "alone.asm is no case: that is NAME.txt with", forms.resolve("alone.asm").toString()),
             new Check(2, "read-me.txt is no case: that is NAME.txt with", forms.resolve("read-me.txt").toString()),
             new Check(2, "--transcripts wants folders", "--transcripts", "there", forms.resolve("one.txt").toString())
-        ).parallelStream().forEach(this::check);
+        ), this::check);
         write(forms.resolve("two.plan"), "..\n");
         check(new Check(2, "two.asm has a schedule and a plan", forms.toString()));
     }
@@ -129,21 +132,20 @@ final class CommandChecks {
         check(new Check(1, "kept as " + one + "\n", "--random", "1", "--first-try", "--keep", kept.toString(),
             "--port", port + "'64 = ' 'say 64 = x\\n'"));
         boolean plays = Files.exists(one) && new Vuthgal(vuthgal).run(one).equals(Files.readString(Case.beside(one, ".trace")));
-        to.take("--keep", plays, "random-1.txt, as it was kept, doesn't play as random-1.trace");
+        part.take("--keep", plays, "random-1.txt, as it was kept, doesn't play as random-1.trace");
         check(new Check(0, "1 same, 0 different", kept.toString()));
     }
 
     /** What a port that isn't whole, or that has to be killed, comes to. */
-    void checkPorts(String python) throws IOException, InterruptedException {
-        String port = python + " '" + kit.resolve("faults/port.py") + "' ";
-        String wrong = python + " " + kit.resolve("wrong/ports") + "/";
+    void checkPorts(String python) throws IOException {
+        String port = faults(python);
+        String wrong = wrong(python);
         String stands = ", and it stands still";
         String one = folder("reset") + "/a-timed-wait.txt";
         List<Check> checks = List.of(
             new Check(0, "2 left out: it makes no phaser\n", "--port", port + "without phaser", folder("action")),
             new Check(2, "nothing was compared\n", "--port", port + "without barrier", folder("reset")),
             new Check(2, "nothing was compared\n", "--port", port + "without case", folder("reset")),
-            new Check(1, "--keep FOLDER writes it\n", "--random", "1", "--port", port + "'64 = ' 'say 64 = x\\n'"),
             new Check(1, "burst 1 0 meetings\n  the port has ended, with status 3",
                 "--burst", "1", "--port", port + "'0 did' 'exit 3'"),
             new Check(1, "  thread 0 is in no call, and doesn't end its list\n", "--burst", "1", "--patience", "0.1",
@@ -165,11 +167,18 @@ final class CommandChecks {
             new Check(1, "5 same, 0 different, 0 left out; stuck before the first case\n",
                 "--port", wrong + "loses_wake_ups.py 7", folder("phase-numbers")),
             new Check(1, " same, 0 different, 2 stuck, 0 left out; 2 played again with more patience\n", "--port", wrong + "loses_wake_ups.py", folder("waiting")));
-        checks.parallelStream().forEach(this::check);
+        AtOnce.each(checks, this::check);
+        checkScript(new Check(1, "--keep FOLDER writes it\n", "--random", "1", "--port", port + "'64 = ' 'say 64 = x\\n'"));
         checkNothingIsWritten();
         checkKept(port);
-        checkSoon(python + " '" + kit.resolve("ports/python/port.py") + "'", wrong + "ignores_interrupts.py", one);
         checkLists(port);
+    }
+
+    /** How soon the player says what hangs, and what a signal leaves. */
+    void checkEnds(String python) throws IOException, InterruptedException {
+        String port = faults(python);
+        checkSoon(python + " '" + kit.resolve("ports/python/port.py") + "'", wrong(python) + "ignores_interrupts.py",
+            folder("reset") + "/a-timed-wait.txt");
         checkStop(port);
         checkEnd(port, "TERM");
         if (!ignoresInterrupts()) {
@@ -181,7 +190,7 @@ final class CommandChecks {
     private void checkSoon(String right, String hanging, String one) throws IOException, InterruptedException {
         long usual = nanosecondsUntil("same\n", "--port", right, one);
         long told = nanosecondsUntil("before the first case: ", "--port", hanging, one);
-        to.take("what hangs before the first case", told < Math.max(SOON, TIMES_THE_RIGHT_ONE * usual),
+        part.take("what hangs before the first case", told < Math.max(SOON, TIMES_THE_RIGHT_ONE * usual),
             "it is told after " + told / MILLISECOND + " ms, and the right port takes " + usual / MILLISECOND + " ms");
     }
 
@@ -217,7 +226,7 @@ final class CommandChecks {
             "0 end", "call 1 of its list is missing",
             "7 end", "thread 7 has no list",
             "0 did 1 1 2 through 5", "no onAdvance or action of this call was told to throw that");
-        says.entrySet().parallelStream().forEach(each -> {
+        AtOnce.each(List.copyOf(says.entrySet()), each -> {
             ByteArrayOutputStream told = new ByteArrayOutputStream();
             Stage stage = new PortStage(port + "'0 did' 'say " + each.getKey() + "\\n'");
             Bursts bursts = new Bursts(List.of(stage), Bursts.PATIENT, null, new PrintStream(told));
@@ -225,8 +234,18 @@ final class CommandChecks {
             bursts.tell();
             stage.close();
             String fault = "burst 1 0 meetings\n  the port wrote `" + each.getKey() + "`: " + each.getValue() + "\n";
-            take("a list's line " + each.getKey(), told.toString().startsWith(fault), told.toString());
+            part.take("a list's line " + each.getKey(), told.toString().startsWith(fault), told.toString());
         });
+    }
+
+    /** How the command of a port with a fault begins. */
+    private String faults(String python) {
+        return python + " '" + kit.resolve("faults/port.py") + "' ";
+    }
+
+    /** How the commands of the wrong ports begin. */
+    private String wrong(String python) {
+        return python + " " + kit.resolve("wrong/ports") + "/";
     }
 
     private String folder(String rule) {
@@ -235,28 +254,42 @@ final class CommandChecks {
 
     private void checkNothingIsWritten() throws IOException {
         try (Stream<Path> written = Files.list(room)) {
-            to.take("kit/play without --keep", written.findAny().isEmpty(), "it has written something");
+            part.take("kit/play without --keep", written.findAny().isEmpty(), "it has written something");
         }
     }
 
+    /** In this JVM, since most of a start is the loading of classes. */
     private void check(Check check) {
         try {
+            ByteArrayOutputStream told = new ByteArrayOutputStream();
+            PrintStream to = new PrintStream(told);
+            List<String> words = new ArrayList<>(List.of("--vuthgal", vuthgal.toString()));
+            words.addAll(List.of(check.words()));
+            take(check, Player.run(words.toArray(String[]::new), to, to), told.toString());
+        } catch (IOException failed) {
+            throw new UncheckedIOException(failed);
+        }
+    }
+
+    /** By the command as it is. */
+    private void checkScript(Check check) {
+        try {
             Path told = Files.createTempFile("vuthgal", ".told");
-            Process process = start(told, check.words());
+            List<String> command = new ArrayList<>(List.of(kit.resolve("play").toString(), "--vuthgal", vuthgal.toString()));
+            command.addAll(List.of(check.words()));
+            Process process = start(told, command);
             boolean ended = process.waitFor(LONGEST_SECONDS, TimeUnit.SECONDS);
             process.destroy();
-            String text = Files.readString(told, StandardCharsets.ISO_8859_1);
+            take(check, ended ? process.exitValue() : NO_END, Files.readString(told, StandardCharsets.ISO_8859_1));
             Files.delete(told);
-            boolean passes = ended && process.exitValue() == check.status() && text.contains(check.says());
-            String what = (ended ? "status " + process.exitValue() : "no end") + ", it says:\n" + text;
-            take("kit/play " + String.join(" ", check.words()), passes, what);
         } catch (IOException | InterruptedException failed) {
             throw new IllegalStateException(failed);
         }
     }
 
-    private synchronized void take(String name, boolean passes, String what) {
-        to.take(name, passes, what);
+    private void take(Check check, int status, String told) {
+        boolean passes = status == check.status() && told.contains(check.says());
+        part.take("kit/play " + String.join(" ", check.words()), passes, "status " + status + ", it says:\n" + told);
     }
 
     /** Ends the player by a signal while a port with a child hangs: neither stays behind. */
@@ -273,7 +306,7 @@ final class CommandChecks {
         player.waitFor(LONGEST_SECONDS, TimeUnit.SECONDS);
         Thread.sleep(100);
         List<ProcessHandle> left = below.stream().filter(CommandChecks::lives).toList();
-        to.take("kit/play ended by SIG" + signal, played && left.isEmpty(), "of " + below + " these live on: " + left);
+        part.take("kit/play ended by SIG" + signal, played && left.isEmpty(), "of " + below + " these live on: " + left);
         left.forEach(ProcessHandle::destroyForcibly);
         Files.delete(told);
     }
@@ -292,8 +325,8 @@ final class CommandChecks {
         boolean ended = player.waitFor(LONGEST_SECONDS, TimeUnit.SECONDS);
         String text = Files.readString(told, StandardCharsets.ISO_8859_1);
         boolean counted = text.contains("stopped by a signal\n") && text.contains(": 0 found\n") && !text.contains("burst 1 ");
-        to.take("bursts ended by SIGTERM", ended && counted, text);
-        to.take("bursts at a terminal", text.matches("(?s)\r[0-9]+ bursts, 0 found, [0-9]+ s\033.*"), text);
+        part.take("bursts ended by SIGTERM", ended && counted, text);
+        part.take("bursts at a terminal", text.matches("(?s)\r[0-9]+ bursts, 0 found, [0-9]+ s\033.*"), text);
         Files.delete(told);
     }
 
@@ -328,6 +361,10 @@ final class CommandChecks {
         command.addAll(ofJava);
         command.addAll(List.of(Player.class.getName(), "--vuthgal", vuthgal.toString()));
         command.addAll(List.of(words));
+        return start(told, command);
+    }
+
+    private Process start(Path told, List<String> command) throws IOException {
         File output = told.toFile();
         return new ProcessBuilder(command).directory(room.toFile()).redirectErrorStream(true).redirectOutput(output).start();
     }
