@@ -3,7 +3,10 @@ package kit.player;
 import java.io.IOException;
 import java.nio.file.Files;
 import java.nio.file.Path;
+import java.util.Arrays;
 import java.util.List;
+import java.util.regex.Matcher;
+import java.util.regex.Pattern;
 
 /** The part of {@code kit/run} about bursts: the model that judges them, the JDK, the adapters that they have to find, ports. */
 final class BurstKit {
@@ -15,6 +18,7 @@ final class BurstKit {
     private static final int SEEDS_TO_FIND = 4;
     /** What is wrong may be taken to wait for ever sooner. */
     private static final long IMPATIENT = 500_000_000L;
+    private static final Pattern FOUND_BY = Pattern.compile("<p>Found by ([\\w-]+)");
     private static final String RIGHT = "UnderOneLock";
 
     private final Vuthgal vuthgal;
@@ -118,22 +122,34 @@ final class BurstKit {
         for (String name : adapters.names()) {
             Stage stage = adapters.stage(name);
             boolean right = name.equals(RIGHT);
-            String finding = right ? new Bursts(List.of(stage), Bursts.PATIENT, null, part.to).find(1, ROUNDS_ON_THE_RIGHT_ONE)
-                : finding(stage);
+            String finding = right ? new Bursts(List.of(stage), Bursts.PATIENT, null, part.to).find(1, ROUNDS_ON_THE_RIGHT_ONE, null)
+                : finding(stage, kind(adapters.folder().resolve(name + ".java")));
             part.take(name, right == (finding == null), right ? "it is right, and found: " + finding : "no burst finds it");
             if (!right && finding != null) {
                 found++;
-                part.to.println("  " + name + " is found first by " + finding);
+                part.to.println("  " + name + " is found by " + finding);
             }
         }
         part.to.println("wrong adapters that bursts have to find: " + found + " found");
     }
 
-    /** What bursts find first in something wrong; null where they find nothing. */
-    private String finding(Stage stage) throws IOException {
+    /** The kind of burst that the comment of an adapter names. */
+    private static String kind(Path source) throws IOException {
+        Matcher named = FOUND_BY.matcher(Files.readString(source));
+        if (!named.find()) {
+            throw new IllegalStateException(source + " doesn't say which kind of burst finds it");
+        }
+        return named.group(1);
+    }
+
+    /** What bursts find in something wrong: those of this kind, or else any; null where they find nothing. */
+    private String finding(Stage stage, String kind) {
+        Bursts bursts = new Bursts(List.of(stage), IMPATIENT, null, part.to);
         String finding = null;
-        for (int seed = 1; seed <= SEEDS_TO_FIND && finding == null; seed++) {
-            finding = new Bursts(List.of(stage), IMPATIENT, null, part.to).find(seed, ROUNDS_TO_FIND);
+        for (String only : Arrays.asList(kind, null)) {
+            for (int seed = 1; seed <= SEEDS_TO_FIND && finding == null; seed++) {
+                finding = bursts.find(seed, ROUNDS_TO_FIND, only);
+            }
         }
         return finding;
     }
@@ -146,13 +162,14 @@ final class BurstKit {
             if (line.startsWith("#")) {
                 continue;
             }
-            String fault = line.substring(0, line.indexOf(' '));
+            String[] words = line.split(" \\| ");
+            String fault = words[0];
             Stage stage = new PortStage("FAULT=" + fault + " " + command);
-            String finding = finding(stage);
+            String finding = finding(stage, words[1]);
             stage.close();
             part.take("a phaser without a lock, " + fault, finding != null, "no burst finds it");
             found += finding == null ? 0 : 1;
-            part.to.println("  " + fault + " is found first by " + finding);
+            part.to.println("  " + fault + " is found by " + finding);
         }
         part.to.println("faults of a phaser without a lock: " + found + " found");
     }

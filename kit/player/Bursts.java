@@ -109,10 +109,16 @@ final class Bursts {
         return again ? order.round() : round;
     }
 
-    /** Plays until something is found, but for a real side that breaks down; answers that in words, or null. */
-    String find(long seed, long rounds) {
+    /**
+     * Plays until something is found, but for a real side that breaks down; answers that in words, or null. Of the rounds it
+     * plays those of one kind alone, where {@code kind} isn't null.
+     */
+    String find(long seed, long rounds, String kind) {
         Place place = places.get(0);
         for (long round = 0; round < rounds; round++) {
+            if (kind != null && !BurstKind.of(round).name().equals(kind)) {
+                continue;
+            }
             BurstHistory history = historyUnlessBroken(place, place.burst(seed, round));
             BurstJudge.Finding finding = history == null ? null : judge(history);
             if (finding != null) {
