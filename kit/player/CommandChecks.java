@@ -9,8 +9,10 @@ import java.nio.charset.StandardCharsets;
 import java.nio.file.Files;
 import java.nio.file.Path;
 import java.util.ArrayList;
+import java.util.Collections;
 import java.util.List;
 import java.util.Map;
+import java.util.Set;
 import java.util.concurrent.TimeUnit;
 import java.util.stream.Stream;
 
@@ -119,6 +121,54 @@ final class CommandChecks {
         ), this::check);
         write(forms.resolve("two.plan"), "..\n");
         check(new Check(2, "two.asm has a schedule and a plan", forms.toString()));
+    }
+
+    /** Classes are kept, and no compiler is needed again until a source changes; two who compile at once don't meet. */
+    void checkCompile() throws IOException {
+        Path other = Files.createDirectories(Files.createTempDirectory("vuthgal-kit").resolve("a kit"));
+        for (String folder : List.of("player", "wrong", "wrong/burst")) {
+            write(Files.createDirectories(other.resolve(folder)).resolve("One.java"),
+                "package " + folder.replace('/', '.') + ";\nclass One {\n}\n");
+        }
+        Path cache = room.resolve("cache");
+        List<String> first = Collections.synchronizedList(new ArrayList<>());
+        AtOnce.each(List.of(1, 2, 3, 4), number -> first.add(compile(other, cache, "javac")));
+        Path classes = Path.of(first.get(0));
+        part.take("kit/compile, four at once", Set.copyOf(first).size() == 1 && Files.exists(classes.resolve("wrong/burst/One.class"))
+            && classes.startsWith(cache) && count(classes.getParent()) == 1, first + ", and " + count(classes.getParent()) + " are kept");
+        String again = compile(other, cache, "false");
+        part.take("kit/compile, again", again.equals(first.get(0)), again);
+        write(other.resolve("wrong/One.java"), "package wrong;\nclass One {\n    int more;\n}\n");
+        String changed = compile(other, cache, "javac");
+        part.take("kit/compile, a change", !changed.equals(again) && Files.exists(Path.of(changed, "wrong/One.class")), changed);
+        String kept = compile(other, Path.of("/dev/null"), "javac");
+        part.take("kit/compile, nothing can be kept", Path.of(kept).startsWith(room) && Files.exists(Path.of(kept, "wrong/One.class")), kept);
+        write(other.resolve("wrong/One.java"), "package wrong;\nclas One {\n}\n");
+        String refused = compile(other, cache, "javac");
+        part.take("kit/compile, a wrong source", refused.contains("status 1") && count(classes.getParent()) == 2, refused);
+    }
+
+    private static long count(Path folder) {
+        try (Stream<Path> all = Files.list(folder)) {
+            return all.count();
+        } catch (IOException failed) {
+            throw new UncheckedIOException(failed);
+        }
+    }
+
+    /** What `kit/compile` says of another kit, with this command in place of the compiler. */
+    private String compile(Path other, Path cache, String compiler) {
+        try {
+            Path told = Files.createTempFile("vuthgal", ".told");
+            String words = "javac() { command " + compiler + " \"$@\"; }; export -f javac; export XDG_CACHE_HOME='" + cache + "'; '"
+                + kit.resolve("compile") + "' '" + room + "' '" + other + "' || echo status $?";
+            start(told, List.of("bash", "-c", words)).waitFor(LONGEST_SECONDS, TimeUnit.SECONDS);
+            String text = Files.readString(told).strip();
+            Files.delete(told);
+            return text;
+        } catch (IOException | InterruptedException failed) {
+            throw new IllegalStateException(failed);
+        }
     }
 
     private static void write(Path file, String text) throws IOException {
@@ -311,10 +361,21 @@ final class CommandChecks {
         Files.delete(told);
     }
 
-    /** Bursts that are ended by a signal which the port gets too, and sooner: they are counted, and none fails. */
+    /** Bursts that are ended by a signal are counted. */
     private void checkStop(String port) throws IOException, InterruptedException {
+        String text = stopped("--burst", "1000000", "--port", port + "nothing ''");
+        boolean counted = text.contains("stopped by a signal\n") && text.contains(": 0 found\n") && !text.contains("burst 1 ");
+        part.take("bursts ended by SIGTERM", counted, text);
+        part.take("bursts at a terminal", text.matches("(?s)\r[0-9]+ bursts, 0 found, [0-9]+ s\033.*"), text);
+        String random = stopped("--random", "1000000", "--port", port + "nothing ''");
+        counted = random.matches("(?s).*\033\\[Kstopped by a signal\n[1-9].* calls asked, .*\n[1-9][0-9]* same, 0 different, 0 left out, [0-9]+ not played[^\n]*\n");
+        part.take("scenarios ended by SIGTERM", counted, random);
+    }
+
+    /** What the player tells that is ended by a signal which its port gets too, and sooner. */
+    private String stopped(String... words) throws IOException, InterruptedException {
         Path told = Files.createTempFile("vuthgal", ".told");
-        Process player = start(told, List.of("-Dkit.progress=true"), "--burst", "1000000", "--port", port + "nothing ''");
+        Process player = start(told, List.of("-Dkit.progress=true"), words);
         for (int wait = 0; wait < 400 && Files.size(told) == 0; wait++) {
             Thread.sleep(50);
         }
@@ -322,12 +383,10 @@ final class CommandChecks {
         player.descendants().forEach(each -> command.add(Long.toString(each.pid())));
         command.add(Long.toString(player.pid()));
         new ProcessBuilder(command).start().waitFor();
-        boolean ended = player.waitFor(LONGEST_SECONDS, TimeUnit.SECONDS);
+        player.waitFor(LONGEST_SECONDS, TimeUnit.SECONDS);
         String text = Files.readString(told, StandardCharsets.ISO_8859_1);
-        boolean counted = text.contains("stopped by a signal\n") && text.contains(": 0 found\n") && !text.contains("burst 1 ");
-        part.take("bursts ended by SIGTERM", ended && counted, text);
-        part.take("bursts at a terminal", text.matches("(?s)\r[0-9]+ bursts, 0 found, [0-9]+ s\033.*"), text);
         Files.delete(told);
+        return text;
     }
 
     private static boolean hasChild(List<ProcessHandle> processes) {

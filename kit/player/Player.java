@@ -105,7 +105,9 @@ public final class Player {
         new Jobs<>(programs, (judge, each) -> Played.of(judge, Case.of(vuthgal, each.name(), each.file())))
             .tell(tally::before).run(options.judges(), played -> {
                 transcripts.add(played.each(), played.verdict());
-                return tally.add(played);
+                boolean goesOn = tally.add(played);
+                tally.showProgress();
+                return goesOn;
             });
         tally.tell();
         if (options.transcripts() != null) {
