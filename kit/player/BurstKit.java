@@ -13,6 +13,7 @@ final class BurstKit {
     private static final int SCENARIOS = 100;
     private static final int ROUNDS_ON_THE_JDK = 2_000;
     private static final int ROUNDS_ON_THE_RIGHT_ONE = 1_000;
+    private static final int ROUNDS_TO_BEGIN_WITH = 800;
     private static final int ROUNDS_TO_FIND = 20_000;
     /** A race is a matter of chance, and of free processors: what the bursts of one seed don't find, those of another may. */
     private static final int SEEDS_TO_FIND = 4;
@@ -142,10 +143,10 @@ final class BurstKit {
         return named.group(1);
     }
 
-    /** What bursts find in something wrong: those of this kind, or else any; null where they find nothing. */
+    /** What bursts find in something wrong: some of all kinds, else many of this kind, else many of all; null for nothing. */
     private String finding(Stage stage, String kind) {
         Bursts bursts = new Bursts(List.of(stage), IMPATIENT, null, part.to);
-        String finding = null;
+        String finding = bursts.find(1, ROUNDS_TO_BEGIN_WITH, null);
         for (String only : Arrays.asList(kind, null)) {
             for (int seed = 1; seed <= SEEDS_TO_FIND && finding == null; seed++) {
                 finding = bursts.find(seed, ROUNDS_TO_FIND, only);
