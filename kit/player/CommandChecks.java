@@ -376,7 +376,7 @@ final class CommandChecks {
     private String stopped(String... words) throws IOException, InterruptedException {
         Path told = Files.createTempFile("vuthgal", ".told");
         Process player = start(told, List.of("-Dkit.progress=true"), words);
-        for (int wait = 0; wait < 400 && Files.size(told) == 0; wait++) {
+        for (int wait = 0; wait < LONGEST_SECONDS * 20 && Files.size(told) == 0; wait++) {
             Thread.sleep(50);
         }
         List<String> command = new ArrayList<>(List.of("kill", "-TERM"));
