@@ -184,6 +184,10 @@ final class CommandChecks {
         boolean plays = Files.exists(one) && new Vuthgal(vuthgal).run(one).equals(Files.readString(Case.beside(one, ".trace")));
         part.take("--keep", plays, "random-1.txt, as it was kept, doesn't play as random-1.trace");
         check(new Check(0, "1 same, 0 different", kept.toString()));
+        Path burst = kept.resolve("meetings-1-0.burst");
+        check(new Check(1, "kept; again: --burst " + burst + "\n", "--burst", "1", "--keep", kept.toString(),
+            "--port", port + "'0 did' 'exit 3'"));
+        check(new Check(1, "round 0 failed at try 1\n", "--burst", burst.toString(), "--port", port + "'0 did' 'exit 3'"));
     }
 
     /** What a port that isn't whole, or that has to be killed, comes to. */
@@ -200,6 +204,10 @@ final class CommandChecks {
                 "--burst", "1", "--port", port + "'0 did' 'exit 3'"),
             new Check(1, "  thread 0 is in no call, and doesn't end its list\n", "--burst", "1", "--patience", "0.1",
                 "--port", port + "'0 end' 'say '"),
+            new Check(1, "round 0 failed at try 1\n", "--burst", "3", "--round", "0", "--port", port + "'0 did' 'exit 3'"),
+            new Check(0, " same, 0 different, 0 left out\n", "--port", right(python), kit.resolve("differences").toString()),
+            new Check(0, " not as the JDK, but as ours, as in differences/own-reset\n", "--known", "--port", right(python),
+                kit.resolve("differences").toString()),
             new Check(0, "the port takes no lists, so its calls came one by one", "--burst", "3", "--port", port + "without lists"),
             new Check(0, "the port takes no lists, so its calls came one by one", "--burst", "3", "--port", port + "old lists"),
             new Check(0, "84 bursts of 42 kinds, ", "--burst", "84", "--jobs", "2", "--port", port + "nothing ''"),
@@ -227,7 +235,7 @@ final class CommandChecks {
     /** How soon the player says what hangs, and what a signal leaves. */
     void checkEnds(String python) throws IOException, InterruptedException {
         String port = faults(python);
-        checkSoon(python + " '" + kit.resolve("ports/python/port.py") + "'", wrong(python) + "ignores_interrupts.py",
+        checkSoon(right(python), wrong(python) + "ignores_interrupts.py",
             folder("reset") + "/a-timed-wait.txt");
         checkStop(port);
         checkEnd(port, "TERM");
@@ -286,6 +294,10 @@ final class CommandChecks {
             String fault = "burst 1 0 meetings\n  the port wrote `" + each.getKey() + "`: " + each.getValue() + "\n";
             part.take("a list's line " + each.getKey(), told.toString().startsWith(fault), told.toString());
         });
+    }
+
+    private String right(String python) {
+        return python + " '" + kit.resolve("ports/python/port.py") + "'";
     }
 
     /** How the command of a port with a fault begins. */
