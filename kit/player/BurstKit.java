@@ -3,26 +3,31 @@ package kit.player;
 import java.io.IOException;
 import java.nio.file.Files;
 import java.nio.file.Path;
+import java.util.Arrays;
 import java.util.List;
+import java.util.regex.Matcher;
+import java.util.regex.Pattern;
 
 /** The part of {@code kit/run} about bursts: the model that judges them, the JDK, the adapters that they have to find, ports. */
 final class BurstKit {
     private static final int SCENARIOS = 100;
     private static final int ROUNDS_ON_THE_JDK = 2_000;
     private static final int ROUNDS_ON_THE_RIGHT_ONE = 1_000;
+    private static final int ROUNDS_TO_BEGIN_WITH = 800;
     private static final int ROUNDS_TO_FIND = 20_000;
     /** A race is a matter of chance, and of free processors: what the bursts of one seed don't find, those of another may. */
     private static final int SEEDS_TO_FIND = 4;
     /** What is wrong may be taken to wait for ever sooner. */
     private static final long IMPATIENT = 500_000_000L;
+    private static final Pattern FOUND_BY = Pattern.compile("<p>Found by ([\\w-]+)");
     private static final String RIGHT = "UnderOneLock";
 
     private final Vuthgal vuthgal;
-    private final Taker to;
+    private final Part part;
 
-    BurstKit(Vuthgal vuthgal, Taker to) {
+    BurstKit(Vuthgal vuthgal, Part part) {
         this.vuthgal = vuthgal;
-        this.to = to;
+        this.part = part;
     }
 
     /** The model plays the cases, and random scenarios, as Vuthgal does. */
@@ -38,7 +43,7 @@ final class BurstKit {
             Files.delete(file);
         }
         Files.delete(room);
-        System.out.println("the model of the bursts played " + cases.size() + " cases and " + SCENARIOS + " random scenarios");
+        part.to.println("the model of the bursts played " + cases.size() + " cases and " + SCENARIOS + " random scenarios");
     }
 
     /** What a failed burst says of itself: the few calls that no order explains, and the answer that would do. */
@@ -59,7 +64,7 @@ final class BurstKit {
         checkSays(lost, "    thread 2: awaitAdvance 0 0 has no answer\n  with these made, whatever they answer:\n"
             + "    thread 0: arrive 0\n    thread 1: arrive 0\n");
         String right = report(new Told(0, arrive, 1, 2, Answer.value(0)), new Told(2, await, 1, Long.MAX_VALUE, null));
-        to.take("a wait that has to be", !right.contains("no order explains these"), right);
+        part.take("a wait that has to be", !right.contains("no order explains these"), right);
     }
 
     /** A call as it is put into a history; it has no answer where that is null. */
@@ -85,12 +90,12 @@ final class BurstKit {
     }
 
     private void checkSays(String report, String words) {
-        to.take("a failed burst", report.contains(words), "it doesn't say:\n" + words + "but:\n" + report);
+        part.take("a failed burst", report.contains(words), "it doesn't say:\n" + words + "but:\n" + report);
     }
 
     private void countModel(ModelCheck check, Case each) {
         String differs = check.differs(each);
-        to.take(each.name() + " on the model", differs == null, differs);
+        part.take(each.name() + " on the model", differs == null, differs);
     }
 
     void checkJdk() throws IOException {
@@ -104,11 +109,11 @@ final class BurstKit {
     }
 
     private void checkRight(String name, Stage stage, int rounds) throws IOException {
-        Bursts bursts = new Bursts(List.of(stage), Bursts.PATIENT, null, System.out);
+        Bursts bursts = new Bursts(List.of(stage), Bursts.PATIENT, null, part.to);
         bursts.play(new BurstOrder(1, BurstOrder.EACH, rounds, 0));
         int found = bursts.count().findings();
-        to.take("bursts on " + name, found == 0, found + " found");
-        System.out.print("bursts on " + name + ": ");
+        part.take("bursts on " + name, found == 0, found + " found");
+        part.to.print("bursts on " + name + ": ");
         bursts.tell();
     }
 
@@ -118,22 +123,34 @@ final class BurstKit {
         for (String name : adapters.names()) {
             Stage stage = adapters.stage(name);
             boolean right = name.equals(RIGHT);
-            String finding = right ? new Bursts(List.of(stage), Bursts.PATIENT, null, System.out).find(1, ROUNDS_ON_THE_RIGHT_ONE)
-                : finding(stage);
-            to.take(name, right == (finding == null), right ? "it is right, and found: " + finding : "no burst finds it");
+            String finding = right ? new Bursts(List.of(stage), Bursts.PATIENT, null, part.to).find(1, ROUNDS_ON_THE_RIGHT_ONE, null)
+                : finding(stage, kind(adapters.folder().resolve(name + ".java")));
+            part.take(name, right == (finding == null), right ? "it is right, and found: " + finding : "no burst finds it");
             if (!right && finding != null) {
                 found++;
-                System.out.println("  " + name + " is found first by " + finding);
+                part.to.println("  " + name + " is found by " + finding);
             }
         }
-        System.out.println("wrong adapters that bursts have to find: " + found + " found");
+        part.to.println("wrong adapters that bursts have to find: " + found + " found");
     }
 
-    /** What bursts find first in something wrong; null where they find nothing. */
-    private static String finding(Stage stage) throws IOException {
-        String finding = null;
-        for (int seed = 1; seed <= SEEDS_TO_FIND && finding == null; seed++) {
-            finding = new Bursts(List.of(stage), IMPATIENT, null, System.out).find(seed, ROUNDS_TO_FIND);
+    /** The kind of burst that the comment of an adapter names. */
+    private static String kind(Path source) throws IOException {
+        Matcher named = FOUND_BY.matcher(Files.readString(source));
+        if (!named.find()) {
+            throw new IllegalStateException(source + " doesn't say which kind of burst finds it");
+        }
+        return named.group(1);
+    }
+
+    /** What bursts find in something wrong: some of all kinds, else many of this kind, else many of all; null for nothing. */
+    private String finding(Stage stage, String kind) {
+        Bursts bursts = new Bursts(List.of(stage), IMPATIENT, null, part.to);
+        String finding = bursts.find(1, ROUNDS_TO_BEGIN_WITH, null);
+        for (String only : Arrays.asList(kind, null)) {
+            for (int seed = 1; seed <= SEEDS_TO_FIND && finding == null; seed++) {
+                finding = bursts.find(seed, ROUNDS_TO_FIND, only);
+            }
         }
         return finding;
     }
@@ -146,14 +163,15 @@ final class BurstKit {
             if (line.startsWith("#")) {
                 continue;
             }
-            String fault = line.substring(0, line.indexOf(' '));
+            String[] words = line.split(" \\| ");
+            String fault = words[0];
             Stage stage = new PortStage("FAULT=" + fault + " " + command);
-            String finding = finding(stage);
+            String finding = finding(stage, words[1]);
             stage.close();
-            to.take("a phaser without a lock, " + fault, finding != null, "no burst finds it");
+            part.take("a phaser without a lock, " + fault, finding != null, "no burst finds it");
             found += finding == null ? 0 : 1;
-            System.out.println("  " + fault + " is found first by " + finding);
+            part.to.println("  " + fault + " is found by " + finding);
         }
-        System.out.println("faults of a phaser without a lock: " + found + " found");
+        part.to.println("faults of a phaser without a lock: " + found + " found");
     }
 }

@@ -15,10 +15,6 @@ final class Bursts {
     private static final long UNIT_OF_PORT = 100_000;
     private static final int MOST_FINDINGS = 5;
     private static final int MILLISECONDS_OF_PROGRESS = 1_000;
-    /** Whoever ends a port by a signal may mean the player too, which hears it a little later. */
-    private static final int MILLISECONDS_OF_A_SIGNAL = 1_000;
-    /** Set where the standard error is a terminal. */
-    private static final boolean SHOWS_PROGRESS = Boolean.getBoolean("kit.progress");
 
     /** One real side. */
     private record Place(Stage stage, BurstPlayer player) {
@@ -35,7 +31,7 @@ final class Bursts {
     private long given;
     private long until;
     private RuntimeException failed;
-    private boolean told;
+    private LastWords last;
 
     /** {@code keep} is null where nothing is kept. */
     Bursts(List<Stage> stages, long bound, Path keep, PrintStream to) {
@@ -55,7 +51,7 @@ final class Bursts {
     void play(BurstOrder asked) {
         order = asked;
         until = order.seconds() > 0 ? System.nanoTime() + order.seconds() * 1_000_000_000L : Long.MAX_VALUE;
-        Runtime.getRuntime().addShutdownHook(new Thread(this::tellWhenStopped, "count when stopped"));
+        last = new LastWords(to, this::tell);
         List<Thread> workers = places.stream().map(place -> new Thread(() -> work(place), "bursts")).toList();
         for (Thread worker : workers) {
             worker.setDaemon(true);
@@ -64,22 +60,16 @@ final class Bursts {
         try {
             for (Thread worker : workers) {
                 for (worker.join(MILLISECONDS_OF_PROGRESS); worker.isAlive(); worker.join(MILLISECONDS_OF_PROGRESS)) {
-                    progress(count.progress());
+                    Progress.show(count.progress());
                 }
             }
         } catch (InterruptedException never) {
             throw new IllegalStateException(never);
         }
-        progress("");
+        Progress.clear();
         if (failed != null) {
-            told = true;
+            last.drop();
             throw failed;
-        }
-    }
-
-    private static void progress(String words) {
-        if (SHOWS_PROGRESS) {
-            System.err.print("\r" + words + "\033[K");
         }
     }
 
@@ -109,10 +99,16 @@ final class Bursts {
         return again ? order.round() : round;
     }
 
-    /** Plays until something is found, but for a real side that breaks down; answers that in words, or null. */
-    String find(long seed, long rounds) {
+    /**
+     * Plays until something is found, but for a real side that breaks down; answers that in words, or null. Of the rounds it
+     * plays those of one kind alone, where {@code kind} isn't null.
+     */
+    String find(long seed, long rounds, String kind) {
         Place place = places.get(0);
         for (long round = 0; round < rounds; round++) {
+            if (kind != null && !BurstKind.of(round).name().equals(kind)) {
+                continue;
+            }
             BurstHistory history = historyUnlessBroken(place, place.burst(seed, round));
             BurstJudge.Finding finding = history == null ? null : judge(history);
             if (finding != null) {
@@ -141,7 +137,7 @@ final class Bursts {
 
     private synchronized void tellFailure(Burst burst, String text) throws IOException {
         count.fails(burst, text);
-        progress("");
+        Progress.clear();
         to.print(text);
         if (keep == null) {
             to.println("again: --burst " + BurstOrder.TRIES_OF_ONE + " --seed " + burst.seed() + " --round " + burst.round());
@@ -160,22 +156,10 @@ final class Bursts {
             BurstJudge.Finding finding = history == null ? null : judge(history);
             return finding == null ? null : new BurstReport(history, finding).text();
         } catch (Breakdown broken) {
-            letSignalsIn(broken);
             count.played(burst, 0, 0);
             place.stage().abandon();
             return BurstReport.head(burst) + "\n  " + broken.getMessage() + "\n";
         }
-    }
-
-    private static void letSignalsIn(Breakdown broken) {
-        if (broken.getMessage().contains("SIGTERM") || broken.getMessage().contains("SIGINT")) {
-            try {
-                Thread.sleep(MILLISECONDS_OF_A_SIGNAL);
-            } catch (InterruptedException never) {
-                throw new IllegalStateException(never);
-            }
-        }
-        LivingPorts.check();
     }
 
     /** Null where the real side can't make the objects. */
@@ -201,21 +185,15 @@ final class Bursts {
     }
 
     /** The counts, in some lines. */
-    synchronized void tell() {
-        told = true;
+    void tell() {
+        last.tell();
+    }
+
+    private synchronized void tell(boolean stopped) {
         Stage stage = places.get(0).stage();
-        if (!stage.isHere() && !stage.takesLists()) {
+        if (!stopped && !stage.isHere() && !stage.takesLists()) {
             to.println("the port takes no lists, so its calls came one by one through the pipe, and hardly overlapped");
         }
         count.tell(order.round(), to);
-    }
-
-    private synchronized void tellWhenStopped() {
-        if (!told) {
-            told = true;
-            progress("");
-            to.println("stopped by a signal");
-            count.tell(order.round(), to);
-        }
     }
 }

@@ -4,12 +4,15 @@ import java.io.ByteArrayOutputStream;
 import java.io.File;
 import java.io.IOException;
 import java.io.PrintStream;
+import java.io.UncheckedIOException;
 import java.nio.charset.StandardCharsets;
 import java.nio.file.Files;
 import java.nio.file.Path;
 import java.util.ArrayList;
+import java.util.Collections;
 import java.util.List;
 import java.util.Map;
+import java.util.Set;
 import java.util.concurrent.TimeUnit;
 import java.util.stream.Stream;
 
@@ -40,16 +43,18 @@ final class CommandChecks {
     private static final long SOON = 10_000 * MILLISECOND;
     /** So many times as long as the right port takes, which is less than ten seconds where the machine isn't busy. */
     private static final int TIMES_THE_RIGHT_ONE = 6;
+    /** In place of the status of a command that doesn't end. */
+    private static final int NO_END = -1;
 
     private final Path kit;
     private final Path vuthgal;
-    private final Taker to;
+    private final Part part;
     private final Path room;
 
-    CommandChecks(Path kit, Path vuthgal, Taker to) throws IOException {
+    CommandChecks(Path kit, Path vuthgal, Part part) throws IOException {
         this.kit = kit.toAbsolutePath().normalize();
         this.vuthgal = vuthgal.toAbsolutePath();
-        this.to = to;
+        this.part = part;
         room = Files.createTempDirectory("vuthgal-commands");
     }
 
@@ -58,7 +63,6 @@ final class CommandChecks {
         String reset = folder("reset");
         String one = reset + "/a-timed-wait.txt";
         List<Check> checks = List.of(
-            new Check(2, "there is no case in", room.toString()),
             new Check(2, "there is no case in", reset, room.toString()),
             new Check(2, "--random" + NO_NUMBER, "--random", "-5"),
             new Check(2, "--random" + NO_NUMBER, "--random", "0"),
@@ -76,24 +80,25 @@ final class CommandChecks {
             new Check(2, "--for" + NO_NUMBER, "--for", "0"),
             new Check(0, " bursts of ", "--for", "1", "--burst", "1000000000"),
             new Check(0, "round 5 didn't fail in 3 tries\n", "--burst", "3", "--round", "5"),
+            new Check(1, "the port doesn't answer: case", "--port", "exec sleep 600", one),
+            new Check(0, "2 left out: it makes no phaser\n", "--factory", BarriersAlone.class.getName(), folder("action")),
+            new Check(2, "nothing was compared\n", "--factory", BarriersAlone.class.getName(), folder("policies")),
+            new Check(0, " left out: it makes no phaser\n", "--factory", BarriersAlone.class.getName(), "--random", "30"));
+        AtOnce.each(checks, this::check);
+        AtOnce.each(List.of(
+            new Check(2, "there is no case in", room.toString()),
             new Check(0, "<testsuite name=\"bursts\" tests=\"20\" failures=\"0\" errors=\"0\" skipped=\"0\"",
                 "--burst", "20", "--report", "/dev/stdout"),
             new Check(1, "burst 1 0 meetings\n  the port has ended before its first answer",
                 "--burst", "1", "--port", "./nosuch"),
             new Check(1, "with status 127 (no such command)", "--port", "./nosuch", reset),
             new Check(1, "the run ends here, since there is no answer in 3 cases in a row", "--port", "./nosuch", reset),
-            new Check(1, " different, 0 left out\n", "--keep-going", "--port", "./nosuch", reset),
-            new Check(1, "the port doesn't answer: case", "--port", "exec sleep 600", one),
-            new Check(0, "2 left out: it makes no phaser\n", "--factory", BarriersAlone.class.getName(), folder("action")),
-            new Check(2, "nothing was compared\n", "--factory", BarriersAlone.class.getName(), folder("policies")),
-            new Check(0, " left out: it makes no phaser\n", "--factory", BarriersAlone.class.getName(), "--random", "30"));
-        checks.parallelStream().forEach(this::check);
+            new Check(1, " different, 0 left out\n", "--keep-going", "--port", "./nosuch", reset)), this::checkScript);
         checkNothingIsWritten();
-        checkForms();
     }
 
     /** The files that make a case, and those that make none. */
-    private void checkForms() throws IOException {
+    void checkForms() throws IOException {
         Path forms = Files.createTempDirectory("vuthgal-forms");
         String program = ".phaser p 1\n.thread ann main\nmain: parr r0 p\n halt\n";
         write(forms.resolve("one.txt"), program + " .run ; its schedule\nt0*2\n");
@@ -103,7 +108,7 @@ final class CommandChecks {
         write(forms.resolve("by-name.plan"), "ann.\n");
         write(forms.resolve("alone.asm"), program);
         write(forms.resolve("read-me.txt"), "how to .run it\n");
-        List.of(
+        AtOnce.each(List.of(
             new Check(0, "\n3 same, 0 different, 0 left out\n", forms.toString()),
             new Check(0, "same\n1 calls asked", forms.resolve("one.txt").toString()),
             new Check(0, "same\n1 calls asked", forms.resolve("two.asm").toString()),
@@ -113,9 +118,57 @@ final class CommandChecks {
             new Check(2, "alone.asm is no case: that is NAME.txt with", forms.resolve("alone.asm").toString()),
             new Check(2, "read-me.txt is no case: that is NAME.txt with", forms.resolve("read-me.txt").toString()),
             new Check(2, "--transcripts wants folders", "--transcripts", "there", forms.resolve("one.txt").toString())
-        ).parallelStream().forEach(this::check);
+        ), this::check);
         write(forms.resolve("two.plan"), "..\n");
         check(new Check(2, "two.asm has a schedule and a plan", forms.toString()));
+    }
+
+    /** Classes are kept, and no compiler is needed again until a source changes; two who compile at once don't meet. */
+    void checkCompile() throws IOException {
+        Path other = Files.createDirectories(Files.createTempDirectory("vuthgal-kit").resolve("a kit"));
+        for (String folder : List.of("player", "wrong", "wrong/burst")) {
+            write(Files.createDirectories(other.resolve(folder)).resolve("One.java"),
+                "package " + folder.replace('/', '.') + ";\nclass One {\n}\n");
+        }
+        Path cache = room.resolve("cache");
+        List<String> first = Collections.synchronizedList(new ArrayList<>());
+        AtOnce.each(List.of(1, 2, 3, 4), number -> first.add(compile(other, cache, "javac")));
+        Path classes = Path.of(first.get(0));
+        part.take("kit/compile, four at once", Set.copyOf(first).size() == 1 && Files.exists(classes.resolve("wrong/burst/One.class"))
+            && classes.startsWith(cache) && count(classes.getParent()) == 1, first + ", and " + count(classes.getParent()) + " are kept");
+        String again = compile(other, cache, "false");
+        part.take("kit/compile, again", again.equals(first.get(0)), again);
+        write(other.resolve("wrong/One.java"), "package wrong;\nclass One {\n    int more;\n}\n");
+        String changed = compile(other, cache, "javac");
+        part.take("kit/compile, a change", !changed.equals(again) && Files.exists(Path.of(changed, "wrong/One.class")), changed);
+        String kept = compile(other, Path.of("/dev/null"), "javac");
+        part.take("kit/compile, nothing can be kept", Path.of(kept).startsWith(room) && Files.exists(Path.of(kept, "wrong/One.class")), kept);
+        write(other.resolve("wrong/One.java"), "package wrong;\nclas One {\n}\n");
+        String refused = compile(other, cache, "javac");
+        part.take("kit/compile, a wrong source", refused.contains("status 1") && count(classes.getParent()) == 2, refused);
+    }
+
+    private static long count(Path folder) {
+        try (Stream<Path> all = Files.list(folder)) {
+            return all.count();
+        } catch (IOException failed) {
+            throw new UncheckedIOException(failed);
+        }
+    }
+
+    /** What `kit/compile` says of another kit, with this command in place of the compiler. */
+    private String compile(Path other, Path cache, String compiler) {
+        try {
+            Path told = Files.createTempFile("vuthgal", ".told");
+            String words = "javac() { command " + compiler + " \"$@\"; }; export -f javac; export XDG_CACHE_HOME='" + cache + "'; '"
+                + kit.resolve("compile") + "' '" + room + "' '" + other + "' || echo status $?";
+            start(told, List.of("bash", "-c", words)).waitFor(LONGEST_SECONDS, TimeUnit.SECONDS);
+            String text = Files.readString(told).strip();
+            Files.delete(told);
+            return text;
+        } catch (IOException | InterruptedException failed) {
+            throw new IllegalStateException(failed);
+        }
     }
 
     private static void write(Path file, String text) throws IOException {
@@ -129,25 +182,32 @@ final class CommandChecks {
         check(new Check(1, "kept as " + one + "\n", "--random", "1", "--first-try", "--keep", kept.toString(),
             "--port", port + "'64 = ' 'say 64 = x\\n'"));
         boolean plays = Files.exists(one) && new Vuthgal(vuthgal).run(one).equals(Files.readString(Case.beside(one, ".trace")));
-        to.take("--keep", plays, "random-1.txt, as it was kept, doesn't play as random-1.trace");
+        part.take("--keep", plays, "random-1.txt, as it was kept, doesn't play as random-1.trace");
         check(new Check(0, "1 same, 0 different", kept.toString()));
+        Path burst = kept.resolve("meetings-1-0.burst");
+        check(new Check(1, "kept; again: --burst " + burst + "\n", "--burst", "1", "--keep", kept.toString(),
+            "--port", port + "'0 did' 'exit 3'"));
+        check(new Check(1, "round 0 failed at try 1\n", "--burst", burst.toString(), "--port", port + "'0 did' 'exit 3'"));
     }
 
     /** What a port that isn't whole, or that has to be killed, comes to. */
-    void checkPorts(String python) throws IOException, InterruptedException {
-        String port = python + " '" + kit.resolve("faults/port.py") + "' ";
-        String wrong = python + " " + kit.resolve("wrong/ports") + "/";
+    void checkPorts(String python) throws IOException {
+        String port = faults(python);
+        String wrong = wrong(python);
         String stands = ", and it stands still";
         String one = folder("reset") + "/a-timed-wait.txt";
         List<Check> checks = List.of(
             new Check(0, "2 left out: it makes no phaser\n", "--port", port + "without phaser", folder("action")),
             new Check(2, "nothing was compared\n", "--port", port + "without barrier", folder("reset")),
             new Check(2, "nothing was compared\n", "--port", port + "without case", folder("reset")),
-            new Check(1, "--keep FOLDER writes it\n", "--random", "1", "--port", port + "'64 = ' 'say 64 = x\\n'"),
             new Check(1, "burst 1 0 meetings\n  the port has ended, with status 3",
                 "--burst", "1", "--port", port + "'0 did' 'exit 3'"),
             new Check(1, "  thread 0 is in no call, and doesn't end its list\n", "--burst", "1", "--patience", "0.1",
                 "--port", port + "'0 end' 'say '"),
+            new Check(1, "round 0 failed at try 1\n", "--burst", "3", "--round", "0", "--port", port + "'0 did' 'exit 3'"),
+            new Check(0, " same, 0 different, 0 left out\n", "--port", right(python), kit.resolve("differences").toString()),
+            new Check(0, " not as the JDK, but as ours, as in differences/own-reset\n", "--known", "--port", right(python),
+                kit.resolve("differences").toString()),
             new Check(0, "the port takes no lists, so its calls came one by one", "--burst", "3", "--port", port + "without lists"),
             new Check(0, "the port takes no lists, so its calls came one by one", "--burst", "3", "--port", port + "old lists"),
             new Check(0, "84 bursts of 42 kinds, ", "--burst", "84", "--jobs", "2", "--port", port + "nothing ''"),
@@ -165,11 +225,18 @@ final class CommandChecks {
             new Check(1, "5 same, 0 different, 0 left out; stuck before the first case\n",
                 "--port", wrong + "loses_wake_ups.py 7", folder("phase-numbers")),
             new Check(1, " same, 0 different, 2 stuck, 0 left out; 2 played again with more patience\n", "--port", wrong + "loses_wake_ups.py", folder("waiting")));
-        checks.parallelStream().forEach(this::check);
+        AtOnce.each(checks, this::check);
+        checkScript(new Check(1, "--keep FOLDER writes it\n", "--random", "1", "--port", port + "'64 = ' 'say 64 = x\\n'"));
         checkNothingIsWritten();
         checkKept(port);
-        checkSoon(python + " '" + kit.resolve("ports/python/port.py") + "'", wrong + "ignores_interrupts.py", one);
         checkLists(port);
+    }
+
+    /** How soon the player says what hangs, and what a signal leaves. */
+    void checkEnds(String python) throws IOException, InterruptedException {
+        String port = faults(python);
+        checkSoon(right(python), wrong(python) + "ignores_interrupts.py",
+            folder("reset") + "/a-timed-wait.txt");
         checkStop(port);
         checkEnd(port, "TERM");
         if (!ignoresInterrupts()) {
@@ -181,7 +248,7 @@ final class CommandChecks {
     private void checkSoon(String right, String hanging, String one) throws IOException, InterruptedException {
         long usual = nanosecondsUntil("same\n", "--port", right, one);
         long told = nanosecondsUntil("before the first case: ", "--port", hanging, one);
-        to.take("what hangs before the first case", told < Math.max(SOON, TIMES_THE_RIGHT_ONE * usual),
+        part.take("what hangs before the first case", told < Math.max(SOON, TIMES_THE_RIGHT_ONE * usual),
             "it is told after " + told / MILLISECOND + " ms, and the right port takes " + usual / MILLISECOND + " ms");
     }
 
@@ -217,7 +284,7 @@ final class CommandChecks {
             "0 end", "call 1 of its list is missing",
             "7 end", "thread 7 has no list",
             "0 did 1 1 2 through 5", "no onAdvance or action of this call was told to throw that");
-        says.entrySet().parallelStream().forEach(each -> {
+        AtOnce.each(List.copyOf(says.entrySet()), each -> {
             ByteArrayOutputStream told = new ByteArrayOutputStream();
             Stage stage = new PortStage(port + "'0 did' 'say " + each.getKey() + "\\n'");
             Bursts bursts = new Bursts(List.of(stage), Bursts.PATIENT, null, new PrintStream(told));
@@ -225,8 +292,22 @@ final class CommandChecks {
             bursts.tell();
             stage.close();
             String fault = "burst 1 0 meetings\n  the port wrote `" + each.getKey() + "`: " + each.getValue() + "\n";
-            take("a list's line " + each.getKey(), told.toString().startsWith(fault), told.toString());
+            part.take("a list's line " + each.getKey(), told.toString().startsWith(fault), told.toString());
         });
+    }
+
+    private String right(String python) {
+        return python + " '" + kit.resolve("ports/python/port.py") + "'";
+    }
+
+    /** How the command of a port with a fault begins. */
+    private String faults(String python) {
+        return python + " '" + kit.resolve("faults/port.py") + "' ";
+    }
+
+    /** How the commands of the wrong ports begin. */
+    private String wrong(String python) {
+        return python + " " + kit.resolve("wrong/ports") + "/";
     }
 
     private String folder(String rule) {
@@ -235,28 +316,42 @@ final class CommandChecks {
 
     private void checkNothingIsWritten() throws IOException {
         try (Stream<Path> written = Files.list(room)) {
-            to.take("kit/play without --keep", written.findAny().isEmpty(), "it has written something");
+            part.take("kit/play without --keep", written.findAny().isEmpty(), "it has written something");
         }
     }
 
+    /** In this JVM, since most of a start is the loading of classes. */
     private void check(Check check) {
         try {
+            ByteArrayOutputStream told = new ByteArrayOutputStream();
+            PrintStream to = new PrintStream(told);
+            List<String> words = new ArrayList<>(List.of("--vuthgal", vuthgal.toString()));
+            words.addAll(List.of(check.words()));
+            take(check, Player.run(words.toArray(String[]::new), to, to), told.toString());
+        } catch (IOException failed) {
+            throw new UncheckedIOException(failed);
+        }
+    }
+
+    /** By the command as it is. */
+    private void checkScript(Check check) {
+        try {
             Path told = Files.createTempFile("vuthgal", ".told");
-            Process process = start(told, check.words());
+            List<String> command = new ArrayList<>(List.of(kit.resolve("play").toString(), "--vuthgal", vuthgal.toString()));
+            command.addAll(List.of(check.words()));
+            Process process = start(told, command);
             boolean ended = process.waitFor(LONGEST_SECONDS, TimeUnit.SECONDS);
             process.destroy();
-            String text = Files.readString(told, StandardCharsets.ISO_8859_1);
+            take(check, ended ? process.exitValue() : NO_END, Files.readString(told, StandardCharsets.ISO_8859_1));
             Files.delete(told);
-            boolean passes = ended && process.exitValue() == check.status() && text.contains(check.says());
-            String what = (ended ? "status " + process.exitValue() : "no end") + ", it says:\n" + text;
-            take("kit/play " + String.join(" ", check.words()), passes, what);
         } catch (IOException | InterruptedException failed) {
             throw new IllegalStateException(failed);
         }
     }
 
-    private synchronized void take(String name, boolean passes, String what) {
-        to.take(name, passes, what);
+    private void take(Check check, int status, String told) {
+        boolean passes = status == check.status() && told.contains(check.says());
+        part.take("kit/play " + String.join(" ", check.words()), passes, "status " + status + ", it says:\n" + told);
     }
 
     /** Ends the player by a signal while a port with a child hangs: neither stays behind. */
@@ -273,28 +368,37 @@ final class CommandChecks {
         player.waitFor(LONGEST_SECONDS, TimeUnit.SECONDS);
         Thread.sleep(100);
         List<ProcessHandle> left = below.stream().filter(CommandChecks::lives).toList();
-        to.take("kit/play ended by SIG" + signal, played && left.isEmpty(), "of " + below + " these live on: " + left);
+        part.take("kit/play ended by SIG" + signal, played && left.isEmpty(), "of " + below + " these live on: " + left);
         left.forEach(ProcessHandle::destroyForcibly);
         Files.delete(told);
     }
 
-    /** Bursts that are ended by a signal which the port gets too, and sooner: they are counted, and none fails. */
+    /** Bursts that are ended by a signal are counted. */
     private void checkStop(String port) throws IOException, InterruptedException {
+        String text = stopped("--burst", "1000000", "--port", port + "nothing ''");
+        boolean counted = text.contains("stopped by a signal\n") && text.contains(": 0 found\n") && !text.contains("burst 1 ");
+        part.take("bursts ended by SIGTERM", counted, text);
+        part.take("bursts at a terminal", text.matches("(?s)\r[0-9]+ bursts, 0 found, [0-9]+ s\033.*"), text);
+        String random = stopped("--random", "1000000", "--port", port + "nothing ''");
+        counted = random.matches("(?s).*\033\\[Kstopped by a signal\n[1-9].* calls asked, .*\n[1-9][0-9]* same, 0 different, 0 left out, [0-9]+ not played[^\n]*\n");
+        part.take("scenarios ended by SIGTERM", counted, random);
+    }
+
+    /** What the player tells that is ended by a signal which its port gets too, and sooner. */
+    private String stopped(String... words) throws IOException, InterruptedException {
         Path told = Files.createTempFile("vuthgal", ".told");
-        Process player = start(told, List.of("-Dkit.progress=true"), "--burst", "1000000", "--port", port + "nothing ''");
-        for (int wait = 0; wait < 400 && Files.size(told) == 0; wait++) {
+        Process player = start(told, List.of("-Dkit.progress=true"), words);
+        for (int wait = 0; wait < LONGEST_SECONDS * 20 && Files.size(told) == 0; wait++) {
             Thread.sleep(50);
         }
         List<String> command = new ArrayList<>(List.of("kill", "-TERM"));
         player.descendants().forEach(each -> command.add(Long.toString(each.pid())));
         command.add(Long.toString(player.pid()));
         new ProcessBuilder(command).start().waitFor();
-        boolean ended = player.waitFor(LONGEST_SECONDS, TimeUnit.SECONDS);
+        player.waitFor(LONGEST_SECONDS, TimeUnit.SECONDS);
         String text = Files.readString(told, StandardCharsets.ISO_8859_1);
-        boolean counted = text.contains("stopped by a signal\n") && text.contains(": 0 found\n") && !text.contains("burst 1 ");
-        to.take("bursts ended by SIGTERM", ended && counted, text);
-        to.take("bursts at a terminal", text.matches("(?s)\r[0-9]+ bursts, 0 found, [0-9]+ s\033.*"), text);
         Files.delete(told);
+        return text;
     }
 
     private static boolean hasChild(List<ProcessHandle> processes) {
@@ -328,6 +432,10 @@ final class CommandChecks {
         command.addAll(ofJava);
         command.addAll(List.of(Player.class.getName(), "--vuthgal", vuthgal.toString()));
         command.addAll(List.of(words));
+        return start(told, command);
+    }
+
+    private Process start(Path told, List<String> command) throws IOException {
         File output = told.toFile();
         return new ProcessBuilder(command).directory(room.toFile()).redirectErrorStream(true).redirectOutput(output).start();
     }

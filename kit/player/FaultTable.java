@@ -31,14 +31,14 @@ final class FaultTable {
     }
 
     /** Makes all the faults, some at a time. */
-    void check(Vuthgal vuthgal, String python, Taker to) {
+    void check(Vuthgal vuthgal, String python, Part part) {
         Case played = Case.of(vuthgal, "faults/case.txt", folder.resolve("case.txt"));
-        long longest = LONGEST + TIMES_THE_RIGHT_ONE * check(RIGHT, played, vuthgal, python, Long.MAX_VALUE, to);
-        rows.parallelStream().forEach(row -> check(row, played, vuthgal, python, longest, to));
+        long longest = LONGEST + TIMES_THE_RIGHT_ONE * check(RIGHT, played, vuthgal, python, Long.MAX_VALUE, part);
+        AtOnce.each(rows, row -> check(row, played, vuthgal, python, longest, part));
     }
 
     /** How many nanoseconds it took. */
-    private long check(Row row, Case played, Vuthgal vuthgal, String python, long longest, Taker to) {
+    private long check(Row row, Case played, Vuthgal vuthgal, String python, long longest, Part part) {
         String port = quoted(folder.resolve("port.py").toString());
         String command = python + " " + port + " " + quoted(row.when()) + " " + quoted(row.what());
         Stage stage = new PortStage(command);
@@ -47,10 +47,8 @@ final class FaultTable {
         judge.close();
         String line = told.line();
         boolean passes = line.contains(row.words()) && told.nanoseconds() < longest;
-        synchronized (to) {
-            long milliseconds = told.nanoseconds() / 1_000_000;
-            to.take("faults: `" + row.when() + "`, " + row.what(), passes, line + ", after " + milliseconds + " ms");
-        }
+        long milliseconds = told.nanoseconds() / 1_000_000;
+        part.take("faults: `" + row.when() + "`, " + row.what(), passes, line + ", after " + milliseconds + " ms");
         return told.nanoseconds();
     }
 

@@ -1,11 +1,16 @@
 package kit.player;
 
 import java.io.IOException;
+import java.io.UncheckedIOException;
 import java.nio.file.Files;
 import java.nio.file.Path;
 import java.util.ArrayList;
 import java.util.Comparator;
+import java.util.LinkedHashMap;
 import java.util.List;
+import java.util.Map;
+import java.util.concurrent.CompletableFuture;
+import java.util.concurrent.ConcurrentHashMap;
 
 /**
  * What {@code kit/run} runs: the player's own words, the cases, the differences, the wrong adapters, ports, random scenarios,
@@ -18,7 +23,7 @@ public final class Kit {
     private static final int PLAYS = 5;
     /** Few adapters need a case with more choices. */
     private static final int LONG_SCHEDULE = 50;
-    /** So many processes of a port play at once. */
+    /** So many processes of a port, or judges of the JDK's classes, play at once. */
     private static final int JOBS = 2;
     private static final long SECOND = 1_000_000_000L;
 
@@ -38,16 +43,25 @@ public final class Kit {
         }
     }
 
+    /** What a part of the whole does. */
+    private interface Body {
+        void play(Part part) throws Exception;
+    }
+
     private final Path repository;
     private final Path kit;
+    private final Path program;
     private final Vuthgal vuthgal;
     private final WrongAdapters adapters;
-    private final List<Learned> learned = new ArrayList<>();
+    /** What the cases have taught, once they are played. */
+    private final CompletableFuture<List<Learned>> learned = new CompletableFuture<>();
+    private final long begun = System.nanoTime();
     private int passed;
     private int failed;
 
     private Kit(Path repository, Path program) {
         this.repository = repository;
+        this.program = program;
         kit = repository.resolve("kit");
         vuthgal = new Vuthgal(program);
         adapters = new WrongAdapters(kit.resolve("wrong"), "kit.wrong");
@@ -57,57 +71,96 @@ public final class Kit {
      * The words are the repository's folder, the program to hold all against, the command of Python, that of the phaser without
      * a lock (each empty where there is none), and, for each port, how many bursts it plays, and its command.
      */
-    public static void main(String[] words) throws IOException, InterruptedException {
+    public static void main(String[] words) throws IOException {
         Kit kit = new Kit(Path.of(words[0]), Path.of(words[1]));
-        List<Port> ports = Port.of(List.of(words).subList(4, words.length));
-        kit.checkPlayer(Path.of(words[1]), words[2]);
-        kit.checkCases();
-        kit.checkDifferences();
-        kit.checkRules();
-        kit.checkWrongAdapters();
-        for (Port port : ports) {
-            kit.checkPort(port.command());
-        }
-        if (!words[2].isEmpty()) {
-            new ReplayChecks(kit.kit, words[2], kit::count).check(ports);
-        }
-        kit.checkRandom();
-        kit.checkBursts(ports, words[3]);
-        System.out.println(kit.passed + " passed, " + kit.failed + " failed");
-        System.exit(kit.failed == 0 ? 0 : 1);
+        System.exit(kit.check(words[2], words[3], Port.of(List.of(words).subList(4, words.length))) ? 0 : 1);
     }
 
-    private void count(String name, boolean passes, String what) {
-        if (passes) {
-            passed++;
-        } else {
-            failed++;
-            System.out.println("FAILED " + name + ": " + what);
-        }
-    }
-
-    private static void tellAgain(String name, Verdict verdict) {
-        if (verdict.isSame() && verdict.tries() > 1) {
-            System.out.println(name + " " + verdict.words() + verdict.triesInWords());
-        }
-    }
-
-    // ---- the player itself
-
-    private void checkPlayer(Path program, String python) throws IOException, InterruptedException {
-        int before = passed + failed;
-        CommandChecks commands = new CommandChecks(kit, program, this::count);
-        commands.checkWords();
+    /** All that mostly waits is played at once, and the bursts, which need the processors, behind it. */
+    private boolean check(String python, String lockFree, List<Port> ports) {
+        Map<String, Body> atOnce = new LinkedHashMap<>();
+        atOnce.put("commands", part -> commands(part).checkWords());
+        atOnce.put("forms of cases", part -> commands(part).checkForms());
+        atOnce.put("kept classes", part -> commands(part).checkCompile());
         if (!python.isEmpty()) {
-            new FaultTable(kit.resolve("faults")).check(vuthgal, python, this::count);
-            commands.checkPorts(python);
+            atOnce.put("commands on ports", part -> commands(part).checkPorts(python));
+            atOnce.put("ends of commands", part -> commands(part).checkEnds(python));
+            atOnce.put("faults of ports", part -> new FaultTable(kit.resolve("faults")).check(vuthgal, python, part));
+            atOnce.put("transcripts and soaks", part -> new ReplayChecks(kit, python, part).check(ports));
         }
-        System.out.println("the player's own words: " + (passed + failed - before) + " commands and faults of ports");
+        atOnce.put("cases", this::checkCases);
+        atOnce.put("differences", this::checkDifferences);
+        atOnce.put("wrong adapters", this::checkWrongAdapters);
+        ports.forEach(port -> atOnce.put("cases on `" + port.command() + "`", part -> checkPort(part, port.command())));
+        atOnce.put("random scenarios", this::checkRandom);
+        atOnce.put("the model", this::checkModel);
+        play(atOnce);
+        play("bursts on the JDK", part -> bursts(part).checkJdk());
+        play("wrong adapters for bursts", part -> bursts(part).checkAdapters(
+            new WrongAdapters(kit.resolve("wrong").resolve("burst"), "kit.wrong.burst")));
+        ports.forEach(port -> play("bursts on `" + port.command() + "`", part -> bursts(part).checkPort(port)));
+        if (!lockFree.isEmpty()) {
+            play("a phaser without a lock",
+                part -> bursts(part).checkLockFree(kit.resolve("wrong/lockfree/table.txt"), lockFree));
+        }
+        System.out.println(passed + " passed, " + failed + " failed");
+        return failed == 0;
+    }
+
+    private void play(String name, Body body) {
+        play(Map.of(name, body));
+    }
+
+    /** Plays these at once, and tells in their order what each came to. */
+    private void play(Map<String, Body> bodies) {
+        List<CompletableFuture<Part>> played = new ArrayList<>();
+        bodies.forEach((name, body) -> {
+            CompletableFuture<Part> part = new CompletableFuture<>();
+            played.add(part);
+            Thread thread = new Thread(() -> play(name, body, part), name);
+            thread.setDaemon(true);
+            thread.start();
+        });
+        for (CompletableFuture<Part> each : played) {
+            Part part = each.join();
+            System.out.print(part.text());
+            passed += part.passed();
+            failed += part.failed();
+        }
+    }
+
+    private void play(String name, Body body, CompletableFuture<Part> to) {
+        Part part = new Part();
+        String from = seconds();
+        try {
+            body.play(part);
+            part.to.println(name + ": " + part.passed() + " passed, " + part.failed() + " failed, from " + from + " to " + seconds());
+            to.complete(part);
+        } catch (Exception | Error thrown) {
+            to.completeExceptionally(thrown);
+            learned.completeExceptionally(thrown);
+        }
+    }
+
+    /** Since it began. */
+    private String seconds() {
+        return (System.nanoTime() - begun) / SECOND + " s";
+    }
+
+    private static void tellAgain(Part part, String name, Verdict verdict) {
+        if (verdict.isSame() && verdict.tries() > 1) {
+            part.to.println(name + " " + verdict.words() + verdict.triesInWords());
+        }
+    }
+
+    private CommandChecks commands(Part part) throws IOException {
+        return new CommandChecks(kit, program, part);
     }
 
     // ---- cases
 
-    private void checkCases() throws IOException {
+    private void checkCases(Part part) throws IOException {
+        List<Learned> same = new ArrayList<>();
         Sums sums = new Sums();
         Transcripts transcripts = new Transcripts();
         Judge judge = new Judge(new JvmStage(new JdkFactory()), KnownDifferences.COUNTS).warm();
@@ -115,17 +168,18 @@ public final class Kit {
             String name = kit.relativize(file).toString();
             Case each = Case.of(vuthgal, name, file);
             Verdict verdict = judge.judge(each);
-            count(name, verdict.isSame() && isWholeJudged(verdict.notes()) && isTrace(each), whatFails(each, verdict));
-            tellAgain(name, verdict);
+            part.take(name, verdict.isSame() && isWholeJudged(verdict.notes()) && isTrace(each), whatFails(each, verdict));
+            tellAgain(part, name, verdict);
             sums.add(verdict.notes());
             transcripts.add(each, sureTranscript(judge, each, verdict));
             if (verdict.isSame()) {
-                learned.add(new Learned(each, verdict.plan()));
+                same.add(new Learned(each, verdict.plan()));
             }
         }
-        transcripts.compare(kit.resolve(KEPT), (file, kept) -> count("transcripts/" + file, kept,
+        learned.complete(same);
+        transcripts.compare(kit.resolve(KEPT), (file, kept) -> part.take("transcripts/" + file, kept,
             "it isn't what was played: kit/play --known --transcripts kit/transcripts kit/cases"));
-        System.out.println("cases on the JDK: " + learned.size() + " the same, " + sums.line());
+        part.to.println("cases on the JDK: " + same.size() + " the same, " + sums.line());
     }
 
     /** Where the machine is busy somebody may go on a little late, and another play has the transcript that is kept. */
@@ -154,54 +208,67 @@ public final class Kit {
 
     // ---- differences
 
-    private void checkDifferences() throws IOException {
+    private List<Path> differences() {
+        try {
+            return Player.casesBelow(kit.resolve("differences"));
+        } catch (IOException failed) {
+            throw new UncheckedIOException(failed);
+        }
+    }
+
+    private void checkDifferences(Part part) throws IOException {
         Judge plain = new Judge(new JvmStage(new JdkFactory()), KnownDifferences.NONE);
         Judge known = new Judge(new JvmStage(new JdkFactory()), KnownDifferences.ALL);
-        List<Path> files = Player.casesBelow(kit.resolve("differences"));
+        List<Path> files = differences();
         for (Path file : files) {
             String name = kit.relativize(file).toString();
             Case ours = Case.of(vuthgal, name, file);
-            count(name, isTrace(ours), "its .trace isn't Vuthgal's");
+            part.take(name, isTrace(ours), "its .trace isn't Vuthgal's");
             String jdk = Files.readString(Case.beside(file, ".jdk"));
             Case theirs = new Case(name, file, ours.program(), ours.schedule(), jdk);
             Verdict verdict = plain.judge(theirs);
-            count(name, verdict.trace().equals(jdk), "the JDK's trace isn't that of its .jdk:\n" + verdict.trace());
-            count(name, !jdk.equals(ours.wanted()), "it shows no difference");
+            part.take(name, verdict.trace().equals(jdk), "the JDK's trace isn't that of its .jdk:\n" + verdict.trace());
+            part.take(name, !jdk.equals(ours.wanted()), "it shows no difference");
             Verdict told = known.judge(ours);
-            count(name, told.isSame(), "with --known it is " + told.words() + "; " + String.join("; ", told.notes().lines()));
+            part.take(name, told.isSame(), "with --known it is " + told.words() + "; " + String.join("; ", told.notes().lines()));
         }
-        System.out.println("differences: " + files.size() + " programs");
+        part.to.println("differences: " + files.size() + " programs");
+        checkRules(part);
     }
 
     /** Each documented difference that is told over has its row, its program, and a wrong adapter that is nearly it. */
-    private void checkRules() throws IOException {
+    private void checkRules(Part part) throws IOException {
         String behaviour = Files.readString(repository.resolve("docs/BEHAVIOUR.md"));
         String table = behaviour.substring(behaviour.indexOf("## Where the JDK differs"));
         for (KnownDifference difference : KnownDifferences.ALL.list) {
-            count(difference.row(), table.contains("| " + difference.row() + " |"), "there is no such row in BEHAVIOUR.md");
+            part.take(difference.row(), table.contains("| " + difference.row() + " |"), "there is no such row in BEHAVIOUR.md");
             Path program = kit.resolve("differences").resolve(difference.program() + ".txt");
-            count(difference.row(), Files.exists(program), "there is no " + program);
+            part.take(difference.row(), Files.exists(program), "there is no " + program);
             Path nearly = kit.resolve("wrong").resolve(difference.nearly() + ".java");
-            count(difference.row(), Files.exists(nearly), "there is no " + nearly);
+            part.take(difference.row(), Files.exists(nearly), "there is no " + nearly);
         }
     }
 
     // ---- wrong adapters
 
-    private void checkWrongAdapters() throws IOException {
-        int found = 0;
-        for (String name : adapters.names()) {
-            String finder = findByCases(name);
-            if (finder == null) {
-                finder = findByDifferences(name);
-            }
-            count(name, finder != null, "no case finds it");
+    private void checkWrongAdapters(Part part) throws IOException {
+        List<String> names = adapters.names();
+        Map<String, String> finders = new ConcurrentHashMap<>();
+        List<Learned> cases = longOnesLast();
+        AtOnce.each(names, name -> {
+            String finder = findByCases(name, cases);
+            finder = finder != null ? finder : findByDifferences(name);
             if (finder != null) {
-                found++;
-                System.out.println("  " + name + " is found first by " + finder);
+                finders.put(name, finder);
+            }
+        });
+        for (String name : names) {
+            part.take(name, finders.containsKey(name), "no case finds it");
+            if (finders.containsKey(name)) {
+                part.to.println("  " + name + " is found first by " + finders.get(name));
             }
         }
-        System.out.println("wrong adapters: " + found + " found");
+        part.to.println("wrong adapters: " + finders.size() + " found");
     }
 
     private Judge judgeOf(String adapter, KnownDifferences known) {
@@ -210,9 +277,9 @@ public final class Kit {
     }
 
     /** The first case in which it differs, twice; null where there is none. */
-    private String findByCases(String adapter) {
+    private String findByCases(String adapter, List<Learned> cases) {
         Judge judge = judgeOf(adapter, KnownDifferences.COUNTS);
-        for (Learned at : longOnesLast()) {
+        for (Learned at : cases) {
             Verdict verdict = judge.judge(at.each(), at.plan());
             if (verdict.fails()) {
                 return at.each().name() + ", line " + verdict.line();
@@ -222,13 +289,13 @@ public final class Kit {
     }
 
     private List<Learned> longOnesLast() {
-        return learned.stream().sorted(Comparator.comparing(at -> at.each().schedule().size() > LONG_SCHEDULE)).toList();
+        return learned.join().stream().sorted(Comparator.comparing(at -> at.each().schedule().size() > LONG_SCHEDULE)).toList();
     }
 
     /** The same among the programs of the differences, with these told over. */
-    private String findByDifferences(String adapter) throws IOException {
+    private String findByDifferences(String adapter) {
         Judge judge = judgeOf(adapter, KnownDifferences.ALL);
-        for (Path file : Player.casesBelow(kit.resolve("differences"))) {
+        for (Path file : differences()) {
             Verdict verdict = judge.judge(Case.of(vuthgal, kit.relativize(file).toString(), file));
             if (verdict.fails()) {
                 return kit.relativize(file) + ", line " + verdict.line();
@@ -239,49 +306,47 @@ public final class Kit {
 
     // ---- a port behind a pipe, and random scenarios
 
-    private void checkPort(String command) {
+    private void checkPort(Part part, String command) {
         List<Judge> judges = new ArrayList<>();
         for (int job = 0; job < JOBS; job++) {
             judges.add(new Judge(new PortStage(command), KnownDifferences.COUNTS));
         }
         Sums sums = new Sums();
         int[] leftOut = {0};
-        new Jobs<>(learned, (judge, at) -> Played.of(judge, at.each(), at.plan())).run(judges, played -> {
+        new Jobs<>(learned.join(), (judge, at) -> Played.of(judge, at.each(), at.plan())).run(judges, played -> {
             Verdict verdict = played.verdict();
             boolean none = verdict.kind() == Verdict.Kind.LEFT_OUT;
             leftOut[0] += none ? 1 : 0;
-            count(played.each().name() + " by " + command, verdict.isSame() || none,
+            part.take(played.each().name() + " by " + command, verdict.isSame() || none,
                 verdict.words() + "; " + String.join("; ", verdict.notes().lines()));
-            tellAgain(played.each().name() + " by the port", verdict);
+            tellAgain(part, played.each().name() + " by the port", verdict);
             sums.add(verdict.notes());
             return true;
         });
-        System.out.println("cases on the port `" + command + "`: " + sums.line());
-        System.out.println(leftOut[0] + " cases that it can't play");
+        part.to.println("cases on the port `" + command + "`: " + sums.line());
+        part.to.println(leftOut[0] + " cases that it can't play");
     }
 
-    private void checkRandom() throws IOException {
-        System.out.println("random scenarios on the JDK, seeds 1 to " + SCENARIOS + ":");
-        Tally tally = new Tally(SCENARIOS, true, System.out);
-        Judge judge = new Judge(new JvmStage(new JdkFactory()), KnownDifferences.ALL);
-        new RandomCases(vuthgal, tally, null, System.out).play(List.of(judge), 1, SCENARIOS);
-        passed += tally.same();
-        failed += tally.failing();
+    private void checkRandom(Part part) throws IOException {
+        part.to.println("random scenarios on the JDK, seeds 1 to " + SCENARIOS + ":");
+        Tally tally = new Tally(SCENARIOS, true, part.to);
+        List<Judge> judges = new ArrayList<>();
+        for (int job = 0; job < JOBS; job++) {
+            judges.add(new Judge(new JvmStage(new JdkFactory()), KnownDifferences.ALL));
+        }
+        new RandomCases(vuthgal, tally, null, part.to).play(judges, 1, SCENARIOS);
+        part.take(tally.same(), tally.failing());
     }
 
     // ---- bursts
 
-    private void checkBursts(List<Port> ports, String lockFree) throws IOException {
-        BurstKit bursts = new BurstKit(vuthgal, this::count);
-        bursts.checkModel(learned.stream().map(Learned::each).toList());
+    private void checkModel(Part part) throws IOException {
+        BurstKit bursts = bursts(part);
+        bursts.checkModel(learned.join().stream().map(Learned::each).toList());
         bursts.checkCores();
-        bursts.checkJdk();
-        bursts.checkAdapters(new WrongAdapters(kit.resolve("wrong").resolve("burst"), "kit.wrong.burst"));
-        for (Port port : ports) {
-            bursts.checkPort(port);
-        }
-        if (!lockFree.isEmpty()) {
-            bursts.checkLockFree(kit.resolve("wrong/lockfree/table.txt"), lockFree);
-        }
+    }
+
+    private BurstKit bursts(Part part) {
+        return new BurstKit(vuthgal, part);
     }
 }

@@ -1,6 +1,7 @@
 package kit.player;
 
 import java.io.IOException;
+import java.io.PrintStream;
 import java.nio.file.Files;
 import java.nio.file.Path;
 import java.util.ArrayList;
@@ -11,22 +12,29 @@ import java.util.stream.Stream;
 public final class Player {
     private final Options options;
     private final Vuthgal vuthgal;
+    private final PrintStream to;
 
     /** The file of a case, and the name by which it is told. */
     private record Named(String name, Path file) {
     }
 
-    private Player(Options options) {
+    private Player(Options options, PrintStream to) {
         this.options = options;
+        this.to = to;
         vuthgal = new Vuthgal(options.vuthgal());
     }
 
-    public static void main(String[] words) throws Exception {
+    public static void main(String[] words) throws IOException {
+        System.exit(run(words, System.out, System.err));
+    }
+
+    /** Answers the exit status. */
+    static int run(String[] words, PrintStream to, PrintStream errors) throws IOException {
         try {
-            System.exit(new Player(new Options(words)).run());
+            return new Player(new Options(words), to).run();
         } catch (Options.Wrong | Vuthgal.Refused wrong) {
-            System.err.println(wrong.getMessage());
-            System.exit(2);
+            errors.println(wrong.getMessage());
+            return 2;
         }
     }
 
@@ -43,7 +51,7 @@ public final class Player {
 
     private int playBursts(BurstOrder bursts) throws IOException, Options.Wrong {
         List<Stage> stages = options.stages();
-        Bursts played = new Bursts(stages, (long) (Bursts.PATIENT * options.patience()), options.keep(), System.out);
+        Bursts played = new Bursts(stages, (long) (Bursts.PATIENT * options.patience()), options.keep(), to);
         played.play(bursts);
         played.tell();
         stages.forEach(Stage::close);
@@ -55,13 +63,13 @@ public final class Player {
 
     private int playOne() throws IOException, Options.Wrong {
         Case each = caseOf(options.one(), options.schedule());
-        Judge judge = options.judges().get(0).warm(word -> System.out.println(word.text()));
+        Judge judge = options.judges().get(0).warm(word -> to.println(word.text()));
         Played played = Played.of(judge, each);
         judge.close();
         Verdict verdict = played.verdict();
-        System.out.println(verdict.words() + verdict.triesInWords());
-        System.out.println(verdict.notes().sums());
-        verdict.notes().lines().forEach(System.out::println);
+        to.println(verdict.words() + verdict.triesInWords());
+        to.println(verdict.notes().sums());
+        verdict.notes().lines().forEach(to::println);
         if (options.trace() != null) {
             Files.writeString(options.trace(), verdict.trace());
         }
@@ -81,8 +89,8 @@ public final class Player {
     }
 
     private int playRandom() throws IOException, Options.Wrong {
-        Tally tally = new Tally(options.random(), options.keepGoing(), System.out);
-        RandomCases cases = new RandomCases(vuthgal, tally, options.keep(), System.out);
+        Tally tally = new Tally(options.random(), options.keepGoing(), to);
+        RandomCases cases = new RandomCases(vuthgal, tally, options.keep(), to);
         cases.play(options.judges(), options.seed(), options.random());
         return end(tally.report(), tally.status());
     }
@@ -92,12 +100,14 @@ public final class Player {
         for (Path place : options.programs()) {
             programs.addAll(named(place));
         }
-        Tally tally = new Tally(programs.size(), options.keepGoing(), System.out);
+        Tally tally = new Tally(programs.size(), options.keepGoing(), to);
         Transcripts transcripts = new Transcripts();
         new Jobs<>(programs, (judge, each) -> Played.of(judge, Case.of(vuthgal, each.name(), each.file())))
             .tell(tally::before).run(options.judges(), played -> {
                 transcripts.add(played.each(), played.verdict());
-                return tally.add(played);
+                boolean goesOn = tally.add(played);
+                tally.showProgress();
+                return goesOn;
             });
         tally.tell();
         if (options.transcripts() != null) {

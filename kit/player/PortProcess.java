@@ -21,6 +21,8 @@ final class PortProcess {
     /** How long its output may be read once it has ended. */
     private static final long LONGEST_END = 30 * SECOND;
     private static final long LOOK = SECOND / 1_000;
+    /** A signal that has ended the port may be meant for the player too, which hears it a little later. */
+    private static final long MILLISECONDS_OF_A_SIGNAL = 1_000;
     private final Process process;
     private final Thread reader = new Thread(this::read, "port reader");
     private final BurstSpread spread;
@@ -248,6 +250,9 @@ final class PortProcess {
         try {
             if (!process.waitFor(1, TimeUnit.SECONDS)) {
                 return "the port has closed its output";
+            }
+            if (ExitStatus.isForAll(process.exitValue())) {
+                Thread.sleep(MILLISECONDS_OF_A_SIGNAL);
             }
         } catch (InterruptedException never) {
             throw new IllegalStateException(never);

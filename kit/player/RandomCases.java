@@ -52,6 +52,7 @@ final class RandomCases {
         } catch (IOException failed) {
             throw new UncheckedIOException(failed);
         }
+        tally.showProgress();
         return goesOn;
     }
 

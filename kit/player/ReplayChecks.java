@@ -1,18 +1,18 @@
 package kit.player;
 
 import java.io.IOException;
-import java.nio.file.DirectoryStream;
 import java.nio.file.Files;
 import java.nio.file.Path;
 import java.util.ArrayList;
 import java.util.List;
 import java.util.Map;
 import java.util.concurrent.TimeUnit;
+import java.util.stream.Stream;
 
 /** Whether what works without a JDK does: {@code kit/replay} with the transcripts, and the words that name it. */
 final class ReplayChecks {
-    /** Where all stand still, so many times as long, and at the second try, since the machine may be busy. */
-    private static final List<String> PATIENCE = List.of("2", "20");
+    /** Where all stand still, so many times as long at each try, since the machine may be busy; more and a time would be over. */
+    private static final List<String> PATIENCE = List.of("2", "4", "4");
     private static final String RIGHT = " same, 0 different, 0 left out\n";
     /** So many that 128 KiB more, which is how an allocator grows, are less than the bytes that `kit/soak` allows. */
     private static final int WAITS = 48_000;
@@ -26,32 +26,37 @@ final class ReplayChecks {
     private final String python;
     /** How the commands of the wrong ports begin. */
     private final String wrong;
-    private final Taker to;
+    private final Part part;
 
-    ReplayChecks(Path kit, String python, Taker to) {
+    ReplayChecks(Path kit, String python, Part part) {
         this.kit = kit.toAbsolutePath().normalize();
         this.python = python;
         wrong = python + " " + this.kit.resolve("wrong/ports") + "/";
-        this.to = to;
+        this.part = part;
     }
 
     /** All transcripts are right on each of the ports, those that no program makes also on the JDK, and wrong ports are found. */
     void check(List<Kit.Port> ports) throws IOException {
         List<Runnable> checks = new ArrayList<>();
         for (Kit.Port port : ports) {
-            Check all = new Check(0, transcripts("*.txt") + RIGHT, port.command(), "*");
-            checks.add(() -> check(all));
             checks.add(() -> soak(0, "while 60 threads wait: ", port.command()));
+        }
+        checks.add(() -> soak(1, " 0.0 bytes a wait are left\n", wrong + "polls.py"));
+        checks.add(() -> soak(1, "while 60 threads wait: 0.", wrong + "keeps_waits.py"));
+        for (Kit.Port port : ports) {
+            for (String folder : folders()) {
+                Check right = right(port.command(), folder);
+                checks.add(() -> check(right));
+            }
         }
         String java = Path.of(System.getProperty("java.home"), "bin", "java") + " --add-opens"
             + " java.base/java.util.concurrent=ALL-UNNAMED -cp " + System.getProperty("java.class.path") + " kit.player.JdkPort";
-        Check onJdk = new Check(0, transcripts("{children,constructors,phase-numbers}.txt") + RIGHT, java,
-            "children constructors phase-numbers");
-        checks.add(() -> check(onJdk));
+        for (String folder : List.of("children", "constructors", "phase-numbers")) {
+            Check right = right(java, folder);
+            checks.add(() -> check(right));
+        }
         wrongPorts().forEach(each -> checks.add(() -> check(each)));
-        checks.add(() -> soak(1, " 0.0 bytes a wait are left\n", wrong + "polls.py"));
-        checks.add(() -> soak(1, "while 60 threads wait: 0.", wrong + "keeps_waits.py"));
-        checks.parallelStream().forEach(Runnable::run);
+        AtOnce.each(checks, Runnable::run);
         checkExamples(ports);
         checkWithoutJdk();
     }
@@ -83,15 +88,17 @@ final class ReplayChecks {
         check(status, says, Map.of(), python + " '" + kit.resolve("soak") + "' " + words);
     }
 
-    /** How many transcripts stand in these files. */
-    private long transcripts(String files) throws IOException {
-        long count = 0;
-        try (DirectoryStream<Path> all = Files.newDirectoryStream(kit.resolve("transcripts"), files)) {
-            for (Path file : all) {
-                count += Files.readString(file).lines().filter(line -> line.startsWith("# ")).count();
-            }
+    /** The folders of cases of which there are transcripts. */
+    private List<String> folders() throws IOException {
+        try (Stream<Path> all = Files.list(kit.resolve("transcripts"))) {
+            return all.map(file -> file.getFileName().toString().replace(".txt", "")).sorted().toList();
         }
-        return count;
+    }
+
+    /** All transcripts of this folder's cases are right. */
+    private Check right(String command, String folder) throws IOException {
+        String transcripts = Files.readString(kit.resolve("transcripts").resolve(folder + ".txt"));
+        return new Check(0, transcripts.lines().filter(line -> line.startsWith("# ")).count() + RIGHT, command, folder);
     }
 
     /** The examples of the port protocol are played as they stand in its page, without their remarks. */
@@ -124,12 +131,17 @@ final class ReplayChecks {
     private void replay(int status, String says, String command, String files) {
         String quoted = "'" + command.replace("'", "'\\''") + "'";
         String words = "cd '" + kit + "' && " + python + " ./replay " + quoted + files;
-        Told told = shell(words, Map.of("PATIENCE", PATIENCE.get(0)));
-        if (!told.is(status, says)) {
-            System.out.println(words + " is played again with more patience: " + told.text());
-            told = shell(words, Map.of("PATIENCE", PATIENCE.get(1)));
+        Told told = null;
+        for (String patience : PATIENCE) {
+            if (told != null) {
+                part.to.println(words + " is played again: " + told.text());
+            }
+            told = shell(words, Map.of("PATIENCE", patience));
+            if (told.is(status, says)) {
+                break;
+            }
         }
-        take(words, told.is(status, says), told.toString());
+        part.take(words, told.is(status, says), told.toString());
     }
 
     /** With a path on which the commands of the system stand, but no {@code javac}. */
@@ -163,7 +175,7 @@ final class ReplayChecks {
 
     private void check(int status, String says, Map<String, String> environment, String words) {
         Told told = shell(words, environment);
-        take(words, told.is(status, says), told.toString());
+        part.take(words, told.is(status, says), told.toString());
     }
 
     private Told shell(String words, Map<String, String> environment) {
@@ -180,9 +192,5 @@ final class ReplayChecks {
         } catch (IOException | InterruptedException failed) {
             throw new IllegalStateException(failed);
         }
-    }
-
-    private synchronized void take(String name, boolean passes, String what) {
-        to.take(name, passes, what);
     }
 }

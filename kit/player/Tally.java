@@ -24,12 +24,15 @@ final class Tally {
     private int leftOut;
     private int again;
     private int endlessInARow;
+    private boolean stopped;
+    private final LastWords last;
 
     /** Of so many cases. */
     Tally(int cases, boolean keepsGoing, PrintStream to) {
         this.cases = cases;
         this.keepsGoing = keepsGoing;
         this.to = to;
+        last = new LastWords(to, this::tellSums);
     }
 
     /** Tells what hung before the first case. */
@@ -39,7 +42,10 @@ final class Tally {
     }
 
     /** Takes one more; answers whether to go on. */
-    boolean add(Played played) {
+    synchronized boolean add(Played played) {
+        if (stopped) {
+            return false;
+        }
         Verdict verdict = played.verdict();
         report.add(played);
         sums.add(verdict.notes());
@@ -57,16 +63,29 @@ final class Tally {
             }
         }
         if (verdict.fails() || verdict.tries() > 1) {
+            Progress.clear();
             to.println(played.line());
         }
         endlessInARow = verdict.isEndless() ? endlessInARow + 1 : 0;
         return keepsGoing || endlessInARow < MOST_ENDLESS_IN_A_ROW;
     }
 
+    /** At a terminal: how far it is. */
+    synchronized void showProgress() {
+        if (!stopped) {
+            Progress.show(compared() + leftOut + " of " + cases + ", " + failing() + " different");
+        }
+    }
+
     /** The sums, in some lines. */
     void tell() {
+        last.tell();
+    }
+
+    private synchronized void tellSums(boolean whenStopped) {
+        stopped = whenStopped;
         int notPlayed = cases - compared() - leftOut;
-        if (notPlayed > 0) {
+        if (notPlayed > 0 && !stopped) {
             to.println("the run ends here, since there is no answer in " + endlessInARow
                 + " cases in a row (--keep-going goes on)");
         }

@@ -1,8 +1,10 @@
 #include "phaser.hpp"
 
+#include <algorithm>
 #include <cstdlib>
 #include <cstring>
 #include <limits>
+#include <vector>
 
 namespace {
 
@@ -29,8 +31,9 @@ Word fresh(int phase, int parties) {
 Fault fault_of_environment() {
   const char* name = std::getenv("FAULT");
   const char* names[] = {"", "check-push-park", "park-once", "register-by-adding", "arrive-by-subtracting",
-                         "advance-in-two-steps", "force-by-storing", "stale-answer", "sixteen-are-woken"};
-  for (int at = 1; name && at < 9; at++) {
+                         "advance-in-two-steps", "force-by-storing", "stale-answer", "sixteen-are-woken",
+                         "nodes-used-again"};
+  for (int at = 1; name && at < 10; at++) {
     if (std::strcmp(name, names[at]) == 0) {
       return static_cast<Fault>(at);
     }
@@ -75,7 +78,17 @@ struct Phaser::Node {
   Parker& parker = own_parker();
   std::atomic<bool> queued{false};
   std::atomic<int> owners{1};
-  Node* next = nullptr;
+  std::atomic<int> phase{0};
+  std::atomic<Node*> next{nullptr};
+
+  /// As `kNodesUsedAgain` has it: one of this thread's own that is on no stack.
+  static Node* of_own() {
+    static thread_local std::vector<Node*> own;
+    auto free = std::find_if(own.begin(), own.end(), [](Node* node) { return !node->queued; });
+    Node* node = free == own.end() ? own.emplace_back(new Node()) : *free;
+    node->owners += 1;
+    return node;
+  }
 
   void let_go() {
     if (--owners == 0) {
@@ -203,7 +216,11 @@ int Phaser::await_advance_interruptibly(int phase, const Time& time) {
 
 /// Until the phase has ended. It has a node on the stack whenever it parks.
 void Phaser::wait(int phase, bool interruptibly, const Time& time) {
-  Node* node = new Node();
+  if (fault == Fault::kNodesUsedAgain) {
+    release_one_by_one();  // so nobody of a phase before is left below
+  }
+  Node* node = fault == Fault::kNodesUsedAgain ? Node::of_own() : new Node();
+  node->phase = phase;
   while (view_of(word_) == phase) {
     if (interruptibly && Thread::current().clear_interrupted()) {
       node->let_go();
@@ -225,18 +242,25 @@ void Phaser::wait(int phase, bool interruptibly, const Time& time) {
     }
   }
   node->let_go();
+  if (fault == Fault::kNodesUsedAgain) {
+    release_one_by_one();
+  }
 }
 
 void Phaser::push(Node* node) {
   node->queued = true;
   node->owners += 1;
-  node->next = waiters_;
-  while (!waiters_.compare_exchange_weak(node->next, node)) {
-  }
+  Node* first = waiters_;
+  do {
+    node->next = first;
+  } while (!waiters_.compare_exchange_weak(first, node));
 }
 
 /// Wakes all. A node is its waiter's again once it isn't queued: its successor is read before.
 void Phaser::release_all() {
+  if (fault == Fault::kNodesUsedAgain) {
+    return release_one_by_one();
+  }
   const int most = fault == Fault::kSixteenAreWoken ? 16 : kMostParties;
   int count = 0;
   for (Node* node = waiters_.exchange(nullptr); node; count++) {
@@ -247,6 +271,19 @@ void Phaser::release_all() {
     }
     node->let_go();
     node = next;
+  }
+}
+
+/// As `kNodesUsedAgain` has it: who ends a phase, and all who go on, wake whoever is first and then take it off. By then it may
+/// be the first anew, for the next phase, and above others than before.
+void Phaser::release_one_by_one() {
+  for (Node* node = waiters_; node && node->phase != view_of(word_); node = waiters_) {
+    Node* next = node->next;
+    node->parker.unpark();
+    if (waiters_.compare_exchange_strong(node, next)) {
+      node->queued = false;
+      node->let_go();
+    }
   }
 }
 

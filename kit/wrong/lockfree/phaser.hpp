@@ -19,6 +19,7 @@ enum class Fault {
   kForceByStoring,
   kStaleAnswer,
   kSixteenAreWoken,
+  kNodesUsedAgain,
 };
 
 /// All its numbers are one word (docs/FORMATS.md, "Packed word"), which calls exchange by comparing. Who waits pushes a node
@@ -64,6 +65,7 @@ class Phaser {
   void wait(int phase, bool interruptibly, const Time& time);
   void push(Node* node);
   void release_all();
+  void release_one_by_one();
   void refuse_inside_on_advance() const;
 
   std::atomic<Word> word_;
