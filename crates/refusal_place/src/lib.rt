@@ -7,11 +7,13 @@
 // What a fault is about.
 mod about;
 
-// The names that a text gives, and what a name names.
+// The names that a text gives, what a name names, and Java's names.
+mod java;
 mod kinds;
 mod names;
 
-// What a file may be in place of what it should be.
+// What a file may be in place of what it should be, and what a line may have been meant as.
+mod meant;
 mod mistaken;
 
 // What is written.
