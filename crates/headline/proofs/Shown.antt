@@ -105,14 +105,14 @@ file-debugged (Err f) runs file commands_before commands_after commands_failed b
 pub live-shown : (result : Result RunEnd Fault) (limit : ℕ) (file : List ℕ) (before after : Option (List ℕ)) (failed : Bool)
     → Lives limit file result before after failed → OnOk result (HasShownLive limit file before after)
 live-shown (Ok end) limit file before after failed
-    (image, (choices, (world, (is, (first, (last, (ending, (loads, begun, replay, over)))), begins, ends, appends)))) = (
+    (image, (runs, (world, (is, are, (first, (last, (ending, (loads, begun, replay, over)))), begins, (ends, appends))))) = (
       image,
       (
-        choices,
+        choices_of runs,
         (
           (is, (file_image file image is, loads)),
           (first, (last, (ending, (begun, replay, over)))),
-          first_trace image world choices before after begins appends,
+          first_trace image world (choices_of runs) before after begins appends,
         ),
       ),
     )

@@ -1,7 +1,9 @@
 -- FROM END TO END. What a command shows of an accepted program is the headline's machine (headline/specs/Headline.antt), from
 -- the bytes that it reads to the bytes that it writes: without arguments, and in `run`, `debug` and `live` without `--runs`, wherever
--- it doesn't refuse its input. Behind each name of a `use` line stands the file that defines it. The bytes of a text or a file are
--- all that it holds, at most 16,777,216: the program reads them first (`read_all`, workbench/src/input.rt).
+-- its answer is Ok. Behind each name of a `use` line stands the file that defines it. The bytes of a text or a file are all that it
+-- holds, at most 16,777,216: the program reads them first (`read_all`, workbench/src/input.rt). That it hands on just these is only
+-- tested, as is that `run FILE` alone hands on the text's two parts. At a terminal the commands of `debug` are the lines that
+-- `GuidedCommands` hands on, and what that answers itself isn't among these bytes.
 --
 -- A schedule, commands or an output is the bytes that a port still gives or has got. Ports over memory tell them. Ports over files, pipes
 -- and terminals tell none (`None`): of these the lines below say only that there are bytes for which they hold. That these are
@@ -69,13 +71,14 @@ HasDebuggedFile runs file commands_before commands_after output_before output_af
 
 -- A run on real threads: from the program's first world these choices, of which none was refused and each did something, led
 -- to an end (`ending_of`): all threads have ended or died, none can go on, or so many steps were taken. Where steps may be
--- taken at all, no program is over before its first choice: `a_live_run_chooses` (src/law.rt).
+-- taken at all, no program is over before its first choice: `a_live_run_chooses` (src/shown.rt).
 abbrev pub IsLiveRun : ℕ → Image → List Choice → Type 0
 IsLiveRun limit image choices =
     (first : World) × ((last : World) × ((ending : Ending) × (IsFirstOf image limit first
     × IsReplay (record { first = first; choices = choices }) last × (ending_of last ≡ Some ending))))
 
--- `live`: a file's program was played on real threads, and what was written is the trace of the choices that they made.
+-- `live`: there are such choices of a file's program, and what was written is their trace. That its threads made them, in the
+-- order in which they took the lock, is only tested.
 abbrev pub HasShownLive : ℕ → (file : List ℕ) (output_before output_after : Option (List ℕ)) → Type 0
 HasShownLive limit file output_before output_after =
     (image : Image) × ((choices : List Choice) × (AcceptedFile file image × IsLiveRun limit image choices

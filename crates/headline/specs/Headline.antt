@@ -12,8 +12,8 @@
 -- believes this page has to read those too. Beside it stands what lies below: a tree whose words lag, and the word that real
 -- threads share. That commands show this of what they read is said by EndToEnd.antt, beside this file.
 --
--- The program calls none of these functions. Its runs step by `Machine::step`, its debugger by `Machine::step_into` and
--- `Debugger::back`: their contracts say the same of each choice (thread_machine/src/machine.rt, debugger/src/session.rt).
+-- The program calls none of these functions. Its runs step by `Machine::step` and `Machine::idle`, its debugger by
+-- `Machine::step_into` and `Debugger::back`: their contracts say the same of each choice (thread_machine/src/machine.rt, debugger/src/session.rt).
 --
 -- Trusted are Rattle's checker and its two compilers, LLVM, the C library and the system below them.
 use Rattle.std.specs.Prelude.{◌≡◌, ℕ, List, None, ◌++◌}

@@ -1,9 +1,9 @@
--- WHAT A RUN COMES TO, by its answer: what was read of its schedule, what was written, and in which world it ended. Each function
--- between a command and the machine promises this.
+-- What a run under a schedule comes to, by its answer: what was read of the schedule, what was written, and how it ended.
+-- `run_to_end` promises it, and who calls it hands it on. That `Memory` comes only where memory is wanting, no contract can say.
 --
 -- Of the schedule and of the output stand here in turn: the bytes that it still gives, or has got, before and after the call, and
 -- whether it has failed by then.
-use Rattle.std.specs.Prelude.{◌≡◌, ◌≢◌, ◌⊎◌, ℕ, ◌≤◌, Bool, IsTrue, List, ◌++◌, length, Option, None, Result, Ok, Err, false}
+use Rattle.std.specs.Prelude.{◌≡◌, ◌≢◌, ◌⊎◌, ℕ, Bool, IsTrue, List, Option, None, Result, Ok, Err, false}
 use Rattle.std.specs.Io.KnownBytes.{Appends, Consumes, IsAtEnd}
 use Rattle.row_code.specs.declared.image.Image.{Image}
 use Rattle.schedule_reader.specs.declared.fault.ScheduleFault.TheVariants as schedule
@@ -29,10 +29,9 @@ EndsFrom first end schedule_before schedule_after output_before output_after =
     × (finished_schedule bytes ≡ record { runs = runs; fault = None })
     × AreTraced first (choices_of runs) end output_before output_after))
 
--- it stopped for this fault, which came up behind the program's first world. The first fault of the schedule: the lines of the
--- choices before it were written, and nothing was read behind the piece of at most 4,096 bytes that it stands in. Want of
--- memory: a part of the lines of the choices that were read; of the last token too, where the schedule was read to its end.
--- The schedule can't be read: the lines of the choices that were read. The output can't be written.
+-- it stopped for this fault once the program was loaded. The first fault of the schedule: the lines of the choices before it were
+-- written. Want of memory: a part of the lines of the choices that were read; of the last token too, where the schedule was read
+-- to its end. The schedule can't be read: the lines of the choices that were read. The output can't be written.
 abbrev pub StopsFrom : World → RunFault → (schedule_before schedule_after : Option (List ℕ)) (schedule_failed : Bool)
     (output_before output_after : Option (List ℕ)) (output_failed : Bool) → Type 0
 StopsFrom first (fault.Schedule f) schedule_before schedule_after schedule_failed output_before output_after output_failed =
@@ -50,7 +49,8 @@ StopsFrom first fault.Write schedule_before schedule_after schedule_failed outpu
     IsTrue output_failed
 StopsFrom first (fault.Load f) schedule_before schedule_after schedule_failed output_before output_after output_failed = ⊥
 
--- an image's run stopped for this fault: the image isn't loaded, for a reason that isn't want of memory, or what a run stops for
+-- an image's run stopped for this fault: the image isn't loaded, for a reason that isn't want of memory, or there was no memory for
+-- a machine, or what a run stops for
 abbrev pub Stops : Image → RunFault → (schedule_before schedule_after : Option (List ℕ)) (schedule_failed : Bool)
     (output_before output_after : Option (List ℕ)) (output_failed : Bool) → Type 0
 Stops image (fault.Load f) schedule_before schedule_after schedule_failed output_before output_after output_failed =

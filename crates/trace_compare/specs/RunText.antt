@@ -15,13 +15,6 @@ use Rattle.trace_compare.specs.Start.{Begins}
 use Rattle.trace_compare.specs.State.{state_text}
 use Rattle.trace_compare.specs.Trace.{AppendsPartOf, lines_of, trace_of}
 
--- the trace of an image's program, played from its beginning under this schedule
-abbrev pub IsTraceOf : Image → List ℕ → List ℕ → Type 0
-IsTraceOf image schedule trace =
-    (world : World) × ((runs : List Run)
-    × (Begins image world × (finished_schedule schedule ≡ record { runs = runs; fault = None })
-    × (trace ≡ trace_of world (choices_of runs))))
-
 -- choices were executed to this end: how the program stands then, the text of its state, and whether a choice was refused
 abbrev pub IsEndOf : Execution → RunEnd → Type 0
 IsEndOf done end =
@@ -49,6 +42,6 @@ HasFault bytes left runs fault =
     (IsAtEnd left × (finished_schedule bytes ≡ faulty_after runs fault))
     ⊎ ((rest : List ℕ) → finished_schedule (bytes ++ rest) ≡ faulty_after runs fault)
 
--- a source gave a byte in each of 1,000,000,000 reads
+-- a source gave 1,000,000,000 bytes at least: with fewer the bound of reads is never met
 abbrev pub GivesOnAndOn : Option (List ℕ) → Option (List ℕ) → Type 0
 GivesOnAndOn before after = (bytes : List ℕ) × (Consumes before after bytes × (1000000000 ≤ length bytes))

@@ -1,3 +1,4 @@
+pub mod Inputs
 pub mod Conversations
 pub mod Debugged
 pub mod Lines

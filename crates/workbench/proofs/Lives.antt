@@ -1,9 +1,11 @@
 -- What becomes of a run that was recorded.
-use Rattle.std.proofs.Common.{◌≡◌, ◌∙◌, ℕ, List, Ok, Result, Option, Some, None, inl, inr, sym}
+use Rattle.std.proofs.Common.{◌≡◌, ◌∙◌, ℕ, All, List, Ok, Result, Option, Some, None, inl, inr, sym}
 use Rattle.row_code.specs.declared.image.Image.{Image}
 use Rattle.loader.specs.Fault.{first_fault}
 use Rattle.loader.specs.Program.{IsProgramOf, Program}
 use Rattle.assembler.proofs.ReadLines.{one_image}
+use Rattle.schedule_reader.specs.declared.run.Run.{Run}
+use Rattle.schedule_reader.specs.Schedule.{IsRun, choices_of}
 use Rattle.thread_machine.proofs.Firsts.{is_first}
 use Rattle.thread_machine.specs.declared.choice.Choice.{Choice}
 use Rattle.thread_machine.specs.World.{World, first_world}
@@ -45,21 +47,21 @@ is_recorded limit file program choices known = (
 )
 
 -- its trace was written
-pub lived : (limit : ℕ) (file : List ℕ) (program : Program) (choices : List Choice) (end : RunEnd) (old new : Option (List ℕ))
-    → Known limit file program choices → AreTraced (first_world program 1000000000) choices end old new
+pub lived : (limit : ℕ) (file : List ℕ) (program : Program) (runs : List Run) (end : RunEnd) (old new : Option (List ℕ))
+    → Known limit file program (choices_of runs) → All IsRun runs → AreTraced (first_world program 1000000000) (choices_of runs) end old new
     → IsLived limit file end old new
-lived limit file program choices end old new known (ends, appends) = (
+lived limit file program runs end old new known are traced = (
   known.image,
   (
-    choices,
+    runs,
     (
       first_world program 1000000000,
       (
         known.is_file,
-        is_recorded limit file program choices known,
+        are,
+        is_recorded limit file program (choices_of runs) known,
         (known.none, is_first known.image program 1000000000 known.loaded),
-        ends,
-        appends,
+        traced,
       ),
     ),
   ),

@@ -33,7 +33,7 @@ StopsComparing (fault.Load f) file trace_before trace_after trace_failed output_
 StopsComparing f file trace_before trace_after trace_failed output_before output_after output_failed =
     IsNoProgramFor f file × IsUntouched trace_before trace_after output_before output_after
 
--- the trace was read as far as the verdict needs, and no line further; the line of the verdict was written
+-- the trace was read up to the piece with the line that decides, and the line of the verdict was written; or why not
 abbrev pub ComparesFile : (file : List ℕ) → Result Verdict Fault → (trace_before trace_after : Option (List ℕ)) (trace_failed : Bool)
     (output_before output_after : Option (List ℕ)) (output_failed : Bool) → Type 0
 ComparesFile file (Ok v) trace_before trace_after trace_failed output_before output_after output_failed =

@@ -1,5 +1,5 @@
 -- What `debug` makes of a program's file and of lines of commands, by its answer.
-use Rattle.std.specs.Prelude.{◌≡◌, ◌≢◌, ◌≤◌, ◌⊎◌, ℕ, Bool, true, false, IsTrue, All, List, [], ◌∷◌, ◌++◌, length, replicate, Option, Some, None, Result, Ok, Err}
+use Rattle.std.specs.Prelude.{◌≡◌, ◌≢◌, ◌≤◌, ◌⊎◌, ℕ, Bool, true, false, IsTrue, All, List, [], ◌∷◌, ◌++◌, length, replicate, Option, Some, None, is_some, Result, Ok, Err}
 use Rattle.std.specs.List.{flat_map}
 use Rattle.std.specs.Io.KnownBytes.{Appends, Consumes, IsAtEnd}
 use Rattle.row_code.specs.declared.image.Image.{Image}
@@ -68,7 +68,7 @@ HasConversed ending session commands_before commands_after output_before output_
     × Consumes commands_before commands_after (flat_map (λ e. bytes_of e.line true) exchanges ++ bytes_of last.line is_ended)
     × Appends output_before output_after (flat_map (λ e. e.reply) exchanges ++ last.reply)))))
 
--- the first session of a file's program, and behind the runs that are played first, if any, and told as `g` tells them
+-- a session begins as it is; or behind runs, which were played first and told as `g` tells them
 abbrev pub IsBegun : Option (List Run) → Session → Session → (output_before output_after : Option (List ℕ)) → Type 0
 IsBegun None session now output_before output_after = (now ≡ session) × (output_after ≡ output_before)
 IsBegun (Some runs) session now output_before output_after =
@@ -93,12 +93,14 @@ HasReadLines commands_before commands_after =
 abbrev pub GivesFew : Option (List ℕ) → Option (List ℕ) → Type 0
 GivesFew before after = (bytes : List ℕ) × (Consumes before after bytes × (length bytes ≤ 1000000000))
 
--- why a session wasn't held to its end: the output failed, and what was read of the commands are whole lines, or nothing; or they
+-- why a session wasn't held to its end: the output failed, and what was read of the commands are whole lines, or nothing at the
+-- reply to the runs; or they
 -- couldn't be read; or there was no memory for a line, or for the machine; or the program isn't loaded, or the file is none
 abbrev pub StopsDebugging : Fault → Option (List Run) → (file : List ℕ) (commands_before commands_after : Option (List ℕ)) (commands_failed : Bool)
     (output_before output_after : Option (List ℕ)) (output_failed : Bool) → Type 0
 StopsDebugging fault.Write runs file commands_before commands_after commands_failed output_before output_after output_failed =
-    IsTrue output_failed × ((commands_after ≡ commands_before) ⊎ HasReadLines commands_before commands_after)
+    IsTrue output_failed
+    × (((is_some runs ≡ true) × (commands_after ≡ commands_before)) ⊎ HasReadLines commands_before commands_after)
 StopsDebugging fault.Read runs file commands_before commands_after commands_failed output_before output_after output_failed =
     (IsTrue commands_failed ⊎ GivesOnAndOn commands_before commands_after)
     × HasDebugged Cut runs file commands_before commands_after output_before output_after
@@ -110,6 +112,7 @@ StopsDebugging (fault.Load f) runs file commands_before commands_after commands_
 StopsDebugging f runs file commands_before commands_after commands_failed output_before output_after output_failed =
     IsNoProgramFor f file × IsUntouched commands_before commands_after output_before output_after
 
+-- a session was held to its end, or why not
 abbrev pub Debugs : Option (List Run) → (file : List ℕ) → Result (Unit {0}) Fault
     → (commands_before commands_after : Option (List ℕ)) (commands_failed : Bool)
     (output_before output_after : Option (List ℕ)) (output_failed : Bool) → Type 0

@@ -1,18 +1,18 @@
 -- What `live` makes of a program's file, by its answer.
-use Rattle.std.specs.Prelude.{◌≡◌, ◌⊎◌, ℕ, Bool, IsTrue, List, Option, Some, None, Result, Ok, Err}
-use Rattle.std.specs.Io.KnownBytes.{Appends}
+use Rattle.std.specs.Prelude.{◌≡◌, ◌⊎◌, ℕ, All, Bool, IsTrue, List, Option, Some, None, Result, Ok, Err}
 use Rattle.row_code.specs.declared.image.Image.{Image}
 use Rattle.loader.specs.Fault.{first_fault}
+use Rattle.schedule_reader.specs.declared.run.Run.{Run}
+use Rattle.schedule_reader.specs.Schedule.{IsRun, choices_of}
 use Rattle.thread_machine.specs.declared.choice.Choice.{Choice}
-use Rattle.thread_machine.specs.Execution.{execution}
 use Rattle.thread_machine.specs.World.{World, IsFirstOf}
 use Rattle.thread_runner.specs.declared.ending.Ending.{Ending}
 use Rattle.thread_runner.specs.Endings.{ending_of}
 use Rattle.thread_runner.specs.Replay.{IsReplay}
 use Rattle.trace_compare.specs.declared.run_end.RunEnd.{RunEnd}
-use Rattle.trace_compare.specs.RunText.{IsEndOf}
+use Rattle.trace_compare.specs.RunText.{AreTraced}
 use Rattle.trace_compare.specs.Start.{Begins}
-use Rattle.trace_compare.specs.Trace.{AppendsPartOf, lines_of, trace_of}
+use Rattle.trace_compare.specs.Trace.{AppendsPartOf, lines_of}
 use Rattle.workbench.specs.declared.fault.Fault.{Fault}
 use Rattle.workbench.specs.declared.fault.Fault.TheVariants as fault
 use Rattle.workbench.specs.ProgramFile.{IsNoProgramFor, IsProgramFile, IsUnloadedFor}
@@ -25,12 +25,12 @@ IsRecorded image limit choices =
     × ((first_fault image ≡ None) × IsFirstOf image limit first × IsReplay (record { first = first; choices = choices }) world
     × (ending_of world ≡ Some ending))))
 
--- the program in a file was played on real threads, the trace of the choices that were recorded was written, and it ends so
+-- a run of the program in a file was recorded, the trace of its choices was written, and it ends so
 abbrev pub IsLived : ℕ → List ℕ → RunEnd → (output_before output_after : Option (List ℕ)) → Type 0
 IsLived limit file end output_before output_after =
-    (image : Image) × ((choices : List Choice) × ((world : World)
-    × (IsProgramFile file image × IsRecorded image limit choices × Begins image world
-    × IsEndOf (execution world choices) end × Appends output_before output_after (trace_of world choices))))
+    (image : Image) × ((runs : List Run) × ((world : World)
+    × (IsProgramFile file image × All IsRun runs × IsRecorded image limit (choices_of runs) × Begins image world
+    × AreTraced world (choices_of runs) end output_before output_after)))
 
 -- nothing was written; or the run was recorded, and a part of the lines of its choices was written
 abbrev pub IsLivedAtMost : ℕ → List ℕ → (output_before output_after : Option (List ℕ)) → Type 0
@@ -49,6 +49,7 @@ StopsLiving limit fault.Spawn file output_before output_after output_failed = ou
 StopsLiving limit (fault.Load f) file output_before output_after output_failed = IsUnloadedFor f file × (output_after ≡ output_before)
 StopsLiving limit f file output_before output_after output_failed = IsNoProgramFor f file × (output_after ≡ output_before)
 
+-- a live run's trace was written, or why not
 abbrev pub Lives : ℕ → (file : List ℕ) → Result RunEnd Fault → (output_before output_after : Option (List ℕ)) (output_failed : Bool) → Type 0
 Lives limit file (Ok end) output_before output_after output_failed = IsLived limit file end output_before output_after
 Lives limit file (Err f) output_before output_after output_failed = StopsLiving limit f file output_before output_after output_failed

@@ -1,5 +1,6 @@
--- WHAT A COMMAND COMES TO, by its answer: what was read, what was written, and why no more. Each rung from a command's bytes to the
--- machine promises the one relation that stands here or in trace_compare/specs/Outcome.antt.
+-- What a command comes to, by its answer, where it reads its input first (ComesOf), or plays a program under a schedule (Plays).
+-- Those of the other commands stand in files of their names. `before`, `after` and `failed` are of one port: the bytes that it still
+-- gives, or has got, before and after the call, and whether it has failed by then.
 use Rattle.std.specs.Prelude.{◌≡◌, ◌⊎◌, ℕ, Bool, false, IsTrue, List, Option, Some, Result, Ok, Err}
 use Rattle.assembler.specs.Meaning.{StandsFor}
 use Rattle.row_code.specs.declared.image.Image.{Image}
@@ -18,6 +19,7 @@ abbrev pub IsUnreadFor : Fault → (before after : Option (List ℕ)) (failed : 
 IsUnreadFor f before after failed =
     (f ≡ fault.Memory) ⊎ ((f ≡ fault.Read) × (IsTrue failed ⊎ GivesTooMuch before after))
 
+-- there is no answer of its bytes
 abbrev pub IsUnread : {A : Type 0} → Result A Fault → (before after : Option (List ℕ)) (failed : Bool) → Type 0
 IsUnread (Ok x) before after failed = ⊥
 IsUnread (Err f) before after failed = IsUnreadFor f before after failed
@@ -55,7 +57,8 @@ abbrev pub PlaysFile : List ℕ → Result RunEnd Fault → (schedule_before sch
     (output_before output_after : Option (List ℕ)) (output_failed : Bool) → Type 0
 PlaysFile file = Plays (IsProgramFile file) (λ f. IsNoProgramFor f file)
 
--- a text that holds both: the program, and behind its line `.run` the schedule
+-- a text that holds both: the program, and behind its line `.run` the schedule. These bytes never fail: `Read` could come of
+-- 1,000,000,000 of them alone
 abbrev pub PlaysText : List ℕ → Result RunEnd Fault → (output_before output_after : Option (List ℕ)) (output_failed : Bool) → Type 0
 PlaysText text answer output_before output_after output_failed =
     (rest : Option (List ℕ)) × Plays (StandsFor (program_part text)) (λ f. IsNoTextFor f (program_part text)) answer

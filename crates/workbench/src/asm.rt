@@ -6,7 +6,7 @@ ghost use Rattle.workbench.specs.Asm.{Assembles};
 ghost use Rattle.workbench.specs.Done.{IsSettledBy, as_asked};
 ghost use Rattle.workbench.specs.Outcome.{ComesOf};
 
-use crate::done::settled_as_asked;
+use crate::done::{settled, settled_as_asked};
 use crate::fault::Fault;
 use crate::input::read_all;
 use assembler::assemble;
@@ -29,11 +29,10 @@ pub fn asm_cmd<S: Source, K: Sink, E: Sink>(
         (K.written output.new ≡ K.written output.old) answer (S.left input.old) (S.left input.new) (S.has_failed input.new)
         × IsSettledBy as_asked answer result (E.has_failed errors.new) (E.written errors.old) (E.written errors.new)) }
 {
-    let answer = match read_all(alloc, input) {
-        Ok(text) => asm(alloc, text.as_slice(), output),
-        Err(fault) => Err(fault),
-    };
-    settled_as_asked(answer, errors)
+    match read_all(alloc, input) {
+        Ok(text) => settled_as_asked(asm(alloc, text.as_slice(), output), errors),
+        Err(fault) => settled(Err(fault), errors),
+    }
 }
 
 /// Writes the bytes of the image that a text stands for.

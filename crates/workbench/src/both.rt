@@ -1,11 +1,10 @@
-ghost use Rattle.std.specs.Prelude.{◌≡◌, ◌≤◌, length, Result};
+ghost use Rattle.std.specs.Prelude.{◌≡◌, Result};
 ghost use Rattle.trace_compare.specs.declared.run_end.RunEnd.{RunEnd};
 ghost use Rattle.workbench.specs.declared.fault.Fault.{Fault};
 ghost use Rattle.workbench.specs.Done.{IsSettledBy, as_asked};
-ghost use Rattle.workbench.specs.Input.{most_bytes};
 ghost use Rattle.workbench.specs.Outcome.{ComesOf, PlaysText};
 
-use crate::done::settled_as_asked;
+use crate::done::{settled, settled_as_asked};
 use crate::fault::Fault;
 use crate::input::read_all;
 use crate::run_line::split_at_run;
@@ -31,11 +30,10 @@ pub fn both_cmd<S: Source, K: Sink, E: Sink>(
         (K.written output.new ≡ K.written output.old) answer (S.left input.old) (S.left input.new) (S.has_failed input.new)
         × IsSettledBy as_asked answer result (E.has_failed errors.new) (E.written errors.old) (E.written errors.new)) }
 {
-    let answer = match read_all(alloc, input) {
-        Ok(text) => both(alloc, text.as_slice(), output),
-        Err(fault) => Err(fault),
-    };
-    settled_as_asked(answer, errors)
+    match read_all(alloc, input) {
+        Ok(text) => settled_as_asked(both(alloc, text.as_slice(), output), errors),
+        Err(fault) => settled(Err(fault), errors),
+    }
 }
 
 /// Plays the program of a text under the schedule that stands behind its line `.run`, writes the trace, and answers how the run

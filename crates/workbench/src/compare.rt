@@ -34,11 +34,11 @@ pub fn compare_cmd<F: Source, S: Source, K: Sink, E: Sink>(
         answer (F.left file.old) (F.left file.new) (F.has_failed file.new)
         × IsSettledBy done_by answer result (E.has_failed errors.new) (E.written errors.old) (E.written errors.new)) }
 {
-    let answer = match read_all(alloc, file) {
-        Ok(program) => compared(alloc, program.as_slice(), trace, output),
-        Err(fault) => Err(fault),
+    let program = match read_all(alloc, file) {
+        Ok(program) => program,
+        Err(fault) => return settled(Err(fault), errors),
     };
-    match answer {
+    match compared(alloc, program.as_slice(), trace, output) {
         Ok(verdict) => settled(Ok(done_by(verdict)), errors),
         Err(fault) => settled(Err(fault), errors),
     }

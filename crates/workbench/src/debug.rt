@@ -13,7 +13,7 @@ ghost use Rattle.workbench.specs.Done.{IsSettledBy, as_asked};
 ghost use Rattle.workbench.specs.Input.{GivesInEach, IsCounted};
 ghost use Rattle.workbench.specs.Outcome.{ComesOf};
 
-use crate::done::settled_as_asked;
+use crate::done::{settled, settled_as_asked};
 use crate::fault::Fault;
 use crate::input::read_all;
 use crate::input_line::read_line;
@@ -53,11 +53,10 @@ pub fn debug_cmd<F: Source, S: Source, K: Sink, E: Sink>(
         × IsSettledBy as_asked answer result (E.has_failed errors.new) (E.written errors.old) (E.written errors.new)) }
     ensures few { GivesFew (S.left commands.old) (S.left commands.new) }
 {
-    let answer = match read_all(alloc, file) {
-        Ok(program) => debug(alloc, program.as_slice(), commands, output),
-        Err(fault) => Err(fault),
-    };
-    settled_as_asked(answer, errors)
+    match read_all(alloc, file) {
+        Ok(program) => settled_as_asked(debug(alloc, program.as_slice(), commands, output), errors),
+        Err(fault) => settled(Err(fault), errors),
+    }
 }
 
 /// Debugs the program that a file's bytes are: reads a line of commands, carries it out, writes its reply, and reads on, up to the

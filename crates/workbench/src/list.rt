@@ -6,7 +6,7 @@ ghost use Rattle.workbench.specs.Done.{IsSettledBy, as_asked};
 ghost use Rattle.workbench.specs.List.{Lists};
 ghost use Rattle.workbench.specs.Outcome.{ComesOf};
 
-use crate::done::settled_as_asked;
+use crate::done::{settled, settled_as_asked};
 use crate::fault::Fault;
 use crate::input::read_all;
 use crate::program_file::program_in;
@@ -30,11 +30,10 @@ pub fn list_cmd<S: Source, K: Sink, E: Sink>(
         (K.written output.new ≡ K.written output.old) answer (S.left file.old) (S.left file.new) (S.has_failed file.new)
         × IsSettledBy as_asked answer result (E.has_failed errors.new) (E.written errors.old) (E.written errors.new)) }
 {
-    let answer = match read_all(alloc, file) {
-        Ok(program) => list(alloc, program.as_slice(), output),
-        Err(fault) => Err(fault),
-    };
-    settled_as_asked(answer, errors)
+    match read_all(alloc, file) {
+        Ok(program) => settled_as_asked(list(alloc, program.as_slice(), output), errors),
+        Err(fault) => settled(Err(fault), errors),
+    }
 }
 
 /// Writes the canonical text of the program that a file's bytes are.

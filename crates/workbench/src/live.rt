@@ -15,7 +15,7 @@ ghost use Rattle.workbench.specs.Done.{IsSettledBy, as_asked};
 ghost use Rattle.workbench.specs.Live.{Lives};
 ghost use Rattle.workbench.specs.Outcome.{ComesOf};
 
-use crate::done::settled_as_asked;
+use crate::done::{settled, settled_as_asked};
 use crate::fault::Fault;
 use crate::input::read_all;
 use crate::program_file::program_in;
@@ -49,11 +49,13 @@ pub fn live_cmd<R: Threads + Wait + Sync, F: Source, K: Sink, E: Sink>(
         (K.written output.new ≡ K.written output.old) answer (F.left file.old) (F.left file.new) (F.has_failed file.new)
         × IsSettledBy as_asked answer result (E.has_failed errors.new) (E.written errors.old) (E.written errors.new)) }
 {
-    let answer = match read_all(alloc, file) {
-        Ok(program) => live(threads, alloc, limit, &NoGate, program.as_slice(), output),
-        Err(fault) => Err(fault),
-    };
-    settled_as_asked(answer, errors)
+    match read_all(alloc, file) {
+        Ok(program) => settled_as_asked(
+            live(threads, alloc, limit, &NoGate, program.as_slice(), output),
+            errors,
+        ),
+        Err(fault) => settled(Err(fault), errors),
+    }
 }
 
 /// Plays the program that a file's bytes are on real threads, writes the trace of the choices that they made, and answers how the

@@ -5,7 +5,7 @@ ghost use Rattle.workbench.specs.declared.fault.Fault.{Fault};
 ghost use Rattle.workbench.specs.Done.{IsSettledBy, as_asked};
 ghost use Rattle.workbench.specs.Outcome.{ComesOf, PlaysFile};
 
-use crate::done::settled_as_asked;
+use crate::done::{settled, settled_as_asked};
 use crate::fault::Fault;
 use crate::input::read_all;
 use crate::program_file::program_in;
@@ -32,11 +32,10 @@ pub fn run_cmd<F: Source, S: Source, K: Sink, E: Sink>(
         answer (F.left file.old) (F.left file.new) (F.has_failed file.new)
         × IsSettledBy as_asked answer result (E.has_failed errors.new) (E.written errors.old) (E.written errors.new)) }
 {
-    let answer = match read_all(alloc, file) {
-        Ok(program) => run(alloc, program.as_slice(), schedule, output),
-        Err(fault) => Err(fault),
-    };
-    settled_as_asked(answer, errors)
+    match read_all(alloc, file) {
+        Ok(program) => settled_as_asked(run(alloc, program.as_slice(), schedule, output), errors),
+        Err(fault) => settled(Err(fault), errors),
+    }
 }
 
 /// Plays the program that a file's bytes are, an image or a text, under a schedule, writes the trace, and answers how the run has

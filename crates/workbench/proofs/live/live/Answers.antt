@@ -1,6 +1,6 @@
-use Rattle.std.proofs.Common.{◌∙◌, Err, List, ap, sym, subst}
+use Rattle.std.proofs.Common.{◌∙◌, All, Err, List, ap, sym, subst}
 use Rattle.loader.specs.Program.{Program}
-use Rattle.schedule_reader.specs.Schedule.{choices_of}
+use Rattle.schedule_reader.specs.Schedule.{IsRun, choices_of}
 use Rattle.schedule_reader.specs.declared.run.Run.{Run}
 use Rattle.thread_machine.specs.World.{first_world}
 use Rattle.thread_runner.specs.Replay.{IsReplay}
@@ -15,7 +15,7 @@ returns-in-Ok-run_loaded g c =
     let runs = c.as_slice.result.now in
     let recorded = c.in-Ok-recorded.ensures.replay in
     let world = recorded.0 in
-    lived c.args.limit c.args.file.now program (choices_of runs) c.in-Ok-run_loaded.end _ _
+    lived c.args.limit c.args.file.now program runs c.in-Ok-run_loaded.end _ _
     (record {
       image = c.in-Ok.image;
       world = world;
@@ -27,6 +27,7 @@ returns-in-Ok-run_loaded g c =
           (sym c.as_slice.ensures.value) recorded.1.1.0;
       over = recorded.1.1.1;
     })
+    (subst (All IsRun) (sym c.as_slice.ensures.value) c.in-Ok-recorded.ensures.runs)
     (subst (λ (p : Program). AreTraced (first_world p 1000000000) (choices_of runs) c.in-Ok-run_loaded.end
     (g.K.Sink.written c.args.output.now) (g.K.Sink.written c.run_loaded.new.output))
     c.in-Ok-copy.ensures c.in-Ok-run_loaded.ensures.traced)
