@@ -1,5 +1,5 @@
 //! The rows of an image.
-ghost use Rattle.std.specs.Prelude.{◌≡◌, ◌≢◌, ◌++◌, Err, IfErr, IfOk, OnOk, true};
+ghost use Rattle.std.specs.Prelude.{◌≡◌, ◌⊎◌, ◌≢◌, ◌++◌, Err, IfErr, IfOk, OnOk, true};
 ghost use Rattle.std.specs.List.{flat_map};
 ghost use Rattle.listing.specs.Listing.{line_text, numbered};
 ghost use Rattle.row_code.specs.declared.image.Image.{Image};

@@ -1,5 +1,5 @@
 //! The rows of a text, each with the line in which it stands.
-ghost use Rattle.std.specs.Prelude.{◌≡◌, ◌≢◌, ◌++◌, ◌∷◌, [], Err, IfErr, IfOk, OnOk, decimal, false, map};
+ghost use Rattle.std.specs.Prelude.{◌≡◌, ◌⊎◌, ◌≢◌, ◌++◌, ◌∷◌, [], Err, IfErr, IfOk, OnOk, decimal, false, map};
 ghost use Rattle.std.specs.List.{flat_map, slice_split};
 ghost use Rattle.line_reader.specs.Seen.{name_seen};
 ghost use Rattle.line_reader.specs.Words.{is_line_end, lines_of};

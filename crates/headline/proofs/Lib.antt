@@ -4,5 +4,5 @@ pub mod BarrierRows
 pub mod Pasts
 pub mod PhaseEnds
 pub mod Scenes
-pub mod Shown
+pub mod Showing
 pub mod FirstTurns

@@ -1,5 +1,8 @@
-use Rattle.headline.proofs.Shown.{file-debugged}
+use Rattle.std.specs.Prelude.{None}
+use Rattle.headline.proofs.Showing.{file-debugged}
 use Rattle.headline.proofs.shown.debug.Goals as goal
 
 pub returns-clause-shown : goal.returns-clause-shown
-returns-clause-shown g c = file-debugged c.debug.result _ _ _ _ _ _ _ _ c.debug.ensures.outcome
+returns-clause-shown g c =
+    file-debugged c.debug.result None c.args.program.now (g.S.Source.left c.args.commands.now) (g.S.Source.left c.debug.new.commands) (g.S.Source.has_failed c.debug.new.commands)
+    (g.K.Sink.written c.args.output.now) (g.K.Sink.written c.debug.new.output) (g.K.Sink.has_failed c.debug.new.output) c.debug.ensures.outcome

@@ -1,8 +1,9 @@
 use Rattle.live_runs.proofs.Reported.{reported}
-use Rattle.live_runs.proofs.command.report_image.Goals as goal
+use Rattle.live_runs.proofs.command.report_runs.Goals as goal
 
-pub returns-clause-done : goal.returns-clause-done
-returns-clause-done g c =
-    reported c.push_report.result c.args.image c.in-Ok.program c.args.asked.now c.in_ok-outcomes.outcomes.entries _ _ c.in-Ok.ensures.none
-    c.in-Ok.ensures.loaded c.in_ok-outcomes.ensures.outcomes c.in_ok-outcomes.ensures.sorted c.push_report.ensures.by
-    c.push_report.ensures.report
+pub returns : goal.returns
+returns g c =
+    reported c.push_report.result c.in-Ok.image c.in-Ok-load.program c.args.asked.now c.in-Ok-outcomes_of.outcomes.entries c.args.program.now _ _ _
+    c.in-Ok.ensures.program c.in-Ok-load.ensures.none c.in-Ok-load.ensures.loaded c.in-Ok-outcomes_of.ensures.outcomes
+    c.in-Ok-outcomes_of.ensures.sorted c.push_report.ensures.by c.push_report.ensures.report c.push_report.ensures.fault
+    c.push_report.ensures.unchanged c.push_report.ensures.write
