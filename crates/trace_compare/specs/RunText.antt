@@ -1,19 +1,18 @@
 -- What becomes of an image and a schedule that comes as a stream.
-use Rattle.std.specs.Prelude.{◌≡◌, ◌⊎◌, ◌≤◌, ℕ, List, ◌++◌, length, Option, Some, None, is_some}
+use Rattle.std.specs.Prelude.{◌≡◌, ◌⊎◌, ◌≤◌, ℕ, List, ◌++◌, length, Option, Some, is_some}
 use Rattle.std.specs.Io.KnownBytes.{Appends, Consumes, IsAtEnd}
 use Rattle.row_code.specs.declared.image.Image.{Image}
 use Rattle.schedule_reader.specs.declared.fault.ScheduleFault.{ScheduleFault}
 use Rattle.schedule_reader.specs.declared.run.Run.{Run}
-use Rattle.schedule_reader.specs.Schedule.{Schedule, open_schedule, finished_schedule, choices_of}
+use Rattle.schedule_reader.specs.Schedule.{Schedule, finished_schedule}
 use Rattle.thread_machine.specs.declared.choice.Choice.{Choice}
 use Rattle.thread_machine.specs.World.{World}
 use Rattle.thread_machine.specs.Standing.{standing_of}
 use Rattle.thread_machine.specs.Execution.{Execution, execution}
 use Rattle.trace_compare.specs.Compare.{IsFoundTheSame}
 use Rattle.trace_compare.specs.declared.run_end.RunEnd.{RunEnd}
-use Rattle.trace_compare.specs.Start.{Begins}
 use Rattle.trace_compare.specs.State.{state_text}
-use Rattle.trace_compare.specs.Trace.{AppendsPartOf, lines_of, trace_of}
+use Rattle.trace_compare.specs.Trace.{trace_of}
 
 -- choices were executed to this end: how the program stands then, the text of its state, and whether a choice was refused
 abbrev pub IsEndOf : Execution → RunEnd → Type 0

@@ -1,5 +1,5 @@
 -- The conversation on a program that was just loaded.
-use Rattle.std.proofs.Common.{◌≡◌, ◌⊎◌, inl, inr, sym, ℕ, Bool, List, Option, Some, None, Result, Ok, Err, IsTrue, ap, subst}
+use Rattle.std.proofs.Common.{◌≡◌, ◌⊎◌, inl, inr, sym, ℕ, Bool, List, Option, Result, Ok, Err, IsTrue, ap, subst}
 use Rattle.std.specs.Prelude.{IfErr, OnOk}
 use Rattle.row_code.specs.declared.image.Image.{Image}
 use Rattle.loader.specs.declared.load_fault.LoadFault.{LoadFault}
