@@ -36,8 +36,14 @@ const AT_ASSIGNMENT: &str = "the instruction comes first: `parr r0 p` is `r0 = p
 /// What helps where a number stands for a register.
 const AT_NUMBER: &str = "a number goes into a register first, as by `ldi r1 1`";
 
+/// How many bytes a text has at most.
+const LONGEST: usize = 16_777_216;
+
 /// Whether a text is a schedule of some choices.
 fn is_schedule(alloc: Global, text: &[u8]) -> bool {
+    if text.len() > LONGEST {
+        return false;
+    }
     match read_schedule(alloc, text) {
         Ok(runs) => !runs.is_empty(),
         Err(_) => false,
