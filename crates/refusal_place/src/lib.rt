@@ -7,13 +7,11 @@
 // What a fault is about.
 mod about;
 
-// The names that a text gives, what a name names, and Java's names.
-mod java;
+// The names that a text gives, and what a name names.
 mod kinds;
 mod names;
 
-// What a file may be in place of what it should be, and what a line may have been meant as.
-mod meant;
+// What a file may be in place of what it should be.
 mod mistaken;
 
 // What is written.

@@ -2,9 +2,8 @@
 
 use crate::about::question_about;
 use crate::kinds::called;
-use crate::meant::helps_at;
-use crate::mistaken::{is_plan, is_trace};
-use crate::names::{first_line, nearest_name, nearest_option, nearest_word};
+use crate::mistaken::is_plan;
+use crate::names::{first_line, nearest_name, nearest_word};
 use crate::shown::{push_file, push_line, push_marked, push_shown};
 use assembler::made::line_that_makes;
 use assembler::placed::{PlacedFault, UnknownName, assemble_placed};
@@ -54,17 +53,17 @@ impl From<AllocError> for Unshown {
     }
 }
 
+/// What helps where a text has a schedule and the command reads none.
+const AT_RUN: &str =
+    "this file is a text with its schedule: `run FILE` plays it, `show FILE` shows it; \
+    `debug` and `live` take what stands above `.run`";
+
+/// What helps where a text begins with a byte order mark.
+const AT_MARK: &str =
+    "the file begins with a UTF-8 byte order mark (EF BB BF): saved without one it can be read";
+
 /// What helps where a schedule is a plan.
 const AT_PLAN: &str = "this looks like a plan: `vuthgal plan FILE PLAN` writes its schedule";
-
-/// What helps where a plan stands in the program's place.
-const AT_PLAN_FIRST: &str = "this looks like a plan: the program comes first";
-
-/// What helps where a schedule is a trace.
-const AT_TRACE: &str = "this looks like a trace: `vuthgal choices TRACE` writes its schedule";
-
-/// What helps where a schedule holds a comment.
-const AT_COMMENT: &str = "a schedule has no comments: a text may have some above its line `.run`";
 
 /// What a name is, and what should stand in its place; or the name that may have been meant.
 fn push_name<E: Sink>(
@@ -99,8 +98,8 @@ fn push_name<E: Sink>(
 }
 
 /// The word of the language that may have been meant.
-fn push_near<E: Sink>(errors: &mut E, near: Option<&'static str>) -> Result<(), Unshown> {
-    if let Some(near) = near {
+fn push_near_word<E: Sink>(alloc: Global, errors: &mut E, word: &[u8]) -> Result<(), Unshown> {
+    if let Some(near) = nearest_word(alloc, word)? {
         errors.push(b"  Near:    ")?;
         errors.push(near.as_bytes())?;
         errors.push(b"\n")?;
@@ -173,11 +172,14 @@ fn fault_of(
     }
 }
 
-/// Whether a plan stands where the program should, and the program where the plan should.
-fn stands_first(alloc: Global, program: ProgramFile<'_>, other: Option<Named<'_>>) -> bool {
-    match other {
-        Some(other) => is_plan(alloc, other.bytes, program.text),
-        None => false,
+/// What helps at this word, where that is more than its kind's entry says.
+fn helps_at(text: &[u8], kind: AsmFaultKind, line: u64, word: &[u8]) -> Option<&'static str> {
+    match kind {
+        AsmFaultKind::UnknownWord if word == b".run".as_slice() => Some(AT_RUN),
+        AsmFaultKind::BadByte if line == 1 && text.starts_with(&[0xef, 0xbb, 0xbf]) => Some(
+            AT_MARK,
+        ),
+        _ => None,
     }
 }
 
@@ -186,7 +188,6 @@ fn push_text_place<E: Sink>(
     alloc: Global,
     errors: &mut E,
     program: ProgramFile<'_>,
-    other: Option<Named<'_>>,
     number: u64,
     kind: AsmFaultKind,
 ) -> Result<Option<&'static str>, Unshown> {
@@ -204,7 +205,7 @@ fn push_text_place<E: Sink>(
     ) = fault_of(alloc, program, number, kind)
     else {
         push_line(errors, line)?;
-        return Ok(helps_at(alloc, program.text, kind, number, line, &[]));
+        return Ok(None);
     };
     push_marked(errors, line, at)?;
     let word = line
@@ -213,22 +214,16 @@ fn push_text_place<E: Sink>(
     match kind {
         AsmFaultKind::UnknownName => push_name(alloc, errors, file.bytes, unknown, word)?,
         AsmFaultKind::NameTwice => push_given(errors, file.bytes, word)?,
-        AsmFaultKind::UnknownWord => push_near(errors, nearest_word(alloc, word)?)?,
-        AsmFaultKind::BadOption => {
-            push_near(errors, nearest_option(alloc, word)?)?;
-            push_form(errors, line, at)?;
-        }
+        AsmFaultKind::UnknownWord => push_near_word(alloc, errors, word)?,
         AsmFaultKind::OperandCount
         | AsmFaultKind::BadRegister
         | AsmFaultKind::BadNumber
         | AsmFaultKind::OutOfRange
-        | AsmFaultKind::BadName => push_form(errors, line, at)?,
+        | AsmFaultKind::BadName
+        | AsmFaultKind::BadOption => push_form(errors, line, at)?,
         _ => {}
     }
-    if stands_first(alloc, program, other) {
-        return Ok(Some(AT_PLAN_FIRST));
-    }
-    Ok(helps_at(alloc, program.text, kind, number, line, word))
+    Ok(helps_at(file.bytes, kind, number, word))
 }
 
 /// The place of the first word of what a line says, its label left out.
@@ -321,8 +316,6 @@ fn push_schedule_place<E: Sink>(
         return Ok(());
     };
     match schedule {
-        // Nothing is known of what came by a pipe.
-        Some(schedule) if schedule.bytes.is_empty() => Ok(()),
         Some(schedule) => push_token_place(errors, schedule, offset),
         None => push_token_place(
             errors,
@@ -342,11 +335,7 @@ fn helps_at_schedule(
         Some(schedule) => schedule.bytes,
         None => program.file.bytes.get(program.schedule_at..).unwrap_or(&[]),
     };
-    if is_trace(bytes) {
-        Some(AT_TRACE)
-    } else if bytes.trim_ascii_start().starts_with(b";") {
-        Some(AT_COMMENT)
-    } else if !bytes.is_empty() && is_plan(alloc, program.text, bytes) {
+    if !bytes.is_empty() && is_plan(alloc, program.text, bytes) {
         Some(AT_PLAN)
     } else {
         None
@@ -366,7 +355,7 @@ fn push_found<E: Sink>(
     };
     let is_image = program.file.bytes.starts_with(b"PBW");
     match question.subject {
-        Subject::Asm(kind) => return push_text_place(alloc, errors, program, schedule, place, kind),
+        Subject::Asm(kind) => return push_text_place(alloc, errors, program, place, kind),
         Subject::Load(fault) if !is_image => push_made_place(
             alloc,
             errors,
