@@ -10,7 +10,7 @@ use Rattle.thread_machine.specs.declared.fault.StepFault.TheVariants.{NoSuchThre
 use Rattle.thread_machine.specs.World.{World}
 use Rattle.thread_machine.specs.Step.{played, refusal_of}
 use Rattle.thread_machine.specs.Execution.{execution, execution_by}
-use Rattle.trace_compare.specs.Compare.{choice_in, is_too_long}
+use Rattle.trace_compare.specs.Reading.{choice_in, is_too_long}
 use Rattle.trace_compare.specs.State.{state_text}
 use Rattle.trace_compare.specs.Trace.{lines_by, lines_of, trace_of}
 use Rattle.trace_compare.proofs.Naming.{IsOwnLine}

@@ -12,7 +12,7 @@ use Rattle.byte_ports.specs.SourceLines.{Gave, HasCome, IsOneLine, Lines, taken}
 use Rattle.byte_ports.specs.declared.source_lines.LineEnded.{LineEnded}
 use Rattle.byte_ports.specs.declared.source_lines.LineEnded.TheVariants as how
 use Rattle.thread_machine.specs.declared.choice.Choice.{Choice}
-use Rattle.trace_compare.specs.Compare.{is_too_long}
+use Rattle.trace_compare.specs.Reading.{is_too_long}
 use Rattle.trace_compare.specs.RunText.{GivesOnAndOn}
 use Rattle.trace_choices.specs.declared.line_names.LineNames.{LineNames}
 use Rattle.trace_choices.specs.declared.line_names.LineNames.TheVariants as names

@@ -4,7 +4,7 @@ use Rattle.std.specs.Io.KnownBytes.{Consumes, IsAtEnd}
 use Rattle.std.specs.List.{slice_split}
 use Rattle.line_reader.specs.Words.{is_line_end}
 use Rattle.thread_machine.specs.declared.choice.Choice.{Choice}
-use Rattle.trace_compare.specs.Compare.{choice_in, is_state_line, is_too_long}
+use Rattle.trace_compare.specs.Reading.{choice_in, is_state_line, is_too_long}
 use Rattle.trace_choices.specs.declared.line_names.LineNames.{LineNames}
 use Rattle.trace_choices.specs.declared.line_names.LineNames.TheVariants as names
 

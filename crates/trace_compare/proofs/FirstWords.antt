@@ -7,8 +7,7 @@ use Rattle.std.proofs.lemmas.Bool.{and_from, and_parts, cases_lt, eqb-true, le-l
 use Rattle.std.proofs.lemmas.List.{drop_all}
 use Rattle.std.proofs.lemmas.List.Sums.{AllPass-from_list_all, fails_before_first, list_all-from_AllPass, passes_at_first, position_or_len_is, prefix_len-le-length}
 use Rattle.thread_machine.specs.declared.choice.Choice.{Choice}
-use Rattle.trace_compare.specs.Compare.{is_space, is_step, choice_named, choice_in}
-use Rattle.trace_compare.specs.Comparing.{is_no_digit}
+use Rattle.trace_compare.specs.Reading.{is_space, is_step, choice_named, choice_in, is_no_digit}
 
 space-no_digit : (b : ℕ) → is_space b ≡ true → is_no_digit b ≡ true
 space-no_digit b is = let same : b ≡ 32 = eqb-true b 32 is in ap is_no_digit same

@@ -9,6 +9,7 @@ pub mod SameTrace
 pub mod WholeLines
 pub mod FirstWords
 pub mod Naming
+pub mod NamedChoices
 pub mod StateLines
 pub mod OwnLines
 pub mod LineCounts

@@ -1,7 +1,6 @@
 -- What a choice's own line names.
 use Rattle.std.proofs.Common.{◌≡◌, ◌∙◌, ◌+◌, ◌/◌, ◌%◌, ◌^◌, ◌<◌, ◌≤◌, ◌==◌, ◌&&◌, not, ℕ, zero, suc, Bool, true, false, List, [], ◌∷◌, ◌++◌, length, take, drop, cond, if◌then◌else◌, Option, Some, None, codes, decimal, refl, ap, sym, subst, arith, append_assoc, length-append, ℤ}
-use Rattle.std.specs.Fmt.{signed_decimal}
-use Rattle.std.specs.Fmt.{digits, digits_onto, digit_glyph}
+use Rattle.std.specs.Fmt.{signed_decimal, digits, digits_onto, digit_glyph}
 use Rattle.std.specs.Char.{is_ascii_digit}
 use Rattle.std.specs.List.{before_first, after_first, list_all, position_or_len}
 use Rattle.std.specs.Str.{bytes_eq}
@@ -15,7 +14,7 @@ use Rattle.thread_state.specs.declared.event.What.{What}
 use Rattle.thread_state.specs.declared.event.What.TheVariants as what
 use Rattle.thread_state.specs.declared.event.Mark.{Mark}
 use Rattle.thread_state.specs.declared.event.Mark.TheVariants as mark
-use Rattle.trace_compare.specs.Compare.{is_space, is_step, choice_of_digits, choice_named, choice_in, is_state_line, is_too_long}
+use Rattle.trace_compare.specs.Reading.{is_space, is_step, choice_of_digits, choice_named, choice_in, is_state_line, is_too_long}
 use Rattle.trace_compare.specs.Lines.{what_text, mark_text, choice_text, event_text, refusal_text}
 use Rattle.trace_compare.proofs.WholeLines.{is_within, IsPart, Part-append, Part-more, IsLine, Line-end, Line-after, decimal-part, signed-part}
 
@@ -268,3 +267,20 @@ event-few step choice pc event = text-few step choice 276 _ (omega arith) (event
 pub refusal-few : (step : ℕ) (choice : Choice) (pc : Option ℕ) → length (refusal_text step choice pc) ≤ 408
 refusal-few step choice None = text-few step choice 6 (codes "- none\n") (omega arith) none-line
 refusal-few step choice (Some pc) = text-few step choice 70 (decimal pc ++ codes " limit\n") (omega arith) (limit-line pc)
+
+-- each number has a digit
+some_by : (last : Bool) (xs ys : List ℕ) → 0 < length xs → 0 < length ys → 0 < length (cond last xs ys)
+some_by true xs ys p q = p
+some_by false xs ys p q = q
+
+digits-some : (k n : ℕ) (acc : List ℕ) → 0 < length acc → 0 < length (digits_onto k 10 false n acc)
+digits-some zero n acc some = some
+digits-some (suc k) n acc some =
+    let glyph : ℕ = digit_glyph false (n % 10) in
+    some_by (n / 10 == 0) (glyph ∷ acc) _ (omega arith) (digits-some k (n / 10) (glyph ∷ acc) (omega arith))
+
+pub decimal-some : (n : ℕ) → 0 < length (decimal n)
+unfolding digits
+decimal-some n =
+    let glyph : ℕ = digit_glyph false (n % 10) in
+    some_by (n / 10 == 0) (glyph ∷ []) (digits_onto 63 10 false (n / 10) (glyph ∷ [])) (omega arith) (digits-some 63 (n / 10) (glyph ∷ []) (omega arith))

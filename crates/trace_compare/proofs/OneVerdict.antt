@@ -1,5 +1,6 @@
--- A trace has one verdict: how the phasers of its program are stored makes no difference.
-use Rattle.std.proofs.Common.{◌≡◌, ◌∙◌, ◌+◌, ◌==◌, ◌&&◌, ◌||◌, not, nat_le, codes, decimal, length, is_some, ℕ, Bool, List, [], ◌∷◌, ◌++◌, cond, true, Option, Some, None, is_none, inl, inr, refl, ap, sym, append-nil}
+-- A trace has one verdict: how the phasers of its program are stored makes no difference. So a trace that was written is found
+-- the same.
+use Rattle.std.proofs.Common.{◌≡◌, ◌++◌, All, arith, ◌∙◌, ◌+◌, ◌==◌, ◌&&◌, ◌||◌, not, nat_le, codes, decimal, length, is_some, ℕ, Bool, List, [], ◌∷◌, ◌++◌, cond, true, Option, Some, None, is_none, inl, inr, refl, ap, sym, append-nil}
 use Rattle.std.specs.List.{slice_split}
 use Rattle.std.specs.Str.{bytes_eq}
 use Rattle.line_reader.specs.Words.{is_line_end}
@@ -17,13 +18,21 @@ use Rattle.thread_machine.specs.Step.{Played, played, played_by, refusal_of}
 use Rattle.thread_machine.specs.Execution.{Execution, execution, execution_by}
 use Rattle.trace_compare.specs.declared.comparison.Verdict.{Verdict}
 use Rattle.trace_compare.specs.declared.comparison.Verdict.TheVariants as verdict
-use Rattle.trace_compare.specs.Compare.{IsFoundTheSame, choice_in, choice_verdict, is_state_line, lines_verdict, otherwise, state_verdict, verdict_of}
+use Rattle.trace_compare.specs.Compare.{HasWrittenTheSame, IsFoundTheSame, choice_verdict, lines_verdict, otherwise, state_verdict, verdict_of}
+use Rattle.trace_compare.specs.Reading.{choice_in, is_state_line}
 use Rattle.trace_compare.specs.Lines.{event_text}
 use Rattle.trace_compare.specs.Start.{Begins}
 use Rattle.trace_compare.specs.State.{state_text}
-use Rattle.trace_compare.specs.Trace.{lines_by, lines_of}
+use Rattle.trace_compare.specs.Trace.{lines_by, lines_of, trace_of}
 use Rattle.trace_compare.proofs.StateLines.{parts_text}
 use Rattle.trace_compare.proofs.StoredOtherwise.{outcome-same, some_ready-same, stored_in}
+use Rattle.schedule_reader.specs.declared.run.Run.{Run}
+use Rattle.schedule_reader.specs.Schedule.{IsRun, choices_of}
+use Rattle.trace_compare.specs.declared.run_end.RunEnd.{RunEnd}
+use Rattle.trace_compare.specs.RunText.{AreTraced}
+use Rattle.trace_compare.specs.Outcome.{EndsFrom}
+use Rattle.trace_compare.proofs.NamedThreads.{named-runs, named-threads}
+use Rattle.trace_compare.proofs.OwnTrace.{IsNamed, own-trace}
 
 -- a world of a program whose phasers are stored otherwise
 abbrev pub stored : List Stored → World → World
@@ -144,3 +153,23 @@ found-same image one trace begins same left v (other, (bytes, (begins', consumed
     sym found ∙ ap (verdict_of other) all ∙ one-verdict image other one trace begins' begins ∙ same
 found-same image one trace begins same left v (other, (bytes, (begins', consumed, inr later))) =
     sym (later left) ∙ ap (verdict_of other) (sym consumed) ∙ one-verdict image other one trace begins' begins ∙ same
+
+-- the verdict on a trace, beside the program that it is of
+pub begun-verdict : (image : Image) (world : World) (choices : List Choice) → Begins image world → All IsNamed choices
+    → verdict_of world (trace_of world choices) ≡ Same
+begun-verdict image world choices (loads, first) named =
+    own-trace choices world 1 (omega (arith, ap (λ (w : World). w.choices) first)) named
+
+-- a comparison finds the trace of runs the same that a token can spell
+pub traced-same : (image : Image) (world : World) (runs : List Run) (end : RunEnd) (old new : Option (List ℕ))
+    → Begins image world → All IsRun runs → AreTraced world (choices_of runs) end old new → HasWrittenTheSame image old new
+traced-same image world runs end old new begins are (ends, appends) =
+    let trace = trace_of world (choices_of runs) in
+    (trace, (appends, found-same image world trace begins (begun-verdict image world (choices_of runs) begins (named-runs runs are))))
+
+-- and so the trace that a run writes
+pub ended-same : (image : Image) (world : World) (end : RunEnd) (schedule_before schedule_after old new : Option (List ℕ))
+    → Begins image world → EndsFrom world end schedule_before schedule_after old new → HasWrittenTheSame image old new
+ended-same image world end schedule_before schedule_after old new begins (bytes, (runs, (consumed, at_end, is, (ends, appends)))) =
+    let trace = trace_of world (choices_of runs) in
+    (trace, (appends, found-same image world trace begins (begun-verdict image world (choices_of runs) begins (named-threads bytes runs None is))))

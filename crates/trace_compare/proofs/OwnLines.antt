@@ -1,13 +1,10 @@
 -- The run's own line at the beginning of bytes of a trace, and another line there that names the same choice.
-use Rattle.std.proofs.Common.{◌≡◌, ◌≢◌, ◌∙◌, ◌+◌, ◌<◌, ◌≤◌, ◌==◌, ◌-◌, ◌*◌, ◌/◌, ◌%◌, ◌&&◌, ℕ, Bool, true, false, zero, suc, List, [], ◌∷◌, ◌++◌, length, drop, take, cond, Option, Some, None, is_none, nat_le, not, refl, ap, sym, subst, arith, append_assoc, append-nil, length-append, take-append-drop, inl, inr, decimal, codes, get_or}
-use Rattle.std.specs.Prelude.{Err, IfOk, IfSome, Ok, Result, if◌then◌else◌}
-use Rattle.std.specs.Fmt.{digits, digits_onto, digit_glyph}
-use Rattle.std.specs.Char.{is_ascii_digit}
+use Rattle.std.proofs.Common.{◌≡◌, ◌≢◌, ◌∙◌, ◌+◌, ◌<◌, ◌≤◌, ◌==◌, ◌-◌, ◌&&◌, ℕ, Bool, true, false, zero, suc, List, [], ◌∷◌, ◌++◌, length, drop, take, cond, Option, Some, None, is_none, nat_le, not, refl, ap, sym, subst, arith, append_assoc, append-nil, length-append, take-append-drop, inl, inr, decimal, codes, get_or}
+use Rattle.std.specs.Prelude.{Err, IfOk, Ok, Result, if◌then◌else◌}
+use Rattle.std.specs.Fmt.{digits}
 use Rattle.std.specs.List.{position_or_len, slice_split}
 use Rattle.std.specs.Str.{bytes_eq}
-use Rattle.std.proofs.lemmas.Bool.{cases_lt, eq-eqb, eqb-true, false_from_ne_true}
-use Rattle.std.proofs.lemmas.Bool.Decides.{nat_tests}
-use Rattle.std.proofs.lemmas.Fmt.{decimal_digit}
+use Rattle.std.proofs.lemmas.Bool.{cases_lt, eqb-true, false_from_ne_true}
 use Rattle.std.proofs.Math.ListN.{get_or-append}
 use Rattle.std.proofs.lemmas.List.{length-take-le, take-append-le, take_all}
 use Rattle.std.proofs.lemmas.List.Splits.{slice_split_at, slice_split_none}
@@ -23,11 +20,11 @@ use Rattle.thread_machine.specs.Execution.{execution}
 use Rattle.trace_compare.specs.declared.comparison.Comparison.{Comparison}
 use Rattle.trace_compare.specs.declared.comparison.Verdict.{Verdict}
 use Rattle.trace_compare.specs.declared.comparison.Verdict.TheVariants as verdict
-use Rattle.trace_compare.specs.Compare.{choice_in, choice_verdict, is_space, is_state_line, lines_verdict, otherwise}
-use Rattle.trace_compare.specs.Comparing.{BeginsWithName, NamesBehind, bytes_left, lines_left}
+use Rattle.trace_compare.specs.Reading.{choice_in, is_space, is_state_line, BeginsWithName, NamesBehind}
+use Rattle.trace_compare.specs.Compare.{choice_verdict, lines_verdict, otherwise}
+use Rattle.trace_compare.specs.Comparing.{bytes_left, lines_left}
 use Rattle.trace_compare.specs.Lines.{choice_text, event_text}
 use Rattle.trace_compare.specs.Trace.{Plays, lines_by, lines_of}
-use Rattle.trace_compare.proofs.LineEnds.{two_digits}
 use Rattle.trace_compare.proofs.Naming.{choice-part, line_names, line-no_state}
 use Rattle.trace_compare.proofs.OwnTrace.{choice-same, own-line}
 use Rattle.trace_compare.proofs.PieceLines.{line-and_rest, line-with_lf, none-before}
@@ -140,96 +137,6 @@ missed before after choice text bytes more state accepted still none same few (t
     ∙ sym (named_otherwise after.accepted (world_of after.machine) after.number line lines choice no_state named refused)
     ∙ sym (left-lines after (line ∷ lines) still)
     ∙ sym (ap (lines_left after) split_is)
-
--- what a test of four or five bytes finds
-letter_is : (expiry : Bool) (letter : ℕ) (text : List ℕ) → cond expiry 120 116 ≡ letter
-    → 32 ∷ letter ∷ text ≡ (if expiry then codes " x" else codes " t") ++ text
-letter_is true letter text is = ap (λ l. 32 ∷ l ∷ text) (sym is)
-letter_is false letter text is = ap (λ l. 32 ∷ l ∷ text) (sym is)
-
-name_is : (choice : Choice) (letter : ℕ) (digits rest bytes : List ℕ) → cond choice.expiry 120 116 ≡ letter
-    → decimal choice.thread ≡ digits → choice.thread ≤ 63 → bytes ≡ 32 ∷ letter ∷ (digits ++ (32 ∷ rest))
-    → BeginsWithName bytes choice
-name_is choice letter digits rest bytes letter_of spelt few is =
-    let word = if choice.expiry then codes " x" else codes " t" in (
-      few,
-      (
-        rest,
-        is ∙ letter_is choice.expiry letter (digits ++ (32 ∷ rest)) letter_of
-            ∙ ap (λ ds. word ++ (ds ++ (32 ∷ rest))) (sym spelt)
-            ∙ ap (λ t. word ++ t) (sym (append_assoc (decimal choice.thread) (32 ∷ []) rest))
-            ∙ sym (append_assoc word (decimal choice.thread ++ (32 ∷ [])) rest),
-      ),
-    )
-
-digit_under : (b : ℕ) → is_ascii_digit b ≡ true → b - 48 < 10
-digit_under b digit = grind (arith, nat_tests)
-
-digit_from : (b : ℕ) → is_ascii_digit b ≡ true → 48 + (b - 48) ≡ b
-digit_from b digit = grind (arith, nat_tests)
-
-pub named_by_one : (bytes : List ℕ) (expiry : Bool) → 5 ≤ length bytes → get_or bytes 0 0 ≡ 32
-    → cond expiry 120 116 ≡ get_or bytes 1 0 → is_ascii_digit (get_or bytes 2 0) ≡ true → get_or bytes 3 0 ≡ 32
-    → BeginsWithName bytes (record { thread = get_or bytes 2 0 - 48; expiry = expiry })
-named_by_one [] expiry long space letter digit after = absurd (omega arith)
-named_by_one (a ∷ []) expiry long space letter digit after = absurd (omega arith)
-named_by_one (a ∷ b ∷ []) expiry long space letter digit after = absurd (omega arith)
-named_by_one (a ∷ b ∷ c ∷ []) expiry long space letter digit after = absurd (omega arith)
-named_by_one (a ∷ b ∷ c ∷ d ∷ rest) expiry long space letter digit after =
-    let small = digit_under c digit in
-    name_is (record { thread = c - 48; expiry = expiry }) b (c ∷ []) rest (a ∷ b ∷ c ∷ d ∷ rest) letter
-    (decimal_digit (c - 48) small ∙ ap (λ n. n ∷ []) (digit_from c digit)) (omega (arith, small))
-    (ap (λ n. n ∷ b ∷ c ∷ d ∷ rest) space ∙ ap (λ n. 32 ∷ b ∷ c ∷ n ∷ rest) after)
-
-pub named_by_two : (bytes : List ℕ) (expiry : Bool) → 5 ≤ length bytes → get_or bytes 0 0 ≡ 32
-    → cond expiry 120 116 ≡ get_or bytes 1 0 → is_ascii_digit (get_or bytes 2 0) ≡ true → get_or bytes 2 0 - 48 ≢ 0
-    → is_ascii_digit (get_or bytes 3 0) ≡ true → get_or bytes 4 0 ≡ 32
-    → (get_or bytes 2 0 - 48) * 10 + (get_or bytes 3 0 - 48) ≤ 63
-    → BeginsWithName bytes (record { thread = (get_or bytes 2 0 - 48) * 10 + (get_or bytes 3 0 - 48); expiry = expiry })
-named_by_two [] expiry long space letter ten some digit after few = absurd (omega arith)
-named_by_two (a ∷ []) expiry long space letter ten some digit after few = absurd (omega arith)
-named_by_two (a ∷ b ∷ []) expiry long space letter ten some digit after few = absurd (omega arith)
-named_by_two (a ∷ b ∷ c ∷ []) expiry long space letter ten some digit after few = absurd (omega arith)
-named_by_two (a ∷ b ∷ c ∷ d ∷ []) expiry long space letter ten some digit after few = absurd (omega arith)
-named_by_two (a ∷ b ∷ c ∷ d ∷ e ∷ rest) expiry long space letter ten some digit after few =
-    let thread = (c - 48) * 10 + (d - 48) in
-    let small = digit_under d digit in
-    let first : 48 + thread / 10 ≡ c = omega (arith, digit_from c ten, small) in
-    let last : 48 + thread % 10 ≡ d = omega (arith, digit_from d digit, small) in
-    name_is (record { thread = thread; expiry = expiry }) b (c ∷ d ∷ []) rest (a ∷ b ∷ c ∷ d ∷ e ∷ rest) letter
-    (two_digits thread (omega (arith, some)) (omega (arith, few)) ∙ ap (λ n. n ∷ (48 + thread % 10) ∷ []) first ∙ ap (λ n. c ∷ n ∷ []) last) few
-    (ap (λ n. n ∷ b ∷ c ∷ d ∷ e ∷ rest) space ∙ ap (λ n. 32 ∷ b ∷ c ∷ d ∷ n ∷ rest) after)
-
--- a choice that was found behind so many bytes
-pub named_there : (found : Option Choice) (bytes : List ℕ) (count : ℕ) (behind : List ℕ) → (get_or bytes 0 0 ≡ 115 → ⊥)
-    → behind ≡ drop count bytes → IfSome found (λ choice. BeginsWithName behind choice)
-    → IfSome found (λ choice. NamesBehind bytes count choice)
-named_there (Some choice) bytes count behind other is p = (other, subst (λ bs. BeginsWithName bs choice) is p)
-named_there None bytes count behind other is p = p
-
--- the letter of an expiry, and of a turn
-pub letter_x : (letter : ℕ) → letter ≡ 120 → cond (letter == 120) 120 116 ≡ letter
-letter_x letter is = ap (λ b. cond b 120 116) (eq-eqb letter 120 is) ∙ sym is
-
-pub letter_t : (letter : ℕ) → letter ≡ 116 → cond (letter == 120) 120 116 ≡ letter
-letter_t letter is = ap (λ l. cond (l == 120) 120 116) is ∙ sym is
-
--- each number has a digit
-some_by : (last : Bool) (xs ys : List ℕ) → 0 < length xs → 0 < length ys → 0 < length (cond last xs ys)
-some_by true xs ys p q = p
-some_by false xs ys p q = q
-
-digits-some : (k n : ℕ) (acc : List ℕ) → 0 < length acc → 0 < length (digits_onto k 10 false n acc)
-digits-some zero n acc some = some
-digits-some (suc k) n acc some =
-    let glyph : ℕ = digit_glyph false (n % 10) in
-    some_by (n / 10 == 0) (glyph ∷ acc) _ (omega arith) (digits-some k (n / 10) (glyph ∷ acc) (omega arith))
-
-pub decimal-some : (n : ℕ) → 0 < length (decimal n)
-unfolding digits
-decimal-some n =
-    let glyph : ℕ = digit_glyph false (n % 10) in
-    some_by (n / 10 == 0) (glyph ∷ []) (digits_onto 63 10 false (n / 10) (glyph ∷ [])) (omega arith) (digits-some 63 (n / 10) (glyph ∷ []) (omega arith))
 
 -- behind a number's digits
 behind_digits : (bytes digits : List ℕ) (step : ℕ) (choice : Choice) → digits ≡ decimal step → take (length digits) bytes ≡ digits

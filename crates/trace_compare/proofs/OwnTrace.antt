@@ -6,18 +6,18 @@ use Rattle.std.proofs.lemmas.Slice.Eq.{bytes_eq-Decides}
 use Rattle.std.specs.List.{slice_split}
 use Rattle.std.specs.Str.{bytes_eq}
 use Rattle.line_reader.specs.Words.{is_line_end}
-use Rattle.machine_scene.specs.Scene.{Outcome, thread_at}
-use Rattle.thread_state.specs.declared.event.Event.{Event}
+use Rattle.machine_scene.specs.Scene.{thread_at}
 use Rattle.thread_machine.specs.declared.choice.Choice.{Choice}
 use Rattle.thread_machine.specs.declared.fault.StepFault.{StepFault}
 use Rattle.thread_machine.specs.declared.fault.StepFault.TheVariants.{NoSuchThread, StepLimit}
 use Rattle.thread_machine.specs.World.{World}
 use Rattle.thread_machine.specs.Ready.{outcome_of_choice}
-use Rattle.thread_machine.specs.Step.{Played, is_used_up, played, played_by, refusal_of}
+use Rattle.thread_machine.specs.Step.{Played, is_used_up, played, refusal_of}
 use Rattle.thread_machine.specs.Execution.{execution, execution_by}
 use Rattle.trace_compare.specs.declared.comparison.Verdict.TheVariants as verdict
 use Rattle.trace_compare.specs.Brief.{IsBrief}
-use Rattle.trace_compare.specs.Compare.{choice_verdict, is_state_line, lines_verdict, otherwise, state_verdict}
+use Rattle.trace_compare.specs.Compare.{choice_verdict, lines_verdict, otherwise, state_verdict}
+use Rattle.trace_compare.specs.Reading.{is_state_line}
 use Rattle.trace_compare.specs.Lines.{event_text}
 use Rattle.trace_compare.specs.State.{state_text}
 use Rattle.trace_compare.specs.Trace.{lines_by, lines_of, trace_of}
@@ -108,18 +108,6 @@ choice-same world choice rest n own =
     ∙ cond-no (is_state_line line) (state_verdict (state_text world) n (line ∷ lines)) _ own.no_state
     ∙ ap (λ named. choice_verdict named true world n line more) own.names
     ∙ cond-yes (bytes_eq (line ++ (10 ∷ [])) text) _ (otherwise n line) same
-
--- an accepted choice is counted
-played-choices : (outcome : Option Outcome) (world : World) → (played_by outcome world).world.choices ≡ world.choices + 1
-played-choices (Some outcome) world = refl
-played-choices None world = refl
-
-pub played-counted : (world after : World) (choice : Choice) (event : Event)
-    → (let both : Played = record { world = after; event = event } in both ≡ played world choice)
-    → after.choices ≡ world.choices + 1
-played-counted world after choice event both =
-    ap (λ (play : Played). play.world.choices) both
-    ∙ played-choices (outcome_of_choice world.program choice world.scene) world
 
 accepted-few_by : (missing all limit : Bool)
     → cond missing (Some NoSuchThread) (cond (all || limit) (Some StepLimit) None) ≡ None → all ≡ false

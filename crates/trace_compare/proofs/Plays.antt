@@ -391,3 +391,15 @@ pub replicate-some : (n times : ℕ) (choice : Choice) → times ≤ n
 replicate-some n times choice few =
     let is : n ≡ times + (n - times) = omega (arith, few) in
     ap (λ k. replicate k choice) is ∙ sym (replicate-append-replicate times (n - times) choice)
+
+-- an accepted choice is counted
+played-choices : (outcome : Option Outcome) (world : World) → (played_by outcome world).world.choices ≡ world.choices + 1
+played-choices (Some outcome) world = refl
+played-choices None world = refl
+
+pub played-counted : (world after : World) (choice : Choice) (event : Event)
+    → (let both : Played = record { world = after; event = event } in both ≡ played world choice)
+    → after.choices ≡ world.choices + 1
+played-counted world after choice event both =
+    ap (λ (play : Played). play.world.choices) both
+    ∙ played-choices (outcome_of_choice world.program choice world.scene) world

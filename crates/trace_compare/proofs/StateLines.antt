@@ -21,7 +21,7 @@ use Rattle.thread_machine.specs.Standing.{name_of, standing_of}
 use Rattle.thread_machine.specs.declared.standing.Standing.TheVariants as standing
 use Rattle.thread_machine.specs.Ready.{has_ended, is_stuck}
 use Rattle.trace_compare.specs.Brief.{IsBrief}
-use Rattle.trace_compare.specs.Compare.{HasNoLongLine, is_state_line}
+use Rattle.trace_compare.specs.Reading.{HasNoLongLine, is_state_line}
 use Rattle.trace_compare.specs.State.{all_registers, barrier_text, cell_text, entry_text, numbered_texts, phaser_text, registers_text, stack_text, state_text, status_text, thread_text, value_text}
 use Rattle.trace_compare.proofs.WholeLines.{IsLine, IsPart, IsWhole, Line-after, Line-end, Part-append, Whole-append, Whole-line, Whole-nil, Whole-short, Whole-where, decimal-part, is_within, signed-part}
 

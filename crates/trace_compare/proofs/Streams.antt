@@ -1,21 +1,15 @@
 -- Bytes that are read one piece after another.
-use Rattle.std.proofs.Common.{◌≡◌, ◌↔◌, inr, refl, ◌∙◌, ◌+◌, ◌<◌, ◌≤◌, ◌++◌, ℕ, Bool, true, false, not, IsTrue, All, List, Option, Some, length, take, ap, sym, subst, append-nil, length-append, arith}
+use Rattle.std.proofs.Common.{◌≡◌, ◌↔◌, inr, refl, ◌∙◌, ◌+◌, ◌<◌, ◌≤◌, ◌++◌, ℕ, Bool, true, false, not, IsTrue, List, Option, Some, length, take, ap, sym, subst, append-nil, length-append, arith}
 use Rattle.std.proofs.lemmas.List.{length-take}
 use Rattle.std.proofs.KnownBytes.{Appends-trans, Consumes-trans}
 use Rattle.std.specs.Io.KnownBytes.{Appends, Consumes, IsAtEnd}
 use Rattle.std.specs.Prelude.{Result, Ok, Err, IfOk, OnOk, None, is_some}
-use Rattle.schedule_reader.specs.declared.run.Run.{Run}
-use Rattle.schedule_reader.specs.Schedule.{IsRun, Schedule, finished_schedule, choices_of}
+use Rattle.schedule_reader.specs.Schedule.{Schedule, finished_schedule, choices_of}
 use Rattle.thread_machine.specs.declared.fault.StepFault.{StepFault}
 use Rattle.thread_machine.specs.Standing.{standing_of}
 use Rattle.thread_machine.specs.World.{World}
 use Rattle.thread_machine.specs.declared.choice.Choice.{Choice}
 use Rattle.thread_machine.specs.Execution.{execution}
-use Rattle.trace_compare.specs.declared.comparison.Verdict.TheVariants.{Same}
-use Rattle.trace_compare.specs.Compare.{verdict_of}
-use Rattle.trace_compare.proofs.NamedThreads.{named-runs, named-threads}
-use Rattle.trace_compare.proofs.OneVerdict.{found-same}
-use Rattle.trace_compare.proofs.OwnTrace.{IsNamed, own-trace}
 use Rattle.trace_compare.specs.NumberedLine.{NumberedLine}
 use Rattle.trace_compare.specs.declared.run.RunFault.{RunFault}
 use Rattle.trace_compare.specs.declared.run.RunFault.TheVariants as fault
@@ -23,11 +17,11 @@ use Rattle.trace_compare.specs.Outcome.{EndsFrom, Stops, StopsFrom}
 use Rattle.trace_compare.specs.declared.play.PlayFault.{PlayFault}
 use Rattle.trace_compare.specs.declared.play.PlayFault.TheVariants as play
 use Rattle.trace_compare.specs.Playing.{HasPlayedAll, played_fault}
-use Rattle.trace_compare.specs.RunText.{AreTraced, HasWrittenTheSame, IsEndOf}
+use Rattle.trace_compare.specs.RunText.{AreTraced, IsEndOf}
 use Rattle.trace_compare.specs.Start.{Begins}
 use Rattle.row_code.specs.declared.image.Image.{Image}
 use Rattle.trace_compare.specs.State.{state_text}
-use Rattle.trace_compare.specs.Trace.{AppendsPartOf, Plays, lines_of, trace_of}
+use Rattle.trace_compare.specs.Trace.{AppendsPartOf, Plays, lines_of}
 use Rattle.trace_compare.proofs.Plays.{Part-whole}
 use Rattle.trace_compare.proofs.Schedules.{schedule_by_fault}
 use Rattle.trace_compare.specs.declared.run_end.RunEnd.{RunEnd}
@@ -143,23 +137,3 @@ unfinished play.Memory image first last all schedule_before schedule_after old b
     inr (first, (begins, broken_off first last all schedule_before schedule_after old between new failed other played (same refl)))
 unfinished play.Write image first last all schedule_before schedule_after old between new failed other begins played same write =
     (first, (begins, write refl))
-
--- the verdict on a trace, beside the program that it is of
-pub begun-verdict : (image : Image) (world : World) (choices : List Choice) → Begins image world → All IsNamed choices
-    → verdict_of world (trace_of world choices) ≡ Same
-begun-verdict image world choices (loads, first) named =
-    own-trace choices world 1 (omega (arith, ap (λ (w : World). w.choices) first)) named
-
--- a comparison finds the trace of runs the same that a token can spell
-pub traced-same : (image : Image) (world : World) (runs : List Run) (end : RunEnd) (old new : Option (List ℕ))
-    → Begins image world → All IsRun runs → AreTraced world (choices_of runs) end old new → HasWrittenTheSame image old new
-traced-same image world runs end old new begins are (ends, appends) =
-    let trace = trace_of world (choices_of runs) in
-    (trace, (appends, found-same image world trace begins (begun-verdict image world (choices_of runs) begins (named-runs runs are))))
-
--- and so the trace that a run writes
-pub ended-same : (image : Image) (world : World) (end : RunEnd) (schedule_before schedule_after old new : Option (List ℕ))
-    → Begins image world → EndsFrom world end schedule_before schedule_after old new → HasWrittenTheSame image old new
-ended-same image world end schedule_before schedule_after old new begins (bytes, (runs, (consumed, at_end, is, (ends, appends)))) =
-    let trace = trace_of world (choices_of runs) in
-    (trace, (appends, found-same image world trace begins (begun-verdict image world (choices_of runs) begins (named-threads bytes runs None is))))

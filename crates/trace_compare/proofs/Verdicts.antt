@@ -1,20 +1,16 @@
 -- The verdict on lines that are the run's.
-use Rattle.std.proofs.Common.{◌≡◌, ◌∙◌, ◌↔◌, ◌+◌, ◌-◌, ◌<◌, ◌≤◌, ◌&&◌, ℕ, Bool, true, false, List, [], ◌∷◌, ◌++◌, length, drop, Option, Some, None, IsTrue, ◌==◌, zero, suc, refl, ap, sym, subst, arith, is_none, not, cond}
-use Rattle.std.specs.Prelude.{Result, Ok, Err, IfOk}
+use Rattle.std.proofs.Common.{◌≡◌, ◌∙◌, ◌↔◌, ◌+◌, ◌-◌, ◌<◌, ◌≤◌, ◌&&◌, ℕ, Bool, true, false, List, [], ◌∷◌, ◌++◌, length, drop, Option, Some, None, IsTrue, ◌==◌, zero, suc, refl, ap, sym, subst, arith, is_none, not, cond, inl, inr, take, min, append_assoc, append-nil, length-append}
+use Rattle.std.specs.Prelude.{Result, Ok, Err, IfOk, All}
 use Rattle.trace_compare.specs.declared.comparison.Comparison.{Comparison}
 use Rattle.trace_compare.specs.Comparing.{HasLeft, IsOpen, bytes_left, decided, lines_left}
-use Rattle.std.proofs.Common.{inl, inr, take, min}
-use Rattle.std.proofs.Common.{append_assoc, append-nil, length-append}
-use Rattle.std.specs.Prelude.{All}
 use Rattle.std.proofs.Math.Seq.{take-append_seam}
-use Rattle.std.proofs.lemmas.Bool.{cases_lt, lt-ltb}
+use Rattle.std.proofs.lemmas.Bool.{cases_lt, lt-ltb, false_from_ne_true}
 use Rattle.std.proofs.lemmas.Bool.Decides.{nat_tests}
 use Rattle.std.proofs.lemmas.List.Elements.{All-append, All-cons, All-head, All-tail}
 use Rattle.std.proofs.lemmas.List.Splits.{slice_split_at, slice_split_none, slice_split-cons_no, length-slice_split}
 use Rattle.std.proofs.lemmas.List.{drop_all, length-take, take_all, drop-drop}
 use Rattle.std.specs.List.{position_or_len, slice_split, onto_first}
 use Rattle.std.specs.Str.{bytes_eq}
-use Rattle.std.proofs.lemmas.Bool.{false_from_ne_true}
 use Rattle.std.proofs.lemmas.Slice.Eq.{bytes_eq-Decides}
 use Rattle.std.specs.Io.KnownBytes.{Consumes}
 use Rattle.row_code.specs.declared.image.Image.{Image}
@@ -28,7 +24,8 @@ use Rattle.thread_machine.specs.Execution.{execution}
 use Rattle.trace_compare.specs.declared.comparison.Verdict.{Verdict}
 use Rattle.trace_compare.specs.declared.comparison.Judged.{Judged}
 use Rattle.trace_compare.specs.declared.comparison.Verdict.TheVariants as verdict
-use Rattle.trace_compare.specs.Compare.{HasCompared, HasNoLongLine, HasVerdict, verdict_of, choice_verdict, first_line, after_line, state_verdict, lines_verdict, otherwise, is_state_line, choice_in}
+use Rattle.trace_compare.specs.Compare.{HasCompared, HasVerdict, verdict_of, choice_verdict, state_verdict, lines_verdict, otherwise}
+use Rattle.trace_compare.specs.Reading.{HasNoLongLine, first_line, after_line, is_state_line, choice_in}
 use Rattle.trace_compare.specs.Lines.{event_text}
 use Rattle.trace_compare.specs.State.{state_text}
 use Rattle.trace_compare.specs.Trace.{Plays, lines_by, lines_of}

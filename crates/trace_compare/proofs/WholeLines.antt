@@ -9,7 +9,7 @@ use Rattle.std.proofs.lemmas.List.Sums.{AllPass-from_list_all}
 use Rattle.std.proofs.lemmas.List.Splits.{slice_split_at}
 use Rattle.std.proofs.Math.Seq.{take-append_seam, drop-append_seam}
 use Rattle.line_reader.specs.Words.{is_line_end}
-use Rattle.trace_compare.specs.Compare.{HasNoLongLine, after_line, first_line}
+use Rattle.trace_compare.specs.Reading.{HasNoLongLine, after_line, first_line}
 
 -- a byte within a line
 abbrev pub is_within : ℕ → Bool

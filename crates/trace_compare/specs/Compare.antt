@@ -1,8 +1,7 @@
 -- What a comparison of a trace with the run that it names says.
-use Rattle.std.specs.Prelude.{◌≡◌, ◌⊎◌, ℕ, ◌+◌, ◌-◌, ◌*◌, ◌==◌, ◌&&◌, ◌≤◌, ◌<◌, nat_lt, nat_le, if◌then◌else◌, Bool, true, false, List, [], ◌∷◌, ◌++◌, length, take, drop, codes, Option, Some, None, is_none}
-use Rattle.std.specs.Char.{is_ascii_digit}
-use Rattle.std.specs.Io.KnownBytes.{Consumes, IsAtEnd}
-use Rattle.std.specs.List.{count_by, slice_split, before_first, after_first, list_all, position_or_len}
+use Rattle.std.specs.Prelude.{◌≡◌, ◌⊎◌, ℕ, ◌+◌, ◌-◌, ◌&&◌, ◌≤◌, ◌<◌, if◌then◌else◌, Bool, true, List, [], ◌∷◌, ◌++◌, length, Option, Some, None, is_none}
+use Rattle.std.specs.Io.KnownBytes.{Appends, Consumes, IsAtEnd}
+use Rattle.std.specs.List.{count_by, slice_split}
 use Rattle.std.specs.Str.{bytes_eq}
 use Rattle.line_reader.specs.Words.{is_line_end}
 use Rattle.row_code.specs.declared.image.Image.{Image}
@@ -11,65 +10,14 @@ use Rattle.thread_machine.specs.World.{World}
 use Rattle.thread_machine.specs.Execution.{execution}
 use Rattle.trace_compare.specs.declared.comparison.Verdict.{Verdict}
 use Rattle.trace_compare.specs.declared.comparison.Verdict.TheVariants as verdict
+use Rattle.trace_compare.specs.Reading.{after_line, choice_in, first_line, is_state_line, is_too_long}
 use Rattle.trace_compare.specs.Start.{Begins}
 use Rattle.trace_compare.specs.State.{state_text}
 use Rattle.trace_compare.specs.Trace.{lines_of}
 
--- a space
-abbrev pub is_space : ℕ → Bool
-is_space byte = byte == 32
-
--- the number of a choice: one to 13 digits
-abbrev pub is_step : List ℕ → Bool
-is_step word = nat_lt 0 (length word) && (nat_le (length word) 13 && list_all is_ascii_digit word)
-
--- a choice of this thread, at most 63, where its digits are digits
-abbrev pub choice_by : Bool → Bool → ℕ → Option Choice
-choice_by expiry are_digits thread =
-    if are_digits && nat_le thread 63 then Some (record { thread = thread; expiry = expiry }) else None
-
--- a thread's number: one or two digits
-abbrev pub choice_of_digits : Bool → List ℕ → Option Choice
-choice_of_digits expiry (one ∷ []) = choice_by expiry (is_ascii_digit one) (one - 48)
-choice_of_digits expiry (ten ∷ one ∷ []) =
-    choice_by expiry (is_ascii_digit ten && is_ascii_digit one) (10 * (ten - 48) + (one - 48))
-choice_of_digits expiry _ = None
-
--- `t` or `x` and a thread's number
-abbrev pub choice_named : List ℕ → Option Choice
-choice_named [] = None
-choice_named (letter ∷ digits) =
-    if letter == 116 then choice_of_digits false digits
-    else (if letter == 120 then choice_of_digits true digits else None)
-
--- the choice that a line names: the number of the choice, a space, the name, and a space or the line's end
-abbrev pub choice_in : List ℕ → Option Choice
-choice_in line =
-    if is_step (before_first is_space line) then choice_named (before_first is_space (after_first is_space line)) else None
-
--- a line whose first word is `state`
-abbrev pub is_state_line : List ℕ → Bool
-is_state_line line = bytes_eq (before_first is_space line) (codes "state")
-
--- more bytes than a trace's line has
-abbrev pub is_too_long : List ℕ → Bool
-is_too_long line = nat_lt 65536 (length line)
-
--- no line of a text has more: from any place on, no more bytes stand before an LF
-abbrev pub HasNoLongLine : List ℕ → Type 0
-HasNoLongLine text = (at : ℕ) → position_or_len is_line_end (drop at text) ≤ 65536
-
 -- the verdict on a line that isn't the run's own: only such a line is asked for its length
 abbrev pub otherwise : ℕ → List ℕ → Verdict
 otherwise n line = if is_too_long line then verdict.NotATrace n else verdict.Differs n
-
--- a text's first line with its LF
-abbrev pub first_line : List ℕ → List ℕ
-first_line text = take (position_or_len is_line_end text + 1) text
-
--- the text behind it
-abbrev pub after_line : List ℕ → List ℕ
-after_line text = drop (position_or_len is_line_end text + 1) text
 
 -- the lines from the state line on, of which the first has this number, by the text that is still due; the last piece is
 -- what follows the last LF
@@ -144,3 +92,8 @@ IsReadNoFurther before after (verdict.NotATrace line) = IsReadUpTo line before a
 -- whatever a comparison with this program answers on a trace, it is `Same`
 abbrev pub IsFoundTheSame : Image → List ℕ → Type 0
 IsFoundTheSame image trace = (left : List ℕ) (v : Verdict) → HasCompared image (Some trace) (Some left) v → v ≡ verdict.Same
+
+-- a trace was written, and a comparison with this program finds it the same
+abbrev pub HasWrittenTheSame : Image → Option (List ℕ) → Option (List ℕ) → Type 0
+HasWrittenTheSame image output_before output_after =
+    (trace : List ℕ) × (Appends output_before output_after trace × IsFoundTheSame image trace)

@@ -1,19 +1,14 @@
 -- What the lines that are left make of a comparison. Nobody has to believe this: it is what proofs go by, from line to line.
-use Rattle.std.specs.Prelude.{◌≡◌, ◌≢◌, ◌⊎◌, [], ◌+◌, ◌<◌, ◌≤◌, ◌++◌, ℕ, All, Bool, not, false, true, List, codes, decimal, drop, get_or, length, if◌then◌else◌, Option, Some, None}
-use Rattle.std.specs.Char.{is_ascii_digit}
+use Rattle.std.specs.Prelude.{◌≡◌, ◌⊎◌, [], ◌+◌, ◌<◌, ◌≤◌, ◌++◌, ℕ, All, false, true, List, drop, length, if◌then◌else◌, Option, Some, None}
 use Rattle.std.specs.Io.KnownBytes.{IsAtEnd}
 use Rattle.std.specs.List.{count_by, slice_split}
 use Rattle.line_reader.specs.Words.{is_line_end}
 use Rattle.thread_machine.specs.World.{world_of}
-use Rattle.thread_machine.specs.declared.choice.Choice.{Choice}
 use Rattle.trace_compare.specs.declared.comparison.Comparison.{Comparison}
 use Rattle.trace_compare.specs.declared.comparison.Verdict.{Verdict}
 use Rattle.trace_compare.specs.declared.comparison.Verdict.TheVariants as verdict
-use Rattle.trace_compare.specs.Compare.{HasNoLongLine, lines_verdict, state_verdict}
-
--- no digit
-abbrev pub is_no_digit : ℕ → Bool
-is_no_digit byte = not (is_ascii_digit byte)
+use Rattle.trace_compare.specs.Reading.{HasNoLongLine}
+use Rattle.trace_compare.specs.Compare.{lines_verdict, state_verdict}
 
 -- a verdict that was reached, else what the rest makes of it
 abbrev pub decided : Option Verdict → Verdict → Verdict
@@ -48,16 +43,6 @@ StandsFrom n (verdict.NotATrace line) = n ≤ line
 abbrev pub HasCounted : ℕ → ℕ → ℕ → Option Verdict → Type 0
 HasCounted before ends after None = before + ends ≤ after
 HasCounted before ends after (Some v) = StandsFrom before v
-
--- bytes begin with the name of a choice between two spaces, as they stand behind the number in its line
-abbrev pub BeginsWithName : List ℕ → Choice → Type 0
-BeginsWithName bytes choice =
-    (choice.thread ≤ 63) × ((rest : List ℕ)
-    × (bytes ≡ ((if choice.expiry then codes " x" else codes " t") ++ (decimal choice.thread ++ codes " ")) ++ rest))
-
--- bytes don't begin with the `s` of `state`, and behind so many of them stands the name of a choice
-abbrev pub NamesBehind : List ℕ → ℕ → Choice → Type 0
-NamesBehind bytes count choice = (get_or bytes 0 0 ≢ 115) × BeginsWithName (drop count bytes) choice
 
 -- these bytes are those of one line, and not too many, and no line of the state text has more
 pub record IsReading (now : Comparison) (line : List ℕ) : Type 0 where

@@ -2,6 +2,7 @@ pub mod Lines
 pub mod State
 pub mod Trace
 pub mod Start
+pub mod Reading
 pub mod Compare
 pub mod RunText
 pub mod Outcome

@@ -1,7 +1,6 @@
 -- What becomes of an image and a schedule that comes as a stream.
 use Rattle.std.specs.Prelude.{◌≡◌, ◌⊎◌, ◌≤◌, ℕ, List, ◌++◌, length, Option, Some, is_some}
 use Rattle.std.specs.Io.KnownBytes.{Appends, Consumes, IsAtEnd}
-use Rattle.row_code.specs.declared.image.Image.{Image}
 use Rattle.schedule_reader.specs.declared.fault.ScheduleFault.{ScheduleFault}
 use Rattle.schedule_reader.specs.declared.run.Run.{Run}
 use Rattle.schedule_reader.specs.Schedule.{Schedule, finished_schedule}
@@ -9,7 +8,6 @@ use Rattle.thread_machine.specs.declared.choice.Choice.{Choice}
 use Rattle.thread_machine.specs.World.{World}
 use Rattle.thread_machine.specs.Standing.{standing_of}
 use Rattle.thread_machine.specs.Execution.{Execution, execution}
-use Rattle.trace_compare.specs.Compare.{IsFoundTheSame}
 use Rattle.trace_compare.specs.declared.run_end.RunEnd.{RunEnd}
 use Rattle.trace_compare.specs.State.{state_text}
 use Rattle.trace_compare.specs.Trace.{trace_of}
@@ -24,11 +22,6 @@ IsEndOf done end =
 abbrev pub AreTraced : World → List Choice → RunEnd → Option (List ℕ) → Option (List ℕ) → Type 0
 AreTraced first choices end old new =
     IsEndOf (execution first choices) end × Appends old new (trace_of first choices)
-
--- a trace was written, and a comparison with this program finds it the same
-abbrev pub HasWrittenTheSame : Image → Option (List ℕ) → Option (List ℕ) → Type 0
-HasWrittenTheSame image output_before output_after =
-    (trace : List ℕ) × (Appends output_before output_after trace × IsFoundTheSame image trace)
 
 -- runs, and the fault after them
 abbrev pub faulty_after : List Run → ScheduleFault → Schedule

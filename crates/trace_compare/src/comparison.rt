@@ -5,7 +5,8 @@ ghost use Rattle.line_reader.specs.Words.{is_line_end};
 ghost use Rattle.thread_machine.specs.World.{world_of};
 ghost use Rattle.trace_compare.specs.RunText.{GivesOnAndOn};
 ghost use Rattle.trace_compare.specs.Start.{IsRefused, is_want_of_memory};
-ghost use Rattle.trace_compare.specs.Compare.{HasCompared, HasNoLongLine, IsReadNoFurther, choice_in, choice_verdict, is_state_line, lines_verdict, state_verdict};
+ghost use Rattle.trace_compare.specs.Compare.{HasCompared, IsReadNoFurther, choice_verdict, lines_verdict, state_verdict};
+ghost use Rattle.trace_compare.specs.Reading.{HasNoLongLine, choice_in, is_state_line};
 ghost use Rattle.trace_compare.specs.Comparing.{HasCounted, HasLeft, IsOpen, IsReading, StandsFrom, bytes_left, decided, line_ends, lines_left};
 
 use crate::digits::Digits;

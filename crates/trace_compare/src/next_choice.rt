@@ -1,6 +1,6 @@
 // The choice that the next line of a trace names, where it begins as the line of the next choice does.
 ghost use Rattle.std.specs.Prelude.{◌≡◌, ◌≢◌, ◌+◌, ◌≤◌, IfSome, drop, false, length, take, true};
-ghost use Rattle.trace_compare.specs.Comparing.{BeginsWithName, NamesBehind};
+ghost use Rattle.trace_compare.specs.Reading.{BeginsWithName, NamesBehind};
 
 use thread_machine::Choice;
 

@@ -7,7 +7,7 @@ ghost use Rattle.tier_tree.specs.Stored.{phasers_of};
 ghost use Rattle.thread_machine.specs.World.{world_of};
 ghost use Rattle.thread_machine.specs.Standing.{name_of, standing_of};
 ghost use Rattle.trace_compare.specs.Brief.{IsBrief};
-ghost use Rattle.trace_compare.specs.Compare.{HasNoLongLine};
+ghost use Rattle.trace_compare.specs.Reading.{HasNoLongLine};
 ghost use Rattle.trace_compare.specs.State.{status_text, entry_text, stack_text, registers_text, value_text, numbered_texts, thread_text, phaser_text, barrier_text, cell_text, state_text};
 
 use super::pieces::{add_with_count, add_with_value};

@@ -1,8 +1,7 @@
 // What a line of a trace names.
 ghost use Rattle.std.specs.Prelude.{◌≡◌};
 ghost use Rattle.std.specs.List.{before_first, position, position_or_len};
-ghost use Rattle.trace_compare.specs.Compare.{choice_by, choice_in, choice_named, choice_of_digits, is_space, is_state_line};
-ghost use Rattle.trace_compare.specs.Comparing.{is_no_digit};
+ghost use Rattle.trace_compare.specs.Reading.{choice_by, choice_in, choice_named, choice_of_digits, is_space, is_state_line, is_no_digit};
 
 use crate::next_choice::rest_of;
 use line_reader::words::length_before;

@@ -1,6 +1,5 @@
-use Rattle.std.proofs.Common.{◌∙◌, ◌++◌, ◌∷◌, [], ap, sym}
+use Rattle.std.proofs.Common.{◌∙◌, ◌++◌, ◌∷◌, [], ap, sym, subst}
 use Rattle.trace_compare.proofs.PieceLines.{line-taken, line-with_lf}
-use Rattle.std.proofs.Common.{subst}
 use Rattle.std.specs.Prelude.{IfOk}
 use Rattle.trace_compare.specs.Comparing.{HasCounted}
 use Rattle.trace_compare.proofs.LineCounts.{whole-ends}

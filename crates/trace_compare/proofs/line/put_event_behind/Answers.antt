@@ -1,5 +1,5 @@
 use Rattle.std.proofs.Common.{arith}
-use Rattle.trace_compare.proofs.OwnLines.{decimal-some}
+use Rattle.trace_compare.proofs.Naming.{decimal-some}
 use Rattle.trace_compare.proofs.line.put_event_behind.Goals as goal
 
 pub returns-clause-some : goal.returns-clause-some

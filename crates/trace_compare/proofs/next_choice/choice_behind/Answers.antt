@@ -1,4 +1,4 @@
-use Rattle.trace_compare.proofs.OwnLines.{named_there}
+use Rattle.trace_compare.proofs.NamedChoices.{named_there}
 use Rattle.trace_compare.proofs.next_choice.choice_behind.Goals as goal
 
 pub returns : goal.returns

@@ -1,5 +1,5 @@
 use Rattle.std.proofs.Common.{sym}
-use Rattle.trace_compare.proofs.OwnLines.{letter_x, letter_t, named_by_one, named_by_two}
+use Rattle.trace_compare.proofs.NamedChoices.{letter_x, letter_t, named_by_one, named_by_two}
 use Rattle.trace_compare.proofs.next_choice.choice_between_spaces.Goals as goal
 use Rattle.trace_compare.proofs.next_choice.choice_between_spaces.Goals.{else-not-expiry-via-then-not-expiry+else-bytes-ne116, else-not-expiry-via-else-not-expiry}
 

@@ -1,7 +1,6 @@
 use Rattle.std.proofs.Common.{◌∙◌, sym}
 use Rattle.thread_machine.specs.World.{world_of}
-use Rattle.trace_compare.proofs.OwnTrace.{played-counted}
-use Rattle.trace_compare.proofs.Plays.{Plays-played, refusal_of-accepted}
+use Rattle.trace_compare.proofs.Plays.{played-counted, Plays-played, refusal_of-accepted}
 use Rattle.trace_compare.proofs.play.own_line_of_choice.Goals as goal
 
 pub returns-in-Ok-clause-played : goal.returns-in-Ok-clause-played

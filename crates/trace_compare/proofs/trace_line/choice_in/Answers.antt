@@ -1,6 +1,6 @@
 use Rattle.std.proofs.Common.{◌∙◌, ap, arith}
 use Rattle.std.specs.List.{before_first}
-use Rattle.trace_compare.specs.Compare.{choice_named, is_space}
+use Rattle.trace_compare.specs.Reading.{choice_named, is_space}
 use Rattle.trace_compare.proofs.FirstWords.{named_behind, named_none}
 use Rattle.trace_compare.proofs.trace_line.choice_in.Goals as goal
 use Rattle.trace_compare.proofs.trace_line.choice_in.Goals.{then-end-eq0-via-then-end-eq0, then-end-eq0-via-else-end-eq0+then-end-gt13, then-end-eq0-via-else-end-eq0+else-end-gt13+then-line-end, then-end-eq0-via-else-end-eq0+else-end-gt13+else-line-end+then-line-end-ne32}

@@ -1,6 +1,5 @@
-use Rattle.std.proofs.Common.{◌∙◌, ◌+◌, ◌≤◌, Ok, ap, decimal, length, refl, subst}
+use Rattle.std.proofs.Common.{◌∙◌, ◌+◌, ◌≤◌, Ok, ap, decimal, length, refl, subst, arith, take}
 use Rattle.trace_compare.proofs.OwnLines.{own-by}
-use Rattle.std.proofs.Common.{arith, take}
 use Rattle.thread_machine.specs.World.{world_of}
 use Rattle.trace_compare.specs.declared.comparison.Comparison.{Comparison}
 use Rattle.trace_compare.proofs.LineCounts.{own-counted, own-ends}
