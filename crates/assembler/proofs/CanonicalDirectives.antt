@@ -18,7 +18,7 @@ use Rattle.line_reader.specs.declared.statement.Statement.{Statement}
 use Rattle.line_reader.specs.declared.statement.Statement.TheVariants as statement
 use Rattle.line_reader.specs.Symbols.{Name}
 use Rattle.line_reader.specs.Spelling.{greatest_int, greatest_number, SpellsNumber, SpellsReference, SpellReference, SpellFirstPhase, SpellPolicy, Says}
-use Rattle.listing.specs.Listing.{joined, number_word, parent_words, phase_words, policy_words, action_words, phaser_words, barrier_words, thread_words}
+use Rattle.line_reader.specs.Listing.{joined, number_word, parent_words, phase_words, policy_words, action_words, phaser_words, barrier_words, thread_words}
 use Rattle.assembler.proofs.JoinedWords.{IsWord, AreWords, AreWords-append, words_of-line, is_line}
 use Rattle.assembler.proofs.Decimals.{decimal_digits, digits_word, marked_word, marked_name, decimal_spells, int_word}
 

@@ -23,7 +23,7 @@ use Rattle.line_reader.specs.declared.statement.Statement.{Statement}
 use Rattle.line_reader.specs.Words.{lines_of}
 use Rattle.line_reader.specs.Symbols.{Name}
 use Rattle.assembler.specs.Statements.{adds, EachFollows}
-use Rattle.listing.specs.Listing.{line_text, numbered, phaser_words, barrier_words, thread_words, row_words, lines_listed, canonical}
+use Rattle.line_reader.specs.Listing.{line_text, numbered, phaser_words, barrier_words, thread_words, row_words, lines_listed, canonical}
 use Rattle.assembler.specs.Meaning.{referent_or_0, is_known_or_none, is_policy_known, are_known, policy_of, phasers_in, barriers_in, threads_in, rows_in, image_of, SayInOrder, StandsFor}
 use Rattle.assembler.proofs.CanonicalDirectives.{number_said, policy_said, phaser_said, barrier_said, thread_said, phaser_says, barrier_says, thread_says}
 use Rattle.assembler.proofs.CanonicalRows.{row_said, row_known, row_back, row_says}

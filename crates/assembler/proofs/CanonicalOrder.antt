@@ -11,7 +11,7 @@ use Rattle.line_reader.specs.declared.statement.Statement.{Statement}
 use Rattle.line_reader.specs.Symbols.{Name}
 use Rattle.assembler.specs.Statements.{name_in, is_named, gives, adds, count, is_given, is_code, has_code, has_room, is_new, Follows, EachFollows}
 use Rattle.assembler.proofs.CanonicalRows.{row_said}
-use Rattle.listing.specs.Listing.{numbered}
+use Rattle.line_reader.specs.Listing.{numbered}
 use Rattle.assembler.proofs.NumberedLines.{lines_from}
 
 -- ---- lists of lines

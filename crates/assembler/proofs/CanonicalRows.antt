@@ -25,7 +25,7 @@ use Rattle.line_reader.specs.declared.statement.Statement.TheVariants as stateme
 use Rattle.line_reader.specs.Symbols.{Name, operands_in}
 use Rattle.line_reader.specs.Spelling.{greatest_number, SpellsReference, SpellOperands, with_operands, Says}
 use Rattle.assembler.specs.Meaning.{is_operand_known, row_of}
-use Rattle.listing.specs.Listing.{joined, operand_words, row_words}
+use Rattle.line_reader.specs.Listing.{joined, operand_words, row_words}
 use Rattle.assembler.proofs.JoinedWords.{is_plain, IsWord, AreWords, words_of-line, is_line}
 use Rattle.assembler.proofs.Decimals.{decimal_digits, marked_word, decimal_spells, int_spells, int_word}
 

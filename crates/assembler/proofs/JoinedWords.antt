@@ -8,7 +8,7 @@ use Rattle.std.proofs.lemmas.List.Splits.{slice_split_none, slice_split_at}
 use Rattle.std.proofs.lemmas.List.Sums.{AllPass-from_list_all}
 use Rattle.line_reader.specs.Words.{is_line_end, is_allowed, is_blank, begins_comment, words_in, words_of}
 use Rattle.line_reader.specs.Spelling.{IsLine}
-use Rattle.listing.specs.Listing.{spaced}
+use Rattle.line_reader.specs.Listing.{spaced}
 
 -- a byte that is no blank, ends nothing and begins no comment
 abbrev pub is_plain : ℕ → Bool

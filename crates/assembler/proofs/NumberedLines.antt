@@ -9,7 +9,7 @@ use Rattle.line_reader.specs.Words.{is_line_end, without_empty_last, lines_of}
 use Rattle.assembler.proofs.FirstLines.{without_empty_end}
 use Rattle.line_reader.specs.Symbols.{Name}
 use Rattle.line_reader.specs.Spelling.{Says}
-use Rattle.listing.specs.Listing.{joined, line_text, numbered}
+use Rattle.line_reader.specs.Listing.{joined, line_text, numbered}
 use Rattle.assembler.specs.Meaning.{SayInOrder}
 use Rattle.assembler.proofs.JoinedWords.{lines_of-ended}
 

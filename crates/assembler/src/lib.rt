@@ -26,6 +26,6 @@ pub mod meaning;
 
 pub use assembling::{assemble, assemble_named};
 pub use line_reader::asm_fault::{AsmFault, AsmFaultKind};
-pub use listing::disassemble;
+pub use line_reader::disassemble;
 pub use placed::{PlacedFault, assemble_placed};
 pub use symbols::{Symbol, Symbols};

@@ -2,7 +2,7 @@
 ghost use Rattle.std.specs.Prelude.{◌≡◌, ℕ, List, Ok};
 ghost use Rattle.row_code.specs.declared.image.Image.{Image};
 ghost use Rattle.row_code.specs.Image.{IsImage};
-ghost use Rattle.listing.specs.Listing.{canonical};
+ghost use Rattle.line_reader.specs.Listing.{canonical};
 ghost use Rattle.assembler.specs.Meaning.{StandsFor};
 ghost use Rattle.assembler.specs.Passes.{assembled};
 

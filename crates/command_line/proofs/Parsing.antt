@@ -4,7 +4,7 @@ use Rattle.std.specs.Prelude.{Option}
 use Rattle.clap.specs.Words.{App, HasMatchesOf, Row, Text, found_of, is_simple, matches_of, rows_of, subcommand_of, subcommand_rows_of, takes}
 use Rattle.clap.specs.declared.parser.matches.ArgMatches.{ArgMatches}
 use Rattle.clap.proofs.OnLiterals.{clap_on_literals}
-use Rattle.command_help.specs.Commands.{vuthgal}
+use Rattle.command_line.specs.Commands.{vuthgal}
 
 -- so that its words alone tell its matches
 vuthgal_is_simple : is_simple vuthgal ≡ true

@@ -8,8 +8,8 @@ use Rattle.std.specs.Str.Parse.{IsNumeral, digits_value}
 use Rattle.clap.specs.Words.{Row, Text, all_of, first_of, kind_of, matches_of, subcommand_of, takes}
 use Rattle.clap.specs.declared.error.Error.{Error}
 use Rattle.clap.specs.declared.error.kind.ErrorKind.TheVariants.{OutOfMemory, ValueValidation}
-use Rattle.command_help.specs.Commands.{vuthgal}
-use Rattle.expected_end.specs.Expectation.{is_expectation}
+use Rattle.command_line.specs.Commands.{vuthgal}
+use Rattle.trace_text.specs.Expectation.{is_expectation}
 use Rattle.command_line.specs.declared.refusal.Refusal.{Refusal}
 use Rattle.command_line.specs.declared.refusal.Refusal.TheVariants as refusal
 use Rattle.command_line.specs.declared.refusal.WrongOption.{WrongOption}

@@ -1,5 +1,14 @@
-//! The command line: what the words after the program's name ask for.
+//! The command line: the commands as its reader sees them, and what the words after the program's name ask for.
+//!
+//! `commands` is the table of the commands, with the words and options of each and the texts of their help; `request` reads a
+//! line of words by it.
 #![tactic(auto)]
 
+// The names of the commands and of their words, the texts of the help, in lines of at most 80 columns, and the table.
+pub mod commands;
+pub mod names;
+mod texts;
+
+// What is asked for.
 mod refusal;
 pub mod request;

@@ -5,8 +5,8 @@ ghost use Rattle.clap.specs.declared.error.kind.ErrorKind.TheVariants.{OutOfMemo
 ghost use Rattle.std.specs.String.{string_bytes};
 ghost use Rattle.std.specs.Borrow.{Bor};
 ghost use Rattle.std.specs.List.{list_all};
-ghost use Rattle.expected_end.specs.Expectation.{is_expectation};
-ghost use Rattle.command_help.specs.Commands.{vuthgal};
+ghost use Rattle.trace_text.specs.Expectation.{is_expectation};
+ghost use Rattle.command_line.specs.Commands.{vuthgal};
 ghost use Rattle.command_line.specs.Request.{Asks, Fails, Refuses};
 ghost use Rattle.command_line.specs.Request.{IsAsked, IsAskedBy, IsInRange, IsRefused, IsRefusedBy, IsWrong};
 ghost use Rattle.command_line.specs.Request.{IsExpected, IsFlag, IsNoNumber, IsNoState, IsNumber};
@@ -17,12 +17,12 @@ ghost use Rattle.command_line.specs.declared.refusal.WrongOption.TheVariants as 
 use crate::refusal::{Refusal, WrongOption};
 use clap::error::ErrorKind;
 use clap::{ArgMatches, Command, Error};
-use command_help::commands::program;
-use command_help::names::{
+use crate::commands::program;
+use crate::names::{
     ASM, AT, CHOICES, COMPARE, DEBUG, DRAW, EXPECT, EXPLAIN, FILE, LIMIT, LIST, LIVE, OUT, PARTIES,
     PLAN, RACE, ROUNDS, ROWS, RUN, RUNS, SCHEDULE, SHOW, SRC, STEPS, STIR, TRACE, WIDTH, WORD,
 };
-use expected_end::form::is_expectation;
+use trace_text::form::is_expectation;
 use std::alloc::{AllocError, Global};
 
 /// What a command line asks for. A file is named as it was written.

@@ -3,11 +3,11 @@ use Rattle.std.proofs.Common.{◌≡◌, ◌∙◌, ◌≤◌, inl, inr, ℕ, Li
 use Rattle.assembler.specs.Symbols.{SymbolTable}
 use Rattle.commands.specs.Drawing.{IsDrawingIn, IsNamedProgram}
 use Rattle.row_code.specs.declared.image.Image.{Image}
-use Rattle.run_drawing.specs.Picture.{picture}
-use Rattle.run_page.specs.Page.{AreChoicesOf, most_choices}
+use Rattle.pictures.specs.Picture.{picture}
+use Rattle.pictures.specs.Page.{AreChoicesOf, most_choices}
 use Rattle.thread_machine.specs.declared.choice.Choice.{Choice}
 use Rattle.thread_machine.specs.World.{World}
-use Rattle.trace_compare.specs.Start.{Begins}
+use Rattle.trace_text.specs.Start.{Begins}
 use Rattle.workbench.specs.ProgramFile.{IsProgramFile}
 
 -- the program of a file that has names, and of one that has none

@@ -7,3 +7,7 @@ pub mod PlanParts
 pub mod ListedRows
 pub mod Told
 mod Written
+pub mod Counting
+pub mod Reports
+pub mod Reported
+pub mod Shown

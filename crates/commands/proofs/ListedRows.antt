@@ -10,7 +10,7 @@ use Rattle.line_reader.specs.declared.statement.Statement.TheVariants as stateme
 use Rattle.line_reader.specs.Spelling.{Says}
 use Rattle.line_reader.specs.Symbols.{Name}
 use Rattle.line_reader.specs.Words.{is_line_end, lines_of, without_empty_last}
-use Rattle.listing.specs.Listing.{line_text, numbered}
+use Rattle.line_reader.specs.Listing.{line_text, numbered}
 use Rattle.assembler.specs.Meaning.{image_of, rows_in, SayInOrder, StandsFor}
 use Rattle.assembler.specs.Reading.{line_behind}
 use Rattle.assembler.specs.Statements.{Follows}

@@ -7,13 +7,13 @@ use Rattle.workbench.specs.Fault.{status_of}
 use Rattle.commands.specs.PictureFault.{fault_of}
 use Rattle.commands.specs.Picture.{HaveNoPicture}
 use Rattle.row_code.specs.declared.image.Image.{Image}
-use Rattle.run_page.specs.Page.{most_choices}
-use Rattle.run_page.specs.declared.page.PageFault.{PageFault}
-use Rattle.run_page.specs.declared.page.PageFault.TheVariants as none
+use Rattle.pictures.specs.Page.{most_choices}
+use Rattle.pictures.specs.declared.page.PageFault.{PageFault}
+use Rattle.pictures.specs.declared.page.PageFault.TheVariants as none
 use Rattle.schedule_reader.specs.declared.fault.ScheduleFault.{ScheduleFault}
 use Rattle.schedule_reader.specs.declared.fault.ScheduleFault.TheVariants as wrong
 use Rattle.schedule_reader.specs.Schedule.{choices_of, finished_schedule}
-use Rattle.trace_compare.specs.Start.{IsRefused}
+use Rattle.trace_text.specs.Start.{IsRefused}
 use Rattle.workbench.specs.ProgramFile.{IsProgramFile}
 
 pub no_picture : {A : Type 0} (result : Result A PageFault) (fault : PageFault) (told : Fault) (kind : PictureKind) (program schedule : List ℕ)

@@ -2,7 +2,7 @@
 use Rattle.std.proofs.Common.{◌≡◌, ℕ, List, subst}
 use Rattle.commands.specs.Page.{IsPageIn, source_of}
 use Rattle.row_code.specs.declared.image.Image.{Image}
-use Rattle.run_page.specs.Page.{IsPageOf}
+use Rattle.pictures.specs.Page.{IsPageOf}
 use Rattle.workbench.specs.ProgramFile.{IsProgramFile}
 
 pub page_in_file : (program schedule source page : List ℕ) (image : Image) → source ≡ source_of program

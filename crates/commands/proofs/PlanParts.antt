@@ -15,14 +15,14 @@ use Rattle.commands.specs.declared.unplanned.Unplanned.{Unplanned}
 use Rattle.commands.specs.declared.unplanned.Unplanned.TheVariants as why
 use Rattle.line_reader.specs.Seen.{name_seen}
 use Rattle.loader.specs.Program.{IsProgramOf, Program}
-use Rattle.plan_reader.specs.Plan.{words_in_plan}
-use Rattle.plan_reader.specs.Tree.{IsPlan}
-use Rattle.plan_reader.specs.declared.fault.PlanFault.{PlanFault}
-use Rattle.plan_reader.specs.declared.word.Word.{Word}
-use Rattle.planner.specs.Planned.{AreRuns, IsPlanOf, Shows}
-use Rattle.planner.specs.Play.{plays}
-use Rattle.planner.specs.Progress.{Progress, begun}
-use Rattle.planner.specs.declared.planned.Planned.{Planned}
+use Rattle.plans.specs.Plan.{words_in_plan}
+use Rattle.plans.specs.Tree.{IsPlan}
+use Rattle.plans.specs.declared.fault.PlanFault.{PlanFault}
+use Rattle.plans.specs.declared.word.Word.{Word}
+use Rattle.plans.specs.Planned.{AreRuns, IsPlanOf, Shows}
+use Rattle.plans.specs.Play.{plays}
+use Rattle.plans.specs.Progress.{Progress, begun}
+use Rattle.plans.specs.declared.planned.Planned.{Planned}
 use Rattle.row_code.specs.declared.image.Image.{Image}
 use Rattle.workbench.specs.Fault.{status_of}
 use Rattle.workbench.specs.Input.{GivesAll}

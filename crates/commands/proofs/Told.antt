@@ -4,8 +4,8 @@ use Rattle.std.specs.Prelude.{Option, is_none}
 use Rattle.std.specs.Io.KnownBytes.{Appends}
 use Rattle.std.proofs.KnownBytes.{Appends-trans}
 use Rattle.thread_machine.specs.declared.choice.Choice.{Choice}
-use Rattle.trace_choices.specs.Naming.{HasRead, Naming}
-use Rattle.trace_choices.specs.Writing.{HasWrittenUpTo, line_by}
+use Rattle.trace_compare.specs.Naming.{HasRead, Naming}
+use Rattle.trace_compare.specs.Writing.{HasWrittenUpTo, line_by}
 use Rattle.commands.specs.Choices.{HasToldChoices, told_line}
 
 -- the choices were written, with this answer

@@ -5,8 +5,8 @@ use Rattle.schedule_reader.specs.declared.run.Run.{Run}
 use Rattle.schedule_reader.specs.Joined.{AreJoined}
 use Rattle.schedule_reader.specs.Schedule.{IsRun, choices_of}
 use Rattle.schedule_reader.specs.Text.{schedule_text}
-use Rattle.trace_choices.specs.Naming.{HasRead, Naming}
-use Rattle.trace_choices.specs.Writing.{line_by}
+use Rattle.trace_compare.specs.Naming.{HasRead, Naming}
+use Rattle.trace_compare.specs.Writing.{line_by}
 use Rattle.workbench.specs.Fault.{counted_line}
 
 -- a line with a token for each run

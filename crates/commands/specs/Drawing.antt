@@ -5,8 +5,8 @@ use Rattle.assembler.specs.Symbols.{SymbolTable, symbols_in}
 use Rattle.row_code.specs.Image.{IsImage}
 use Rattle.row_code.specs.Reading.{image_of}
 use Rattle.row_code.specs.declared.image.Image.{Image}
-use Rattle.run_drawing.specs.Picture.{IsPictureOf}
-use Rattle.run_page.specs.Page.{AreChoicesOf, most_choices}
+use Rattle.pictures.specs.Picture.{IsPictureOf}
+use Rattle.pictures.specs.Page.{AreChoicesOf, most_choices}
 use Rattle.thread_machine.specs.declared.choice.Choice.{Choice}
 use Rattle.workbench.specs.ProgramFile.{is_image_file}
 

@@ -8,3 +8,7 @@ pub mod Rows
 pub mod Showing
 pub mod Unplanned
 pub mod Planning
+pub mod Ends
+pub mod Outcomes
+pub mod Pauses
+pub mod Runs

@@ -1,7 +1,7 @@
 -- The page of a program and a schedule.
 use Rattle.std.specs.Prelude.{ℕ, if◌then◌else◌, List, []}
 use Rattle.row_code.specs.declared.image.Image.{Image}
-use Rattle.run_page.specs.Page.{IsPageOf}
+use Rattle.pictures.specs.Page.{IsPageOf}
 use Rattle.workbench.specs.ProgramFile.{IsProgramFile, is_image_file}
 
 -- what a page tells of a program as it was written: its text, nothing of an image

@@ -2,9 +2,9 @@
 use Rattle.std.specs.Prelude.{◌≡◌, ◌<◌, ℕ, List, Some, None, length}
 use Rattle.loader.specs.declared.load_fault.LoadFault.{LoadFault}
 use Rattle.row_code.specs.declared.image.Image.{Image}
-use Rattle.run_page.specs.Page.{most_choices}
+use Rattle.pictures.specs.Page.{most_choices}
 use Rattle.schedule_reader.specs.Schedule.{choices_of, finished_schedule}
-use Rattle.trace_compare.specs.Start.{IsRefused}
+use Rattle.trace_text.specs.Start.{IsRefused}
 use Rattle.workbench.specs.declared.fault.Fault.{Fault}
 use Rattle.workbench.specs.declared.fault.Fault.TheVariants as fault
 use Rattle.workbench.specs.declared.fault.PictureKind.{PictureKind}

@@ -1,8 +1,8 @@
 -- Why there is no picture of a run, in the words of the commands.
-use Rattle.run_page.specs.declared.page.PageFault.{PageFault}
-use Rattle.run_page.specs.declared.page.PageFault.TheVariants as page
-use Rattle.trace_compare.specs.declared.start.StartFault.{StartFault}
-use Rattle.trace_compare.specs.declared.start.StartFault.TheVariants as start
+use Rattle.pictures.specs.declared.page.PageFault.{PageFault}
+use Rattle.pictures.specs.declared.page.PageFault.TheVariants as page
+use Rattle.trace_text.specs.declared.start.StartFault.{StartFault}
+use Rattle.trace_text.specs.declared.start.StartFault.TheVariants as start
 use Rattle.workbench.specs.declared.fault.Fault.{Fault}
 use Rattle.workbench.specs.declared.fault.Fault.TheVariants as fault
 use Rattle.workbench.specs.declared.fault.PictureKind.{PictureKind}

@@ -7,14 +7,14 @@ use Rattle.instruction_table.specs.declared.shape.OperandKind.TheVariants.{Threa
 use Rattle.loader.specs.Fault.{first_fault}
 use Rattle.loader.specs.Program.{Program, IsProgramOf}
 use Rattle.row_code.specs.declared.image.Image.{Image}
-use Rattle.plan_reader.specs.Plan.{words_in_plan}
-use Rattle.plan_reader.specs.Tree.{Plan, words_of_plan}
-use Rattle.planner.specs.Planned.{AreRuns}
-use Rattle.planner.specs.Play.{plays}
-use Rattle.planner.specs.Progress.{Progress, begun}
+use Rattle.plans.specs.Plan.{words_in_plan}
+use Rattle.plans.specs.Tree.{Plan, words_of_plan}
+use Rattle.plans.specs.Planned.{AreRuns}
+use Rattle.plans.specs.Play.{plays}
+use Rattle.plans.specs.Progress.{Progress, begun}
 use Rattle.schedule_reader.specs.Schedule.{choices_of}
 use Rattle.schedule_reader.specs.declared.run.Run.{Run}
-use Rattle.trace_compare.specs.Start.{IsRefused}
+use Rattle.trace_text.specs.Start.{IsRefused}
 use Rattle.workbench.specs.Input.{GivesAll}
 use Rattle.workbench.specs.declared.fault.Fault.{Fault}
 use Rattle.workbench.specs.declared.fault.Fault.TheVariants as fault

@@ -12,7 +12,7 @@ use Rattle.line_reader.specs.declared.symbolic_row.SymbolicRow.{SymbolicRow}
 use Rattle.line_reader.specs.Spelling.{Says}
 use Rattle.line_reader.specs.Symbols.{Name}
 use Rattle.line_reader.specs.Words.{lines_of}
-use Rattle.listing.specs.Listing.{line_text, numbered, row_words}
+use Rattle.line_reader.specs.Listing.{line_text, numbered, row_words}
 use Rattle.assembler.specs.Meaning.{image_of, row_of, SayInOrder, StandsFor}
 use Rattle.assembler.specs.Symbols.{row_line}
 use Rattle.workbench.specs.declared.fault.Fault.{Fault}

@@ -1,7 +1,7 @@
 -- How it is told that a plan has no schedule.
 use Rattle.std.specs.Prelude.{ℕ, List, ◌++◌, Option, Some, None, codes}
 use Rattle.std.specs.Fmt.{decimal}
-use Rattle.plan_reader.specs.FaultNumber.{plan_number}
+use Rattle.plans.specs.FaultNumber.{plan_number}
 use Rattle.workbench.specs.Fault.{line_of, refusal_status, status_of}
 use Rattle.commands.specs.declared.unplanned.Unplanned.{Unplanned}
 use Rattle.commands.specs.declared.unplanned.Unplanned.TheVariants as why

@@ -1,13 +1,13 @@
 ghost use Rattle.std.specs.Prelude.{◌≡◌, ◌⊎◌, Err, IsTrue, IfErr, IfOk, is_none};
-ghost use Rattle.trace_choices.specs.Naming.{Naming};
-ghost use Rattle.trace_choices.specs.Writing.{HasWrittenPart};
-ghost use Rattle.trace_compare.specs.RunText.{GivesOnAndOn};
+ghost use Rattle.trace_compare.specs.Naming.{Naming};
+ghost use Rattle.trace_compare.specs.Writing.{HasWrittenPart};
+ghost use Rattle.trace_text.specs.RunText.{GivesOnAndOn};
 ghost use Rattle.workbench.specs.declared.fault.Fault.{Fault};
 ghost use Rattle.commands.specs.Choices.{HasToldChoices};
 
 use byte_ports::{Sink, Source};
 use std::alloc::Global;
-use trace_choices::writing::{WritingFault, write_choices};
+use trace_compare::writing::{WritingFault, write_choices};
 use workbench::fault::{Fault, push_counted_line};
 
 /// Writes the schedule of the trace in `trace` to `output`, as one line: its choices up to its state, choices that repeat

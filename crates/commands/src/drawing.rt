@@ -11,10 +11,10 @@ use crate::picture::Picture;
 use crate::picture_fault::{fault_of, start_fault};
 use assembler::{Symbols, assemble_named};
 use row_code::{Image, is_image_file, read_image};
-use run_drawing::picture::picture;
-use run_page::choices::choices_in;
+use pictures::picture::picture;
+use pictures::choices::choices_in;
 use std::alloc::Global;
-use trace_compare::start::first_machine;
+use trace_text::start::first_machine;
 use workbench::fault::{Fault, PictureKind};
 
 /// A drawing whose lines have at most `width` columns: a thread a column, a line for each choice.

@@ -1,7 +1,7 @@
 //! The rows of an image.
 ghost use Rattle.std.specs.Prelude.{◌≡◌, ◌⊎◌, ◌≢◌, ◌++◌, Err, IfErr, IfOk, OnOk, true};
 ghost use Rattle.std.specs.List.{flat_map};
-ghost use Rattle.listing.specs.Listing.{line_text, numbered};
+ghost use Rattle.line_reader.specs.Listing.{line_text, numbered};
 ghost use Rattle.row_code.specs.declared.image.Image.{Image};
 ghost use Rattle.commands.specs.Rows.{IsRowListing, image_row_words};
 ghost use Rattle.workbench.specs.Fault.{status_of};
@@ -9,13 +9,13 @@ ghost use Rattle.workbench.specs.ProgramFile.{IsNoProgramFor, is_image_file};
 
 use instruction_table::Row;
 use itoa::Buffer;
-use listing::rows::push_row;
+use line_reader::listing::rows::push_row;
 use row_code::read_image;
 use std::alloc::{AllocError, Global};
 use workbench::fault::Fault;
 
 /// A row behind its number.
-#[tactic(auto, using(listing::proofs::ListedTexts::word_steps))]
+#[tactic(auto, using(line_reader::proofs::ListedTexts::word_steps))]
 fn push_numbered(listing: &mut Vec<u8>, n: u64, row: Row) -> Result<(), AllocError>
     ensures { OnOk result (listing.new.items
         ≡ listing.old.items ++ line_text (image_row_words n row)) }
@@ -25,7 +25,7 @@ fn push_numbered(listing: &mut Vec<u8>, n: u64, row: Row) -> Result<(), AllocErr
     push_row(listing, row)
 }
 
-#[tactic(auto, using(listing::proofs::ListedTexts::text_steps))]
+#[tactic(auto, using(line_reader::proofs::ListedTexts::text_steps))]
 fn push_image_rows(listing: &mut Vec<u8>, rows: &[Row]) -> Result<(), AllocError>
     ensures { OnOk result (listing.new.items
         ≡ listing.old.items ++ flat_map line_text (numbered image_row_words 0 rows.now)) }

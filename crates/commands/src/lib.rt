@@ -1,31 +1,50 @@
 //! The commands beyond those of `workbench`: pictures of a run, listed rows, schedules of traces and plans, lines that
-//! differ, and a debugger for a person.
+//! differ, a debugger for a person, and many live runs of one program.
 //!
 //! `show` and `draw` are `make` and `make_of_both`: a picture is made in memory, and then written at once. `show_comparison`
 //! adds to the verdict of `compare_cmd` the lines that differ. `GuidedCommands` is where `debug` takes a person's lines from.
+//! `report_runs` plays a program on real threads as often as asked, and writes a line for each state that a run ended in; a
+//! `Stirred` gate lets workers pause by a seed, so that rare orders come about, and each run replays all the same.
 #![tactic(auto)]
 
+// Schedules of traces and plans, lines that differ, and rows.
 pub mod choices;
 pub mod difference;
-pub mod drawing;
-mod guided;
 mod image_rows;
-mod law;
 pub mod lines_seen;
-mod may_go;
-mod mirror;
-mod nowhere;
+pub mod plan;
+pub mod rows;
+mod text_rows;
+pub mod unplanned;
+
+// Pictures of a run.
+pub mod drawing;
 pub mod page;
 pub mod picture;
 pub mod picture_fault;
 pub mod pictures;
-pub mod plan;
-mod played;
-pub mod rows;
 mod shown;
-mod text_rows;
-pub mod unplanned;
 
+// The debugger for a person.
+mod guided;
+mod may_go;
+mod mirror;
+mod nowhere;
+mod played;
+
+// Many live runs.
+pub mod command;
+pub mod end_state;
+pub mod outcomes;
+pub mod pause;
+pub mod pauses;
+mod report;
+mod runs;
+pub mod stirred;
+
+mod law;
+
+pub use command::{Asked, report_runs};
 pub use difference::show_comparison;
 pub use guided::GuidedCommands;
 pub use law::{
@@ -33,4 +52,5 @@ pub use law::{
     a_row_is_told_with_the_line_that_says_it,
 };
 pub use lines_seen::LinesSeen;
+pub use pauses::Pauses;
 pub use rows::list_rows;

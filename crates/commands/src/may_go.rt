@@ -6,8 +6,8 @@ use assembler::Symbols;
 use byte_ports::{Failed, Sink};
 use instruction_table::OperandKind;
 use itoa::Buffer;
-use run_drawing::caption::{push_called, push_row};
-use run_drawing::line::row_of;
+use pictures::caption::{push_called, push_row};
+use pictures::line::row_of;
 use std::alloc::{AllocError, Global};
 use thread_machine::{Machine, Status};
 

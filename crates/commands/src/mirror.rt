@@ -10,7 +10,7 @@ use byte_ports::{Failed, Sink};
 use debugger::Debugger;
 use schedule_reader::Run;
 use std::alloc::{AllocError, Global};
-use trace_compare::start::first_machine;
+use trace_text::start::first_machine;
 use workbench::fault::Fault;
 
 /// How many choices can be taken back.

@@ -9,7 +9,7 @@ ghost use Rattle.workbench.specs.Input.{most_bytes};
 use crate::picture::Picture;
 use crate::picture_fault::fault_of;
 use row_code::is_image_file;
-use run_page::page::page;
+use pictures::page::page;
 use std::alloc::Global;
 use workbench::fault::{Fault, PictureKind};
 use workbench::program_file::program_in;

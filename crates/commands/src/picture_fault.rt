@@ -2,8 +2,8 @@
 ghost use Rattle.std.specs.Prelude.{◌≡◌};
 ghost use Rattle.commands.specs.PictureFault.{fault_of, start_fault};
 
-use run_page::page::PageFault;
-use trace_compare::start::StartFault;
+use pictures::page::PageFault;
+use trace_text::start::StartFault;
 use workbench::fault::{Fault, PictureKind};
 
 /// Where a schedule has no picture of this kind.

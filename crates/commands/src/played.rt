@@ -4,8 +4,8 @@ use byte_ports::{Failed, Sink};
 use schedule_reader::{Reader, Run, ScheduleFault};
 use std::alloc::{AllocError, Global};
 use thread_machine::Choice;
-use trace_choices::writing::push_token;
-use trace_compare::LineEnd;
+use trace_compare::writing::push_token;
+use trace_text::LineEnd;
 
 /// How often a run names its choice at most.
 const MOST_TIMES: u32 = 1_000_000_000;

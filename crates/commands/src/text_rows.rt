@@ -3,7 +3,7 @@ ghost use Rattle.std.specs.Prelude.{◌≡◌, ◌⊎◌, ◌≢◌, ◌++◌, �
 ghost use Rattle.std.specs.List.{flat_map, slice_split};
 ghost use Rattle.line_reader.specs.Seen.{name_seen};
 ghost use Rattle.line_reader.specs.Words.{is_line_end, lines_of};
-ghost use Rattle.listing.specs.Listing.{line_text, numbered};
+ghost use Rattle.line_reader.specs.Listing.{line_text, numbered};
 ghost use Rattle.commands.specs.Rows.{IsRowListing, line_at, text_row_words, trimmed};
 ghost use Rattle.workbench.specs.Fault.{status_of};
 ghost use Rattle.workbench.specs.ProgramFile.{IsNoProgramFor, is_image_file};
@@ -41,7 +41,7 @@ fn trimmed(line: &[u8]) -> &[u8]
 }
 
 /// A row's line behind the two numbers.
-#[tactic(auto, using(listing::proofs::ListedTexts::word_steps))]
+#[tactic(auto, using(line_reader::proofs::ListedTexts::word_steps))]
 fn push_text_row(
     listing: &mut Vec<u8>,
     row: u64,
@@ -60,7 +60,7 @@ fn push_text_row(
 }
 
 /// The rows that stand in the lines of these numbers.
-#[tactic(auto, using(listing::proofs::ListedTexts::text_steps))]
+#[tactic(auto, using(line_reader::proofs::ListedTexts::text_steps))]
 fn push_text_rows(listing: &mut Vec<u8>, lines: &[&[u8]], numbers: &[u64]) -> Result<(), AllocError>
     ensures { OnOk result (listing.new.items ≡ listing.old.items
         ++ flat_map line_text (numbered (text_row_words (map name_seen lines.now)) 0 numbers.now)) }

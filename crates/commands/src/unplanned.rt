@@ -6,7 +6,7 @@ ghost use Rattle.commands.specs.declared.unplanned.Unplanned.TheVariants as why;
 
 use byte_ports::{Failed, Sink};
 use itoa::Buffer;
-use plan_reader::fault::PlanFault;
+use plans::fault::PlanFault;
 use workbench::fault::Fault;
 
 /// Why no schedule of a plan is written.

@@ -8,8 +8,8 @@ use Rattle.thread_machine.specs.declared.fault.StepFault.{StepFault}
 use Rattle.thread_machine.specs.declared.fault.StepFault.TheVariants as fault
 use Rattle.thread_machine.specs.World.{StoredWorld, world_of}
 use Rattle.thread_machine.specs.Step.{refusal_of}
-use Rattle.trace_compare.specs.State.{state_text}
-use Rattle.trace_compare.specs.Trace.{lines_of}
+use Rattle.trace_text.specs.State.{state_text}
+use Rattle.trace_text.specs.Trace.{lines_of}
 use Rattle.debugger.specs.declared.stop.Stop.{Stop}
 use Rattle.debugger.specs.declared.stop.Stop.TheVariants as stop
 use Rattle.debugger.specs.Session.{Session, went_back}

@@ -14,9 +14,9 @@ use Rattle.schedule_reader.specs.declared.run.Run.{Run}
 use Rattle.schedule_reader.specs.Schedule.{finished_schedule, choices_of}
 use Rattle.thread_machine.specs.declared.choice.Choice.{Choice}
 use Rattle.thread_machine.specs.World.{World}
-use Rattle.trace_compare.specs.declared.run_end.RunEnd.{RunEnd}
-use Rattle.trace_compare.specs.Start.{Begins}
-use Rattle.trace_compare.specs.Trace.{trace_of}
+use Rattle.trace_text.specs.declared.run_end.RunEnd.{RunEnd}
+use Rattle.trace_text.specs.Start.{Begins}
+use Rattle.trace_text.specs.Trace.{trace_of}
 use Rattle.trace_compare.proofs.OneTrace.{trace-first}
 use Rattle.workbench.specs.declared.fault.Fault.{Fault}
 use Rattle.workbench.specs.Debug.{Debugs}

@@ -21,7 +21,7 @@ use Rattle.thread_machine.specs.declared.choice.Choice.{Choice}
 use Rattle.thread_machine.specs.World.{World, StoredWorld, IsFirstOf, world_of}
 use Rattle.schedule_reader.specs.declared.run.Run.{Run}
 use Rattle.schedule_reader.specs.Schedule.{finished_schedule, choices_of}
-use Rattle.trace_compare.specs.Trace.{trace_of}
+use Rattle.trace_text.specs.Trace.{trace_of}
 use Rattle.thread_runner.specs.declared.ending.Ending.{Ending}
 use Rattle.thread_runner.specs.Endings.{ending_of}
 use Rattle.thread_runner.specs.Replay.{IsReplay}

@@ -10,7 +10,7 @@ use loader::LoadFault;
 use row_code::Image;
 use std::alloc::Global;
 use thread_machine::{Choice, Machine, StepFault};
-use trace_compare::start::{StartFault, first_machine};
+use trace_text::start::{StartFault, first_machine};
 
 /// Plays one choice. Whether it was accepted.
 #[tactic(auto, using(crate::proofs::Scenes::led_on, crate::proofs::Scenes::led_nowhere))]

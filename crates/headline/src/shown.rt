@@ -19,7 +19,7 @@ use std::alloc::Global;
 use std::sync::Wait;
 use std::thread::Threads;
 use thread_runner::Gate;
-use trace_compare::RunEnd;
+use trace_text::RunEnd;
 use workbench::fault::Fault;
 
 /// Plays the program of a text under the schedule that stands behind its line `.run`, writes the trace, and answers how the

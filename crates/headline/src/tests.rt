@@ -6,8 +6,8 @@ use row_code::{Image, read_image};
 use std::alloc::Global;
 use std::test::Fail;
 use thread_machine::{Choice, Machine};
-use trace_compare::start::StartFault;
-use trace_compare::state::state_text;
+use trace_text::start::StartFault;
+use trace_text::state::state_text;
 
 /// Rows `paaa r0 p0`, `out r0` and `halt`, two threads that begin at the first, and a phaser of two parties.
 const MEETING: &[u8] = b"PBW1\x01\0\0\0\x02\0\x03\0\

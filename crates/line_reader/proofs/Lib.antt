@@ -8,3 +8,5 @@ pub mod SpelledNumbers
 pub mod SpelledOperands
 pub mod SpelledDirectives
 pub mod KeptRows
+pub mod ListedTexts
+pub mod OneDigit

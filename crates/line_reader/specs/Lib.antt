@@ -7,3 +7,4 @@ pub mod Reading
 pub mod Seen
 pub mod KeptRow
 pub mod FaultNumber
+pub mod Listing

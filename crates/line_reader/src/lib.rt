@@ -1,4 +1,4 @@
-//! What one line of a program's text says: its words, and what they spell.
+//! What one line of a program's text says: its words, and what they spell, and the lines that an image is written in.
 //!
 //! A line is read alone: which names there are, and what stood before, is the assembler's matter. `specs/Spelling.antt` is
 //! the grammar, `specs/Reading.antt` says which of a line's faults is reported.
@@ -24,3 +24,8 @@ mod argument;
 pub mod asm_fault;
 pub mod directive;
 pub mod wrong_word;
+
+// How the lines of an image are written.
+pub mod listing;
+
+pub use listing::disassemble;

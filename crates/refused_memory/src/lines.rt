@@ -5,8 +5,8 @@ use crate::programs::{MEETING, MEETING_AT_FIRST, machine_of};
 use crate::trial::{Answer, Trial, answer_in_bytes, memory_if, right_if};
 use std::alloc::{AllocError, Global};
 use thread_machine::{Choice, Event, Mark, What};
-use trace_compare::line::{event_line, refusal_line};
-use trace_compare::state::state_text;
+use trace_text::line::{event_line, refusal_line};
+use trace_text::state::state_text;
 
 const CHOICE: Choice = Choice {
     thread: 63,

@@ -4,8 +4,8 @@ use crate::marks::{self, Refusal};
 use crate::programs::{MEETING, MEETING_CHOICES, image_of, meeting_after};
 use crate::trial::{Answer, Trial, answer_in_bytes, right_if};
 use assembler::{Symbols, assemble_named};
-use run_drawing::picture::picture;
-use run_page::page::{PageFault, page};
+use pictures::picture::picture;
+use pictures::page::{PageFault, page};
 use std::alloc::{AllocError, Global};
 
 /// Whether a page is there from its beginning to its end. What stands on it is compared in `tests/show` and `tests/page`.

@@ -5,7 +5,7 @@ use loader::{Loaded, load};
 use row_code::Image;
 use std::alloc::{AllocError, Global};
 use thread_machine::{Choice, Machine};
-use trace_compare::state::state_text;
+use trace_text::state::state_text;
 
 /// Two threads meet at a phaser and put out what they got.
 pub const MEETING: &[u8] =

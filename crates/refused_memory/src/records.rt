@@ -7,8 +7,8 @@ use byte_ports::{MemorySink, MemorySource};
 use std::alloc::{AllocError, Global};
 use thread_machine::{Event, Machine};
 use thread_runner::{Journaled, TakeFault};
-use trace_compare::run::run_text;
-use trace_compare::state::state_text;
+use trace_text::run::run_text;
+use trace_text::state::state_text;
 
 /// Whether a schedule, played from the beginning, leads to this machine.
 pub fn leads_to(

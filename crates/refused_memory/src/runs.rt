@@ -5,7 +5,8 @@ use crate::programs::{MEETING, image_of};
 use crate::trial::{Answer, Trial, memory_if, right_if};
 use byte_ports::{MemorySink, MemorySource};
 use std::alloc::{AllocError, Global};
-use trace_compare::{CompareFault, RunFault, Verdict, compare, run_text};
+use trace_compare::{CompareFault, Verdict, compare};
+use trace_text::{RunFault, run_text};
 
 /// A program, a schedule, and the trace: the lines of the choices, and the state.
 #[derive(Clone, Copy)]

@@ -3,8 +3,8 @@ use byte_ports::{MemorySink, MemorySource};
 use schedule_reader::write_schedule;
 use std::alloc::Global;
 use std::test::Fail;
-use trace_choices::naming::{Named, NamingFault, choices_in};
-use trace_choices::writing::{WritingFault, write_choices};
+use trace_compare::naming::{Named, NamingFault, choices_in};
+use trace_compare::writing::{WritingFault, write_choices};
 
 /// Traces with their schedules.
 const CASES: [(&str, &str); 12] = [

@@ -3,7 +3,8 @@ use crate::programs::{MEETING, image_of};
 use byte_ports::{MemorySink, MemorySource};
 use std::alloc::{AllocError, Global};
 use std::test::Fail;
-use trace_compare::{CompareFault, RunFault, Verdict, compare, run_text};
+use trace_compare::{CompareFault, Verdict, compare};
+use trace_text::{RunFault, run_text};
 
 /// A thread that goes round for ever.
 const ROUND: &str = ".thread a m\nm: jmp m\n";

@@ -1,5 +1,5 @@
-//! Tests of runs by public calls, of what no command of the program shows: ports that fail, streams cut anywhere, threads in
-//! a forced order.
+//! Tests of runs, plans and commands by public calls, of what no command of the program shows: ports that fail, streams cut
+//! anywhere, threads in a forced order.
 #![tactic(auto)]
 
 #[cfg(test)]
@@ -8,6 +8,8 @@ mod choices;
 mod comparisons;
 #[cfg(test)]
 mod failing;
+#[cfg(test)]
+mod failing_ports;
 #[cfg(test)]
 mod images;
 #[cfg(test)]
@@ -20,6 +22,8 @@ mod lives;
 mod names;
 #[cfg(test)]
 mod orders;
+#[cfg(test)]
+mod plans;
 #[cfg(test)]
 mod programs;
 #[cfg(test)]

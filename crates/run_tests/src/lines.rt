@@ -1,7 +1,7 @@
 //! Lines of numbers that no run comes to, behind what is there.
 use std::test::Fail;
 use thread_machine::{Choice, Event, Mark, What};
-use trace_compare::line::{event_line, refusal_line};
+use trace_text::line::{event_line, refusal_line};
 
 const CHOICE: Choice = Choice {
     thread: 63,

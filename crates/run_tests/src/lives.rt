@@ -6,7 +6,8 @@ use std::sync::Wait;
 use std::test::Fail;
 use std::thread::Threads;
 use thread_runner::{Ending, LiveRun, NoGate, run_live};
-use trace_compare::{Verdict, compare, run_text};
+use trace_compare::{Verdict, compare};
+use trace_text::run_text;
 
 /// A thread that waits for another one's arrival, which never comes.
 const LONELY: &str = ".phaser p 2\n.thread a main\nmain: paaa r0 p\nhalt\n";

@@ -4,8 +4,8 @@ use byte_ports::MemorySink;
 use debugger::{CommandFault, Debugger};
 use std::alloc::Global;
 use std::test::Fail;
-use trace_compare::start::first_machine;
-use trace_compare::state::state_text;
+use trace_text::start::first_machine;
+use trace_text::state::state_text;
 
 /// Commands of a session, one after the other. The first breakpoint stops the first `g`, and is cleared before the second.
 static COMMANDS: [&str; 10] = [

@@ -14,10 +14,10 @@ use Rattle.thread_machine.specs.World.{World}
 use Rattle.trace_compare.specs.declared.comparison.Verdict.{Verdict}
 use Rattle.trace_compare.specs.declared.comparison.Verdict.TheVariants as verdict
 use Rattle.trace_compare.specs.Comparing.{StandsFrom, line_ends}
-use Rattle.trace_compare.specs.Trace.{Plays}
+use Rattle.trace_text.specs.Trace.{Plays}
 use Rattle.trace_compare.proofs.OwnTrace.{own-line}
 use Rattle.trace_compare.proofs.PieceLines.{line-with_lf, none-before}
-use Rattle.trace_compare.proofs.WholeLines.{no_end}
+use Rattle.trace_text.proofs.WholeLines.{no_end}
 
 pub ends-append : (xs ys : List ℕ) → line_ends (xs ++ ys) ≡ line_ends xs + line_ends ys
 ends-append xs ys = sum_by-append (λ b. cond (is_line_end b) 1 0) xs ys

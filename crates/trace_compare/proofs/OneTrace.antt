@@ -10,9 +10,9 @@ use Rattle.thread_machine.specs.World.{World, IsFirstOf, first_of}
 use Rattle.thread_machine.specs.Ready.{outcome_of_choice}
 use Rattle.thread_machine.specs.Step.{Played, played, refusal_of}
 use Rattle.thread_machine.specs.Execution.{Execution, execution, execution_by}
-use Rattle.trace_compare.specs.Lines.{event_text}
-use Rattle.trace_compare.specs.State.{state_text}
-use Rattle.trace_compare.specs.Trace.{lines_by, lines_of, trace_of}
+use Rattle.trace_text.specs.Lines.{event_text}
+use Rattle.trace_text.specs.State.{state_text}
+use Rattle.trace_text.specs.Trace.{lines_by, lines_of, trace_of}
 use Rattle.trace_compare.proofs.OneVerdict.{as-stored, plays-same, played-event, played-world, refusal-same, state-same, stored}
 
 after-same : (phasers : List Stored) (world : World) (choice : Choice)

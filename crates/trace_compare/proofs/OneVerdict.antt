@@ -19,18 +19,18 @@ use Rattle.thread_machine.specs.Execution.{Execution, execution, execution_by}
 use Rattle.trace_compare.specs.declared.comparison.Verdict.{Verdict}
 use Rattle.trace_compare.specs.declared.comparison.Verdict.TheVariants as verdict
 use Rattle.trace_compare.specs.Compare.{HasWrittenTheSame, IsFoundTheSame, choice_verdict, lines_verdict, otherwise, state_verdict, verdict_of}
-use Rattle.trace_compare.specs.Reading.{choice_in, is_state_line}
-use Rattle.trace_compare.specs.Lines.{event_text}
-use Rattle.trace_compare.specs.Start.{Begins}
-use Rattle.trace_compare.specs.State.{state_text}
-use Rattle.trace_compare.specs.Trace.{lines_by, lines_of, trace_of}
-use Rattle.trace_compare.proofs.StateLines.{parts_text}
+use Rattle.trace_text.specs.Reading.{choice_in, is_state_line}
+use Rattle.trace_text.specs.Lines.{event_text}
+use Rattle.trace_text.specs.Start.{Begins}
+use Rattle.trace_text.specs.State.{state_text}
+use Rattle.trace_text.specs.Trace.{lines_by, lines_of, trace_of}
+use Rattle.trace_text.proofs.StateLines.{parts_text}
 use Rattle.trace_compare.proofs.StoredOtherwise.{outcome-same, some_ready-same, stored_in}
 use Rattle.schedule_reader.specs.declared.run.Run.{Run}
 use Rattle.schedule_reader.specs.Schedule.{IsRun, choices_of}
-use Rattle.trace_compare.specs.declared.run_end.RunEnd.{RunEnd}
-use Rattle.trace_compare.specs.RunText.{AreTraced}
-use Rattle.trace_compare.specs.Outcome.{EndsFrom}
+use Rattle.trace_text.specs.declared.run_end.RunEnd.{RunEnd}
+use Rattle.trace_text.specs.RunText.{AreTraced}
+use Rattle.trace_text.specs.Outcome.{EndsFrom}
 use Rattle.trace_compare.proofs.NamedThreads.{named-runs, named-threads}
 use Rattle.trace_compare.proofs.OwnTrace.{IsNamed, own-trace}
 

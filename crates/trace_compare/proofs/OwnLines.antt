@@ -20,16 +20,16 @@ use Rattle.thread_machine.specs.Execution.{execution}
 use Rattle.trace_compare.specs.declared.comparison.Comparison.{Comparison}
 use Rattle.trace_compare.specs.declared.comparison.Verdict.{Verdict}
 use Rattle.trace_compare.specs.declared.comparison.Verdict.TheVariants as verdict
-use Rattle.trace_compare.specs.Reading.{choice_in, is_space, is_state_line, BeginsWithName, NamesBehind}
+use Rattle.trace_text.specs.Reading.{choice_in, is_space, is_state_line, BeginsWithName, NamesBehind}
 use Rattle.trace_compare.specs.Compare.{choice_verdict, lines_verdict, otherwise}
 use Rattle.trace_compare.specs.Comparing.{bytes_left, lines_left}
-use Rattle.trace_compare.specs.Lines.{choice_text, event_text}
-use Rattle.trace_compare.specs.Trace.{Plays, lines_by, lines_of}
-use Rattle.trace_compare.proofs.Naming.{choice-part, line_names, line-no_state}
+use Rattle.trace_text.specs.Lines.{choice_text, event_text}
+use Rattle.trace_text.specs.Trace.{Plays, lines_by, lines_of}
+use Rattle.trace_text.proofs.Naming.{choice-part, line_names, line-no_state}
 use Rattle.trace_compare.proofs.OwnTrace.{choice-same, own-line}
 use Rattle.trace_compare.proofs.PieceLines.{line-and_rest, line-with_lf, none-before}
 use Rattle.trace_compare.proofs.Verdicts.{choice-other, left-lines, line_and_more, lines-choice, split_some}
-use Rattle.trace_compare.proofs.WholeLines.{no_end}
+use Rattle.trace_text.proofs.WholeLines.{no_end}
 
 -- bytes begin as the line of a choice with this number does
 abbrev BeginsAsLine : List ℕ → ℕ → Choice → Type 0

@@ -15,17 +15,17 @@ use Rattle.thread_machine.specs.Ready.{outcome_of_choice}
 use Rattle.thread_machine.specs.Step.{Played, is_used_up, played, refusal_of}
 use Rattle.thread_machine.specs.Execution.{execution, execution_by}
 use Rattle.trace_compare.specs.declared.comparison.Verdict.TheVariants as verdict
-use Rattle.trace_compare.specs.Brief.{IsBrief}
+use Rattle.trace_text.specs.Brief.{IsBrief}
 use Rattle.trace_compare.specs.Compare.{choice_verdict, lines_verdict, otherwise, state_verdict}
-use Rattle.trace_compare.specs.Reading.{is_state_line}
-use Rattle.trace_compare.specs.Lines.{event_text}
-use Rattle.trace_compare.specs.State.{state_text}
-use Rattle.trace_compare.specs.Trace.{lines_by, lines_of, trace_of}
-use Rattle.trace_compare.proofs.Naming.{IsOwnLine, event-own, refusal-own}
+use Rattle.trace_text.specs.Reading.{is_state_line}
+use Rattle.trace_text.specs.Lines.{event_text}
+use Rattle.trace_text.specs.State.{state_text}
+use Rattle.trace_text.specs.Trace.{lines_by, lines_of, trace_of}
+use Rattle.trace_text.proofs.Naming.{IsOwnLine, event-own, refusal-own}
 use Rattle.trace_compare.proofs.SameTrace.{after_choice, left_by}
-use Rattle.trace_compare.proofs.StateLines.{parts_text, state-is_state, state-line, state-whole}
+use Rattle.trace_text.proofs.StateLines.{parts_text, state-is_state, state-line, state-whole}
 use Rattle.trace_compare.proofs.Verdicts.{state-same}
-use Rattle.trace_compare.proofs.WholeLines.{AllWithin, IsWhole, after_line-is, first_line-is, split-line, whole}
+use Rattle.trace_text.proofs.WholeLines.{AllWithin, IsWhole, after_line-is, first_line-is, split-line, whole}
 
 -- a thread that a line may name
 abbrev pub IsNamed : Choice → Type 0

@@ -12,11 +12,11 @@ use Rattle.thread_machine.specs.World.{World}
 use Rattle.thread_machine.specs.Execution.{execution}
 use Rattle.trace_compare.specs.declared.comparison.Verdict.{Verdict}
 use Rattle.trace_compare.specs.declared.comparison.Verdict.TheVariants as verdict
-use Rattle.trace_compare.specs.Reading.{after_line, choice_in, first_line, is_state_line, is_too_long}
+use Rattle.trace_text.specs.Reading.{after_line, choice_in, first_line, is_state_line, is_too_long}
 use Rattle.trace_compare.specs.Compare.{choice_verdict, choices_in, choices_of_trace, lines_verdict, otherwise, state_verdict, verdict_of, with_choice}
-use Rattle.trace_compare.specs.State.{state_text}
-use Rattle.trace_compare.specs.Trace.{lines_of, trace_of}
-use Rattle.trace_compare.proofs.Plays.{goes_on, stops}
+use Rattle.trace_text.specs.State.{state_text}
+use Rattle.trace_text.specs.Trace.{lines_of, trace_of}
+use Rattle.trace_text.proofs.Plays.{goes_on, stops}
 
 abbrev joined : List (List ℕ) → List ℕ
 joined lines = join_with_byte 10 lines

@@ -14,7 +14,7 @@ use Rattle.std.specs.Str.{bytes_eq}
 use Rattle.std.proofs.lemmas.Slice.Eq.{bytes_eq-Decides}
 use Rattle.std.specs.Io.KnownBytes.{Consumes}
 use Rattle.row_code.specs.declared.image.Image.{Image}
-use Rattle.trace_compare.specs.Start.{Begins}
+use Rattle.trace_text.specs.Start.{Begins}
 use Rattle.line_reader.specs.Words.{is_line_end}
 use Rattle.thread_machine.specs.declared.choice.Choice.{Choice}
 use Rattle.thread_machine.specs.declared.fault.StepFault.{StepFault}
@@ -25,15 +25,15 @@ use Rattle.trace_compare.specs.declared.comparison.Verdict.{Verdict}
 use Rattle.trace_compare.specs.declared.comparison.Judged.{Judged}
 use Rattle.trace_compare.specs.declared.comparison.Verdict.TheVariants as verdict
 use Rattle.trace_compare.specs.Compare.{HasCompared, HasVerdict, verdict_of, choice_verdict, state_verdict, lines_verdict, otherwise}
-use Rattle.trace_compare.specs.Reading.{HasNoLongLine, first_line, after_line, is_state_line, choice_in}
-use Rattle.trace_compare.specs.Lines.{event_text}
-use Rattle.trace_compare.specs.State.{state_text}
-use Rattle.trace_compare.specs.Trace.{Plays, lines_by, lines_of}
+use Rattle.trace_text.specs.Reading.{HasNoLongLine, first_line, after_line, is_state_line, choice_in}
+use Rattle.trace_text.specs.Lines.{event_text}
+use Rattle.trace_text.specs.State.{state_text}
+use Rattle.trace_text.specs.Trace.{Plays, lines_by, lines_of}
 use Rattle.machine_scene.specs.Scene.{thread_at}
 use Rattle.thread_machine.specs.Step.{Played, played, refusal_of}
-use Rattle.trace_compare.proofs.Naming.{event-few, refusal-few}
-use Rattle.trace_compare.proofs.StateLines.{parts_text, state-line}
-use Rattle.trace_compare.proofs.WholeLines.{first-is}
+use Rattle.trace_text.proofs.Naming.{event-few, refusal-few}
+use Rattle.trace_text.proofs.StateLines.{parts_text, state-line}
+use Rattle.trace_text.proofs.WholeLines.{first-is}
 
 of_not : (b : Bool) → not b ≡ false → b ≡ true
 of_not true is = refl

@@ -10,10 +10,10 @@ use Rattle.thread_machine.specs.World.{World}
 use Rattle.thread_machine.specs.Execution.{execution}
 use Rattle.trace_compare.specs.declared.comparison.Verdict.{Verdict}
 use Rattle.trace_compare.specs.declared.comparison.Verdict.TheVariants as verdict
-use Rattle.trace_compare.specs.Reading.{after_line, choice_in, first_line, is_state_line, is_too_long}
-use Rattle.trace_compare.specs.Start.{Begins}
-use Rattle.trace_compare.specs.State.{state_text}
-use Rattle.trace_compare.specs.Trace.{lines_of}
+use Rattle.trace_text.specs.Reading.{after_line, choice_in, first_line, is_state_line, is_too_long}
+use Rattle.trace_text.specs.Start.{Begins}
+use Rattle.trace_text.specs.State.{state_text}
+use Rattle.trace_text.specs.Trace.{lines_of}
 
 -- the verdict on a line that isn't the run's own: only such a line is asked for its length
 abbrev pub otherwise : ℕ → List ℕ → Verdict

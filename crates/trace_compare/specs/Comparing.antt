@@ -7,7 +7,7 @@ use Rattle.thread_machine.specs.World.{world_of}
 use Rattle.trace_compare.specs.declared.comparison.Comparison.{Comparison}
 use Rattle.trace_compare.specs.declared.comparison.Verdict.{Verdict}
 use Rattle.trace_compare.specs.declared.comparison.Verdict.TheVariants as verdict
-use Rattle.trace_compare.specs.Reading.{HasNoLongLine}
+use Rattle.trace_text.specs.Reading.{HasNoLongLine}
 use Rattle.trace_compare.specs.Compare.{lines_verdict, state_verdict}
 
 -- a verdict that was reached, else what the rest makes of it

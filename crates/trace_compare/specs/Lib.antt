@@ -1,12 +1,7 @@
-pub mod Lines
-pub mod State
-pub mod Trace
-pub mod Start
-pub mod Reading
+pub mod Naming
+pub mod NamedLines
+pub mod Named
+pub mod Shown
+pub mod Writing
 pub mod Compare
-pub mod RunText
-pub mod Outcome
-pub mod Brief
-pub mod NumberedLine
-pub mod Playing
 pub mod Comparing

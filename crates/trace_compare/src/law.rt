@@ -1,16 +1,19 @@
-ghost use Rattle.std.specs.Prelude.{◌≡◌, ◌≤◌, All, Bool, List, Ok, Option, ℕ};
+ghost use Rattle.std.specs.Prelude.{◌≡◌, ◌≤◌, All, Bool, List, Ok, Option, ℕ, None};
 ghost use Rattle.row_code.specs.declared.image.Image.{Image};
 ghost use Rattle.schedule_reader.specs.declared.run.Run.{Run};
 ghost use Rattle.schedule_reader.specs.Schedule.{IsRun, choices_of};
 ghost use Rattle.thread_machine.specs.declared.choice.Choice.{Choice};
 ghost use Rattle.thread_machine.specs.World.{World};
 ghost use Rattle.trace_compare.specs.Compare.{choices_of_trace, verdict_of, HasWrittenTheSame};
-ghost use Rattle.trace_compare.specs.Outcome.{ComesTo};
-ghost use Rattle.trace_compare.specs.RunText.{AreTraced};
-ghost use Rattle.trace_compare.specs.Start.{Begins};
-ghost use Rattle.trace_compare.specs.Trace.{trace_of};
-ghost use Rattle.trace_compare.specs.declared.run_end.RunEnd.{RunEnd};
+ghost use Rattle.trace_text.specs.Outcome.{ComesTo};
+ghost use Rattle.trace_text.specs.RunText.{AreTraced};
+ghost use Rattle.trace_text.specs.Start.{Begins};
+ghost use Rattle.trace_text.specs.Trace.{trace_of};
+ghost use Rattle.trace_text.specs.declared.run_end.RunEnd.{RunEnd};
 ghost use Rattle.trace_compare.specs.declared.comparison.Verdict.TheVariants.{Same};
+ghost use Rattle.thread_machine.specs.Execution.{execution};
+ghost use Rattle.trace_compare.specs.Naming.{choices_named};
+ghost use Rattle.trace_compare.specs.Shown.{shown};
 
 /// A trace whose verdict is `Same` is, byte for byte, the trace of the choices that its lines name.
 pub fn what_is_the_same_is_the_trace_of_its_choices()
@@ -36,4 +39,19 @@ pub fn what_a_run_writes_is_the_same()
     ensures known { (image : Image) (world : World) (runs : List Run) (end : RunEnd) (output_before output_after : Option (List ℕ))
         → Begins image world → All IsRun runs → AreTraced world (choices_of runs) end output_before output_after
         → HasWrittenTheSame image output_before output_after }
+{}
+
+/// The choices of the trace of a schedule are its choices: up to the first that is refused, which has a line too, and all of
+/// them where none is.
+pub fn the_choices_of_a_trace_are_those_that_it_shows()
+    ensures choices { (world : World) (choices : List Choice) → world.choices ≤ 1000000000000
+        → All (λ choice. choice.thread ≤ 63) choices
+        → choices_named (trace_of world choices) ≡ Ok (shown world choices) }
+    ensures all { (world : World) (choices : List Choice) → (execution world choices).refusal ≡ None
+        → shown world choices ≡ choices }
+{}
+
+/// And they have that trace: nothing of what a trace says is lost with its schedule.
+pub fn the_choices_of_a_trace_have_that_trace()
+    ensures { (world : World) (choices : List Choice) → trace_of world (shown world choices) ≡ trace_of world choices }
 {}

@@ -9,7 +9,7 @@ use headline::shown;
 use schedule_reader::Run;
 use std::fs::File;
 use std::io::IsTerminal;
-use trace_choices::naming::{Named, NamingFault, choices_in};
+use trace_compare::naming::{Named, NamingFault, choices_in};
 use workbench::done::{Done, as_asked};
 use workbench::fault::{Fault, push_counted_line};
 use workbench::input::read_all;

@@ -1,7 +1,7 @@
 //! Whether a run ended as it was expected to.
 
 ghost use Rattle.std.specs.Prelude.{◌≡◌, ◌≢◌, None, [], false, true};
-ghost use Rattle.expected_end.specs.Expectation.{are_met};
+ghost use Rattle.trace_text.specs.Expectation.{are_met};
 ghost use Rattle.vuthgal.specs.Standings.{all_allow};
 ghost use Rattle.workbench.specs.declared.done.Done.TheVariants as done;
 
@@ -9,15 +9,15 @@ use crate::printable;
 use crate::standings::all_allow;
 use assembler::{Symbols, assemble_named};
 use byte_ports::{Failed, Sink, WritePort};
-use expected_end::form::{end_words, subject_of, words_of};
-use expected_end::meeting::{are_met, is_met};
-use expected_end::state_line::{has_died, line_of};
+use trace_text::form::{end_words, subject_of, words_of};
+use trace_text::meeting::{are_met, is_met};
+use trace_text::state_line::{has_died, line_of};
 use instruction_table::OperandKind;
 use itoa::Buffer;
 use line_reader::asm_fault::{AsmFault, AsmFaultKind};
 use row_code::is_image_file;
 use std::alloc::{AllocError, Global};
-use trace_compare::RunEnd;
+use trace_text::RunEnd;
 use workbench::done::Done;
 
 /// The letter with which the lines of such things begin, if they have lines.

@@ -1,7 +1,7 @@
 //! A choice of a thread that isn't there, in a run that is shown or drawn.
 
 use commands::plan::loaded_program;
-use run_page::choices::choices_in;
+use pictures::choices::choices_in;
 use std::alloc::Global;
 use thread_machine::Choice;
 

@@ -6,7 +6,7 @@ use crate::input::Input;
 use crate::printable;
 use byte_ports::{Failed, Sink, WritePort};
 use std::io::IsTerminal;
-use trace_compare::RunEnd;
+use trace_text::RunEnd;
 
 /// Tells a line.
 fn push_note(rt: &HostRuntime, parts: &[&[u8]]) -> Result<(), Failed> {

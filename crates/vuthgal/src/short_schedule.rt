@@ -5,7 +5,7 @@ ghost use Rattle.std.specs.Io.KnownBytes.{ReadConsumes};
 ghost use Rattle.byte_ports.specs.Port.{FailsForGood};
 
 use byte_ports::{Failed, Source};
-use run_page::choices::MOST_CHOICES;
+use pictures::choices::MOST_CHOICES;
 use schedule_reader::{Reader, Run};
 use std::alloc::{AllocError, Global};
 

@@ -3,8 +3,8 @@
 use crate::origin::VERSION;
 use clap::Error as WordsError;
 use clap::error::ErrorKind;
-use command_help::commands::program;
-use command_help::names::EXPECT;
+use command_line::commands::program;
+use command_line::names::EXPECT;
 use std::alloc::AllocError;
 use std::env::{Env, FillError};
 

@@ -6,7 +6,7 @@ use Rattle.std.proofs.lemmas.List.{flat_map_more}
 use Rattle.std.proofs.lemmas.List.Elements.{All-nil, All-cons, All-append}
 use Rattle.std.specs.List.{flat_map}
 use Rattle.std.specs.Io.KnownBytes.{Appends, Consumes, IsAtEnd}
-use Rattle.trace_compare.specs.RunText.{GivesOnAndOn}
+use Rattle.trace_text.specs.RunText.{GivesOnAndOn}
 use Rattle.debugger.specs.Session.{Session}
 use Rattle.debugger.specs.Command.{Order, Step, Go, Back, Break, Clear, Print, Quit, Unknown, goes_on, line_order}
 use Rattle.debugger.specs.Reply.{Replies}

@@ -4,9 +4,9 @@ use Rattle.std.specs.Prelude.{IfErr, OnOk}
 use Rattle.row_code.specs.declared.image.Image.{Image}
 use Rattle.loader.specs.declared.load_fault.LoadFault.{LoadFault}
 use Rattle.thread_machine.specs.World.{StoredWorld, world_of}
-use Rattle.trace_compare.specs.Outcome.{IsUntouched}
-use Rattle.trace_compare.specs.RunText.{GivesOnAndOn}
-use Rattle.trace_compare.specs.Start.{Begins, IsRefused}
+use Rattle.trace_text.specs.Outcome.{IsUntouched}
+use Rattle.trace_text.specs.RunText.{GivesOnAndOn}
+use Rattle.trace_text.specs.Start.{Begins, IsRefused}
 use Rattle.debugger.specs.Session.{Session}
 use Rattle.schedule_reader.specs.declared.run.Run.{Run}
 use Rattle.workbench.specs.declared.fault.Fault.{Fault}

@@ -12,9 +12,9 @@ use Rattle.thread_machine.specs.World.{World, first_world}
 use Rattle.thread_runner.specs.declared.ending.Ending.{Ending}
 use Rattle.thread_runner.specs.Endings.{ending_of}
 use Rattle.thread_runner.specs.Replay.{IsReplay}
-use Rattle.trace_compare.specs.declared.run_end.RunEnd.{RunEnd}
-use Rattle.trace_compare.specs.RunText.{AreTraced}
-use Rattle.trace_compare.specs.Trace.{AppendsPartOf, lines_of}
+use Rattle.trace_text.specs.declared.run_end.RunEnd.{RunEnd}
+use Rattle.trace_text.specs.RunText.{AreTraced}
+use Rattle.trace_text.specs.Trace.{AppendsPartOf, lines_of}
 use Rattle.workbench.specs.Live.{IsLived, IsLivedAtMost, IsRecorded}
 use Rattle.workbench.specs.ProgramFile.{IsProgramFile}
 

@@ -2,9 +2,9 @@
 use Rattle.std.proofs.Common.{◌≡◌, ℕ, inr, Bool, false, List, Ok, Err, Result, Option, Some, refl, subst}
 use Rattle.row_code.specs.declared.image.Image.{Image}
 use Rattle.assembler.specs.Meaning.{StandsFor}
-use Rattle.trace_compare.specs.declared.run.RunFault.{RunFault}
-use Rattle.trace_compare.specs.declared.run_end.RunEnd.{RunEnd}
-use Rattle.trace_compare.specs.Outcome.{ComesTo}
+use Rattle.trace_text.specs.declared.run.RunFault.{RunFault}
+use Rattle.trace_text.specs.declared.run_end.RunEnd.{RunEnd}
+use Rattle.trace_text.specs.Outcome.{ComesTo}
 use Rattle.workbench.specs.declared.fault.Fault.{Fault}
 use Rattle.workbench.specs.Outcome.{Plays, PlaysText, told_as}
 use Rattle.workbench.specs.ProgramFile.{IsNoTextFor}

@@ -5,8 +5,8 @@ use Rattle.row_code.specs.declared.image.Image.{Image}
 use Rattle.trace_compare.specs.declared.comparison.Verdict.{Verdict}
 use Rattle.trace_compare.specs.declared.comparison.Verdict.TheVariants as verdict
 use Rattle.trace_compare.specs.Compare.{HasCompared, IsReadNoFurther}
-use Rattle.trace_compare.specs.Outcome.{IsUntouched}
-use Rattle.trace_compare.specs.RunText.{GivesOnAndOn}
+use Rattle.trace_text.specs.Outcome.{IsUntouched}
+use Rattle.trace_text.specs.RunText.{GivesOnAndOn}
 use Rattle.workbench.specs.declared.done.Done.{Done}
 use Rattle.workbench.specs.declared.done.Done.TheVariants as done
 use Rattle.workbench.specs.declared.fault.Fault.{Fault}

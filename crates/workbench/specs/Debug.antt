@@ -4,13 +4,13 @@ use Rattle.std.specs.List.{flat_map}
 use Rattle.std.specs.Io.KnownBytes.{Appends, Consumes, IsAtEnd}
 use Rattle.row_code.specs.declared.image.Image.{Image}
 use Rattle.thread_machine.specs.World.{StoredWorld, world_of}
-use Rattle.trace_compare.specs.Start.{Begins}
+use Rattle.trace_text.specs.Start.{Begins}
 use Rattle.debugger.specs.Session.{Session}
 use Rattle.schedule_reader.specs.declared.run.Run.{Run}
 use Rattle.debugger.specs.Command.{Go, Quit, line_order}
 use Rattle.debugger.specs.Reply.{Replies}
-use Rattle.trace_compare.specs.Outcome.{IsUntouched}
-use Rattle.trace_compare.specs.RunText.{GivesOnAndOn}
+use Rattle.trace_text.specs.Outcome.{IsUntouched}
+use Rattle.trace_text.specs.RunText.{GivesOnAndOn}
 use Rattle.workbench.specs.declared.fault.Fault.{Fault}
 use Rattle.workbench.specs.declared.fault.Fault.TheVariants as fault
 use Rattle.workbench.specs.ProgramFile.{IsNoProgramFor, IsProgramFile, IsUnloadedFor}

@@ -1,7 +1,7 @@
 -- What `list` makes of a program's file, by its answer.
 use Rattle.std.specs.Prelude.{◌≡◌, ℕ, Bool, IsTrue, List, Option, Result, Ok, Err}
 use Rattle.std.specs.Io.KnownBytes.{Appends}
-use Rattle.listing.specs.Listing.{canonical}
+use Rattle.line_reader.specs.Listing.{canonical}
 use Rattle.row_code.specs.declared.image.Image.{Image}
 use Rattle.workbench.specs.declared.fault.Fault.{Fault}
 use Rattle.workbench.specs.declared.fault.Fault.TheVariants as fault

@@ -9,10 +9,10 @@ use Rattle.thread_machine.specs.World.{World, IsFirstOf}
 use Rattle.thread_runner.specs.declared.ending.Ending.{Ending}
 use Rattle.thread_runner.specs.Endings.{ending_of}
 use Rattle.thread_runner.specs.Replay.{IsReplay}
-use Rattle.trace_compare.specs.declared.run_end.RunEnd.{RunEnd}
-use Rattle.trace_compare.specs.RunText.{AreTraced}
-use Rattle.trace_compare.specs.Start.{Begins}
-use Rattle.trace_compare.specs.Trace.{AppendsPartOf, lines_of}
+use Rattle.trace_text.specs.declared.run_end.RunEnd.{RunEnd}
+use Rattle.trace_text.specs.RunText.{AreTraced}
+use Rattle.trace_text.specs.Start.{Begins}
+use Rattle.trace_text.specs.Trace.{AppendsPartOf, lines_of}
 use Rattle.workbench.specs.declared.fault.Fault.{Fault}
 use Rattle.workbench.specs.declared.fault.Fault.TheVariants as fault
 use Rattle.workbench.specs.ProgramFile.{IsNoProgramFor, IsProgramFile, IsUnloadedFor}

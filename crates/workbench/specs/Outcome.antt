@@ -4,10 +4,10 @@
 use Rattle.std.specs.Prelude.{◌≡◌, ◌⊎◌, ℕ, Bool, false, IsTrue, List, Option, Some, Result, Ok, Err}
 use Rattle.assembler.specs.Meaning.{StandsFor}
 use Rattle.row_code.specs.declared.image.Image.{Image}
-use Rattle.trace_compare.specs.declared.run.RunFault.{RunFault}
-use Rattle.trace_compare.specs.declared.run.RunFault.TheVariants as run_fault
-use Rattle.trace_compare.specs.declared.run_end.RunEnd.{RunEnd}
-use Rattle.trace_compare.specs.Outcome.{ComesTo, IsUntouched, Stops}
+use Rattle.trace_text.specs.declared.run.RunFault.{RunFault}
+use Rattle.trace_text.specs.declared.run.RunFault.TheVariants as run_fault
+use Rattle.trace_text.specs.declared.run_end.RunEnd.{RunEnd}
+use Rattle.trace_text.specs.Outcome.{ComesTo, IsUntouched, Stops}
 use Rattle.workbench.specs.declared.fault.Fault.{Fault}
 use Rattle.workbench.specs.declared.fault.Fault.TheVariants as fault
 use Rattle.workbench.specs.Input.{GivesAll, GivesTooMuch}

@@ -6,7 +6,7 @@ use Rattle.loader.specs.declared.load_fault.LoadFault.{LoadFault}
 use Rattle.row_code.specs.Image.{IsImage}
 use Rattle.row_code.specs.Reading.{image_of, is_magic}
 use Rattle.row_code.specs.declared.image.Image.{Image}
-use Rattle.trace_compare.specs.Start.{IsRefused}
+use Rattle.trace_text.specs.Start.{IsRefused}
 use Rattle.workbench.specs.declared.fault.Fault.{Fault}
 use Rattle.workbench.specs.declared.fault.Fault.TheVariants as fault
 use Rattle.workbench.specs.Fault.{status_of}

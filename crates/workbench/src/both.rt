@@ -1,5 +1,5 @@
 ghost use Rattle.std.specs.Prelude.{◌≡◌, Result};
-ghost use Rattle.trace_compare.specs.declared.run_end.RunEnd.{RunEnd};
+ghost use Rattle.trace_text.specs.declared.run_end.RunEnd.{RunEnd};
 ghost use Rattle.workbench.specs.declared.fault.Fault.{Fault};
 ghost use Rattle.workbench.specs.Done.{IsSettledBy, as_asked};
 ghost use Rattle.workbench.specs.Outcome.{ComesOf, PlaysText};
@@ -12,7 +12,7 @@ use crate::slice_source::SliceSource;
 use assembler::assemble;
 use byte_ports::{Sink, Source};
 use std::alloc::Global;
-use trace_compare::{RunEnd, run_to_end};
+use trace_text::{RunEnd, run_to_end};
 
 /// Reads a program text, a line `.run` and a schedule from `input`, plays the program under the schedule and writes the
 /// trace to `output`. Answers the exit status, 0 where all went well. For any other status one line stands on `errors`:

@@ -1,7 +1,7 @@
 ghost use Rattle.std.specs.Prelude.{◌≡◌, IsTrue, IfErr, OnOk, Result};
 ghost use Rattle.std.specs.Io.KnownBytes.{Appends};
 ghost use Rattle.trace_compare.specs.declared.comparison.Verdict.{Verdict};
-ghost use Rattle.trace_compare.specs.Outcome.{IsUntouched};
+ghost use Rattle.trace_text.specs.Outcome.{IsUntouched};
 ghost use Rattle.workbench.specs.declared.fault.Fault.{Fault};
 ghost use Rattle.workbench.specs.Compare.{ComparesFile, done_by, verdict_line};
 ghost use Rattle.workbench.specs.Done.{IsSettledBy};

@@ -2,9 +2,9 @@ ghost use Rattle.std.specs.Prelude.{◌≡◌, ◌⊎◌, ◌+◌, ◌∷◌, []
 ghost use Rattle.std.specs.Io.KnownBytes.{Appends, Consumes};
 ghost use Rattle.loader.specs.declared.load_fault.LoadFault.{LoadFault};
 ghost use Rattle.thread_machine.specs.World.{StoredWorld, world_of};
-ghost use Rattle.trace_compare.specs.Outcome.{IsUntouched};
-ghost use Rattle.trace_compare.specs.RunText.{GivesOnAndOn};
-ghost use Rattle.trace_compare.specs.Start.{Begins, IsRefused};
+ghost use Rattle.trace_text.specs.Outcome.{IsUntouched};
+ghost use Rattle.trace_text.specs.RunText.{GivesOnAndOn};
+ghost use Rattle.trace_text.specs.Start.{Begins, IsRefused};
 ghost use Rattle.debugger.specs.Command.{goes_on, line_order};
 ghost use Rattle.debugger.specs.Reply.{Replies};
 ghost use Rattle.workbench.specs.declared.fault.Fault.{Fault};
@@ -23,7 +23,7 @@ use debugger::{CommandFault, Debugger};
 use row_code::Image;
 use schedule_reader::Run;
 use std::alloc::Global;
-use trace_compare::start::{StartFault, first_machine};
+use trace_text::start::{StartFault, first_machine};
 
 /// How many choices can be taken back.
 const MOST_KEPT: u16 = 4096;

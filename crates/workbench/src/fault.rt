@@ -12,7 +12,7 @@ use itoa::Buffer;
 use loader::{LoadFault, Place};
 use row_code::ImageFault;
 use schedule_reader::ScheduleFault;
-use trace_compare::RunFault;
+use trace_text::RunFault;
 
 /// Which picture of a run is asked for.
 #[derive(Clone, Copy, Debug, PartialEq, Eq)]

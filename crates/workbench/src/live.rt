@@ -8,8 +8,8 @@ ghost use Rattle.thread_machine.specs.World.{World, first_world};
 ghost use Rattle.thread_runner.specs.declared.ending.Ending.{Ending};
 ghost use Rattle.thread_runner.specs.Endings.{ending_of};
 ghost use Rattle.thread_runner.specs.Replay.{IsReplay};
-ghost use Rattle.trace_compare.specs.Start.{IsRefused};
-ghost use Rattle.trace_compare.specs.declared.run_end.RunEnd.{RunEnd};
+ghost use Rattle.trace_text.specs.Start.{IsRefused};
+ghost use Rattle.trace_text.specs.declared.run_end.RunEnd.{RunEnd};
 ghost use Rattle.workbench.specs.declared.fault.Fault.{Fault};
 ghost use Rattle.workbench.specs.Done.{IsSettledBy, as_asked};
 ghost use Rattle.workbench.specs.Live.{Lives};
@@ -27,8 +27,8 @@ use std::alloc::Global;
 use std::sync::Wait;
 use std::thread::Threads;
 use thread_runner::{Gate, LiveFault, NoGate, run_live};
-use trace_compare::loaded::run_loaded;
-use trace_compare::{PlayFault, RunEnd};
+use trace_text::loaded::run_loaded;
+use trace_text::{PlayFault, RunEnd};
 
 /// Plays the program in `file`, an image or a text, on real threads, one for each of its own, for at most `limit` steps,
 /// and writes the trace of the choices that were recorded to `output`. Answers the exit status, 0 where all went well,

@@ -1,6 +1,6 @@
 ghost use Rattle.std.specs.Prelude.{Result};
-ghost use Rattle.trace_compare.specs.declared.run_end.RunEnd.{RunEnd};
-ghost use Rattle.trace_compare.specs.Outcome.{IsUntouched};
+ghost use Rattle.trace_text.specs.declared.run_end.RunEnd.{RunEnd};
+ghost use Rattle.trace_text.specs.Outcome.{IsUntouched};
 ghost use Rattle.workbench.specs.declared.fault.Fault.{Fault};
 ghost use Rattle.workbench.specs.Done.{IsSettledBy, as_asked};
 ghost use Rattle.workbench.specs.Outcome.{ComesOf, PlaysFile};
@@ -11,7 +11,7 @@ use crate::input::read_all;
 use crate::program_file::program_in;
 use byte_ports::{Sink, Source};
 use std::alloc::Global;
-use trace_compare::{RunEnd, run_to_end};
+use trace_text::{RunEnd, run_to_end};
 
 /// Plays the program in `file`, an image or a text, under the schedule in `schedule` and writes the trace to `output`.
 /// Answers the exit status, 0 where all went well. For any other status one line stands on `errors`: `refused asm LINE

@@ -3,8 +3,8 @@ ghost use Rattle.std.specs.Fmt.{decimal};
 ghost use Rattle.std.specs.Io.KnownBytes.{Appends};
 ghost use Rattle.thread_machine.specs.World.{world_of};
 ghost use Rattle.thread_machine.specs.Step.{refusal_of};
-ghost use Rattle.trace_compare.specs.State.{state_text};
-ghost use Rattle.trace_compare.specs.Trace.{lines_of};
+ghost use Rattle.trace_text.specs.State.{state_text};
+ghost use Rattle.trace_text.specs.Trace.{lines_of};
 ghost use Rattle.debugger.specs.declared.stop.Stop.{Stop};
 ghost use Rattle.debugger.specs.Command.{MayWantMemory, Back, Break, Clear, Go, Step, goes_on, line_order, order_of, wants_memory};
 ghost use Rattle.debugger.specs.Reply.{IsCarriedOut, IsStepUnless, number_line, stop_text};
@@ -18,8 +18,8 @@ use schedule_reader::Run;
 use std::alloc::AllocError;
 use std::mem::replace;
 use thread_machine::{Choice, StepFault};
-use trace_compare::line::{event_line, refusal_line};
-use trace_compare::state::state_text;
+use trace_text::line::{event_line, refusal_line};
+use trace_text::state::state_text;
 
 /// Why a command was not carried out, or its reply not written.
 #[derive(Clone, Copy, Debug, PartialEq, Eq)]

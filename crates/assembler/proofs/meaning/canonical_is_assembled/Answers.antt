@@ -1,4 +1,4 @@
-use Rattle.listing.specs.Listing.{canonical}
+use Rattle.line_reader.specs.Listing.{canonical}
 use Rattle.assembler.proofs.CanonicalMeaning.{canonical-stands_for}
 use Rattle.assembler.proofs.ReadLines.{stands_for-assembled}
 use Rattle.assembler.proofs.meaning.canonical_is_assembled.Goals as goal

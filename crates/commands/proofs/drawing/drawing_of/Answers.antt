@@ -1,6 +1,6 @@
 use Rattle.std.proofs.Common.{rules, ◌≡◌, inl, inr}
 use Rattle.thread_machine.specs.World.{world_of}
-use Rattle.run_drawing.specs.Picture.{picture}
+use Rattle.pictures.specs.Picture.{picture}
 use Rattle.commands.proofs.Drawings.{drawing_in_file, named_file}
 use Rattle.workbench.specs.declared.fault.PictureKind.TheVariants as kind
 use Rattle.commands.proofs.NoPicture.{no_picture}

@@ -1,6 +1,6 @@
 use Rattle.std.proofs.Common.{◌≡◌, ◌++◌, drop}
 use Rattle.std.specs.List.{flat_map}
-use Rattle.listing.specs.Listing.{line_text, numbered}
+use Rattle.line_reader.specs.Listing.{line_text, numbered}
 use Rattle.commands.specs.Rows.{image_row_words}
 use Rattle.commands.proofs.image_rows.push_image_rows.Given as goal
 

@@ -5,7 +5,7 @@ use Rattle.trace_compare.proofs.LineCounts.{ends-append, read-all, read-up_to}
 use Rattle.std.proofs.Common.{◌+◌, ◌≤◌, subst, ◌≡◌, ◌∙◌, ◌++◌, ◌<◌, Some, None, Ok, inr, ap, length, take, refl, arith, rules}
 use Rattle.std.proofs.KnownBytes.{Consumes-trans}
 use Rattle.std.proofs.lemmas.List.{length-take}
-use Rattle.trace_compare.proofs.Streams.{longer_by_piece}
+use Rattle.trace_text.proofs.Streams.{longer_by_piece}
 use Rattle.trace_compare.proofs.Verdicts.{pieces-decided}
 use Rattle.trace_compare.proofs.comparison.compare_stream.Goals as goal
 

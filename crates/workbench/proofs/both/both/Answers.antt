@@ -1,8 +1,8 @@
 use Rattle.std.proofs.Common.{◌∙◌, inl, refl, rules, subst, sym, Ok, Err, Result}
 use Rattle.std.specs.Prelude.{Some}
 use Rattle.assembler.specs.Meaning.{StandsFor}
-use Rattle.trace_compare.specs.declared.run.RunFault.{RunFault}
-use Rattle.trace_compare.specs.declared.run_end.RunEnd.{RunEnd}
+use Rattle.trace_text.specs.declared.run.RunFault.{RunFault}
+use Rattle.trace_text.specs.declared.run_end.RunEnd.{RunEnd}
 use Rattle.workbench.specs.declared.fault.Fault.TheVariants as fault
 use Rattle.workbench.specs.Outcome.{PlaysText}
 use Rattle.workbench.specs.ProgramFile.{IsNoTextFor}

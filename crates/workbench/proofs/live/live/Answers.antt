@@ -4,8 +4,8 @@ use Rattle.schedule_reader.specs.Schedule.{IsRun, choices_of}
 use Rattle.schedule_reader.specs.declared.run.Run.{Run}
 use Rattle.thread_machine.specs.World.{first_world}
 use Rattle.thread_runner.specs.Replay.{IsReplay}
-use Rattle.trace_compare.specs.RunText.{AreTraced}
-use Rattle.trace_compare.specs.Trace.{AppendsPartOf, lines_of}
+use Rattle.trace_text.specs.RunText.{AreTraced}
+use Rattle.trace_text.specs.Trace.{AppendsPartOf, lines_of}
 use Rattle.workbench.proofs.Lives.{lived, lived_in_part}
 use Rattle.workbench.proofs.live.live.Goals as goal
 

@@ -1,5 +1,5 @@
 use Rattle.std.proofs.Common.{◌-◌, ◌∷◌, [], replicate}
-use Rattle.trace_compare.proofs.Plays.{replicate-first}
+use Rattle.trace_text.proofs.Plays.{replicate-first}
 use Rattle.debugger.proofs.Goes.{continues_next, continues_break, continues_fault}
 use Rattle.debugger.proofs.session.Debugger.go_run.Goals as goal
 

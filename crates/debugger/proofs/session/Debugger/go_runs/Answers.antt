@@ -1,4 +1,4 @@
-use Rattle.trace_compare.proofs.Plays.{choices_of-drop}
+use Rattle.trace_text.proofs.Plays.{choices_of-drop}
 use Rattle.debugger.proofs.Goes.{continues_next, continues_break, continues_fault}
 use Rattle.debugger.proofs.session.Debugger.go_runs.Goals as goal
 

@@ -1,6 +1,6 @@
 use Rattle.std.proofs.Common.{◌∙◌, sym, ◌+◌}
 use Rattle.thread_machine.specs.World.{world_of}
-use Rattle.trace_compare.specs.Reading.{choice_in}
+use Rattle.trace_text.specs.Reading.{choice_in}
 use Rattle.trace_compare.specs.Compare.{lines_verdict}
 use Rattle.trace_compare.proofs.Verdicts.{choice-same, found_same}
 use Rattle.trace_compare.proofs.comparison.Comparison.take_choice.Goals as goal

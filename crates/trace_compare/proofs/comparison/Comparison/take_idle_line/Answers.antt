@@ -2,9 +2,9 @@ use Rattle.std.proofs.Common.{List, ℕ, ◌≡◌, ◌∙◌, ◌+◌, ◌<◌,
 use Rattle.thread_machine.specs.World.{world_of}
 use Rattle.trace_compare.specs.declared.comparison.Comparison.{Comparison}
 use Rattle.trace_compare.specs.Comparing.{bytes_left, line_ends}
-use Rattle.trace_compare.specs.NumberedLine.{text_of}
+use Rattle.trace_text.specs.NumberedLine.{text_of}
 use Rattle.trace_compare.proofs.OwnLines.{met}
-use Rattle.trace_compare.proofs.Plays.{Plays-idle_again}
+use Rattle.trace_text.proofs.Plays.{Plays-idle_again}
 use Rattle.trace_compare.proofs.LineCounts.{own-ends}
 use Rattle.trace_compare.proofs.comparison.Comparison.take_idle_line.Goals as goal
 

@@ -1,0 +1,41 @@
+-- What was written of the runs of an image's program.
+use Rattle.std.proofs.Common.{◌≡◌, ◌⊎◌, ℕ, Bool, IsTrue, List, ap, inl, inr, subst, sym}
+use Rattle.std.specs.Prelude.{Option, None, Result, Ok, Err, IfErr, IfOk, OnOk}
+use Rattle.std.specs.Io.KnownBytes.{Appends}
+use Rattle.row_code.specs.declared.image.Image.{Image}
+use Rattle.loader.specs.Fault.{first_fault}
+use Rattle.loader.specs.Program.{Program, IsProgramOf}
+use Rattle.thread_machine.specs.World.{first_world}
+use Rattle.thread_machine.proofs.Firsts.{is_first}
+use Rattle.commands.specs.declared.command.Asked.{Asked}
+use Rattle.commands.specs.declared.end_state.EndState.{EndState}
+use Rattle.commands.specs.declared.outcomes.Outcome.{Outcome}
+use Rattle.workbench.specs.declared.done.Done.{Done}
+use Rattle.commands.specs.Outcomes.{IsMostFrequentFirst, report, done_by}
+use Rattle.commands.specs.Runs.{AreOutcomesFrom, Reports, StopsReporting}
+use Rattle.workbench.specs.declared.fault.Fault.{Fault}
+use Rattle.workbench.specs.declared.fault.Fault.TheVariants as fault
+use Rattle.workbench.specs.ProgramFile.{IsProgramFile}
+
+-- the report was written of a file's program, or why not
+pub reported : (result : Result Done Fault) (image : Image) (program : Program) (asked : Asked)
+    (outcomes : List (EndState × Outcome)) (file : List ℕ) (before after : Option (List ℕ)) (failed : Bool) → IsProgramFile file image
+    → first_fault image ≡ None → IsProgramOf image program
+    → AreOutcomesFrom (first_world program asked.limit) asked outcomes → IsMostFrequentFirst outcomes
+    → IfOk result (λ d. d ≡ done_by asked.expected.now outcomes) → OnOk result (Appends before after (report outcomes))
+    → IfErr result (λ f. (f ≡ fault.Memory) ⊎ (f ≡ fault.Write)) → (result ≡ Err fault.Memory → after ≡ before)
+    → (result ≡ Err fault.Write → IsTrue failed) → Reports asked file result before after failed
+reported (Ok d) image program asked outcomes file before after failed is_file loads is came sorted by written which same write = (
+  image,
+  (
+    is_file,
+    (
+      first_world program asked.limit,
+      (outcomes, (loads, is_first image program asked.limit is, came, sorted, by, written)),
+    ),
+  ),
+)
+reported (Err f) image program asked outcomes file before after failed is_file loads is came sorted by written (inl memory) same write =
+    subst (λ e. StopsReporting e file before after failed) (sym memory) (same (ap Err memory))
+reported (Err f) image program asked outcomes file before after failed is_file loads is came sorted by written (inr failing) same write =
+    subst (λ e. StopsReporting e file before after failed) (sym failing) (write (ap Err failing))

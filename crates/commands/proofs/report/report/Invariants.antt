@@ -1,0 +1,7 @@
+use Rattle.std.proofs.Common.{◌≡◌, ◌++◌, drop}
+use Rattle.commands.specs.Outcomes.{report}
+use Rattle.commands.proofs.report.report.Given as goal
+
+-- the text goes on with the lines from the next outcome on
+abbrev pub invariant-loop-place : goal.invariant-loop-place
+invariant-loop-place l = l.text.items ++ report (drop l.place l.outcomes.entries) ≡ report l.fn.outcomes.entries

@@ -1,0 +1,90 @@
+-- What several runs came to.
+use Rattle.std.specs.Prelude.{◌≡◌, ℕ, Bool, true, if◌then◌else◌, List, [], ◌∷◌, ◌++◌, Option, Some, None, bytes_eq, codes, decimal, filter, flat_map, length, nat_lt, option_map, IsSortedBy}
+use Rattle.std.specs.List.{IsDistinct, list_all}
+use Rattle.std.specs.Global.{Vec}
+use Rattle.std.specs.String.{string_bytes}
+use Rattle.std.specs.Map.{keys_of, lookup}
+use Rattle.trace_text.specs.Expectation.{are_met}
+use Rattle.trace_text.specs.ExpectedLine.{has_died}
+use Rattle.thread_machine.specs.World.{World}
+use Rattle.thread_runner.specs.declared.ending.Ending.{Ending}
+use Rattle.thread_runner.specs.Endings.{ending_of}
+use Rattle.thread_runner.specs.Replay.{IsReplayOfText}
+use Rattle.commands.specs.declared.end_state.EndState.{EndState}
+use Rattle.commands.specs.declared.outcomes.Outcome.{Outcome}
+use Rattle.commands.specs.Ends.{end_text, ending_word}
+use Rattle.workbench.specs.declared.done.Done.{Done}
+use Rattle.workbench.specs.declared.done.Done.TheVariants as done
+
+-- a run that is over: its schedule, how it ended, and the state that it ended in
+pub record Ended : Type 0 where
+  pub schedule : List ℕ
+  pub ending : Ending
+  pub state : List ℕ
+
+-- it was played from this world: its schedule leads there, each of its choices a step
+pub record IsEndedFrom (first : World) (run : Ended) : Type 0 where
+  pub world : World
+  pub replay : IsReplayOfText first run.schedule world
+  pub ending : ending_of world ≡ Some run.ending
+  pub state : run.state ≡ end_text run.ending world
+
+-- whether a run ended in this state
+abbrev pub ends_in : List ℕ → Ended → Bool
+ends_in state run = bytes_eq state run.state
+
+-- how often runs ended in a state, how the first of them ended, and its schedule
+pub record Told : Type 0 where
+  pub times : ℕ
+  pub ending : Ending
+  pub schedule : List ℕ
+
+abbrev pub told_of : List Ended → Option Told
+told_of [] = None
+told_of (run ∷ runs) = Some (record { times = length (run ∷ runs); ending = run.ending; schedule = run.schedule })
+
+abbrev pub told_in : List Ended → List ℕ → Option Told
+told_in runs state = told_of (filter (ends_in state) runs)
+
+abbrev pub told : Outcome → Told
+told outcome = record { times = outcome.times; ending = outcome.ending; schedule = string_bytes outcome.schedule }
+
+abbrev pub is_state : EndState → EndState → Bool
+is_state a b = bytes_eq a.text.items b.text.items
+
+-- each state that a run ended in is there once, with what is told of the runs that ended in it, and no other is
+abbrev pub AreOutcomes : List Ended → List (EndState × Outcome) → Type 0
+AreOutcomes runs outcomes =
+    IsDistinct is_state (keys_of outcomes)
+    × ((state : EndState) → option_map told (lookup (is_state state) outcomes) ≡ told_in runs state.text.items)
+
+-- whether one outcome came more often than another
+abbrev pub is_more_frequent : EndState × Outcome → EndState × Outcome → Bool
+is_more_frequent a b = nat_lt b.1.times a.1.times
+
+abbrev pub IsMostFrequentFirst : List (EndState × Outcome) → Type 0
+IsMostFrequentFirst outcomes = IsSortedBy is_more_frequent outcomes
+
+-- what stands behind the word of a state in which a thread has died
+abbrev pub died_mark : List ℕ → List ℕ
+died_mark state = if has_died state then codes "+died" else []
+
+-- the line of an outcome
+abbrev pub outcome_line : EndState × Outcome → List ℕ
+outcome_line (state, outcome) =
+    decimal outcome.times ++ (codes " " ++ (ending_word outcome.ending ++ (died_mark state.text.items
+    ++ (codes " " ++ (string_bytes outcome.schedule ++ codes "\n")))))
+
+abbrev pub report : List (EndState × Outcome) → List ℕ
+report outcomes = flat_map outcome_line outcomes
+
+-- whether runs that ended in a state ended as they were expected to
+abbrev pub is_as_expected : List (Vec ℕ) → EndState × Outcome → Bool
+is_as_expected expected outcome = are_met outcome.0.text.items expected
+
+abbrev pub are_as_expected : List (Vec ℕ) → List (EndState × Outcome) → Bool
+are_as_expected expected outcomes = list_all (is_as_expected expected) outcomes
+
+-- what the command comes to by it
+abbrev pub done_by : List (Vec ℕ) → List (EndState × Outcome) → Done
+done_by expected outcomes = if are_as_expected expected outcomes then done.AsAsked else done.Unlike

@@ -1,0 +1,42 @@
+-- What several live runs of a program's file are told as.
+use Rattle.std.specs.Prelude.{◌≡◌, ℕ, All, Bool, IsTrue, List, length, Option, None, Result, Ok, Err}
+use Rattle.std.specs.Io.KnownBytes.{Appends}
+use Rattle.row_code.specs.declared.image.Image.{Image}
+use Rattle.loader.specs.Fault.{first_fault}
+use Rattle.thread_machine.specs.World.{World, IsFirstOf}
+use Rattle.workbench.specs.ProgramFile.{IsNoProgramFor, IsProgramFile, IsUnloadedFor}
+use Rattle.workbench.specs.declared.fault.Fault.{Fault}
+use Rattle.workbench.specs.declared.fault.Fault.TheVariants as fault
+use Rattle.workbench.specs.declared.done.Done.{Done}
+use Rattle.commands.specs.declared.command.Asked.{Asked}
+use Rattle.commands.specs.declared.end_state.EndState.{EndState}
+use Rattle.commands.specs.declared.outcomes.Outcome.{Outcome}
+use Rattle.commands.specs.Outcomes.{AreOutcomes, Ended, IsEndedFrom, IsMostFrequentFirst, report, done_by}
+
+-- so many runs from this world came to these outcomes
+abbrev pub AreOutcomesFrom : World → Asked → List (EndState × Outcome) → Type 0
+AreOutcomesFrom first asked outcomes =
+    (runs : List Ended) × ((length runs ≡ asked.runs) × All (IsEndedFrom first) runs × AreOutcomes runs outcomes)
+
+-- the image has no fault, its program was played so often from its first world, and what it came to was written
+abbrev pub HasReported : Image → Asked → Done → (output_before output_after : Option (List ℕ)) → Type 0
+HasReported image asked done output_before output_after =
+    (first : World) × ((outcomes : List (EndState × Outcome))
+    × ((first_fault image ≡ None) × IsFirstOf image asked.limit first × AreOutcomesFrom first asked outcomes
+    × IsMostFrequentFirst outcomes × (done ≡ done_by asked.expected.now outcomes)
+    × Appends output_before output_after (report outcomes)))
+
+-- why no report was written: the output failed; or there was no memory, or no thread could be started, or the program isn't loaded,
+-- or the file is none, and nothing was
+abbrev pub StopsReporting : Fault → (file : List ℕ) (output_before output_after : Option (List ℕ)) (output_failed : Bool) → Type 0
+StopsReporting fault.Write file output_before output_after output_failed = IsTrue output_failed
+StopsReporting fault.Memory file output_before output_after output_failed = output_after ≡ output_before
+StopsReporting fault.Spawn file output_before output_after output_failed = output_after ≡ output_before
+StopsReporting (fault.Load f) file output_before output_after output_failed = IsUnloadedFor f file × (output_after ≡ output_before)
+StopsReporting f file output_before output_after output_failed = IsNoProgramFor f file × (output_after ≡ output_before)
+
+-- this was done with the program that a file's bytes are
+abbrev pub Reports : Asked → (file : List ℕ) → Result Done Fault → (output_before output_after : Option (List ℕ)) (output_failed : Bool) → Type 0
+Reports asked file (Ok done) output_before output_after output_failed =
+    (image : Image) × (IsProgramFile file image × HasReported image asked done output_before output_after)
+Reports asked file (Err f) output_before output_after output_failed = StopsReporting f file output_before output_after output_failed

@@ -1,0 +1,118 @@
+//! The command that plays a program several times.
+ghost use Rattle.std.specs.Prelude.{◌≡◌, ◌⊎◌, ◌≤◌, Err, IsTrue, IfErr, IfOk, OnOk};
+ghost use Rattle.std.specs.Io.KnownBytes.{Appends};
+ghost use Rattle.workbench.specs.declared.fault.Fault.{Fault};
+ghost use Rattle.thread_machine.specs.World.{first_world};
+ghost use Rattle.commands.specs.Outcomes.{IsMostFrequentFirst, report, done_by};
+ghost use Rattle.commands.specs.Runs.{AreOutcomesFrom, Reports};
+
+use crate::outcomes::{Outcomes, sort};
+use crate::pauses::Pauses;
+use crate::report::{done_by, report};
+use crate::runs::add_runs;
+use byte_ports::Sink;
+use loader::{LoadFault, Loaded, load};
+use std::alloc::Global;
+use std::sync::Wait;
+use std::thread::Threads;
+use thread_runner::Gate;
+use workbench::done::Done;
+use workbench::fault::Fault;
+use workbench::program_file::program_in;
+
+/// Which runs are asked for.
+#[derive(Clone, Copy)]
+pub struct Asked<'a> {
+    /// How many, 1 to 100,000.
+    pub runs: u32,
+    /// How many steps each takes at most, 1 to 1,000,000,000.
+    pub limit: u32,
+    pub pauses: Pauses,
+    /// What is expected of the state that each ends in: texts as `trace_text` has them.
+    pub expected: &'a [Vec<u8>],
+}
+
+/// Plays the program that a file's bytes are, an image or a text, on real threads as often as it is asked for, and writes to `output` a line
+/// for each state that a run ended in, the most frequent first: how often one did, `all`, `stuck` or `live`, with `+died` where a
+/// thread died, and the schedule of the first that did. Nothing is written before all runs are over. The threads of each run pass `gate` behind their
+/// pauses, as in `workbench::live::live`.
+pub fn report_runs<R: Threads + Wait + Sync, G: Gate + Sync, K: Sink>(
+    rt: &R,
+    alloc: Global,
+    asked: &Asked<'_>,
+    gate: &G,
+    program: &[u8],
+    output: &mut K,
+) -> Result<Done, Fault>
+    requires limit { asked.now.limit ≤ 1000000000 }
+    requires count { asked.now.runs ≤ 100000 }
+    ensures { Reports asked.now program.now result (K.written output.old) (K.written output.new) (K.has_failed output.new) }
+{
+    let image = match program_in(alloc, program) {
+        Ok(image) => image,
+        Err(fault) => return Err(fault),
+    };
+    let program = match load(alloc, image) {
+        Ok(program) => program,
+        Err(LoadFault::Memory) => return Err(Fault::Memory),
+        Err(fault) => return Err(Fault::Load(fault)),
+    };
+    let outcomes = match outcomes_of(rt, alloc, asked, gate, &program) {
+        Ok(outcomes) => outcomes,
+        Err(fault) => return Err(fault),
+    };
+    push_report(alloc, asked.expected, &outcomes, output)
+}
+
+/// What the runs of a program came to, the most frequent first.
+fn outcomes_of<R: Threads + Wait + Sync, G: Gate + Sync>(
+    rt: &R,
+    alloc: Global,
+    asked: &Asked<'_>,
+    gate: &G,
+    program: &Loaded,
+) -> Result<Outcomes, Fault>
+    requires limit { asked.now.limit ≤ 1000000000 }
+    requires count { asked.now.runs ≤ 100000 }
+    ensures outcomes { IfOk result (λ outcomes. AreOutcomesFrom (first_world program.now asked.now.limit) asked.now outcomes.entries) }
+    ensures sorted { IfOk result (λ outcomes. IsMostFrequentFirst outcomes.entries) }
+    ensures fault { IfErr result (λ fault. (fault ≡ Fault.Memory) ⊎ (fault ≡ Fault.Spawn)) }
+{
+    let mut outcomes = Outcomes::new(alloc);
+    add_runs(
+        rt,
+        alloc,
+        program,
+        asked.limit,
+        asked.pauses,
+        gate,
+        asked.runs,
+        &mut outcomes,
+    )?;
+    match sort(&mut outcomes) {
+        Ok(()) => Ok(outcomes),
+        Err(_) => Err(Fault::Memory),
+    }
+}
+
+/// Writes what the runs came to, in one piece, and answers whether they ended as expected.
+fn push_report<K: Sink>(
+    alloc: Global,
+    expected: &[Vec<u8>],
+    outcomes: &Outcomes,
+    output: &mut K,
+) -> Result<Done, Fault>
+    ensures by { IfOk result (λ done. done ≡ done_by expected.now outcomes.now.entries) }
+    ensures report { OnOk result (Appends (K.written output.old) (K.written output.new) (report outcomes.now.entries)) }
+    ensures fault { IfErr result (λ fault. (fault ≡ Fault.Memory) ⊎ (fault ≡ Fault.Write)) }
+    ensures unchanged { result ≡ Err Fault.Memory → K.written output.new ≡ K.written output.old }
+    ensures write { result ≡ Err Fault.Write → IsTrue (K.has_failed output.new) }
+{
+    let Ok(text) = report(alloc, outcomes) else {
+        return Err(Fault::Memory);
+    };
+    match output.push(text.as_slice()) {
+        Ok(()) => Ok(done_by(expected, outcomes)),
+        Err(_) => Err(Fault::Write),
+    }
+}

@@ -1,2 +1,0 @@
-pub mod Expectation
-pub mod Line

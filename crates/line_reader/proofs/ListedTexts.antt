@@ -1,0 +1,52 @@
+-- Texts of lists, element by element, and words of options, one behind the other.
+use Rattle.std.proofs.Common.{◌≡◌, ◌≢◌, ◌∙◌, ◌+◌, ◌<◌, ℕ, zero, suc, ℤ, pos, negsuc, List, [], ◌∷◌, ◌++◌, length, get_or, drop, map, ap, sym, refl, subst, Bool, true, false, nat_lt, arith, codes, append_assoc, append-nil}
+use Rattle.std.proofs.lemmas.Bool.{ltb-true, ltb-false}
+use Rattle.std.proofs.lemmas.List.{drop_more, get_or_default}
+use Rattle.std.specs.Fmt.{signed_decimal}
+use Rattle.std.specs.List.{flat_map}
+use Rattle.line_reader.specs.Listing.{line_text, numbered, phase_words, spaced}
+
+by_order : {A : Type 0} (b : Bool) → (b ≡ true → A) → (b ≡ false → A) → A
+by_order true is is-not = is refl
+by_order false is is-not = is-not refl
+
+-- from one element on: its line, and the lines from the next on
+pub lines-drop : {A : Type 0} (words : A → List (List ℕ)) (xs : List A) (i : ℕ) (d : A) → i < length xs
+    → flat_map line_text (map words (drop i xs)) ≡ line_text (words (get_or xs i d)) ++ flat_map line_text (map words (drop (i + 1) xs))
+lines-drop words xs i d there = ap (λ ys. flat_map line_text (map words ys)) (drop_more xs i d there)
+
+-- the same where each line has its number
+pub numbered-drop : {A : Type 0} (words : ℕ → A → List (List ℕ)) (xs : List A) (i : ℕ) (d : A) → i < length xs
+    → flat_map line_text (numbered words i (drop i xs))
+    ≡ line_text (words i (get_or xs i d)) ++ flat_map line_text (numbered words (i + 1) (drop (i + 1) xs))
+numbered-drop words xs i d there = ap (λ ys. flat_map line_text (numbered words i ys)) (drop_more xs i d there)
+
+pub spaced-append : (a b : List (List ℕ)) → spaced (a ++ b) ≡ spaced a ++ spaced b
+spaced-append [] b = refl
+spaced-append (word ∷ words) b =
+    ap (λ rest. 32 ∷ (word ++ rest)) (spaced-append words b)
+    ∙ ap (λ rest. 32 ∷ rest) (sym (append_assoc word (spaced words) (spaced b)))
+
+-- a first phase that isn't 0 has its option
+pub phase_there : (phase : ℤ) → phase ≢ pos 0 → phase_words phase ≡ codes "phase" ∷ signed_decimal phase ∷ []
+phase_there (pos zero) other = absurd (other refl)
+phase_there (pos (suc n)) other = refl
+phase_there (negsuc n) other = refl
+
+pub ruleset word_steps = (append_assoc, append-nil)
+
+pub ruleset option_steps = (append_assoc, spaced-append)
+
+pub ruleset text_steps = (lines-drop, numbered-drop)
+
+pub ruleset operand_steps = (drop_more, append_assoc)
+
+-- what holds of the elements before a place, and of the one there
+pub one_more : {A : Type 0} (P : A → Type 0) (xs : List A) (n : ℕ) (x : A) → n < length xs
+    → ((k : ℕ) → (d : A) → k < n → P (get_or xs k d)) → P (get_or xs n x) → (k : ℕ) → (d : A) → k < n + 1 → P (get_or xs k d)
+one_more P xs n x within before here k d below =
+    by_order (nat_lt k n) (λ less. before k d (ltb-true k n less))
+    (λ not-less.
+    let same : n ≡ k = omega (arith, below, ltb-false k n not-less) in
+    let there : k < length xs = omega (arith, same, within) in
+    subst P (get_or_default xs k x d there) (subst (λ (i : ℕ). P (get_or xs i x)) same here))

@@ -1,0 +1,39 @@
+//! The canonical text of an image: what `disassemble` writes of it.
+//!
+//! It has a line for each phaser, barrier, thread and row. That it stands for the image, and
+//! for no other, are laws of `assembler`.
+
+ghost use Rattle.std.specs.Prelude.{◌≡◌, IfOk, OnOk};
+ghost use Rattle.row_code.specs.declared.image.Image.{Image};
+ghost use Rattle.row_code.specs.Image.{IsImage};
+ghost use Rattle.line_reader.specs.Listing.{canonical};
+
+mod barriers;
+mod phasers;
+mod pieces;
+mod row_line;
+pub mod rows;
+mod threads;
+
+use crate::listing::barriers::push_barriers;
+use crate::listing::phasers::push_phasers;
+use row_code::Image;
+use crate::listing::rows::push_rows;
+use std::alloc::{AllocError, Global};
+use crate::listing::threads::push_threads;
+
+/// The canonical text of an image. Phaser `n` is named `pn`, barrier `n` `bn` and thread `n` `tn`;
+/// what an operand or a directive refers to stands there by its number.
+pub fn disassemble(alloc: Global, image: &Image) -> Result<Vec<u8>, AllocError>
+    ensures text { IfOk result (λ text. text.items ≡ canonical image.now) }
+
+    // What the laws of canonical texts ask of an image.
+    ensures fits { OnOk result (IsImage image.now) }
+{
+    let mut text = Vec::new(alloc);
+    push_phasers(&mut text, image.phasers.as_slice())?;
+    push_barriers(&mut text, image.barriers.as_slice())?;
+    push_threads(&mut text, image.threads.as_slice())?;
+    push_rows(&mut text, image.rows.as_slice())?;
+    Ok(text)
+}

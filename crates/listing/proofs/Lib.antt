@@ -1,2 +1,0 @@
-pub mod ListedTexts
-pub mod OneDigit

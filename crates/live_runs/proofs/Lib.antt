@@ -1,4 +1,0 @@
-pub mod Counting
-pub mod Reports
-pub mod Reported
-pub mod Shown

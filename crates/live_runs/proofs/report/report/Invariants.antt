@@ -1,7 +1,0 @@
-use Rattle.std.proofs.Common.{◌≡◌, ◌++◌, drop}
-use Rattle.live_runs.specs.Outcomes.{report}
-use Rattle.live_runs.proofs.report.report.Given as goal
-
--- the text goes on with the lines from the next outcome on
-abbrev pub invariant-loop-place : goal.invariant-loop-place
-invariant-loop-place l = l.text.items ++ report (drop l.place l.outcomes.entries) ≡ report l.fn.outcomes.entries

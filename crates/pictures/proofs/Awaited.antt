@@ -1,0 +1,19 @@
+-- What a row at a phaser waits for.
+use Rattle.std.proofs.Common.{◌≡◌, ◌⊎◌, inl, inr, ℕ, ap}
+use Rattle.assembler.specs.Symbols.{SymbolTable}
+use Rattle.instruction_table.specs.declared.register.Reg.{Reg}
+use Rattle.instruction_table.specs.declared.row.Row.{Row}
+use Rattle.instruction_table.specs.declared.row.Row.TheVariants.{Paaa, Pawait, Pawaiti, Pawaitt}
+use Rattle.machine_scene.specs.Scene.{Scene}
+use Rattle.pictures.specs.Picture.{at_phaser, awaited_text}
+use Rattle.pictures.specs.declared.sheet.Sheet.{Sheet}
+
+pub awaited_at : (sheet : Sheet) (symbols : SymbolTable) (scene : Scene) (row : Row) (p : ℕ)
+    → ((x : Reg) × (row ≡ Paaa x p)) ⊎ (((x : Reg) × (y : Reg) × (row ≡ Pawait x p y))
+    ⊎ (((x : Reg) × (y : Reg) × (row ≡ Pawaiti x p y))
+    ⊎ ((x : Reg) × (y : Reg) × (z : Reg) × (row ≡ Pawaitt x p y z))))
+    → awaited_text sheet symbols scene row ≡ at_phaser sheet symbols scene.phasers p
+awaited_at sheet symbols scene row p (inl (x, is)) = ap (awaited_text sheet symbols scene) is
+awaited_at sheet symbols scene row p (inr (inl (x, y, is))) = ap (awaited_text sheet symbols scene) is
+awaited_at sheet symbols scene row p (inr (inr (inl (x, y, is)))) = ap (awaited_text sheet symbols scene) is
+awaited_at sheet symbols scene row p (inr (inr (inr (x, y, z, is)))) = ap (awaited_text sheet symbols scene) is

@@ -1,0 +1,6 @@
+mod Awaited
+pub mod Cells
+pub mod Drawings
+mod Escapes
+mod Showings
+mod WhatIfs

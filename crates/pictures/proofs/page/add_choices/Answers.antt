@@ -1,0 +1,13 @@
+use Rattle.std.proofs.Common.{◌∙◌, sym}
+use Rattle.pictures.proofs.Showings.{choices-drop, shown_next, shown_refused}
+use Rattle.pictures.proofs.page.add_choices.Goals as goal
+
+pub returns-then-not-branch : goal.returns-then-not-branch
+returns-then-not-branch c =
+    shown_refused _ _ _ _ _ _ _ _ (choices-drop c.args.choices.now c.loop-choice.choice-index _ c.loop-choice-test.true)
+    c.in_ok-add_choice.ensures c.if-not-branch.true ∙ c.loop-choice.invariant
+
+pub loop-choice-preserved : goal.loop-choice-preserved
+loop-choice-preserved c =
+    shown_next _ _ _ _ _ _ _ _ (choices-drop c.args.choices.now c.loop-choice.choice-index _ c.loop-choice-test.true)
+    c.in_ok-add_choice.ensures c.if-not-branch.false ∙ c.loop-choice.invariant

@@ -1,0 +1,45 @@
+-- What the things of a program are called, and how its rows read with these names.
+use Rattle.std.specs.Prelude.{ℕ, ℤ, List, [], ◌∷◌, ◌++◌, codes, decimal, Option, Some, None, unsigned_abs}
+use Rattle.std.specs.Fmt.{signed_decimal}
+use Rattle.assembler.specs.Symbols.{SymbolTable, name_of}
+use Rattle.instruction_table.specs.declared.row.Row.{Row}
+use Rattle.instruction_table.specs.declared.shape.OperandKind.{OperandKind}
+use Rattle.instruction_table.specs.declared.shape.OperandKind.TheVariants as kind
+use Rattle.instruction_table.specs.Table.{entry_for}
+use Rattle.line_reader.specs.Symbols.{Name}
+use Rattle.line_reader.specs.Listing.{joined}
+use Rattle.row_code.specs.RowFields.{fields_of}
+
+-- what stands before the number of a thing that has no name: `t0`, `p0`, `b0`, `c0`, and `#0` of a row
+abbrev pub letter : OperandKind → List ℕ
+letter kind.Thread = codes "t"
+letter kind.Phaser = codes "p"
+letter kind.Barrier = codes "b"
+letter kind.Cell = codes "c"
+letter _ = codes "#"
+
+abbrev pub called_by : OperandKind → ℕ → Option Name → List ℕ
+called_by k number None = letter k ++ decimal number
+called_by k number (Some name) = name
+
+-- the name of the thing of this kind and number, else its letter and its number
+abbrev pub called : SymbolTable → OperandKind → ℕ → List ℕ
+called symbols k number = called_by k number (name_of k number symbols)
+
+-- the operands of these kinds: registers by their numbers, one after the other, and what else there is
+abbrev pub named_operands : SymbolTable → List OperandKind → List ℕ → ℤ → List (List ℕ)
+named_operands symbols [] registers imm = []
+named_operands symbols (kind.Register ∷ kinds) [] imm = []
+named_operands symbols (kind.Register ∷ kinds) (register ∷ registers) imm =
+    (codes "r" ++ decimal register) ∷ named_operands symbols kinds registers imm
+named_operands symbols (kind.Number ∷ kinds) registers imm =
+    signed_decimal imm ∷ named_operands symbols kinds registers imm
+named_operands symbols (k ∷ kinds) registers imm =
+    called symbols k (unsigned_abs imm) ∷ named_operands symbols kinds registers imm
+
+-- a row as it stands in a text, with these names
+abbrev pub row_caption : SymbolTable → Row → List ℕ
+row_caption symbols row =
+    let entry = entry_for row in
+    let f = fields_of row in
+    joined (entry.word ∷ named_operands symbols entry.operands (f.a ∷ f.b ∷ f.c ∷ []) f.imm)

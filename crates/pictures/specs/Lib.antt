@@ -1,0 +1,7 @@
+pub mod Sheet
+pub mod Caption
+pub mod Turn
+pub mod Picture
+pub mod Drawing
+pub mod Page
+pub mod Showing

@@ -1,0 +1,94 @@
+-- The page that shows a run: four fixed parts, and between them the program, its text, and the run moment by moment.
+use Rattle.std.specs.Prelude.{◌≡◌, ◌≤◌, ℕ, ◌==◌, ◌||◌, not, Bool, false, true, if◌then◌else◌, List, [], ◌∷◌, ◌++◌, length, codes, flat_map, is_none, None}
+use Rattle.line_reader.specs.Listing.{canonical}
+use Rattle.row_code.specs.declared.image.Image.{Image}
+use Rattle.pictures.specs.declared.fixed.TheConstants.{BEFORE_RUN, BEFORE_SOURCE, HEAD, TAIL}
+use Rattle.pictures.specs.declared.frame.Frame.{Frame}
+use Rattle.schedule_reader.specs.declared.run.Run.{Run}
+use Rattle.schedule_reader.specs.Schedule.{choice_of, choices_of, finished_schedule}
+use Rattle.thread_machine.specs.declared.choice.Choice.{Choice}
+use Rattle.thread_machine.specs.Execution.{execution}
+use Rattle.thread_machine.specs.Ready.{is_choice_ready}
+use Rattle.thread_machine.specs.World.{World}
+use Rattle.thread_state.specs.Thread.{ThreadState}
+use Rattle.trace_text.specs.Start.{Begins}
+use Rattle.trace_text.specs.State.{numbered_texts, state_text}
+use Rattle.trace_text.specs.Trace.{lines_of}
+
+-- a byte as it stands in a page: `&`, `<`, `>` and CR by their names, any other as itself
+abbrev pub escaped_byte : ℕ → List ℕ
+escaped_byte byte =
+    if byte == 38 then codes "&amp;" else (if byte == 60 then codes "&lt;" else (if byte == 62 then codes "&gt;"
+    else (if byte == 13 then codes "&#13;" else byte ∷ [])))
+
+abbrev pub escaped : List ℕ → List ℕ
+escaped text = flat_map escaped_byte text
+
+-- a byte that neither begins nor ends a tag
+abbrev pub is_in_no_tag : ℕ → Bool
+is_in_no_tag byte = not ((byte == 60) || (byte == 62))
+
+-- what a choice would do as the next one: where it may take a step, the line that it would have
+abbrev pub what_if : World → Choice → List ℕ
+what_if world choice =
+    if is_choice_ready world.program choice world.scene then codes "next " ++ lines_of world (choice ∷ []) else []
+
+-- the same of a thread's turn, and of the expiry of its wait
+abbrev pub what_if_of : World → ℕ → ThreadState → List ℕ
+what_if_of world t thread = what_if world (choice_of false t) ++ what_if world (choice_of true t)
+
+-- what is shown of a world: its state, and what each choice that may take a step would do, thread by thread
+abbrev pub moment : World → List ℕ
+moment world = state_text world ++ numbered_texts (what_if_of world) 0 world.scene.threads
+
+-- of each choice its line, and the moment after it; a choice that is refused is the last, and has its line alone
+abbrev pub moments : World → List Choice → List ℕ
+moments world [] = []
+moments world (choice ∷ choices) =
+    lines_of world (choice ∷ []) ++ (if is_none (execution world (choice ∷ [])).refusal
+    then moment (execution world (choice ∷ [])).world ++ moments (execution world (choice ∷ [])).world choices else [])
+
+-- the run from this world on
+abbrev pub run_shown : World → List Choice → List ℕ
+run_shown world choices = moment world ++ moments world choices
+
+-- the parts of a page that are the same of every run, as `bin/page` makes them of the sources in `page/`
+pub record Parts : Type 0 where
+  pub head : List ℕ
+  pub before_source : List ℕ
+  pub before_run : List ℕ
+  pub tail : List ℕ
+
+abbrev pub parts_of : Frame → Parts
+parts_of frame = record {
+  head = frame.head.now;
+  before_source = frame.before_source.now;
+  before_run = frame.before_run.now;
+  tail = frame.tail.now;
+}
+
+abbrev pub fixed_parts : Parts
+fixed_parts = record { head = HEAD.now; before_source = BEFORE_SOURCE.now; before_run = BEFORE_RUN.now; tail = TAIL.now }
+
+-- these parts, and between them the listing of a program, its text and a run
+abbrev pub page_text : Parts → List ℕ → List ℕ → List ℕ → List ℕ
+page_text parts listing source run =
+    parts.head ++ (escaped listing ++ (parts.before_source ++ (escaped source ++ (parts.before_run ++ (escaped run ++ parts.tail)))))
+
+-- the choices of a faultless schedule
+abbrev pub AreChoicesOf : List ℕ → List Choice → Type 0
+AreChoicesOf schedule choices =
+    (runs : List Run) × ((finished_schedule schedule ≡ record { runs = runs; fault = None }) × (choices ≡ choices_of runs))
+
+-- how many choices a page shows at most
+abbrev pub most_choices : ℕ
+most_choices = 2000
+
+-- the page of an image's program, its text, and its run from the beginning under this schedule
+abbrev pub IsPageIn : Parts → Image → List ℕ → List ℕ → List ℕ → Type 0
+IsPageIn parts image source schedule page =
+    (world : World) × ((choices : List Choice) × (Begins image world × AreChoicesOf schedule choices
+    × (length choices ≤ most_choices) × (page ≡ page_text parts (canonical image) source (run_shown world choices))))
+
+abbrev pub IsPageOf : Image → List ℕ → List ℕ → List ℕ → Type 0
+IsPageOf image source schedule page = IsPageIn fixed_parts image source schedule page

@@ -1,0 +1,261 @@
+-- The picture of a run: for each block of threads a line with their names and a line for each choice, and then a line for
+-- each thread that waits or died. No line is longer than the sheet is wide.
+use Rattle.std.specs.Prelude.{◌≡◌, ℕ, ℤ, zero, suc, ◌+◌, ◌-◌, ◌*◌, ◌/◌, ◌==◌, ◌&&◌, not, nat_lt, min, Bool, true, false, if◌then◌else◌, List, [], ◌∷◌, ◌++◌, length, take, map, flat_map, codes, decimal, Option, Some, None, slice_get}
+use Rattle.std.specs.Fmt.{signed_decimal}
+use Rattle.assembler.specs.Symbols.{SymbolTable}
+use Rattle.cyclic_barrier.specs.Barrier.{BarrierState, number_waiting}
+use Rattle.instruction_table.specs.declared.row.Row.{Row}
+use Rattle.instruction_table.specs.declared.row.Row.TheVariants.{Paaa, Pawait, Pawaiti, Pawaitt, Cawait, Cawaitt}
+use Rattle.instruction_table.specs.declared.shape.OperandKind.{OperandKind}
+use Rattle.instruction_table.specs.declared.shape.OperandKind.TheVariants as kind
+use Rattle.loader.specs.Program.{row_at}
+use Rattle.machine_scene.specs.Outcomes.{is_ready}
+use Rattle.machine_scene.specs.Scene.{Scene, thread_at}
+use Rattle.thread_machine.specs.declared.choice.Choice.{Choice}
+use Rattle.thread_machine.specs.declared.fault.StepFault.{StepFault}
+use Rattle.thread_machine.specs.declared.fault.StepFault.TheVariants as fault
+use Rattle.thread_machine.specs.Execution.{execution}
+use Rattle.thread_machine.specs.Ready.{can_expire, is_stuck}
+use Rattle.thread_machine.specs.Step.{Played, played, refusal_of}
+use Rattle.thread_machine.specs.World.{World}
+use Rattle.thread_state.specs.declared.event.Event.{Event}
+use Rattle.thread_state.specs.declared.status.Status.{Status}
+use Rattle.thread_state.specs.declared.status.Status.TheVariants as status
+use Rattle.row_code.specs.declared.image.Image.{Image}
+use Rattle.trace_text.specs.Start.{Begins}
+use Rattle.packed_phaser.specs.Flat.{Flat}
+use Rattle.tier_tree.specs.Forest.{PhaserState, flat_at, phaser_at}
+use Rattle.pictures.specs.declared.sheet.Sheet.{Sheet}
+use Rattle.pictures.specs.Caption.{called, row_caption}
+use Rattle.pictures.specs.Sheet.{column_room, kept_behind, mark_column, mark_room, number_text, other_blocks, put_at, sheet_of, shortened}
+use Rattle.pictures.specs.Turn.{mark_words, marked, standing, turn_text}
+
+-- ---- one line
+
+-- a line with so many cells more, from the cell of this number on, each at its column
+abbrev pub with_cells : (ℕ → List ℕ) → ℕ → ℕ → ℕ → List ℕ → List ℕ
+with_cells cell width n zero line = line
+with_cells cell width n (suc left) line = with_cells cell width (n + 1) left (put_at (8 + n * width) (cell n) line)
+
+-- how many threads stand in the block that begins with this one
+abbrev pub in_block : Sheet → ℕ → ℕ → ℕ
+in_block sheet threads first = min sheet.beside (threads - first)
+
+-- the cells of a block behind what the line begins with
+abbrev pub block_line : Sheet → ℕ → ℕ → (ℕ → List ℕ) → List ℕ → List ℕ
+block_line sheet threads first cell begin =
+    with_cells (λ n. cell (first + n)) sheet.column 0 (in_block sheet threads first) begin
+
+-- thread t as it stands in a world
+abbrev pub standing_in : World → ℕ → List ℕ
+standing_in world t = standing (is_ready t world.program world.scene) (thread_at world.scene t).status
+
+-- in its column what the thread did whose turn it was, in the others how each thread stands
+abbrev pub cell_in : World → ℕ → List ℕ → ℕ → List ℕ
+cell_in world turn did t = if t == turn then did else standing_in world t
+
+-- a choice's number, what it did, how the threads stand after it, and what is told behind the columns
+abbrev pub choice_line : Sheet → ℕ → World → ℕ → ℕ → List ℕ → List ℕ → List ℕ
+choice_line sheet first world number turn did told =
+    put_at (mark_column sheet) told
+    (block_line sheet (length world.scene.threads) first (cell_in world turn did) (number_text number))
+
+-- ---- the lines of the choices
+
+-- a choice that was played in a world, with its event and the world after it
+abbrev pub played_line : Sheet → SymbolTable → ℕ → World → Choice → Event → World → List ℕ
+played_line sheet symbols first world choice event after =
+    let row = row_caption symbols (row_at world.program.rows (thread_at world.scene choice.thread).pc) in
+    choice_line sheet first after (world.choices + 1) choice.thread
+    (turn_text (column_room sheet) row choice.expiry event.what)
+    (kept_behind (mark_room sheet) (marked symbols event.mark) (mark_words event.mark))
+
+-- a choice that is refused: there is no such thread, or no step is left
+abbrev pub refused_did : Sheet → List ℕ
+refused_did sheet = shortened (column_room sheet) (codes "refused: limit")
+
+abbrev pub refused_words : StepFault → ℕ → List ℕ
+refused_words fault.NoSuchThread t = codes "no thread t" ++ decimal t
+refused_words _ t = []
+
+abbrev pub refused_line : Sheet → ℕ → World → Choice → StepFault → List ℕ
+refused_line sheet first world choice why =
+    choice_line sheet first world (world.choices + 1) choice.thread (refused_did sheet)
+    (shortened (mark_room sheet) (refused_words why choice.thread))
+
+-- a choice's line, and the lines after it unless it is refused: a refused choice is the last
+abbrev pub lines_by : Option StepFault → Sheet → SymbolTable → ℕ → World → Choice → (World → List (List ℕ)) → List (List ℕ)
+lines_by (Some why) sheet symbols first world choice rest = refused_line sheet first world choice why ∷ []
+lines_by None sheet symbols first world choice rest =
+    let play : Played = played world choice in
+    played_line sheet symbols first world choice play.event play.world ∷ rest play.world
+
+abbrev pub choice_lines : Sheet → SymbolTable → ℕ → World → List Choice → List (List ℕ)
+choice_lines sheet symbols first world [] = []
+choice_lines sheet symbols first world (choice ∷ choices) =
+    lines_by (refusal_of world choice) sheet symbols first world choice
+    (λ after. choice_lines sheet symbols first after choices)
+
+-- ---- a block
+
+-- the names of a block's threads
+abbrev pub name_cell : Sheet → SymbolTable → ℕ → List ℕ
+name_cell sheet symbols t = shortened (column_room sheet) (called symbols kind.Thread t)
+
+abbrev pub names_line : Sheet → SymbolTable → World → ℕ → List ℕ
+names_line sheet symbols world first =
+    block_line sheet (length world.scene.threads) first (name_cell sheet symbols) (codes "choice")
+
+abbrev pub block_lines : Sheet → SymbolTable → World → List Choice → ℕ → List (List ℕ)
+block_lines sheet symbols world choices first =
+    names_line sheet symbols world first ∷ choice_lines sheet symbols first world choices
+
+-- the block of this number that isn't the last: an empty line stands behind it
+abbrev pub other_block : Sheet → SymbolTable → World → List Choice → ℕ → List (List ℕ)
+other_block sheet symbols world choices n = block_lines sheet symbols world choices (n * sheet.beside) ++ ([] ∷ [])
+
+-- what is made of each number, from this one on, so many of them
+abbrev pub each_from : {A : Type 0} → (ℕ → List A) → ℕ → ℕ → List A
+each_from made n zero = []
+each_from made n (suc left) = made n ++ each_from made (n + 1) left
+
+-- ---- who waits at the end, and who died
+
+-- how many have arrived, of how many
+abbrev pub arrived_text : ℕ → ℕ → List ℕ
+arrived_text arrived parties =
+    codes " (" ++ (decimal arrived ++ (codes " of " ++ (decimal parties ++ codes " arrived)")))
+
+-- the same behind the name of a phaser further up
+abbrev pub above_text : ℕ → ℕ → List ℕ
+above_text arrived parties = codes ": " ++ (decimal arrived ++ (codes " of " ++ (decimal parties ++ codes ")")))
+
+abbrev pub barrier_arrived : Option BarrierState → List ℕ
+barrier_arrived None = []
+barrier_arrived (Some barrier) = arrived_text (number_waiting barrier) barrier.parties
+
+-- a phaser whose parties have all arrived has arrived at its parent: who is missing is missing there, or further up
+abbrev pub have_all_arrived : Flat → Bool
+have_all_arrived flat = not flat.ended && (not (flat.parties == 0) && (flat.arrived == flat.parties))
+
+abbrev pub missing_above : List PhaserState → ℕ → ℕ → ℕ
+missing_above phasers p zero = p
+missing_above phasers p (suc levels) =
+    if have_all_arrived (flat_at phasers p)
+    then elim (slice_get (phaser_at phasers p).line 1) [ None ↦ p | Some parent ↦ missing_above phasers parent levels ]
+    else p
+
+-- where somebody is missing for whom a thread at this phaser waits; a tree has 8 levels at most
+abbrev pub missing_for : List PhaserState → ℕ → ℕ
+missing_for phasers p = missing_above phasers p 8
+
+-- the room of a name: two of them fit into a line beside all else
+abbrev pub name_room : Sheet → ℕ
+name_room sheet = (sheet.width - 46) / 2
+
+abbrev pub place_name : Sheet → SymbolTable → OperandKind → ℕ → List ℕ
+place_name sheet symbols k number = shortened (name_room sheet) (called symbols k number)
+
+-- who has arrived at a phaser, where that is the one at which somebody is missing, else the name of that one
+abbrev pub arrived_at : Sheet → SymbolTable → List PhaserState → ℕ → ℕ → List ℕ
+arrived_at sheet symbols phasers p at =
+    if at == p then arrived_text (flat_at phasers p).arrived (flat_at phasers p).parties
+    else codes " (arrived at " ++ place_name sheet symbols kind.Phaser at
+
+-- behind that name, who has arrived there
+abbrev pub arrived_above : List PhaserState → ℕ → ℕ → List ℕ
+arrived_above phasers p at =
+    if at == p then [] else above_text (flat_at phasers at).arrived (flat_at phasers at).parties
+
+-- a phaser, or a barrier, and who has arrived there
+abbrev pub at_phaser : Sheet → SymbolTable → List PhaserState → ℕ → List ℕ
+at_phaser sheet symbols phasers p =
+    place_name sheet symbols kind.Phaser p
+    ++ (if nat_lt p (length phasers)
+    then arrived_at sheet symbols phasers p (missing_for phasers p) else [])
+
+abbrev pub behind_phaser : List PhaserState → ℕ → List ℕ
+behind_phaser phasers p =
+    if nat_lt p (length phasers) then arrived_above phasers p (missing_for phasers p) else []
+
+abbrev pub at_barrier : Sheet → SymbolTable → Scene → ℕ → List ℕ
+at_barrier sheet symbols scene b = place_name sheet symbols kind.Barrier b ++ barrier_arrived (slice_get scene.barriers b)
+
+-- what a thread waits at that stands at this row
+abbrev pub awaited_text : Sheet → SymbolTable → Scene → Row → List ℕ
+awaited_text sheet symbols scene (Paaa into phaser) = at_phaser sheet symbols scene.phasers phaser
+awaited_text sheet symbols scene (Pawait into phaser phase) = at_phaser sheet symbols scene.phasers phaser
+awaited_text sheet symbols scene (Pawaiti into phaser phase) = at_phaser sheet symbols scene.phasers phaser
+awaited_text sheet symbols scene (Pawaitt into phaser phase timeout) = at_phaser sheet symbols scene.phasers phaser
+awaited_text sheet symbols scene (Cawait into barrier) = at_barrier sheet symbols scene barrier
+awaited_text sheet symbols scene (Cawaitt into barrier timeout) = at_barrier sheet symbols scene barrier
+awaited_text sheet symbols scene _ = []
+
+abbrev pub behind_text : Scene → Row → List ℕ
+behind_text scene (Paaa into phaser) = behind_phaser scene.phasers phaser
+behind_text scene (Pawait into phaser phase) = behind_phaser scene.phasers phaser
+behind_text scene (Pawaiti into phaser phase) = behind_phaser scene.phasers phaser
+behind_text scene (Pawaitt into phaser phase timeout) = behind_phaser scene.phasers phaser
+behind_text scene _ = []
+
+-- whether its wait can end, or run out, or whether the program is stuck
+abbrev pub hope_text : World → ℕ → List ℕ
+hope_text world t =
+    if is_ready t world.program world.scene then codes ": can go on"
+    else (if can_expire t world.program world.scene then codes ": can expire"
+    else (if is_stuck world then codes ": stuck" else []))
+
+abbrev pub thread_caption : Sheet → SymbolTable → ℕ → List ℕ
+thread_caption sheet symbols t = shortened (name_room sheet) (called symbols kind.Thread t)
+
+-- the line of a thread that waits: the names in it are cut where it is too long
+abbrev pub waiting_line : Sheet → SymbolTable → World → ℕ → List ℕ
+waiting_line sheet symbols world t =
+    let row = row_at world.program.rows (thread_at world.scene t).pc in
+    kept_behind sheet.width
+    (thread_caption sheet symbols t ++ (codes " waits at " ++ awaited_text sheet symbols world.scene row))
+    (behind_text world.scene row ++ hope_text world t)
+
+-- the line of a thread that died of an exception
+abbrev pub dead_line : Sheet → SymbolTable → ℕ → ℤ → List ℕ
+dead_line sheet symbols t code = thread_caption sheet symbols t ++ (codes " died of exception " ++ signed_decimal code)
+
+abbrev pub closing_by : Sheet → SymbolTable → World → ℕ → Status → List (List ℕ)
+closing_by sheet symbols world t (status.AwaitsPhase phase) = waiting_line sheet symbols world t ∷ []
+closing_by sheet symbols world t (status.AwaitsBarrier index) = waiting_line sheet symbols world t ∷ []
+closing_by sheet symbols world t (status.Died code) = dead_line sheet symbols t code ∷ []
+closing_by sheet symbols world t _ = []
+
+abbrev pub closing_of : Sheet → SymbolTable → World → ℕ → List (List ℕ)
+closing_of sheet symbols world t = closing_by sheet symbols world t (thread_at world.scene t).status
+
+-- the same of all threads
+abbrev pub closing_lines : Sheet → SymbolTable → World → List (List ℕ)
+closing_lines sheet symbols world = each_from (closing_of sheet symbols world) 0 (length world.scene.threads)
+
+-- ---- all of it
+
+-- the lines of a picture that is this wide
+abbrev pub lines_on : Sheet → SymbolTable → World → List Choice → List (List ℕ)
+lines_on sheet symbols world choices =
+    let others = other_blocks sheet (length world.scene.threads) in
+    each_from (other_block sheet symbols world choices) 0 others
+    ++ (block_lines sheet symbols world choices (others * sheet.beside)
+    ++ closing_lines sheet symbols (execution world choices).world)
+
+-- a line as it is written: what stands in its width, and its end
+abbrev pub written_line : ℕ → List ℕ → List ℕ
+written_line width line = take width line ++ codes "\n"
+
+abbrev pub lines_text : ℕ → List (List ℕ) → List ℕ
+lines_text width lines = flat_map (written_line width) lines
+
+-- the picture of a run of these choices from this world on
+abbrev pub picture : ℕ → SymbolTable → World → List Choice → List ℕ
+picture width symbols world choices =
+    lines_text width (lines_on (sheet_of width (length world.scene.threads)) symbols world choices)
+
+-- the picture of an image's program, from its beginning on
+abbrev pub IsPictureOf : Image → ℕ → SymbolTable → List Choice → List ℕ → Type 0
+IsPictureOf image width symbols choices text =
+    (world : World) × (Begins image world × (text ≡ picture width symbols world choices))

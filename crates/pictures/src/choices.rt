@@ -1,0 +1,87 @@
+ghost use Rattle.std.specs.Prelude.{◌≡◌, ◌≢◌, ◌≤◌, ◌<◌, ◌++◌, ◌⊎◌, length, replicate, Some, None, Err, IfErr, IfOk, OnOk};
+ghost use Rattle.pictures.specs.Page.{AreChoicesOf, most_choices};
+ghost use Rattle.pictures.specs.declared.page.PageFault.{PageFault};
+ghost use Rattle.schedule_reader.specs.declared.fault.ScheduleFault.{ScheduleFault};
+ghost use Rattle.schedule_reader.specs.Schedule.{choices_of, finished_schedule};
+ghost use Rattle.loader.specs.declared.load_fault.LoadFault.{LoadFault};
+
+use crate::page::PageFault;
+use loader::LoadFault;
+use schedule_reader::{Run, ScheduleFault, read_schedule};
+use std::alloc::Global;
+use thread_machine::Choice;
+
+/// How many choices a page shows at most.
+pub const MOST_CHOICES: usize = 2000;
+
+/// What is told of a schedule's fault.
+fn fault_of(fault: ScheduleFault) -> PageFault
+    ensures schedule { (told : ScheduleFault) → result ≡ PageFault.Schedule told
+        → (told ≡ fault) × (fault ≢ ScheduleFault.Memory) }
+    ensures others { ((told : LoadFault) → result ≢ PageFault.Load told) × (result ≢ PageFault.Choices) }
+{
+    match fault {
+        ScheduleFault::Memory => PageFault::Memory,
+        fault => PageFault::Schedule(fault),
+    }
+}
+
+/// The runs of a schedule that has no fault.
+fn runs_in(alloc: Global, schedule: &[u8]) -> Result<Vec<Run>, PageFault>
+    requires { length schedule.now < 9223372036854775807 }
+    ensures runs { IfOk result (λ runs. finished_schedule schedule.now ≡ record { runs = runs.items; fault = None }) }
+    ensures schedule { (fault : ScheduleFault) → result ≡ Err (PageFault.Schedule fault)
+        → ((finished_schedule schedule.now).fault ≡ Some fault) × (fault ≢ ScheduleFault.Memory) }
+    ensures others { ((fault : LoadFault) → result ≢ Err (PageFault.Load fault)) × (result ≢ Err PageFault.Choices) }
+{
+    match read_schedule(alloc, schedule) {
+        Ok(runs) => Ok(runs),
+        Err(fault) => Err(fault_of(fault)),
+    }
+}
+
+/// Adds the choices of a run, `Choices` where there are too many then.
+fn add_run(choices: &mut Vec<Choice>, run: Run) -> Result<(), PageFault>
+    requires { length choices.old.items ≤ most_choices }
+    ensures choices { OnOk result (choices.new.items ≡ choices.old.items ++ replicate run.times run.choice) }
+    ensures few { OnOk result (length choices.new.items ≤ most_choices) }
+    ensures many { result ≡ Err PageFault.Choices
+        → most_choices < length (choices.old.items ++ replicate run.times run.choice) }
+    ensures others { IfErr result (λ fault. (fault ≡ PageFault.Choices) ⊎ (fault ≡ PageFault.Memory)) }
+{
+    if run.times as usize > MOST_CHOICES - choices.len() {
+        return Err(PageFault::Choices);
+    }
+    choices.resize(choices.len() + run.times as usize, run.choice)?;
+    Ok(())
+}
+
+/// The choices of these runs, `Choices` where there are too many.
+#[tactic(auto, using(trace_text::proofs::Traces::text_steps))]
+fn choices_of(alloc: Global, runs: &[Run]) -> Result<Vec<Choice>, PageFault>
+    ensures choices { IfOk result (λ choices. choices.items ≡ choices_of runs.now) }
+    ensures few { IfOk result (λ choices. length choices.items ≤ most_choices) }
+    ensures many { result ≡ Err PageFault.Choices → most_choices < length (choices_of runs.now) }
+    ensures others { IfErr result (λ fault. (fault ≡ PageFault.Choices) ⊎ (fault ≡ PageFault.Memory)) }
+{
+    let mut choices = Vec::new(alloc);
+    for run in runs {
+        add_run(&mut choices, *run)?;
+    }
+    Ok(choices)
+}
+
+/// The choices of a whole schedule.
+pub fn choices_in(alloc: Global, schedule: &[u8]) -> Result<Vec<Choice>, PageFault>
+    requires { length schedule.now < 9223372036854775807 }
+    ensures choices { IfOk result (λ choices. AreChoicesOf schedule.now choices.items) }
+    ensures few { IfOk result (λ choices. length choices.items ≤ most_choices) }
+    ensures schedule { (fault : ScheduleFault) → result ≡ Err (PageFault.Schedule fault)
+        → ((finished_schedule schedule.now).fault ≡ Some fault) × (fault ≢ ScheduleFault.Memory) }
+    ensures many { result ≡ Err PageFault.Choices → ((finished_schedule schedule.now).fault ≡ None)
+        × (most_choices < length (choices_of (finished_schedule schedule.now).runs)) }
+    ensures load { (fault : LoadFault) → result ≢ Err (PageFault.Load fault) }
+{
+    let runs = runs_in(alloc, schedule)?;
+    choices_of(alloc, runs.as_slice())
+}

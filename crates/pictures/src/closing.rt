@@ -1,0 +1,330 @@
+// Who waits at the end, and who died.
+ghost use Rattle.std.specs.Prelude.{◌≡◌, ◌++◌, ◌<◌, length, slice_get, IfOk, OnOk};
+ghost use Rattle.machine_scene.specs.Scene.{scene_of};
+ghost use Rattle.thread_machine.specs.World.{world_of};
+ghost use Rattle.pictures.specs.Picture.{above_text, arrived_above, arrived_at, arrived_text, at_phaser, awaited_text, barrier_arrived, behind_phaser, behind_text, closing_lines, closing_of, dead_line, have_all_arrived, hope_text, lines_text, missing_for, name_room, waiting_line};
+ghost use Rattle.pictures.specs.Caption.{called};
+ghost use Rattle.pictures.specs.Sheet.{shortened};
+ghost use Rattle.tier_tree.specs.Forest.{flat_at};
+ghost use Rattle.tier_tree.specs.Stored.{phasers_of};
+
+use crate::caption::push_called;
+use crate::fitting::{kept_behind, push_count, push_value, shortened};
+use crate::line::{push_line, row_of};
+use crate::sheet::Sheet;
+use assembler::Symbols;
+use instruction_table::{OperandKind, Row};
+use std::alloc::{AllocError, Global};
+use thread_machine::{Machine, Status};
+use tier_tree::{Forest, PhaserId};
+
+/// Adds how many have arrived, of how many.
+fn push_arrived(text: &mut Vec<u8>, arrived: u16, parties: u16) -> Result<(), AllocError>
+    ensures { OnOk result (text.new.items ≡ text.old.items ++ arrived_text arrived parties) }
+{
+    push_count(text, b" (", u64::from(arrived))?;
+    push_count(text, b" of ", u64::from(parties))?;
+    text.extend_from_slice(b" arrived)")
+}
+
+/// The same behind the name of a phaser further up.
+fn push_arrived_above(text: &mut Vec<u8>, arrived: u16, parties: u16) -> Result<(), AllocError>
+    ensures { OnOk result (text.new.items ≡ text.old.items ++ above_text arrived parties) }
+{
+    push_count(text, b": ", u64::from(arrived))?;
+    push_count(text, b" of ", u64::from(parties))?;
+    text.extend_from_slice(b")")
+}
+
+/// Whether all parties of a phaser have arrived, which has arrived at its parent then.
+fn have_all_arrived(forest: &Forest, id: PhaserId) -> bool
+    requires { id.0 < length forest.now }
+    ensures { result ≡ have_all_arrived (flat_at (phasers_of forest.now) id.0) }
+{
+    let parties = forest.parties(id);
+    !forest.is_terminated(id) && parties != 0 && forest.arrived(id) == parties
+}
+
+/// The phaser at which somebody is missing for whom a thread at this one waits: the phaser itself, or one further up.
+fn missing_for(forest: &Forest, id: PhaserId) -> PhaserId
+    requires { id.0 < length forest.now }
+    ensures phaser { result.0 ≡ missing_for (phasers_of forest.now) id.0 }
+    ensures there { result.0 < length forest.now }
+{
+    let mut at = id;
+    let mut levels: u8 = 8;
+    while levels > 0 {
+        if !have_all_arrived(forest, at) {
+            return at;
+        }
+        match forest.parent(at) {
+            Some(parent) => at = parent,
+            None => return at,
+        }
+        levels -= 1;
+    }
+    at
+}
+
+/// Adds who has arrived at a phaser that is there, where somebody is missing at that one, else the name of this one, and behind
+/// it who has arrived there.
+fn push_arrived_at(
+    alloc: Global,
+    front: &mut Vec<u8>,
+    back: &mut Vec<u8>,
+    sheet: Sheet,
+    symbols: &Symbols,
+    forest: &Forest,
+    id: PhaserId,
+) -> Result<(), AllocError>
+    requires { id.0 < length forest.now }
+    ensures front { let phasers = phasers_of forest.now in
+        OnOk result (front.new.items ≡ front.old.items ++ arrived_at sheet symbols.now phasers id.0 (missing_for phasers id.0)) }
+    ensures back { let phasers = phasers_of forest.now in
+        OnOk result (back.new.items ≡ back.old.items ++ arrived_above phasers id.0 (missing_for phasers id.0)) }
+{
+    let at = missing_for(forest, id);
+    if at.0 == id.0 {
+        return push_arrived(front, forest.arrived(id), forest.parties(id));
+    }
+    front.extend_from_slice(b" (arrived at ")?;
+    push_name(
+        alloc,
+        front,
+        sheet,
+        symbols,
+        OperandKind::Phaser,
+        u32::from(at.0),
+    )?;
+    push_arrived_above(back, forest.arrived(at), forest.parties(at))
+}
+
+/// Adds a phaser and who has arrived there, or further up.
+fn push_phaser(
+    alloc: Global,
+    front: &mut Vec<u8>,
+    back: &mut Vec<u8>,
+    sheet: Sheet,
+    symbols: &Symbols,
+    forest: &Forest,
+    number: u16,
+) -> Result<(), AllocError>
+    ensures front { OnOk result (front.new.items
+        ≡ front.old.items ++ at_phaser sheet symbols.now (phasers_of forest.now) number) }
+    ensures back { OnOk result (back.new.items ≡ back.old.items ++ behind_phaser (phasers_of forest.now) number) }
+{
+    push_name(
+        alloc,
+        front,
+        sheet,
+        symbols,
+        OperandKind::Phaser,
+        u32::from(number),
+    )?;
+    if usize::from(number) >= forest.len() {
+        return Ok(());
+    }
+    forest.is_forest();
+    push_arrived_at(
+        alloc,
+        front,
+        back,
+        sheet,
+        symbols,
+        forest,
+        PhaserId(number as u8),
+    )
+}
+
+/// The same of a barrier.
+fn push_barrier_arrived(
+    text: &mut Vec<u8>,
+    machine: &Machine,
+    number: u16,
+) -> Result<(), AllocError>
+    ensures { OnOk result (text.new.items
+        ≡ text.old.items ++ barrier_arrived (slice_get (scene_of machine.now.scene).barriers number)) }
+{
+    if usize::from(number) >= machine.barrier_count() {
+        return Ok(());
+    }
+    let barrier = machine.barrier(number as u8);
+    push_arrived(text, barrier.number_waiting(), barrier.parties())
+}
+
+/// Adds what a thing is called, in the room of a name.
+fn push_name(
+    alloc: Global,
+    text: &mut Vec<u8>,
+    sheet: Sheet,
+    symbols: &Symbols,
+    kind: OperandKind,
+    number: u32,
+) -> Result<(), AllocError>
+    ensures { OnOk result (text.new.items
+        ≡ text.old.items ++ shortened (name_room sheet) (called symbols.now kind number)) }
+{
+    let mut name = Vec::new(alloc);
+    push_called(&mut name, symbols, kind, number)?;
+    let name = shortened(alloc, sheet.name_room(), name.as_slice())?;
+    text.extend_from_slice(name.as_slice())
+}
+
+/// Adds what a thread waits at that stands at this row, and behind it how many have arrived further up.
+fn push_awaited(
+    alloc: Global,
+    front: &mut Vec<u8>,
+    back: &mut Vec<u8>,
+    sheet: Sheet,
+    symbols: &Symbols,
+    machine: &Machine,
+    row: Row,
+) -> Result<(), AllocError>
+    ensures front { OnOk result (front.new.items
+        ≡ front.old.items ++ awaited_text sheet symbols.now (scene_of machine.now.scene) row) }
+    ensures back { OnOk result (back.new.items ≡ back.old.items ++ behind_text (scene_of machine.now.scene) row) }
+{
+    match row {
+        Row::Paaa { phaser, .. }
+        | Row::Pawait { phaser, .. }
+        | Row::Pawaiti { phaser, .. }
+        | Row::Pawaitt { phaser, .. } => push_phaser(
+            alloc,
+            front,
+            back,
+            sheet,
+            symbols,
+            machine.forest(),
+            phaser,
+        ),
+        Row::Cawait { barrier, .. } | Row::Cawaitt { barrier, .. } => {
+            push_name(
+                alloc,
+                front,
+                sheet,
+                symbols,
+                OperandKind::Barrier,
+                u32::from(barrier),
+            )?;
+            push_barrier_arrived(front, machine, barrier)
+        }
+        _ => Ok(()),
+    }
+}
+
+/// Whether a thread's wait can end, or run out, or whether the program is stuck.
+fn hope(machine: &Machine, thread: u8) -> &'static [u8]
+    requires { thread < length machine.now.scene.threads }
+    ensures { result.now ≡ hope_text (world_of machine.now) thread }
+{
+    if machine.is_ready(thread) {
+        b": can go on"
+    } else if machine.can_expire(thread) {
+        b": can expire"
+    } else if machine.stuck() {
+        b": stuck"
+    } else {
+        b""
+    }
+}
+
+/// The line of a thread that waits.
+fn waiting_line(
+    alloc: Global,
+    sheet: Sheet,
+    symbols: &Symbols,
+    machine: &Machine,
+    thread: u8,
+) -> Result<Vec<u8>, AllocError>
+    requires { thread < length machine.now.scene.threads }
+    ensures { IfOk result (λ line. line.items ≡ waiting_line sheet symbols.now (world_of machine.now) thread) }
+{
+    let mut front = Vec::new(alloc);
+    let mut back = Vec::new(alloc);
+    let row = row_of(machine, thread);
+    push_name(
+        alloc,
+        &mut front,
+        sheet,
+        symbols,
+        OperandKind::Thread,
+        u32::from(thread),
+    )?;
+    front.extend_from_slice(b" waits at ")?;
+    push_awaited(alloc, &mut front, &mut back, sheet, symbols, machine, row)?;
+    back.extend_from_slice(hope(machine, thread))?;
+    kept_behind(
+        alloc,
+        usize::from(sheet.width),
+        front.as_slice(),
+        back.as_slice(),
+    )
+}
+
+/// The line of a thread that died of an exception.
+fn dead_line(
+    alloc: Global,
+    sheet: Sheet,
+    symbols: &Symbols,
+    thread: u8,
+    code: i32,
+) -> Result<Vec<u8>, AllocError>
+    ensures { IfOk result (λ line. line.items ≡ dead_line sheet symbols.now thread code) }
+{
+    let mut line = Vec::new(alloc);
+    push_name(
+        alloc,
+        &mut line,
+        sheet,
+        symbols,
+        OperandKind::Thread,
+        u32::from(thread),
+    )?;
+    line.extend_from_slice(b" died of exception ")?;
+    push_value(&mut line, b"", code)?;
+    Ok(line)
+}
+
+/// Adds the line of a thread, where it waits or died.
+fn push_closing(
+    alloc: Global,
+    text: &mut Vec<u8>,
+    sheet: Sheet,
+    symbols: &Symbols,
+    machine: &Machine,
+    thread: u8,
+) -> Result<(), AllocError>
+    requires { thread < length machine.now.scene.threads }
+    ensures { OnOk result (text.new.items ≡ text.old.items
+        ++ lines_text sheet.width (closing_of sheet symbols.now (world_of machine.now) thread)) }
+{
+    match machine.status(thread) {
+        Status::AwaitsPhase(_) | Status::AwaitsBarrier(_) => {
+            let line = waiting_line(alloc, sheet, symbols, machine, thread)?;
+            push_line(text, sheet.width, line.as_slice())
+        }
+        Status::Died(code) => {
+            let line = dead_line(alloc, sheet, symbols, thread, code)?;
+            push_line(text, sheet.width, line.as_slice())
+        }
+        _ => Ok(()),
+    }
+}
+
+/// Adds the lines of the threads that wait or died.
+#[tactic(auto, using(crate::proofs::Cells::closing_steps))]
+pub fn push_closings(
+    alloc: Global,
+    text: &mut Vec<u8>,
+    sheet: Sheet,
+    symbols: &Symbols,
+    machine: &Machine,
+) -> Result<(), AllocError>
+    ensures { OnOk result (text.new.items ≡ text.old.items
+        ++ lines_text sheet.width (closing_lines sheet symbols.now (world_of machine.now))) }
+{
+    for thread in 0..machine.thread_count() {
+        push_closing(alloc, text, sheet, symbols, machine, thread as u8)?;
+    }
+    Ok(())
+}

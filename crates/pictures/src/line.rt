@@ -1,0 +1,125 @@
+// One line of a picture.
+ghost use Rattle.std.specs.Prelude.{◌≡◌, ◌++◌, ◌+◌, ◌<◌, ◌≤◌, codes, length, IfOk, OnOk};
+ghost use Rattle.loader.specs.Program.{row_at};
+ghost use Rattle.machine_scene.specs.Scene.{thread_at};
+ghost use Rattle.thread_machine.specs.World.{world_of};
+ghost use Rattle.pictures.specs.Picture.{block_line, cell_in, choice_line, name_cell, written_line};
+
+use crate::caption::push_called;
+use crate::fitting::{push_number, put_at, shortened};
+use crate::sheet::Sheet;
+use crate::turn::standing;
+use assembler::Symbols;
+use instruction_table::{OperandKind, Row};
+use std::alloc::{AllocError, Global};
+use thread_machine::Machine;
+
+/// The row that a thread stands at.
+pub fn row_of(machine: &Machine, thread: u8) -> Row
+    requires { thread < length machine.now.scene.threads }
+    ensures { let world = world_of machine.now in
+        result ≡ row_at world.program.rows (thread_at world.scene thread).pc }
+{
+    machine.loaded().rows()[usize::from(machine.pc(thread))]
+}
+
+/// Adds a line as it is written: what stands in its width, and its end.
+pub fn push_line(text: &mut Vec<u8>, width: u16, line: &[u8]) -> Result<(), AllocError>
+    ensures { OnOk result (text.new.items ≡ text.old.items ++ written_line width line.now) }
+{
+    let end = line.len().min(usize::from(width));
+    text.extend_from_slice(&line[..end])?;
+    text.extend_from_slice(b"\n")
+}
+
+/// What stands in the column of a thread: what it did if it was its turn, else how it stands.
+fn cell<'a>(machine: &Machine, turn: u8, did: &'a [u8], thread: u8) -> &'a [u8]
+    requires { thread < length machine.now.scene.threads }
+    ensures { result.now ≡ cell_in (world_of machine.now) turn did.now thread }
+{
+    if thread == turn {
+        did
+    } else {
+        standing(machine.is_ready(thread), machine.status(thread))
+    }
+}
+
+/// Puts the cells of a block behind what a line begins with.
+#[tactic(auto, using(crate::proofs::Cells::cell_steps))]
+fn put_cells(
+    line: &mut Vec<u8>,
+    machine: &Machine,
+    sheet: Sheet,
+    first: usize,
+    turn: u8,
+    did: &[u8],
+) -> Result<(), AllocError>
+    ensures { OnOk result (line.new.items ≡ block_line sheet (length machine.now.scene.threads) first
+        (cell_in (world_of machine.now) turn did.now) line.old.items) }
+{
+    for n in 0..sheet.in_block(machine.thread_count(), first) {
+        let text = cell(machine, turn, did, (first + n) as u8);
+        put_at(line, 8 + n * usize::from(sheet.column), text)?;
+    }
+    Ok(())
+}
+
+/// The line of a choice of this number behind which the machine stands so.
+pub(crate) fn choice_line(
+    alloc: Global,
+    machine: &Machine,
+    sheet: Sheet,
+    first: usize,
+    number: u64,
+    turn: u8,
+    did: &[u8],
+    told: &[u8],
+) -> Result<Vec<u8>, AllocError>
+    ensures { IfOk result (λ line. line.items
+        ≡ choice_line sheet first (world_of machine.now) number turn did.now told.now) }
+{
+    let mut line = Vec::with_capacity(alloc, usize::from(sheet.width))?;
+    push_number(&mut line, number)?;
+    put_cells(&mut line, machine, sheet, first, turn, did)?;
+    put_at(&mut line, sheet.mark_column(), told)?;
+    Ok(line)
+}
+
+/// The name of a thread in its column.
+fn name_cell(
+    alloc: Global,
+    sheet: Sheet,
+    symbols: &Symbols,
+    thread: u32,
+) -> Result<Vec<u8>, AllocError>
+    ensures { IfOk result (λ text. text.items ≡ name_cell sheet symbols.now thread) }
+{
+    let mut name = Vec::new(alloc);
+    push_called(&mut name, symbols, OperandKind::Thread, thread)?;
+    shortened(alloc, sheet.column_room(), name.as_slice())
+}
+
+/// The names of a block's threads.
+#[tactic(auto, using(crate::proofs::Cells::cell_steps))]
+pub(crate) fn names_line(
+    alloc: Global,
+    sheet: Sheet,
+    symbols: &Symbols,
+    threads: usize,
+    first: usize,
+) -> Result<Vec<u8>, AllocError>
+    requires { threads ≤ 64 }
+    ensures { IfOk result (λ line. line.items
+        ≡ block_line sheet threads first (name_cell sheet symbols.now) (codes "choice")) }
+{
+    let mut line = Vec::from_slice(alloc, b"choice")?;
+    for n in 0..sheet.in_block(threads, first) {
+        let name = name_cell(alloc, sheet, symbols, (first + n) as u32)?;
+        put_at(
+            &mut line,
+            8 + n * usize::from(sheet.column),
+            name.as_slice(),
+        )?;
+    }
+    Ok(line)
+}

@@ -1,0 +1,205 @@
+ghost use Rattle.std.specs.Prelude.{◌≡◌, ◌≢◌, ◌++◌, ◌<◌, ◌⊎◌, false, length, IfOk, OnOk, Err, Some, None};
+ghost use Rattle.loader.specs.declared.load_fault.LoadFault.{LoadFault};
+ghost use Rattle.pictures.specs.Page.{IsPageIn, IsPageOf, escaped, moment, moments, most_choices, page_text, parts_of, run_shown};
+ghost use Rattle.pictures.specs.Showing.{Shows};
+ghost use Rattle.schedule_reader.specs.declared.fault.ScheduleFault.{ScheduleFault};
+ghost use Rattle.schedule_reader.specs.Schedule.{choices_of, finished_schedule};
+ghost use Rattle.thread_machine.specs.World.{world_of};
+ghost use Rattle.trace_text.specs.Start.{IsRefused, is_want_of_memory};
+
+use crate::choices::choices_in;
+use crate::escape::add_escaped;
+use crate::fixed::{BEFORE_RUN, BEFORE_SOURCE, HEAD, TAIL};
+use crate::frame::Frame;
+use crate::moment;
+use line_reader::disassemble;
+use loader::LoadFault;
+use row_code::Image;
+use schedule_reader::ScheduleFault;
+use std::alloc::{AllocError, Global};
+use thread_machine::{Choice, Machine};
+use trace_text::start::{StartFault, first_machine};
+use trace_text::{LineEnd, line_of_choice};
+
+/// Why there is no page.
+#[derive(Clone, Copy, Debug, PartialEq, Eq)]
+pub enum PageFault {
+    /// The image isn't loaded, for this fault, which isn't `Memory`.
+    Load(LoadFault),
+    /// The schedule has this fault, which isn't `Memory`.
+    Schedule(ScheduleFault),
+    /// The schedule has more than 2,000 choices.
+    Choices,
+    /// Out of memory.
+    Memory,
+}
+
+impl From<AllocError> for PageFault {
+    ghost use Rattle.std.specs.Prelude.{◌≡◌};
+    ghost use Rattle.pictures.specs.declared.page.PageFault.TheVariants.{Memory};
+
+    ghost from_gives = { λ _ fault. fault ≡ Memory };
+
+    fn from(_error: AllocError) -> PageFault {
+        PageFault::Memory
+    }
+}
+
+/// Adds what is shown of a machine, which is the same after it.
+fn add_moment(alloc: Global, page: &mut Vec<u8>, machine: &mut Machine) -> Result<(), AllocError>
+    ensures text { OnOk result (page.new.items ≡ page.old.items ++ escaped (moment (world_of machine.old))) }
+    ensures machine { machine.new ≡ machine.old }
+{
+    let text = moment::moment(alloc, machine)?;
+    add_escaped(page, text.as_slice())
+}
+
+/// Plays a choice, and adds its line and what is shown after it; whether the choice was accepted.
+fn add_choice(
+    alloc: Global,
+    page: &mut Vec<u8>,
+    machine: &mut Machine,
+    choice: Choice,
+) -> Result<bool, AllocError>
+    ensures { IfOk result (λ accepted. Shows (world_of machine.old) (world_of machine.new) choice accepted
+        page.old.items page.new.items) }
+{
+    let mut line = LineEnd::new();
+    let accepted = line_of_choice(machine, choice, &mut line)?;
+    add_escaped(page, line.as_slice())?;
+    if accepted {
+        add_moment(alloc, page, machine)?;
+    }
+    Ok(accepted)
+}
+
+/// The same of all choices, up to the first that is refused.
+fn add_choices(
+    alloc: Global,
+    page: &mut Vec<u8>,
+    machine: &mut Machine,
+    choices: &[Choice],
+) -> Result<(), AllocError>
+    ensures { OnOk result (page.new.items ≡ page.old.items ++ escaped (moments (world_of machine.old) choices.now)) }
+{
+    for choice in choices {
+        if !add_choice(alloc, page, machine, *choice)? {
+            return Ok(());
+        }
+    }
+    Ok(())
+}
+
+/// Adds the run from a machine on.
+fn add_run(
+    alloc: Global,
+    page: &mut Vec<u8>,
+    machine: &mut Machine,
+    choices: &[Choice],
+) -> Result<(), AllocError>
+    ensures { OnOk result (page.new.items ≡ page.old.items ++ escaped (run_shown (world_of machine.old) choices.now)) }
+{
+    add_moment(alloc, page, machine)?;
+    add_choices(alloc, page, machine, choices)
+}
+
+/// A page with these fixed parts.
+fn page_in(
+    alloc: Global,
+    frame: Frame,
+    listing: &[u8],
+    source: &[u8],
+    machine: &mut Machine,
+    choices: &[Choice],
+) -> Result<Vec<u8>, AllocError>
+    ensures { IfOk result (λ page. page.items ≡ page_text (parts_of frame.entry)
+        listing.now source.now (run_shown (world_of machine.old) choices.now)) }
+{
+    let mut page = Vec::new(alloc);
+    page.extend_from_slice(frame.head)?;
+    add_escaped(&mut page, listing)?;
+    page.extend_from_slice(frame.before_source)?;
+    add_escaped(&mut page, source)?;
+    page.extend_from_slice(frame.before_run)?;
+    add_run(alloc, &mut page, machine, choices)?;
+    page.extend_from_slice(frame.tail)?;
+    Ok(page)
+}
+
+/// What is told where an image has no machine.
+fn fault_of(fault: StartFault) -> PageFault
+    ensures load { (told : LoadFault) → result ≡ PageFault.Load told → fault ≡ StartFault.Load told }
+    ensures others { ((told : ScheduleFault) → result ≢ PageFault.Schedule told) × (result ≢ PageFault.Choices) }
+{
+    match fault {
+        StartFault::Load(fault) => PageFault::Load(fault),
+        StartFault::Memory => PageFault::Memory,
+    }
+}
+
+/// The page of an image's program, its text and its run, with these fixed parts.
+fn page_with(
+    alloc: Global,
+    frame: Frame,
+    image: Image,
+    source: &[u8],
+    schedule: &[u8],
+) -> Result<Vec<u8>, PageFault>
+    requires { length schedule.now < 9223372036854775807 }
+    ensures page { IfOk result (λ page. IsPageIn (parts_of frame.entry) image
+        source.now schedule.now page.items) }
+    ensures load { (fault : LoadFault) → result ≡ Err (PageFault.Load fault)
+        → IsRefused fault image × (is_want_of_memory fault ≡ false) }
+    ensures schedule { (fault : ScheduleFault) → result ≡ Err (PageFault.Schedule fault)
+        → ((finished_schedule schedule.now).fault ≡ Some fault) × (fault ≢ ScheduleFault.Memory) }
+    ensures many { result ≡ Err PageFault.Choices → ((finished_schedule schedule.now).fault ≡ None)
+        × (most_choices < length (choices_of (finished_schedule schedule.now).runs)) }
+    ensures refused { (fault : LoadFault) → IsRefused fault image
+        → (result ≡ Err (PageFault.Load fault)) ⊎ (result ≡ Err PageFault.Memory) }
+{
+    let Ok(listing) = disassemble(alloc, &image) else {
+        return Err(PageFault::Memory);
+    };
+    let mut machine = match first_machine(alloc, image) {
+        Ok(machine) => machine,
+        Err(fault) => return Err(fault_of(fault)),
+    };
+    let choices = choices_in(alloc, schedule)?;
+    let page = page_in(
+        alloc,
+        frame,
+        listing.as_slice(),
+        source,
+        &mut machine,
+        choices.as_slice(),
+    )?;
+    Ok(page)
+}
+
+/// The page of an image's program, of the text that it was written as, and of its run under a schedule. The source may be
+/// empty, as where the program is an image; whatever it is, it is told as it stands.
+pub fn page(
+    alloc: Global,
+    image: Image,
+    source: &[u8],
+    schedule: &[u8],
+) -> Result<Vec<u8>, PageFault>
+    requires { length schedule.now < 9223372036854775807 }
+    ensures page { IfOk result (λ page. IsPageOf image source.now schedule.now page.items) }
+    ensures load { (fault : LoadFault) → result ≡ Err (PageFault.Load fault)
+        → IsRefused fault image × (is_want_of_memory fault ≡ false) }
+    ensures schedule { (fault : ScheduleFault) → result ≡ Err (PageFault.Schedule fault)
+        → ((finished_schedule schedule.now).fault ≡ Some fault) × (fault ≢ ScheduleFault.Memory) }
+    ensures many { result ≡ Err PageFault.Choices → ((finished_schedule schedule.now).fault ≡ None)
+        × (most_choices < length (choices_of (finished_schedule schedule.now).runs)) }
+    ensures refused { (fault : LoadFault) → IsRefused fault image
+        → (result ≡ Err (PageFault.Load fault)) ⊎ (result ≡ Err PageFault.Memory) }
+{
+    let frame = Frame {
+        head: HEAD,
+        before_source: BEFORE_SOURCE,
+        before_run: BEFORE_RUN,
+        tail: TAIL,
+    };
+    page_with(alloc, frame, image, source, schedule)
+}

@@ -1,0 +1,87 @@
+ghost use Rattle.std.specs.Prelude.{◌≡◌, ◌++◌, ◌<◌, IfOk, OnOk};
+ghost use Rattle.pictures.specs.Picture.{each_from, lines_on, lines_text, other_block, picture};
+ghost use Rattle.thread_machine.specs.World.{world_of};
+
+use crate::block::draw_block;
+use crate::closing::push_closings;
+use crate::line::push_line;
+use crate::sheet::Sheet;
+use assembler::Symbols;
+use std::alloc::{AllocError, Global};
+use thread_machine::{Choice, Machine};
+
+/// Draws the block of this number, and an empty line behind it.
+fn draw_other(
+    alloc: Global,
+    text: &mut Vec<u8>,
+    machine: &Machine,
+    sheet: Sheet,
+    symbols: &Symbols,
+    choices: &[Choice],
+    number: u16,
+) -> Result<(), AllocError>
+    ensures { OnOk result (text.new.items ≡ text.old.items
+        ++ lines_text sheet.width (other_block sheet symbols.now (world_of machine.now) choices.now number)) }
+{
+    let first = usize::from(number) * usize::from(sheet.beside);
+    let mut copy = machine.copy(alloc)?;
+    draw_block(alloc, text, &mut copy, sheet, symbols, first, choices)?;
+    push_line(text, sheet.width, b"")
+}
+
+/// The same of so many blocks, from the first on.
+#[tactic(auto, using(crate::proofs::Cells::closing_steps))]
+fn draw_others(
+    alloc: Global,
+    text: &mut Vec<u8>,
+    machine: &Machine,
+    sheet: Sheet,
+    symbols: &Symbols,
+    choices: &[Choice],
+    count: u16,
+) -> Result<(), AllocError>
+    ensures { OnOk result (text.new.items ≡ text.old.items ++ lines_text sheet.width
+        (each_from (other_block sheet symbols.now (world_of machine.now) choices.now) 0 count)) }
+{
+    for number in 0..count {
+        draw_other(alloc, text, machine, sheet, symbols, choices, number)?;
+    }
+    Ok(())
+}
+
+/// Draws all blocks, and the lines at the end.
+fn draw_all(
+    alloc: Global,
+    text: &mut Vec<u8>,
+    machine: &mut Machine,
+    sheet: Sheet,
+    symbols: &Symbols,
+    choices: &[Choice],
+) -> Result<(), AllocError>
+    requires { 0 < sheet.beside }
+    ensures { OnOk result (text.new.items ≡ text.old.items
+        ++ lines_text sheet.width (lines_on sheet symbols.now (world_of machine.old) choices.now)) }
+{
+    let others = sheet.other_blocks(machine.thread_count() as u16);
+    draw_others(alloc, text, machine, sheet, symbols, choices, others)?;
+    let first = usize::from(others) * usize::from(sheet.beside);
+    draw_block(alloc, text, machine, sheet, symbols, first, choices)?;
+    push_closings(alloc, text, sheet, symbols, machine)
+}
+
+/// The picture of a machine's run under these choices, no wider than this, its things called by these names. It takes time in
+/// proportion to the choices and to the blocks that the threads stand in.
+pub fn picture(
+    alloc: Global,
+    machine: &mut Machine,
+    symbols: &Symbols,
+    width: u16,
+    choices: &[Choice],
+) -> Result<Vec<u8>, AllocError>
+    ensures { IfOk result (λ text. text.items ≡ picture width symbols.now (world_of machine.old) choices.now) }
+{
+    let sheet = Sheet::new(width, machine.thread_count() as u16);
+    let mut text = Vec::new(alloc);
+    draw_all(alloc, &mut text, machine, sheet, symbols, choices)?;
+    Ok(text)
+}

@@ -1,0 +1,83 @@
+ghost use Rattle.std.specs.Prelude.{◌≡◌, ◌<◌, ◌≤◌, ◌-◌, ◌*◌};
+ghost use Rattle.pictures.specs.Sheet.{beside_of, blocks_of, column_room, mark_column, mark_room, most_beside, other_blocks, sheet_of};
+ghost use Rattle.pictures.specs.Picture.{in_block, name_room};
+
+/// How a picture is laid out.
+#[derive(Clone, Copy)]
+pub struct Sheet {
+    /// The most bytes of a line.
+    pub width: u16,
+    /// How many threads stand side by side.
+    pub beside: u16,
+    /// How wide the column of each is.
+    pub column: u16,
+}
+
+/// How many threads fit side by side.
+fn most_beside(width: u16) -> u16
+    ensures most { result ≡ most_beside width }
+    ensures some { 0 < result }
+{
+    (width.saturating_sub(23) / 19).max(1)
+}
+
+impl Sheet {
+    /// The layout for a width and so many threads.
+    pub fn new(width: u16, threads: u16) -> Sheet
+        ensures sheet { result ≡ sheet_of width threads }
+        ensures some { 0 < result.beside }
+    {
+        let last = threads.saturating_sub(1);
+        let blocks = u32::from(last / most_beside(width)) + 1;
+        let beside = u32::from(last) / blocks + 1;
+        let room = u32::from(width.saturating_sub(23));
+        Sheet {
+            width,
+            beside: beside as u16,
+            column: (room / beside).min(27) as u16,
+        }
+    }
+
+    /// How many blocks so many threads stand in, but for the last.
+    pub fn other_blocks(self, threads: u16) -> u16
+        requires { 0 < self.beside }
+        ensures { result ≡ other_blocks self threads }
+    {
+        threads.saturating_sub(1) / self.beside
+    }
+
+    /// How many of so many threads stand in the block that begins with this one.
+    pub fn in_block(self, threads: usize, first: usize) -> usize
+        ensures { result ≡ in_block self threads first }
+    {
+        usize::from(self.beside).min(threads.saturating_sub(first))
+    }
+
+    /// Where the marks stand.
+    pub fn mark_column(self) -> usize
+        ensures { result ≡ mark_column self }
+    {
+        8 + usize::from(self.beside) * usize::from(self.column)
+    }
+
+    /// How much room they have.
+    pub fn mark_room(self) -> usize
+        ensures { result ≡ mark_room self }
+    {
+        usize::from(self.width).saturating_sub(self.mark_column())
+    }
+
+    /// How much room there is in a column.
+    pub fn column_room(self) -> usize
+        ensures { result ≡ column_room self }
+    {
+        usize::from(self.column).saturating_sub(1)
+    }
+
+    /// How much room a name has in a line of words.
+    pub fn name_room(self) -> usize
+        ensures { result ≡ name_room self }
+    {
+        usize::from(self.width).saturating_sub(46) / 2
+    }
+}

@@ -1,6 +1,0 @@
--- A draft as the code has it.
-use Rattle.plan_reader.specs.declared.draft.Reading.{Reading}
-use Rattle.plan_reader.specs.Plan.{Draft}
-
-abbrev pub draft_of : Reading → Draft
-draft_of reading = record { words = reading.words; depth = reading.depth; opened = reading.opened }

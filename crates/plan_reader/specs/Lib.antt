@@ -1,9 +1,0 @@
-pub mod FaultNumber
-pub mod Numbers
-pub mod Words
-pub mod Cutting
-pub mod Reading
-pub mod Plan
-pub mod Drafts
-pub mod Tree
-pub mod Parts

@@ -1,5 +1,0 @@
-pub mod Progress
-pub mod Rules
-pub mod Play
-pub mod Groups
-pub mod Planned

@@ -1,0 +1,106 @@
+-- A fold over the words of a line and over the lines of a text, one more at a time.
+use Rattle.std.proofs.Common.{◌≡◌, ◌≢◌, ◌∙◌, ◌+◌, ◌<◌, ◌≤◌, ℕ, zero, suc, Bool, true, false, List, [], ◌∷◌, ◌++◌, length, take, drop, nat_lt, not, ap, sym, refl, arith}
+use Rattle.std.specs.Prelude.{Result, Ok}
+use Rattle.std.specs.List.{position_or_len, slice_split}
+use Rattle.std.proofs.lemmas.Bool.Decides.{nat_tests}
+use Rattle.std.proofs.lemmas.List.{take_all}
+use Rattle.std.proofs.lemmas.List.Splits.{slice_split_first, slice_split_none}
+use Rattle.std.proofs.lemmas.List.Sums.{fails_before_first, prefix_len-le-length}
+use Rattle.row_code.specs.Answers.{◌>>=◌, FailsUnless}
+use Rattle.line_reader.specs.Words.{is_line_end, words_in}
+use Rattle.plans.specs.Cutting.{word_alone}
+use Rattle.plans.specs.declared.fault.PlanFault.{PlanFault}
+use Rattle.plans.specs.Plan.{Draft, word_behind, words_behind, lines_behind}
+use Rattle.plans.specs.Reading.{Name}
+use Rattle.plans.specs.Words.{spread, words_of}
+
+-- what fails fails whatever comes next
+fails_then : {X Y : Type 0} (memory : Bool) (fault : PlanFault) (read : Result X PlanFault) (next : X → Result Y PlanFault)
+    → FailsUnless memory fault read → FailsUnless memory fault (read >>= next)
+fails_then true fault read next fails = tt
+fails_then false fault read next fails = ap (λ r. r >>= next) fails
+
+-- some bytes are a word
+some_word : (text : List ℕ) (n : ℕ) → n ≢ 0 → n ≤ length text → word_alone (take n text) ≡ take n text ∷ []
+some_word text zero some within = absurd (some refl)
+some_word [] (suc n) some within = absurd (omega (arith, within))
+some_word (byte ∷ text) (suc n) some within = refl
+
+here : (names : List Name) (line : ℕ) (text : List ℕ) (n : ℕ) (before : Draft) → n ≢ 0 → n ≤ length text
+    → words_in (spread text) ≡ word_alone (take n text) ++ words_in (spread (drop n text))
+    → words_behind names line before (words_in (spread text))
+    ≡ (word_behind names line before (take n text) >>= (λ after. words_behind names line after (words_in (spread (drop n text)))))
+here names line text n before some within cut =
+    ap (words_behind names line before) (cut ∙ ap (λ ws. ws ++ words_in (spread (drop n text))) (some_word text n some within))
+
+pub next_word : (names : List Name) (line : ℕ) (text : List ℕ) (n : ℕ) (before after : Draft) (all : Result Draft PlanFault)
+    → n ≢ 0 → n ≤ length text → words_in (spread text) ≡ word_alone (take n text) ++ words_in (spread (drop n text))
+    → words_behind names line before (words_in (spread text)) ≡ all → word_behind names line before (take n text) ≡ Ok after
+    → words_behind names line after (words_in (spread (drop n text))) ≡ all
+next_word names line text n before after all some within cut so ok =
+    sym (ap (λ r. r >>= (λ after. words_behind names line after (words_in (spread (drop n text))))) ok)
+    ∙ sym (here names line text n before some within cut) ∙ so
+
+pub faulty_word : (names : List Name) (line : ℕ) (text : List ℕ) (n : ℕ) (before : Draft) (all : Result Draft PlanFault)
+    (memory : Bool) (fault : PlanFault)
+    → n ≢ 0 → n ≤ length text → words_in (spread text) ≡ word_alone (take n text) ++ words_in (spread (drop n text))
+    → words_behind names line before (words_in (spread text)) ≡ all
+    → FailsUnless memory fault (word_behind names line before (take n text)) → FailsUnless memory fault all
+faulty_word names line text n before all memory fault some within cut so fails =
+    rw (← so) (rw (here names line text n before some within cut)
+    (fails_then memory fault _ (λ after. words_behind names line after (words_in (spread (drop n text)))) fails))
+
+-- a line, and those behind its end
+lines_cut : (text : List ℕ) → position_or_len is_line_end text < length text
+    → slice_split is_line_end text
+    ≡ take (position_or_len is_line_end text) text ∷ slice_split is_line_end (drop (position_or_len is_line_end text + 1) text)
+lines_cut text within = slice_split_first is_line_end text 0 within
+
+-- the last line
+last_cut : (text : List ℕ) → position_or_len is_line_end text ≡ length text
+    → slice_split is_line_end text ≡ take (position_or_len is_line_end text) text ∷ []
+last_cut text all =
+    slice_split_none is_line_end text (λ k d there. fails_before_first is_line_end text k d (omega (arith, there, all)))
+    ∙ ap (λ line. line ∷ []) (sym (take_all (position_or_len is_line_end text) text (omega (arith, all))))
+
+pub next_line : (names : List Name) (n : ℕ) (text : List ℕ) (before after : Draft) (all : Result Draft PlanFault)
+    → position_or_len is_line_end text < length text → lines_behind names n before (slice_split is_line_end text) ≡ all
+    → words_behind names n before (words_of (take (position_or_len is_line_end text) text)) ≡ Ok after
+    → lines_behind names (n + 1) after (slice_split is_line_end (drop (position_or_len is_line_end text + 1) text)) ≡ all
+next_line names n text before after all within so ok =
+    sym (ap (λ r. r >>= (λ after. lines_behind names (n + 1) after (slice_split is_line_end (drop (position_or_len is_line_end text + 1) text)))) ok)
+    ∙ sym (ap (lines_behind names n before) (lines_cut text within)) ∙ so
+
+pub last_line : (names : List Name) (n : ℕ) (text : List ℕ) (before after : Draft) (all : Result Draft PlanFault)
+    → position_or_len is_line_end text ≡ length text → lines_behind names n before (slice_split is_line_end text) ≡ all
+    → words_behind names n before (words_of (take (position_or_len is_line_end text) text)) ≡ Ok after → all ≡ Ok after
+last_line names n text before after all whole so ok =
+    sym so ∙ ap (lines_behind names n before) (last_cut text whole) ∙ ap (λ r. r >>= (λ after. lines_behind names (n + 1) after [])) ok
+
+-- the lines that begin with one that is faulty
+faulty_lines : (names : List Name) (n : ℕ) (before : Draft) (line : List ℕ) (lines : List (List ℕ)) (memory : Bool) (fault : PlanFault)
+    → FailsUnless memory fault (words_behind names n before (words_of line)) → FailsUnless memory fault (lines_behind names n before (line ∷ lines))
+faulty_lines names n before line lines memory fault fails = fails_then memory fault _ (λ after. lines_behind names (n + 1) after lines) fails
+
+first_line : (text : List ℕ) (d : Bool) → nat_lt (position_or_len is_line_end text) (length text) ≡ d
+    → (lines : List (List ℕ)) × (slice_split is_line_end text ≡ take (position_or_len is_line_end text) text ∷ lines)
+first_line text true is =
+    let within : position_or_len is_line_end text < length text = grind (arith, nat_tests, is) in
+    (slice_split is_line_end (drop (position_or_len is_line_end text + 1) text), lines_cut text within)
+first_line text false is =
+    let most = prefix_len-le-length (λ b. not (is_line_end b)) text in
+    let whole : position_or_len is_line_end text ≡ length text = grind (arith, nat_tests, is, most) in
+    ([], last_cut text whole)
+
+pub faulty_line : (names : List Name) (n : ℕ) (text : List ℕ) (before : Draft) (all : Result Draft PlanFault) (memory : Bool) (fault : PlanFault)
+    → lines_behind names n before (slice_split is_line_end text) ≡ all
+    → FailsUnless memory fault (words_behind names n before (words_of (take (position_or_len is_line_end text) text)))
+    → FailsUnless memory fault all
+faulty_line names n text before all memory fault so fails =
+    let first = first_line text (nat_lt (position_or_len is_line_end text) (length text)) refl in
+    rw (← so) (rw first.1 (faulty_lines names n before (take (position_or_len is_line_end text) text) first.0 memory fault fails))
+
+-- a line as it was cut
+pub before_end : (text line : List ℕ) (n : ℕ) → line ≡ take n text → n ≡ position_or_len is_line_end text
+    → line ≡ take (position_or_len is_line_end text) text
+before_end text line n is first = is ∙ ap (λ k. take k text) first

@@ -1,0 +1,198 @@
+-- The words that are read are those of a plan.
+use Rattle.std.proofs.Common.{◌≡◌, ◌∙◌, ◌+◌, ◌-◌, ◌==◌, ℕ, zero, suc, Bool, true, false, List, [], ◌∷◌, ◌++◌, ap, sym, refl, subst, arith, append_assoc, add-one}
+use Rattle.std.specs.Prelude.{IfOk, Result, Ok, Err, if◌then◌else◌, nat_le}
+use Rattle.std.proofs.lemmas.List.{append-nil}
+use Rattle.row_code.specs.Answers.{◌>>=◌}
+use Rattle.plans.specs.declared.fault.PlanFault.{PlanFault}
+use Rattle.plans.specs.declared.fault.PlanFaultKind.TheVariants as fault
+use Rattle.plans.specs.declared.word.Step.{Step}
+use Rattle.plans.specs.declared.word.Word.{Word}
+use Rattle.plans.specs.declared.word.Word.TheVariants as word
+use Rattle.plans.specs.Plan.{AnswersPlan, Draft, no_words, draft_open, with_word, placed, word_behind, words_behind, lines_behind, finished, words_in_lines}
+use Rattle.plans.specs.Reading.{Name, Said, word_of}
+use Rattle.plans.specs.Tree.{Plan, Done, Then, Group, words_of_plan, IsPlan}
+use Rattle.plans.specs.Words.{words_of}
+
+-- words behind which so many parentheses that were opened before are closed
+record Closes (rest : List Word) (Inner : List Word → Type 0) : Type 0 where
+  pub body : Plan
+  pub times : ℕ
+  pub after : List Word
+  pub is : words_of_plan body ++ word.Close times ∷ after ≡ rest
+  pub inner : Inner after
+
+abbrev IsNested : ℕ → List Word → Type 0
+IsNested zero words = IsPlan words
+IsNested (suc depth) words = Closes words (IsNested depth)
+
+-- a step before them
+step_nests : (depth : ℕ) (step : Step) (words : List Word) → IsNested depth words → IsNested depth (word.Step step ∷ words)
+step_nests zero step words (plan, is) = (Then step plan, ap (λ ws. word.Step step ∷ ws) is)
+step_nests (suc depth) step words nested = record {
+  body = Then step nested.body;
+  times = nested.times;
+  after = nested.after;
+  is = ap (λ ws. word.Step step ∷ ws) nested.is;
+  inner = nested.inner;
+}
+
+-- a group before a plan
+grouped : (body rest : Plan) (times : ℕ) (tail words : List Word) → words_of_plan rest ≡ tail
+    → words_of_plan body ++ word.Close times ∷ tail ≡ words → words_of_plan (Group body times rest) ≡ word.Open ∷ words
+grouped body rest times tail words of_rest is =
+    ap (λ ws. word.Open ∷ (words_of_plan body ++ word.Close times ∷ ws)) of_rest ∙ ap (λ ws. word.Open ∷ ws) is
+
+-- and before words that close more
+regrouped : (body next : Plan) (times more : ℕ) (tail after words : List Word)
+    → words_of_plan next ++ word.Close more ∷ after ≡ tail → words_of_plan body ++ word.Close times ∷ tail ≡ words
+    → words_of_plan (Group body times next) ++ word.Close more ∷ after ≡ word.Open ∷ words
+regrouped body next times more tail after words of_next is =
+    ap (λ ws. word.Open ∷ ws) (append_assoc (words_of_plan body) (word.Close times ∷ words_of_plan next) (word.Close more ∷ after)
+    ∙ ap (λ ws. words_of_plan body ++ word.Close times ∷ ws) of_next ∙ is)
+
+open_nests : (depth : ℕ) (words : List Word) → IsNested (suc depth) words → IsNested depth (word.Open ∷ words)
+open_nests zero words nested = (
+  Group nested.body nested.times nested.inner.0,
+  grouped nested.body nested.inner.0 nested.times nested.after words nested.inner.1 nested.is,
+)
+open_nests (suc depth) words nested = record {
+  body = Group nested.body nested.times nested.inner.body;
+  times = nested.inner.times;
+  after = nested.inner.after;
+  is = regrouped nested.body nested.inner.body nested.times nested.inner.times nested.after nested.inner.after words
+      nested.inner.is nested.is;
+  inner = nested.inner.inner;
+}
+
+close_nests : (depth times : ℕ) (words : List Word) → IsNested depth words → IsNested (suc depth) (word.Close times ∷ words)
+close_nests depth times words nested = record { body = Done; times = times; after = words; is = refl; inner = nested }
+
+-- from one draft to the next words were added, and what nests behind the second nests with them behind the first
+record Adds (before after : Draft) : Type 0 where
+  pub added : List Word
+  pub words : after.words ≡ before.words ++ added
+  pub nests : (rest : List Word) → IsNested after.depth rest → IsNested before.depth (added ++ rest)
+
+adds_none : (draft : Draft) → Adds draft draft
+adds_none draft = record { added = []; words = sym (append-nil draft.words); nests = λ rest nested. nested }
+
+adds_both : (first second third : Draft) → Adds first second → Adds second third → Adds first third
+adds_both first second third a b = record {
+  added = a.added ++ b.added;
+  words = b.words ∙ ap (λ ws. ws ++ b.added) a.words ∙ append_assoc first.words a.added b.added;
+  nests = λ rest nested. subst (IsNested first.depth) (sym (append_assoc a.added b.added rest)) (a.nests (b.added ++ rest) (b.nests rest nested));
+}
+
+abbrev said : Draft → Said Draft
+said draft = Ok draft
+
+adds_same : (before after other : Draft) → said other ≡ Ok after → Adds before other → Adds before after
+adds_same before after other same adds =
+    let is : other ≡ after = cc same in
+    subst (Adds before) is adds
+
+abbrev read_as : {A : Type 0} → A → Result A PlanFault
+read_as read = Ok read
+
+adds_same_draft : (draft after : Draft) → read_as draft ≡ Ok after → Adds draft after
+adds_same_draft draft after same =
+    let is : draft ≡ after = cc same in
+    subst (Adds draft) is (adds_none draft)
+
+-- behind `(`
+opens : (draft : Draft) (opened : ℕ) → Adds draft (record draft { words = draft.words ++ word.Open ∷ []; depth = draft.depth + 1; opened = opened })
+opens draft opened = record {
+  added = word.Open ∷ [];
+  words = refl;
+  nests = λ rest nested. open_nests draft.depth rest (subst (λ k. IsNested k rest) (add-one draft.depth) nested);
+}
+
+adds_open : (deep : Bool) (draft after : Draft) (opened : ℕ)
+    → ((if deep then Err fault.TooDeep else Ok (record draft { depth = draft.depth + 1; opened = opened })) >>= with_word word.Open) ≡ Ok after
+    → Adds draft after
+adds_open true draft after opened ok = absurd (cc ok)
+adds_open false draft after opened ok = adds_same draft after _ ok (opens draft opened)
+
+-- behind `)`
+closes : (depth less times : ℕ) (rest : List Word) → less + 1 ≡ depth → IsNested less rest → IsNested depth (word.Close times ∷ rest)
+closes depth less times rest is nested =
+    subst (λ k. IsNested k (word.Close times ∷ rest)) (sym (add-one less) ∙ is) (close_nests less times rest nested)
+
+adds_close : (none : Bool) (draft after : Draft) (times : ℕ) → (draft.depth == 0) ≡ none
+    → ((if none then Err fault.NotOpened else Ok (record draft { depth = draft.depth - 1 })) >>= with_word (word.Close times)) ≡ Ok after
+    → Adds draft after
+adds_close true draft after times is ok = absurd (cc ok)
+adds_close false draft after times is ok =
+    let some : draft.depth - 1 + 1 ≡ draft.depth = grind (arith, is) in
+    adds_same draft after _ ok (record {
+      added = word.Close times ∷ [];
+      words = refl;
+      nests = λ rest nested. closes draft.depth (draft.depth - 1) times rest some nested;
+    })
+
+adds_word : (line : ℕ) (draft after : Draft) (one : Word) → (draft_open line draft one >>= with_word one) ≡ Ok after → Adds draft after
+adds_word line draft after (word.Step step) ok = adds_same draft after _ ok (record {
+  added = word.Step step ∷ [];
+  words = refl;
+  nests = λ rest nested. step_nests draft.depth step rest nested;
+})
+adds_word line draft after word.Open ok =
+    adds_open (nat_le 16 draft.depth) draft after (if draft.depth == 0 then line else draft.opened) ok
+adds_word line draft after (word.Close times) ok = adds_close (draft.depth == 0) draft after times refl ok
+
+placed_ok : {P : Type 0} (line : ℕ) (after : Draft) (said : Said Draft) → (said ≡ Ok after → P) → placed line said ≡ Ok after → P
+placed_ok line after (Ok draft) gives ok = gives (ap (λ d. Ok d) (cc ok))
+placed_ok line after (Err kind) gives ok = absurd (cc ok)
+
+adds_said : (line : ℕ) (draft after : Draft) (said : Said Word)
+    → placed line (said >>= (λ one. draft_open line draft one >>= with_word one)) ≡ Ok after → Adds draft after
+adds_said line draft after (Err kind) ok = absurd (cc ok)
+adds_said line draft after (Ok one) ok =
+    placed_ok line after (draft_open line draft one >>= with_word one) (adds_word line draft after one) ok
+
+-- one after another
+adds_next : (read : Result Draft PlanFault) (next : Draft → Result Draft PlanFault) (draft after : Draft)
+    → ((mid : Draft) → read ≡ Ok mid → Adds draft mid) → ((mid : Draft) → next mid ≡ Ok after → Adds mid after)
+    → (read >>= next) ≡ Ok after → Adds draft after
+adds_next (Err fault) next draft after first second ok = absurd (cc ok)
+adds_next (Ok mid) next draft after first second ok = adds_both draft mid after (first mid refl) (second mid ok)
+
+adds_words : (names : List Name) (line : ℕ) (words : List (List ℕ)) (draft after : Draft)
+    → words_behind names line draft words ≡ Ok after → Adds draft after
+adds_words names line [] draft after ok = adds_same_draft draft after ok
+adds_words names line (bytes ∷ words) draft after ok =
+    adds_next (word_behind names line draft bytes) (λ mid. words_behind names line mid words) draft after
+    (λ mid is. adds_said line draft mid (word_of names bytes) is)
+    (λ mid is. adds_words names line words mid after is) ok
+
+adds_lines : (names : List Name) (line : ℕ) (lines : List (List ℕ)) (draft after : Draft)
+    → lines_behind names line draft lines ≡ Ok after → Adds draft after
+adds_lines names line [] draft after ok = adds_same_draft draft after ok
+adds_lines names line (bytes ∷ lines) draft after ok =
+    adds_next (words_behind names line draft (words_of bytes)) (λ mid. lines_behind names (line + 1) mid lines) draft after
+    (λ mid is. adds_words names line (words_of bytes) draft mid is)
+    (λ mid is. adds_lines names (line + 1) lines mid after is) ok
+
+-- at the end
+plan_finished : (none : Bool) (draft : Draft) (words : List Word) → (draft.depth == 0) ≡ none → Adds no_words draft
+    → (if none then Ok draft.words else Err (record { line = draft.opened; kind = fault.NotClosed })) ≡ read_as words → IsPlan words
+plan_finished false draft words is adds ok = absurd (cc ok)
+plan_finished true draft words is adds ok =
+    let none : draft.depth ≡ 0 = grind (arith, is) in
+    let whole : draft.words ≡ words = cc ok in
+    let nested : IsNested draft.depth [] = subst (λ k. IsNested k []) (sym none) (Done, refl) in
+    subst IsPlan (append-nil adds.added ∙ sym adds.words ∙ whole) (adds.nests [] nested)
+
+plan_next : (read : Result Draft PlanFault) (words : List Word) → ((draft : Draft) → read ≡ Ok draft → Adds no_words draft)
+    → (read >>= finished) ≡ Ok words → IsPlan words
+plan_next (Err fault) words adds ok = absurd (cc ok)
+plan_next (Ok draft) words adds ok = plan_finished (draft.depth == 0) draft words refl (adds draft refl) ok
+
+pub plan_read : (names : List Name) (lines : List (List ℕ)) (words : List Word) → words_in_lines names lines ≡ Ok words → IsPlan words
+plan_read names lines words ok =
+    plan_next (lines_behind names 1 no_words lines) words (λ draft is. adds_lines names 1 lines no_words draft is) ok
+
+pub answer_is_plan : {X : Type 0} (view : X → List Word) (names : List Name) (lines : List (List ℕ)) (result : Result X PlanFault)
+    → AnswersPlan view result (words_in_lines names lines) → IfOk result (λ words. IsPlan (view words))
+answer_is_plan view names lines (Ok words) answers = plan_read names lines (view words) answers
+answer_is_plan view names lines (Err fault) answers = tt

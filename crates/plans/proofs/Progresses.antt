@@ -1,0 +1,150 @@
+-- What a play makes of a progress: nothing, fewer choices left, or a stop; and that a stop is for good.
+use Rattle.std.proofs.Common.{◌≡◌, ◌∙◌, ◌⊎◌, inl, inr, ◌+◌, ◌-◌, ◌<◌, ◌==◌, ℕ, zero, suc, Bool, true, false, refl, sym, ap, subst, arith}
+use Rattle.std.specs.Prelude.{Option, Some, None, if◌then◌else◌}
+use Rattle.thread_machine.specs.declared.choice.Choice.{Choice}
+use Rattle.thread_machine.specs.declared.fault.StepFault.{StepFault}
+use Rattle.thread_machine.specs.Step.{refusal_of}
+use Rattle.plans.specs.declared.word.Rule.{Rule}
+use Rattle.plans.specs.declared.word.Step.{Step}
+use Rattle.plans.specs.declared.word.Step.TheVariants as step
+use Rattle.plans.specs.Tree.{Plan, Done, Then, Group}
+use Rattle.plans.specs.Progress.{Progress, chosen, chosen_by}
+use Rattle.plans.specs.Rules.{next_choice}
+use Rattle.plans.specs.Play.{repeated, followed, followed_by, most_of, choice_of, step_played, plays}
+
+-- a choice was wanted for which none was left
+pub record IsOver (progress : Progress) : Type 0 where
+  pub none : progress.left ≡ 0
+  pub stopped : progress.stopped ≡ true
+
+-- what may come of a play
+pub data Comes (before after : Progress) : Type 0 where
+  Same : after ≡ before → Comes before after
+  Fewer : after.left < before.left → Comes before after
+  Over : IsOver after → Comes before after
+
+comes_both : (first second third : Progress) → Comes first second → Comes second third → Comes first third
+comes_both first second third (Same is) later = subst (λ p. Comes p third) is later
+comes_both first second third (Fewer less) (Same is) = Fewer (subst (λ p. p.left < first.left) (sym is) less)
+comes_both first second third (Fewer less) (Fewer more) = Fewer (omega (arith, less, more))
+comes_both first second third (Fewer less) (Over over) = Over over
+comes_both first second third (Over over) (Same is) = Over (subst IsOver (sym is) over)
+comes_both first second third (Over over) (Fewer less) = absurd (omega (arith, over.none, less))
+comes_both first second third (Over over) (Over again) = Over again
+
+-- one choice
+chosen_comes : (none : Bool) (refusal : Option StepFault) (choice : Choice) (progress : Progress) → (progress.left == 0) ≡ none
+    → Comes progress (if none then record progress { stopped = true } else chosen_by refusal choice progress)
+chosen_comes true refusal choice progress is =
+    let left : progress.left ≡ 0 = grind (arith, is) in
+    Over (record { none = left; stopped = refl })
+chosen_comes false (Some fault) choice progress is = Same refl
+chosen_comes false None choice progress is =
+    let some : progress.left - 1 < progress.left = grind (arith, is) in
+    Fewer some
+
+pub choice_comes : (choice : Choice) (progress : Progress) → Comes progress (chosen choice progress)
+unfolding chosen
+choice_comes choice progress = chosen_comes (progress.left == 0) (refusal_of progress.world choice) choice progress refl
+
+same_progress : (progress : Progress) → progress.stopped ≡ true → record progress { stopped = true } ≡ progress
+same_progress progress stopped = ap (λ b. record progress { stopped = b }) (sym stopped)
+
+over_chosen : (none : Bool) (refusal : Option StepFault) (choice : Choice) (progress : Progress) → (progress.left == 0) ≡ none
+    → IsOver progress → (if none then record progress { stopped = true } else chosen_by refusal choice progress) ≡ progress
+over_chosen true refusal choice progress is over = same_progress progress over.stopped
+over_chosen false refusal choice progress is over =
+    let wrong : ⊥ = grind (arith, is, over.none) in
+    absurd wrong
+
+pub choice_over : (choice : Choice) (progress : Progress) → IsOver progress → chosen choice progress ≡ progress
+unfolding chosen
+choice_over choice progress over = over_chosen (progress.left == 0) (refusal_of progress.world choice) choice progress refl over
+
+-- a play again and again
+pub repeated_comes : (times : ℕ) (play : Progress → Progress) (progress : Progress) → ((p : Progress) → Comes p (play p))
+    → Comes progress (repeated times play progress)
+unfolding repeated
+repeated_comes zero play progress comes = Same refl
+repeated_comes (suc times) play progress comes =
+    comes_both progress (play progress) (repeated times play (play progress)) (comes progress)
+    (repeated_comes times play (play progress) comes)
+
+pub repeated_same : (times : ℕ) (play : Progress → Progress) (progress : Progress) → play progress ≡ progress
+    → repeated times play progress ≡ progress
+unfolding repeated
+repeated_same zero play progress same = refl
+repeated_same (suc times) play progress same = ap (repeated times play) same ∙ repeated_same times play progress same
+
+-- the choices of a rule
+followed_comes_by : (next : Option Choice) (later : Progress → Progress) (progress : Progress) → ((p : Progress) → Comes p (later p))
+    → Comes progress (followed_by next later progress)
+followed_comes_by None later progress comes = Same refl
+followed_comes_by (Some choice) later progress comes =
+    comes_both progress (chosen choice progress) (later (chosen choice progress)) (choice_comes choice progress) (comes (chosen choice progress))
+
+pub followed_comes : (rule : Rule) (most k : ℕ) (progress : Progress) → Comes progress (followed rule most k progress)
+unfolding followed
+followed_comes rule zero k progress = Same refl
+followed_comes rule (suc most) k progress =
+    followed_comes_by (next_choice rule k progress) (λ after. followed rule most (k + 1) after) progress
+    (λ p. followed_comes rule most (k + 1) p)
+
+followed_over_by : (next : Option Choice) (later : Progress → Progress) (progress : Progress) → IsOver progress → later progress ≡ progress
+    → followed_by next later progress ≡ progress
+followed_over_by None later progress over same = refl
+followed_over_by (Some choice) later progress over same = ap later (choice_over choice progress over) ∙ same
+
+pub followed_over : (rule : Rule) (most k : ℕ) (progress : Progress) → IsOver progress → followed rule most k progress ≡ progress
+unfolding followed
+followed_over rule zero k progress over = refl
+followed_over rule (suc most) k progress over =
+    followed_over_by (next_choice rule k progress) (λ after. followed rule most (k + 1) after) progress over
+    (followed_over rule most (k + 1) progress over)
+
+-- a step
+step_comes : (one : Step) (progress : Progress) → Comes progress (step_played one progress)
+unfolding step_played
+step_comes (step.Make who times) progress = repeated_comes times (chosen (choice_of who)) progress (choice_comes (choice_of who))
+step_comes (step.Follow rule most) progress = followed_comes rule (most_of most progress) 0 progress
+
+step_over : (one : Step) (progress : Progress) → IsOver progress → step_played one progress ≡ progress
+unfolding step_played
+step_over (step.Make who times) progress over = repeated_same times (chosen (choice_of who)) progress (choice_over (choice_of who) progress over)
+step_over (step.Follow rule most) progress over = followed_over rule (most_of most progress) 0 progress over
+
+-- a plan
+pub plan_comes : (plan : Plan) (progress : Progress) → Comes progress (plays plan progress)
+unfolding plays
+plan_comes Done progress = Same refl
+plan_comes (Then one rest) progress =
+    comes_both progress (step_played one progress) (plays rest (step_played one progress)) (step_comes one progress)
+    (plan_comes rest (step_played one progress))
+plan_comes (Group body times rest) progress =
+    let once = plays body progress in
+    let all = repeated (times - 1) (λ before. plays body before) once in
+    comes_both progress all (plays rest all)
+    (comes_both progress once all (plan_comes body progress) (repeated_comes (times - 1) (λ before. plays body before) once (λ p. plan_comes body p)))
+    (plan_comes rest all)
+
+pub plan_over : (plan : Plan) (progress : Progress) → IsOver progress → plays plan progress ≡ progress
+unfolding plays
+plan_over Done progress over = refl
+plan_over (Then one rest) progress over =
+    ap (plays rest) (step_over one progress over) ∙ plan_over rest progress over
+plan_over (Group body times rest) progress over =
+    let same = plan_over body progress over in
+    ap (λ p. plays rest (repeated (times - 1) (λ before. plays body before) p)) same
+    ∙ ap (plays rest) (repeated_same (times - 1) (λ before. plays body before) progress same)
+    ∙ plan_over rest progress over
+
+-- a pass that left as many choices as there were makes none when it is played again
+settles_by : (plan : Plan) (progress : Progress) → Comes progress (plays plan progress) → (plays plan progress).left ≡ progress.left
+    → plays plan (plays plan progress) ≡ plays plan progress
+settles_by plan progress (Same is) left = ap (plays plan) is
+settles_by plan progress (Fewer less) left = absurd (omega (arith, less, left))
+settles_by plan progress (Over over) left = plan_over plan (plays plan progress) over
+
+pub settles : (plan : Plan) (progress : Progress) → (plays plan progress).left ≡ progress.left
+    → plays plan (plays plan progress) ≡ plays plan progress
+settles plan progress left = settles_by plan progress (plan_comes plan progress) left

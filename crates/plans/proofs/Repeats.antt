@@ -1,0 +1,86 @@
+-- Repetitions and rules, one choice more at a time.
+use Rattle.std.proofs.Common.{◌≡◌, ◌∙◌, ◌+◌, ◌-◌, ◌<◌, ◌≤◌, ◌==◌, ℕ, zero, suc, Bool, true, false, refl, sym, ap, arith}
+use Rattle.std.specs.Prelude.{◌&&◌, Option, Some, None}
+use Rattle.thread_machine.specs.declared.choice.Choice.{Choice}
+use Rattle.plans.specs.declared.word.Rule.{Rule}
+use Rattle.plans.specs.Progress.{Progress, chosen}
+use Rattle.plans.specs.Rules.{next_choice}
+use Rattle.plans.specs.Play.{repeated, followed, followed_by}
+use Rattle.plans.proofs.Progresses.{IsOver, choice_over, repeated_same, followed_over}
+
+over_by : (none stopped : Bool) (progress : Progress) → (progress.left == 0) ≡ none → progress.stopped ≡ stopped → (none && stopped) ≡ true
+    → IsOver progress
+over_by false stopped progress left is both = absurd (cc both)
+over_by true false progress left is both = absurd (cc both)
+over_by true true progress left is both =
+    let none : progress.left ≡ 0 = grind (arith, left) in
+    record { none = none; stopped = is }
+
+pub is_over : (progress : Progress) → ((progress.left == 0) && progress.stopped) ≡ true → IsOver progress
+is_over progress both = over_by (progress.left == 0) progress.stopped progress refl refl both
+
+repeated_here : (play : Progress → Progress) (done times : ℕ) (progress : Progress) → done < times
+    → repeated (times - done) play progress ≡ repeated (times - (done + 1)) play (play progress)
+unfolding repeated
+repeated_here play done times progress there =
+    let more : times - done ≡ suc (times - (done + 1)) = omega (arith, there) in
+    ap (λ n. repeated n play progress) more
+
+pub next_repeated : (play : Progress → Progress) (done times : ℕ) (before after all : Progress) → done < times
+    → repeated (times - done) play before ≡ all → after ≡ play before → repeated (times - (done + 1)) play after ≡ all
+next_repeated play done times before after all there so is =
+    ap (repeated (times - (done + 1)) play) is ∙ sym (repeated_here play done times before there) ∙ so
+
+pub all_repeated : (play : Progress → Progress) (done times : ℕ) (progress all : Progress) → times ≤ done
+    → repeated (times - done) play progress ≡ all → progress ≡ all
+unfolding repeated
+all_repeated play done times progress all enough so =
+    let none : 0 ≡ times - done = omega (arith, enough) in
+    ap (λ n. repeated n play progress) none ∙ so
+
+pub settled_repeated : (play : Progress → Progress) (done times : ℕ) (before after all : Progress) → done < times
+    → repeated (times - done) play before ≡ all → after ≡ play before → play after ≡ after → after ≡ all
+settled_repeated play done times before after all there so is same =
+    sym (repeated_same (times - (done + 1)) play after same) ∙ next_repeated play done times before after all there so is
+
+pub over_repeated : (choice : Choice) (done times : ℕ) (before after all : Progress) → done < times
+    → repeated (times - done) (chosen choice) before ≡ all → after ≡ chosen choice before
+    → ((after.left == 0) && after.stopped) ≡ true → after ≡ all
+over_repeated choice done times before after all there so is over =
+    settled_repeated (chosen choice) done times before after all there so is (choice_over choice after (is_over after over))
+
+followed_here : (rule : Rule) (k most : ℕ) (progress : Progress) → k < most
+    → followed rule (most - k) k progress
+    ≡ followed_by (next_choice rule k progress) (λ after. followed rule (most - (k + 1)) (k + 1) after) progress
+unfolding followed
+followed_here rule k most progress there =
+    let more : most - k ≡ suc (most - (k + 1)) = omega (arith, there) in
+    ap (λ n. followed rule n k progress) more
+
+pub next_followed : (rule : Rule) (k most : ℕ) (before after all : Progress) (choice : Choice) → k < most
+    → followed rule (most - k) k before ≡ all → next_choice rule k before ≡ Some choice → after ≡ chosen choice before
+    → followed rule (most - (k + 1)) (k + 1) after ≡ all
+next_followed rule k most before after all choice there so next is =
+    ap (λ p. followed rule (most - (k + 1)) (k + 1) p) is
+    ∙ ap (λ o. followed_by o (λ p. followed rule (most - (k + 1)) (k + 1) p) before) (sym next)
+    ∙ sym (followed_here rule k most before there) ∙ so
+
+pub none_followed : (rule : Rule) (k most : ℕ) (before all : Progress) → k < most
+    → followed rule (most - k) k before ≡ all → next_choice rule k before ≡ None → before ≡ all
+none_followed rule k most before all there so next =
+    ap (λ o. followed_by o (λ p. followed rule (most - (k + 1)) (k + 1) p) before) (sym next)
+    ∙ sym (followed_here rule k most before there) ∙ so
+
+pub all_followed : (rule : Rule) (k most : ℕ) (progress all : Progress) → most ≤ k
+    → followed rule (most - k) k progress ≡ all → progress ≡ all
+unfolding followed
+all_followed rule k most progress all enough so =
+    let none : 0 ≡ most - k = omega (arith, enough) in
+    ap (λ n. followed rule n k progress) none ∙ so
+
+pub over_followed : (rule : Rule) (k most : ℕ) (before after all : Progress) (choice : Choice) → k < most
+    → followed rule (most - k) k before ≡ all → next_choice rule k before ≡ Some choice → after ≡ chosen choice before
+    → ((after.left == 0) && after.stopped) ≡ true → after ≡ all
+over_followed rule k most before after all choice there so next is over =
+    sym (followed_over rule (most - (k + 1)) (k + 1) after (is_over after over))
+    ∙ next_followed rule k most before after all choice there so next is

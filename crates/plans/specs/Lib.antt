@@ -1,0 +1,14 @@
+pub mod FaultNumber
+pub mod Numbers
+pub mod Words
+pub mod Cutting
+pub mod Reading
+pub mod Plan
+pub mod Drafts
+pub mod Tree
+pub mod Parts
+pub mod Progress
+pub mod Rules
+pub mod Play
+pub mod Groups
+pub mod Planned

@@ -1,0 +1,52 @@
+ghost use Rattle.std.specs.Prelude.{◌≡◌};
+ghost use Rattle.plans.specs.FaultNumber.{plan_number};
+
+/// What is wrong with a word of a plan.
+#[derive(Clone, Copy, Debug, PartialEq, Eq)]
+pub enum PlanFaultKind {
+    /// No word of a plan is spelled so.
+    BadWord,
+    /// Behind the star stands no number from 1 to 1,000,000.
+    BadCount,
+    /// Behind the question mark stands no number below 2 to the 64th.
+    BadSeed,
+    /// No thread has this name.
+    NotNamed,
+    /// No thread has this number.
+    NoThread,
+    /// A seventeenth parenthesis is opened in one another.
+    TooDeep,
+    /// A parenthesis is closed that wasn't opened.
+    NotOpened,
+    /// A parenthesis is never closed.
+    NotClosed,
+    /// Out of memory.
+    Memory,
+}
+
+impl PlanFaultKind {
+    /// The number that the fault is told with: missing memory has none.
+    pub fn number(self) -> Option<u8>
+        ensures { result ≡ plan_number self }
+    {
+        match self {
+            PlanFaultKind::BadWord => Some(1),
+            PlanFaultKind::BadCount => Some(2),
+            PlanFaultKind::BadSeed => Some(3),
+            PlanFaultKind::NotNamed => Some(4),
+            PlanFaultKind::NoThread => Some(5),
+            PlanFaultKind::TooDeep => Some(6),
+            PlanFaultKind::NotOpened => Some(7),
+            PlanFaultKind::NotClosed => Some(8),
+            PlanFaultKind::Memory => None,
+        }
+    }
+}
+
+/// What is wrong with a plan, and in which line, from 1. A parenthesis that is never closed is told with its own line: of
+/// several the outermost.
+#[derive(Clone, Copy, Debug, PartialEq, Eq)]
+pub struct PlanFault {
+    pub line: u64,
+    pub kind: PlanFaultKind,
+}

@@ -1,0 +1,28 @@
+//! Plans: texts that a person writes, and that say whose turn it is.
+//!
+//! `read_plan` answers a plan's words (`specs/Plan.antt`, `specs/Tree.antt`), or the first fault with its line. `plan_runs`
+//! plays them on a program: `specs/Play.antt` says what a plan plays, `specs/Rules.antt` who makes the next choice where the
+//! plan leaves it open. A plan makes 1,000,000 choices at most.
+#![tactic(auto)]
+
+// A plan's text.
+mod cutting;
+mod draft;
+pub mod fault;
+mod number;
+mod part;
+mod reading;
+#[cfg(test)]
+mod tests;
+pub mod word;
+pub mod words;
+
+// A plan that is played: the schedule that it stands for.
+pub mod plan_runs;
+pub mod planned;
+mod player;
+mod playing;
+mod rules;
+mod steps;
+
+pub use draft::read_plan;

@@ -1,0 +1,69 @@
+ghost use Rattle.std.specs.Prelude.{◌≡◌, ◌≤◌, ◌<◌, length, IfSome};
+ghost use Rattle.std.specs.Char.{is_ascii_digit};
+ghost use Rattle.std.specs.List.{AllPass, list_all};
+ghost use Rattle.std.specs.Str.Parse.{digits_value};
+ghost use Rattle.plans.specs.Numbers.{are_digits, count_in, number_in, seed_in};
+
+/// How often a word asks for something at most.
+const MOST_TIMES: u64 = 1_000_000;
+
+fn all_digits(word: &[u8]) -> bool
+    ensures { result ≡ list_all is_ascii_digit word.now }
+{
+    word.iter().all(|byte| byte.is_ascii_digit())
+}
+
+/// Whether these are digits, one to so many.
+pub fn are_digits(most: usize, word: &[u8]) -> bool
+    ensures { result ≡ are_digits most word.now }
+{
+    !word.is_empty() && word.len() <= most && all_digits(word)
+}
+
+/// The number that at most twenty digits spell.
+fn digits_value(digits: &[u8]) -> u128
+    requires few { length digits.now ≤ 20 }
+    requires digits { AllPass is_ascii_digit digits.now }
+    ensures { result ≡ digits_value 10 digits.now }
+{
+    let mut value = 0u128;
+    for digit in digits {
+        value = value * 10 + u128::from(*digit - b'0');
+    }
+    value
+}
+
+/// The number that so many digits at most spell, if it is at most so large.
+pub fn number_in(most_digits: usize, most: u64, word: &[u8]) -> Option<u64>
+    requires { most_digits ≤ 20 }
+    ensures { result ≡ number_in most_digits most word.now }
+{
+    if !are_digits(most_digits, word) {
+        return None;
+    }
+    let value = digits_value(word);
+    if value > u128::from(most) {
+        return None;
+    }
+    Some(value as u64)
+}
+
+/// How often: 1 to 1,000,000, without a leading zero.
+pub fn count_in(word: &[u8]) -> Option<u32>
+    ensures { result ≡ count_in word.now }
+{
+    if let [b'0', ..] = word {
+        return None;
+    }
+    match number_in(7, MOST_TIMES, word) {
+        Some(count) => Some(count as u32),
+        None => None,
+    }
+}
+
+/// A seed.
+pub fn seed_in(word: &[u8]) -> Option<u64>
+    ensures { result ≡ seed_in word.now }
+{
+    number_in(20, u64::MAX, word)
+}

@@ -1,0 +1,171 @@
+//! A word of a plan in two bytes, and its number and its seed beside it.
+ghost use Rattle.std.specs.Prelude.{◌≡◌, false};
+ghost use Rattle.plans.specs.Parts.{Holds, takes_number, takes_seed, word_with};
+
+use crate::word::{Chosen, Rule, Step, Word};
+
+/// A word without its number, and without a seed of more than a byte.
+#[derive(Clone, Copy)]
+pub enum Part {
+    Turn(u8),
+    Turns(u8),
+    Expiry(u8),
+    Expiries(u8),
+    Alone(u8),
+    AloneMost(u8),
+    TurnAbout,
+    TurnAboutMost,
+    BySmallSeed(u8),
+    BySmallSeedMost(u8),
+    BySeed,
+    BySeedMost,
+    Open,
+    Close,
+    CloseTimes,
+}
+
+/// A word's part, its number and its seed, 0 where it has none.
+#[derive(Clone, Copy)]
+pub struct Stored {
+    pub part: Part,
+    pub number: u32,
+    pub seed: u64,
+}
+
+/// Whether a word has a number beside its part.
+pub fn takes_number(part: Part) -> bool
+    ensures { result ≡ takes_number part }
+{
+    matches!(
+        part,
+        Part::Turns(_)
+            | Part::Expiries(_)
+            | Part::AloneMost(_)
+            | Part::TurnAboutMost
+            | Part::BySmallSeedMost(_)
+            | Part::BySeedMost
+            | Part::CloseTimes
+    )
+}
+
+/// Whether it has a seed beside its part.
+pub fn takes_seed(part: Part) -> bool
+    ensures { result ≡ takes_seed part }
+{
+    matches!(part, Part::BySeed | Part::BySeedMost)
+}
+
+/// A part and nothing beside it.
+fn alone(part: Part) -> Stored
+    ensures { result ≡ record { part = part; number = 0; seed = 0 } }
+{
+    Stored {
+        part,
+        number: 0,
+        seed: 0,
+    }
+}
+
+/// A part and its number.
+fn numbered(part: Part, number: u32) -> Stored
+    ensures { result ≡ record { part = part; number = number; seed = 0 } }
+{
+    Stored {
+        part,
+        number,
+        seed: 0,
+    }
+}
+
+fn stored_choice(chosen: Chosen, times: u32) -> Stored
+    ensures { Holds result (Word.Step (Step.Make chosen times)) }
+{
+    match (chosen.expiry, times) {
+        (false, 1) => alone(Part::Turn(chosen.thread)),
+        (false, _) => numbered(Part::Turns(chosen.thread), times),
+        (true, 1) => alone(Part::Expiry(chosen.thread)),
+        (true, _) => numbered(Part::Expiries(chosen.thread), times),
+    }
+}
+
+fn stored_seed(seed: u64, most: Option<u32>) -> Stored
+    ensures { Holds result (Word.Step (Step.Follow (Rule.BySeed seed) most)) }
+{
+    match (seed < 256, most) {
+        (true, None) => alone(Part::BySmallSeed(seed as u8)),
+        (true, Some(most)) => numbered(Part::BySmallSeedMost(seed as u8), most),
+        (false, None) => Stored {
+            part: Part::BySeed,
+            number: 0,
+            seed,
+        },
+        (false, Some(most)) => Stored {
+            part: Part::BySeedMost,
+            number: most,
+            seed,
+        },
+    }
+}
+
+fn stored_rule(rule: Rule, most: Option<u32>) -> Stored
+    ensures { Holds result (Word.Step (Step.Follow rule most)) }
+{
+    match (rule, most) {
+        (Rule::Alone(thread), None) => alone(Part::Alone(thread)),
+        (Rule::Alone(thread), Some(most)) => numbered(Part::AloneMost(thread), most),
+        (Rule::TurnAbout, None) => alone(Part::TurnAbout),
+        (Rule::TurnAbout, Some(most)) => numbered(Part::TurnAboutMost, most),
+        (Rule::BySeed(seed), most) => stored_seed(seed, most),
+    }
+}
+
+/// How a word is stored.
+pub fn stored_word(word: Word) -> Stored
+    ensures { Holds result word }
+{
+    match word {
+        Word::Step(Step::Make { chosen, times }) => stored_choice(chosen, times),
+        Word::Step(Step::Follow { rule, most }) => stored_rule(rule, most),
+        Word::Open => alone(Part::Open),
+        Word::Close(1) => alone(Part::Close),
+        Word::Close(times) => numbered(Part::CloseTimes, times),
+    }
+}
+
+fn choice(thread: u8, expiry: bool, times: u32) -> Word
+    ensures { result ≡ Word.Step (Step.Make (record { thread = thread; expiry = expiry }) times) }
+{
+    Word::Step(Step::Make {
+        chosen: Chosen { thread, expiry },
+        times,
+    })
+}
+
+fn rule(rule: Rule, most: Option<u32>) -> Word
+    ensures { result ≡ Word.Step (Step.Follow rule most) }
+{
+    Word::Step(Step::Follow { rule, most })
+}
+
+/// The word of a part with this number and this seed.
+pub fn word_with(part: Part, number: u32, seed: u64) -> Word
+    ensures { result ≡ word_with part number seed }
+{
+    match part {
+        Part::Turn(thread) => choice(thread, false, 1),
+        Part::Turns(thread) => choice(thread, false, number),
+        Part::Expiry(thread) => choice(thread, true, 1),
+        Part::Expiries(thread) => choice(thread, true, number),
+        Part::Alone(thread) => rule(Rule::Alone(thread), None),
+        Part::AloneMost(thread) => rule(Rule::Alone(thread), Some(number)),
+        Part::TurnAbout => rule(Rule::TurnAbout, None),
+        Part::TurnAboutMost => rule(Rule::TurnAbout, Some(number)),
+        Part::BySmallSeed(seed) => rule(Rule::BySeed(u64::from(seed)), None),
+        Part::BySmallSeedMost(seed) => rule(Rule::BySeed(u64::from(seed)), Some(number)),
+        Part::BySeed => rule(Rule::BySeed(seed), None),
+        Part::BySeedMost => rule(Rule::BySeed(seed), Some(number)),
+        Part::Open => Word::Open,
+        Part::Close => Word::Close(1),
+        Part::CloseTimes => Word::Close(number),
+    }
+}

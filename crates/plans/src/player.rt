@@ -1,0 +1,169 @@
+ghost use Rattle.std.specs.Prelude.{◌≡◌, ◌<◌, ◌≤◌, ◌==◌, ◌&&◌, IfOk, OnOk, true};
+ghost use Rattle.thread_machine.specs.World.{world_of};
+ghost use Rattle.thread_machine.specs.Step.{refusal_of};
+ghost use Rattle.schedule_reader.specs.Schedule.{choices_of};
+ghost use Rattle.plans.specs.Planned.{AreRuns};
+ghost use Rattle.plans.specs.Progress.{begun, chosen, chosen_by};
+ghost use Rattle.plans.specs.Rules.{can_expire_in, is_ready_in, thread_count};
+
+use crate::planned::Planned;
+use loader::Loaded;
+use schedule_reader::{Run, push_joined};
+use std::alloc::{AllocError, Global};
+use std::marker::Model;
+use thread_machine::{Choice, Machine, StepFault};
+
+/// How many effective steps the machine may take: more than there are choices.
+const MOST_STEPS: u32 = 1_000_000_000;
+/// How many choices a plan makes at most.
+const MOST_CHOICES: u32 = 1_000_000;
+
+/// A machine, the choices that led to it, and how many there may be yet.
+#[derive(Drop)]
+pub struct Player {
+    machine: Machine,
+    runs: Vec<Run>,
+    next: u8,
+    left: u32,
+    stopped: bool,
+}
+
+impl Model for Player {
+    ghost use Rattle.thread_machine.specs.World.{world_of};
+    ghost use Rattle.schedule_reader.specs.Schedule.{choices_of};
+    ghost use Rattle.plans.specs.Planned.{AreRuns};
+    ghost use Rattle.plans.specs.Progress.{Progress};
+    ghost use Rattle.std.specs.Prelude.{◌≤◌};
+
+    ghost Value = { Progress };
+
+    ghost view = { λ player. record {
+      world = world_of player.machine;
+      choices = choices_of player.runs.items;
+      next = player.next;
+      left = player.left;
+      stopped = player.stopped;
+    } };
+
+    ghost invariant = { λ player. AreRuns player.runs.items × (player.left ≤ 1000000) };
+}
+
+impl Player {
+    /// Before the first choice.
+    #[tactic(auto, unfolding(crate::specs::Progress::begun))]
+    pub fn new(alloc: Global, program: Loaded) -> Result<Player, AllocError>
+        ensures { IfOk result (λ player. player ≡ begun program) }
+    {
+        Ok(Player {
+            machine: Machine::new(alloc, program, MOST_STEPS)?,
+            runs: Vec::new(alloc),
+            next: 0,
+            left: MOST_CHOICES,
+            stopped: false,
+        })
+    }
+
+    /// What has come of it.
+    pub fn into_planned(self) -> Planned
+        ensures choices { choices_of result.runs.items ≡ self.choices }
+        ensures world { world_of result.machine ≡ self.world }
+        ensures stopped { result.stopped ≡ self.stopped }
+        ensures runs { AreRuns result.runs.items }
+    {
+        Planned {
+            machine: self.machine,
+            runs: self.runs,
+            stopped: self.stopped,
+        }
+    }
+
+    /// How many choices there may be yet.
+    pub fn left(&self) -> u32
+        ensures left { result ≡ self.now.left }
+        ensures most { result ≤ 1000000 }
+    {
+        self.left
+    }
+
+    /// Whether a choice was wanted for which none was left: then nothing changes any more.
+    pub fn is_over(&self) -> bool
+        ensures { result ≡ ((self.now.left == 0) && self.now.stopped) }
+    {
+        self.left == 0 && self.stopped
+    }
+
+    /// How many threads there are.
+    pub fn thread_count(&self) -> usize
+        ensures count { result ≡ thread_count self.now.world }
+        ensures few { result ≤ 64 }
+    {
+        self.machine.thread_count()
+    }
+
+    /// Whether a thread's turn would be a step.
+    #[tactic(auto, unfolding(crate::specs::Rules::is_ready_in))]
+    pub fn is_ready(&self, thread: u8) -> bool
+        requires { thread < thread_count self.now.world }
+        ensures { result ≡ is_ready_in self.now.world thread }
+    {
+        self.machine.is_ready(thread)
+    }
+
+    /// Whether the time of a thread's wait may run out.
+    #[tactic(auto, unfolding(crate::specs::Rules::can_expire_in))]
+    pub fn can_expire(&self, thread: u8) -> bool
+        requires { thread < thread_count self.now.world }
+        ensures { result ≡ can_expire_in self.now.world thread }
+    {
+        self.machine.can_expire(thread)
+    }
+
+    /// The number behind the thread that was chosen last.
+    pub fn next(&self) -> u8
+        ensures { result ≡ self.now.next }
+    {
+        self.next
+    }
+
+    /// Notes that a choice was wanted for which none was left.
+    fn stop(&mut self)
+        ensures { self.new ≡ record self.old { stopped = true } }
+    {
+        self.stopped = true;
+    }
+
+    /// Makes a choice that is left, unless the machine refuses it.
+    fn make(&mut self, choice: Choice) -> Result<(), AllocError>
+        requires thread { choice.thread < thread_count self.old.world }
+        requires few { thread_count self.old.world ≤ 64 }
+        ensures { OnOk result (self.new ≡ chosen_by (refusal_of self.old.world choice) choice self.old) }
+    {
+        self.runs.reserve(1)?;
+        match self.machine.step(choice) {
+            Ok(_) => {
+                push_joined(&mut self.runs, choice);
+                self.next = choice.thread + 1;
+                self.left = self.left.saturating_sub(1);
+                Ok(())
+            }
+            Err(StepFault::Memory) => Err(AllocError),
+            Err(StepFault::NoSuchThread) => Ok(()),
+            Err(StepFault::StepLimit) => Ok(()),
+        }
+    }
+
+    /// Makes one choice more, where one is left.
+    #[tactic(auto, unfolding(crate::specs::Progress::chosen), using(crate::proofs::Choosing::none_refused))]
+    pub fn choose(&mut self, choice: Choice) -> Result<(), AllocError>
+        ensures { OnOk result (self.new ≡ chosen choice self.old) }
+    {
+        if self.left() == 0 {
+            self.stop();
+            return Ok(());
+        }
+        if choice.thread as usize >= self.thread_count() {
+            return Ok(());
+        }
+        self.make(choice)
+    }
+}

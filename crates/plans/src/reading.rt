@@ -1,0 +1,284 @@
+ghost use Rattle.std.specs.Prelude.{◌≡◌, ◌≤◌, ◌<◌, ◌==◌, IfOk, IfSome, bytes_eq, drop, false, length, map, true, Some};
+ghost use Rattle.std.specs.List.{after_first, before_first, position_or_len};
+ghost use Rattle.line_reader.specs.Names.{is_name};
+ghost use Rattle.line_reader.specs.Seen.{name_seen};
+ghost use Rattle.plans.specs.Numbers.{are_digits, count_in, number_in, seed_in};
+ghost use Rattle.plans.specs.Reading.{alone, before_dot, begins_expiry, chosen_by, expiry_by, expiry_named, has_dot, has_star, is_alone, is_closing, is_numbered, or_numbered, is_opening, is_seeded, is_spelled, is_star, is_turn_about, make, may_repeat, meaning, named_by, numbered_by, or_once, seeded_by, stem_of, thread_named, times_by, times_in, word_of};
+
+use crate::fault::PlanFaultKind;
+use crate::number::{are_digits, count_in, number_in, seed_in};
+use crate::word::{Chosen, Rule, Step, Word};
+use line_reader::name::name_at;
+use line_reader::words::{is_word, length_before};
+
+/// What stands before the star.
+fn stem_of(word: &[u8]) -> &[u8]
+    ensures { result.now ≡ stem_of word.now }
+{
+    &word[..length_before(b'*', word)]
+}
+
+fn has_star(word: &[u8]) -> bool
+    ensures { result ≡ has_star word.now }
+{
+    length_before(b'*', word) < word.len()
+}
+
+/// What stands behind the star.
+fn behind_star(word: &[u8]) -> &[u8]
+    requires { has_star word.now ≡ true }
+    ensures { result.now ≡ after_first is_star word.now }
+{
+    &word[length_before(b'*', word) + 1..]
+}
+
+#[tactic(auto, unfolding(line_reader::specs::Reading::name_at))]
+fn is_name(word: &[u8]) -> bool
+    ensures { result ≡ is_name word.now }
+{
+    match name_at(word) {
+        Ok(_) => true,
+        Err(_) => false,
+    }
+}
+
+fn is_seeded(stem: &[u8]) -> bool
+    ensures { result ≡ is_seeded stem.now }
+{
+    matches!(stem, [b'?', ..])
+}
+
+fn has_dot(stem: &[u8]) -> bool
+    ensures { result ≡ has_dot stem.now }
+{
+    !stem.is_empty() && stem[stem.len() - 1] == b'.'
+}
+
+/// What stands before the last byte.
+fn before_dot(stem: &[u8]) -> &[u8]
+    ensures { result.now ≡ before_dot stem.now }
+{
+    &stem[..stem.len().saturating_sub(1)]
+}
+
+fn is_alone(stem: &[u8]) -> bool
+    ensures { result ≡ is_alone stem.now }
+{
+    has_dot(stem) && is_name(before_dot(stem))
+}
+
+fn may_repeat(stem: &[u8]) -> bool
+    ensures { result ≡ may_repeat stem.now }
+{
+    is_word(stem, ")") || is_word(stem, "..") || is_seeded(stem) || is_name(stem)
+}
+
+/// Whether a word of a plan is spelled so.
+fn is_spelled(word: &[u8]) -> bool
+    ensures { result ≡ is_spelled word.now }
+{
+    may_repeat(stem_of(word)) || (!has_star(word) && (is_word(word, "(") || is_alone(word)))
+}
+
+/// How often, if that is said.
+fn times_in(word: &[u8]) -> Result<Option<u32>, PlanFaultKind>
+    ensures { result ≡ times_in word.now }
+{
+    if !has_star(word) {
+        return Ok(None);
+    }
+    match count_in(behind_star(word)) {
+        Some(times) => Ok(Some(times)),
+        None => Err(PlanFaultKind::BadCount),
+    }
+}
+
+fn or_once(times: Option<u32>) -> u32
+    ensures { result ≡ or_once times }
+{
+    match times {
+        Some(times) => times,
+        None => 1,
+    }
+}
+
+/// Whether a name is a letter and digits.
+fn is_numbered(letter: u8, name: &[u8]) -> bool
+    ensures { result ≡ is_numbered letter name.now }
+{
+    !name.is_empty() && name[0] == letter && are_digits(name.len(), behind_first(name))
+}
+
+/// The choice of the thread with this number, among so many.
+fn numbered(count: usize, expiry: bool, digits: &[u8]) -> Result<Chosen, PlanFaultKind>
+    ensures { result ≡ numbered_by count expiry (number_in 2 63 digits.now) }
+{
+    match number_in(2, 63, digits) {
+        Some(thread) => {
+            if (thread as usize) < count {
+                Ok(Chosen {
+                    thread: thread as u8,
+                    expiry,
+                })
+            } else {
+                Err(PlanFaultKind::NoThread)
+            }
+        }
+        None => Err(PlanFaultKind::NoThread),
+    }
+}
+
+/// The thread of this name.
+fn thread_named(names: &[&[u8]], name: &[u8]) -> Option<u8>
+    requires { length names.now ≤ 64 }
+    ensures { result ≡ thread_named (map name_seen names.now) name.now }
+{
+    match names.iter().position(|one| *one == name) {
+        Some(thread) => Some(thread as u8),
+        None => None,
+    }
+}
+
+/// What stands behind the first byte.
+fn behind_first(bytes: &[u8]) -> &[u8]
+    requires { 0 < length bytes.now }
+    ensures { result.now ≡ drop 1 bytes.now }
+{
+    &bytes[1..]
+}
+
+fn begins_expiry(name: &[u8]) -> bool
+    ensures { result ≡ begins_expiry name.now }
+{
+    matches!(name, [b'x', ..])
+}
+
+/// The expiry of the thread whose name stands behind an `x`.
+fn expiry_named(names: &[&[u8]], name: &[u8]) -> Result<Chosen, PlanFaultKind>
+    requires { length names.now ≤ 64 }
+    ensures { result ≡ expiry_named (map name_seen names.now) name.now }
+{
+    if !begins_expiry(name) {
+        return Err(PlanFaultKind::NotNamed);
+    }
+    match thread_named(names, behind_first(name)) {
+        Some(thread) => Ok(Chosen {
+            thread,
+            expiry: true,
+        }),
+        None => Err(PlanFaultKind::NotNamed),
+    }
+}
+
+/// The choice of the thread with this name, or with that behind an `x`.
+fn named(names: &[&[u8]], name: &[u8]) -> Result<Chosen, PlanFaultKind>
+    requires { length names.now ≤ 64 }
+    ensures { result ≡ named_by (map name_seen names.now) name.now
+        (thread_named (map name_seen names.now) name.now) }
+{
+    match thread_named(names, name) {
+        Some(thread) => Ok(Chosen {
+            thread,
+            expiry: false,
+        }),
+        None => expiry_named(names, name),
+    }
+}
+
+/// The choice that a number names, among so many threads, where it is none for this reason by name.
+fn or_numbered(why: PlanFaultKind, count: usize, name: &[u8]) -> Result<Chosen, PlanFaultKind>
+    ensures { result ≡ or_numbered (Err why) count name.now }
+{
+    if is_numbered(b't', name) {
+        return numbered(count, false, behind_first(name));
+    }
+    if is_numbered(b'x', name) {
+        return numbered(count, true, behind_first(name));
+    }
+    Err(why)
+}
+
+/// Whose choice, by a name, or else by a number.
+fn chosen_by(names: &[&[u8]], name: &[u8]) -> Result<Chosen, PlanFaultKind>
+    requires { length names.now ≤ 64 }
+    ensures { result ≡ chosen_by (map name_seen names.now) name.now }
+{
+    match named(names, name) {
+        Ok(chosen) => Ok(chosen),
+        Err(why) => or_numbered(why, names.len(), name),
+    }
+}
+
+/// This choice, so many times.
+fn make(times: Option<u32>, chosen: Chosen) -> Result<Word, PlanFaultKind>
+    ensures { result ≡ make times chosen }
+{
+    Ok(Word::Step(Step::Make {
+        chosen,
+        times: or_once(times),
+    }))
+}
+
+/// Turns of this thread alone.
+fn alone(chosen: Chosen) -> Result<Word, PlanFaultKind>
+    ensures { result ≡ alone chosen }
+{
+    if chosen.expiry {
+        return Err(PlanFaultKind::BadWord);
+    }
+    Ok(Word::Step(Step::Follow {
+        rule: Rule::Alone(chosen.thread),
+        most: None,
+    }))
+}
+
+/// An order by the seed that these digits spell.
+fn seeded(times: Option<u32>, digits: &[u8]) -> Result<Word, PlanFaultKind>
+    ensures { result ≡ seeded_by times (seed_in digits.now) }
+{
+    match seed_in(digits) {
+        Some(seed) => Ok(Word::Step(Step::Follow {
+            rule: Rule::BySeed(seed),
+            most: times,
+        })),
+        None => Err(PlanFaultKind::BadSeed),
+    }
+}
+
+/// What a stem says with a count.
+fn meaning(names: &[&[u8]], stem: &[u8], times: Option<u32>) -> Result<Word, PlanFaultKind>
+    requires { length names.now ≤ 64 }
+    ensures { result ≡ meaning (map name_seen names.now) stem.now times }
+{
+    if is_word(stem, "(") {
+        return Ok(Word::Open);
+    }
+    if is_word(stem, ")") {
+        return Ok(Word::Close(or_once(times)));
+    }
+    if is_word(stem, "..") {
+        return Ok(Word::Step(Step::Follow {
+            rule: Rule::TurnAbout,
+            most: times,
+        }));
+    }
+    if is_seeded(stem) {
+        return seeded(times, behind_first(stem));
+    }
+    if has_dot(stem) {
+        return alone(chosen_by(names, before_dot(stem))?);
+    }
+    make(times, chosen_by(names, stem)?)
+}
+
+/// What a word says.
+pub fn word_of(names: &[&[u8]], word: &[u8]) -> Result<Word, PlanFaultKind>
+    requires { length names.now ≤ 64 }
+    ensures { result ≡ word_of (map name_seen names.now) word.now }
+{
+    if !is_spelled(word) {
+        return Err(PlanFaultKind::BadWord);
+    }
+    let times = times_in(word)?;
+    meaning(names, stem_of(word), times)
+}

@@ -1,0 +1,154 @@
+ghost use Rattle.std.specs.Prelude.{◌≡◌, ◌++◌, [], ◌<◌, IfOk, OnOk};
+ghost use Rattle.std.specs.List.{cons_option, find};
+ghost use Rattle.plans.specs.Rules.{able, alone, can_expire_in, choice_in, is_ready_in, next_choice, picked, thread_count, threads_from, turn_about, turn_of, word_at};
+
+use crate::player::Player;
+use crate::word::Rule;
+use rand_core::utils::NextWord;
+use rand_pcg::Pcg32;
+use std::alloc::{AllocError, Global};
+use thread_machine::Choice;
+
+/// A word of a seed.
+#[tactic(auto, unfolding(crate::specs::Rules::word_at))]
+fn word_at(seed: u64, k: u32) -> u32
+    ensures { result ≡ word_at seed k }
+{
+    let mut words = Pcg32::new(seed, 0);
+    words.advance(u64::from(k));
+    words.next_word()
+}
+
+/// One of these choices, by a word.
+fn picked(word: u32, choices: &[Choice]) -> Option<Choice>
+    ensures { result ≡ picked word choices.now }
+{
+    if choices.is_empty() {
+        return None;
+    }
+    Some(choices[word as usize % choices.len()])
+}
+
+fn turn_of(thread: u8) -> Choice
+    ensures { result ≡ turn_of thread }
+{
+    Choice {
+        thread,
+        expiry: false,
+    }
+}
+
+/// Adds a choice, if there is one.
+fn push_made(choices: &mut Vec<Choice>, choice: Option<Choice>) -> Result<(), AllocError>
+    ensures { OnOk result (choices.new.items ≡ choices.old.items ++ cons_option choice []) }
+{
+    if let Some(choice) = choice {
+        choices.push(choice)?;
+    }
+    Ok(())
+}
+
+impl Player {
+    /// The turn of a thread that is ready.
+    fn alone(&self, thread: u8) -> Option<Choice>
+        ensures { result ≡ alone thread self.now.world }
+    {
+        if (thread as usize) < self.thread_count() && self.is_ready(thread) {
+            Some(turn_of(thread))
+        } else {
+            None
+        }
+    }
+
+    /// The first thread from this one on that is ready.
+    fn first_ready(&self, low: u8) -> Option<u8>
+        ensures { result ≡ find (is_ready_in self.now.world) (threads_from low self.now.world) }
+    {
+        for t in low as usize..self.thread_count() {
+            if self.is_ready(t as u8) {
+                return Some(t as u8);
+            }
+        }
+        None
+    }
+
+    /// The lowest thread whose wait may run out.
+    fn first_expiring(&self) -> Option<u8>
+        ensures { result ≡ find (can_expire_in self.now.world) (threads_from 0 self.now.world) }
+    {
+        for t in 0..self.thread_count() {
+            if self.can_expire(t as u8) {
+                return Some(t as u8);
+            }
+        }
+        None
+    }
+
+    /// The next choice where the threads turn about.
+    #[tactic(auto, unfolding(crate::specs::Rules::turn_about))]
+    fn turn_about(&self) -> Option<Choice>
+        ensures { result ≡ turn_about self.now.next self.now.world }
+    {
+        if let Some(t) = self.first_ready(self.next()) {
+            return Some(turn_of(t));
+        }
+        if let Some(t) = self.first_ready(0) {
+            return Some(turn_of(t));
+        }
+        match self.first_expiring() {
+            Some(t) => Some(Choice {
+                thread: t,
+                expiry: true,
+            }),
+            None => None,
+        }
+    }
+
+    /// The choice by which a thread can go on.
+    fn choice_in(&self, thread: u8) -> Option<Choice>
+        requires { thread < thread_count self.now.world }
+        ensures { result ≡ choice_in self.now.world thread }
+    {
+        if self.is_ready(thread) {
+            return Some(turn_of(thread));
+        }
+        if self.can_expire(thread) {
+            return Some(Choice {
+                thread,
+                expiry: true,
+            });
+        }
+        None
+    }
+
+    /// The choices by which threads can go on.
+    fn able(&self, alloc: Global) -> Result<Vec<Choice>, AllocError>
+        ensures { IfOk result (λ choices. choices.items ≡ able self.now.world) }
+    {
+        let mut choices = Vec::new(alloc);
+        for t in 0..self.thread_count() {
+            push_made(&mut choices, self.choice_in(t as u8))?;
+        }
+        Ok(choices)
+    }
+
+    /// Choice k by a rule.
+    #[tactic(auto, unfolding(crate::specs::Rules::next_choice))]
+    pub fn next_choice(
+        &self,
+        alloc: Global,
+        rule: Rule,
+        k: u32,
+    ) -> Result<Option<Choice>, AllocError>
+        ensures { IfOk result (λ choice. choice ≡ next_choice rule k self.now) }
+    {
+        match rule {
+            Rule::Alone(thread) => Ok(self.alone(thread)),
+            Rule::TurnAbout => Ok(self.turn_about()),
+            Rule::BySeed(seed) => {
+                let choices = self.able(alloc)?;
+                Ok(picked(word_at(seed, k), choices.as_slice()))
+            }
+        }
+    }
+}

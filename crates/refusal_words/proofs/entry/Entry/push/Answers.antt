@@ -1,6 +1,0 @@
-use Rattle.refusal_words.proofs.Pushing.{then}
-use Rattle.refusal_words.proofs.entry.Entry.push.Goals as goal
-
-pub returns-clause-bytes : goal.returns-clause-bytes
-returns-clause-bytes g c =
-    then c.push_words.result _ _ _ _ _ c.in_ok-push_line.ensures.bytes c.push_words.ensures.bytes

@@ -1,9 +1,0 @@
-use Rattle.refusal_words.proofs.Pushing.{then}
-use Rattle.refusal_words.proofs.entry.Entry.push_words.Goals as goal
-
-pub returns-clause-bytes : goal.returns-clause-bytes
-returns-clause-bytes g c =
-    then c.push_line-4.result _ _ _ _ _ c.in_ok-push_line.ensures.bytes
-    (then c.push_line-4.result _ _ _ _ _ c.in_ok-push_place.ensures.bytes
-    (then c.push_line-4.result _ _ _ _ _ c.in_ok-push_line-2.ensures.bytes
-    (then c.push_line-4.result _ _ _ _ _ c.in_ok-push_line-3.ensures.bytes c.push_line-4.ensures.bytes)))

@@ -1,0 +1,67 @@
+-- What is told of a word of the language.
+use Rattle.std.specs.Prelude.{◌≡◌, ◌≢◌, ◌⊎◌, ◌≤◌, ◌<◌, ⊤, ℕ, List, [], ◌∷◌, ◌++◌, None, Some, codes, slice_index_or, true}
+use Rattle.instruction_table.specs.declared.shape.OperandKind.{OperandKind}
+use Rattle.instruction_table.specs.declared.shape.OperandKind.TheVariants.{Register, Number, Target, Phaser, Barrier, Thread, Cell}
+use Rattle.instruction_table.specs.Table.{Entry, entry_named, no_entry, table}
+use Rattle.line_reader.specs.Reading.{is_directive}
+use Rattle.refusals.specs.declared.word.WordEntry.{WordEntry}
+use Rattle.refusals.specs.Entry.{line}
+
+-- what stands for an operand that is no register
+abbrev pub letter : OperandKind → List ℕ
+letter Register = codes "a"
+letter Number = codes "n"
+letter Target = codes "L"
+letter Phaser = codes "P"
+letter Barrier = codes "B"
+letter Thread = codes "T"
+letter Cell = codes "C"
+
+-- operands, the registers called by these letters in turn
+abbrev pub lettered : List OperandKind → List ℕ → List ℕ
+lettered [] names = []
+lettered (Register ∷ kinds) [] = []
+lettered (Register ∷ kinds) (name ∷ names) = codes " " ++ (name ∷ lettered kinds names)
+lettered (kind ∷ kinds) names = codes " " ++ (letter kind ++ lettered kinds names)
+
+-- a row's word and its operands, as the documents write them: `pbulk a P b`
+abbrev pub form_of : Entry → List ℕ
+form_of row = row.word ++ lettered row.operands (codes "abc")
+
+-- the row of this opcode has this entry: its word and its form are those of the instruction table
+abbrev pub IsRowEntry : ℕ → WordEntry → Type 0
+IsRowEntry opcode e =
+    (e.word.now ≡ (slice_index_or table opcode no_entry).word)
+    × (e.form.now ≡ form_of (slice_index_or table opcode no_entry))
+
+-- not one of the opcodes from the first on, before the second
+abbrev pub IsOutside : ℕ → ℕ → ℕ → Type 0
+IsOutside from end opcode = from ≤ opcode → opcode < end → ⊥
+
+-- the entry is that of this word: the row's that it begins, as the instruction table has it, or, where it begins none, its own
+abbrev pub IsItsRow : WordEntry → List ℕ → Type 0
+IsItsRow e word =
+    (row : Entry) × (entry_named table word ≡ Some row) × (e.word.now ≡ row.word) × (e.form.now ≡ form_of row)
+
+abbrev pub IsItsWord : WordEntry → List ℕ → Type 0
+IsItsWord e word = IsItsRow e word ⊎ ((entry_named table word ≡ None) × (e.word.now ≡ word))
+
+-- neither a row nor a directive begins with this word
+abbrev pub IsNoWord : List ℕ → Type 0
+IsNoWord word = ((row : Entry) → entry_named table word ≢ Some row) × (is_directive word ≢ true)
+
+-- the same of words, of which there has to be one
+abbrev pub AreItsWord : WordEntry → List (List ℕ) → Type 0
+AreItsWord e (word ∷ []) = IsItsWord e word
+AreItsWord e _ = ⊥
+
+abbrev pub AreNoWord : List (List ℕ) → Type 0
+AreNoWord (word ∷ []) = IsNoWord word
+AreNoWord _ = ⊤
+
+-- an entry as it is written
+abbrev pub word_text : WordEntry → List ℕ
+word_text e =
+    line (codes "") e.form.now ++ (line (codes "  Operands: ") e.operands.now ++ (line (codes "  Java:     ") e.java.now
+    ++ (line (codes "  Means:    ") e.means.now ++ (line (codes "  Event:    ") e.event.now ++ (line (codes "  More:     ") e.more.now
+    ++ (line (codes "  Example:  ") (codes "a text with its schedule, for `vuthgal`") ++ line (codes "") e.example.now))))))

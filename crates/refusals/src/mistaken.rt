@@ -1,0 +1,13 @@
+//! What was given in place of a schedule.
+
+use commands::plan::loaded_program;
+use plans::read_plan;
+use std::alloc::Global;
+
+/// Whether these bytes are a plan for the program in a text.
+pub fn is_plan(alloc: Global, text: &[u8], bytes: &[u8]) -> bool {
+    match loaded_program(alloc, text) {
+        Ok((_, names)) => read_plan(alloc, bytes, names.as_slice()).is_ok(),
+        Err(_) => false,
+    }
+}

@@ -1,0 +1,400 @@
+//! The place of a refusal, and its words.
+
+use crate::about::question_about;
+use crate::kinds::called;
+use crate::mistaken::is_plan;
+use crate::names::{first_line, nearest_name, nearest_word};
+use crate::shown::{push_file, push_line, push_marked, push_shown};
+use assembler::made::line_that_makes;
+use assembler::placed::{PlacedFault, UnknownName, assemble_placed};
+use assembler::word_place::{WordPlace, line_at, place_of_word};
+use byte_ports::{Failed, Sink};
+use instruction_table::OperandKind;
+use itoa::Buffer;
+use line_reader::asm_fault::AsmFaultKind;
+use line_reader::label::{before_last, is_label};
+use line_reader::words::{before_comment, is_blank};
+use loader::{LoadFault, Place};
+use crate::entry::Entry;
+use crate::question::Question;
+use crate::subject::Subject;
+use crate::word::{WordEntry, word_entry};
+use std::alloc::{AllocError, Global};
+use workbench::fault::Fault;
+
+/// A file, by its name, and what it holds.
+#[derive(Clone, Copy)]
+pub struct Named<'a> {
+    pub name: &'a str,
+    pub bytes: &'a [u8],
+}
+
+/// A program's file: where a schedule may stand behind its text, that text, and where the schedule begins.
+#[derive(Clone, Copy)]
+pub struct ProgramFile<'a> {
+    pub file: Named<'a>,
+    pub text: &'a [u8],
+    pub schedule_at: usize,
+}
+
+/// Why a place wasn't written whole. Nobody asks more.
+#[derive(Clone, Copy, Debug, PartialEq, Eq)]
+pub struct Unshown;
+
+impl From<Failed> for Unshown {
+    fn from(_failed: Failed) -> Unshown {
+        Unshown
+    }
+}
+
+impl From<AllocError> for Unshown {
+    fn from(_error: AllocError) -> Unshown {
+        Unshown
+    }
+}
+
+/// What helps where a text has a schedule and the command reads none.
+const AT_RUN: &str =
+    "this file is a text with its schedule: `run FILE` plays it, `show FILE` shows it; \
+    `debug` and `live` take what stands above `.run`";
+
+/// What helps where a text begins with a byte order mark.
+const AT_MARK: &str =
+    "the file begins with a UTF-8 byte order mark (EF BB BF): saved without one it can be read";
+
+/// What helps where a schedule is a plan.
+const AT_PLAN: &str = "this looks like a plan: `vuthgal plan FILE PLAN` writes its schedule";
+
+/// What a name is, and what should stand in its place; or the name that may have been meant.
+fn push_name<E: Sink>(
+    alloc: Global,
+    errors: &mut E,
+    text: &[u8],
+    unknown: Option<UnknownName>,
+    word: &[u8],
+) -> Result<(), Unshown> {
+    if let Some(
+        UnknownName {
+            wanted,
+            given: Some(given),
+        },
+    ) = unknown
+    {
+        errors.push(b"  Name:    `")?;
+        push_shown(errors, word)?;
+        errors.push(b"` is ")?;
+        errors.push(called(given).as_bytes())?;
+        errors.push(b", ")?;
+        errors.push(called(wanted).as_bytes())?;
+        errors.push(b" is wanted\n")?;
+        return Ok(());
+    }
+    if let Some(name) = nearest_name(alloc, text, word)? {
+        errors.push(b"  Near:    ")?;
+        push_shown(errors, name)?;
+        errors.push(b"\n")?;
+    }
+    Ok(())
+}
+
+/// The word of the language that may have been meant.
+fn push_near_word<E: Sink>(alloc: Global, errors: &mut E, word: &[u8]) -> Result<(), Unshown> {
+    if let Some(near) = nearest_word(alloc, word)? {
+        errors.push(b"  Near:    ")?;
+        errors.push(near.as_bytes())?;
+        errors.push(b"\n")?;
+    }
+    Ok(())
+}
+
+/// The operands of what the line says, where the wrong word is one of them or there are too few.
+fn push_form<E: Sink>(errors: &mut E, line: &[u8], wrong: WordPlace) -> Result<(), Unshown> {
+    let Some(first) = place_of_first(line) else {
+        return Ok(());
+    };
+    let word = line
+        .get(first.at..first.at.saturating_add(first.length))
+        .unwrap_or(&[]);
+    if wrong.at < first.at {
+        return Ok(());
+    }
+    if let Some(entry) = word_of(word) {
+        errors.push(b"  Form:    ")?;
+        errors.push(entry.form.as_bytes())?;
+        errors.push(b" (`vuthgal explain ")?;
+        errors.push(entry.word.as_bytes())?;
+        errors.push(b"`)\n")?;
+    }
+    Ok(())
+}
+
+/// What is told of a word of the language.
+fn word_of(word: &[u8]) -> Option<WordEntry> {
+    match str::from_utf8(word) {
+        Ok(word) => word_entry(word),
+        Err(_) => None,
+    }
+}
+
+/// The line that gave a name first; the word may be a label's.
+fn push_given<E: Sink>(errors: &mut E, text: &[u8], word: &[u8]) -> Result<(), Unshown> {
+    let name = if is_label(word) {
+        before_last(word)
+    } else {
+        word
+    };
+    if let Some(line) = first_line(text, name) {
+        errors.push(b"  Given:   line ")?;
+        errors.push(Buffer::new().format(line).as_bytes())?;
+        errors.push(b"\n")?;
+    }
+    Ok(())
+}
+
+/// The fault that a text has, where it is this one.
+fn fault_in(alloc: Global, text: &[u8], line: u64, kind: AsmFaultKind) -> Option<PlacedFault> {
+    match assemble_placed(alloc, text) {
+        Err(placed) if placed.fault.line == line && placed.fault.kind == kind => Some(placed),
+        _ => None,
+    }
+}
+
+/// The fault of a program's text, whether or not the command read a schedule behind it.
+fn fault_of(
+    alloc: Global,
+    program: ProgramFile<'_>,
+    line: u64,
+    kind: AsmFaultKind,
+) -> Option<PlacedFault> {
+    match fault_in(alloc, program.file.bytes, line, kind) {
+        Some(placed) => Some(placed),
+        None => fault_in(alloc, program.text, line, kind),
+    }
+}
+
+/// What helps at this word, where that is more than its kind's entry says.
+fn helps_at(text: &[u8], kind: AsmFaultKind, line: u64, word: &[u8]) -> Option<&'static str> {
+    match kind {
+        AsmFaultKind::UnknownWord if word == b".run".as_slice() => Some(AT_RUN),
+        AsmFaultKind::BadByte if line == 1 && text.starts_with(&[0xef, 0xbb, 0xbf]) => Some(
+            AT_MARK,
+        ),
+        _ => None,
+    }
+}
+
+/// The line of a text's fault, with a mark below the word that is wrong.
+fn push_text_place<E: Sink>(
+    alloc: Global,
+    errors: &mut E,
+    program: ProgramFile<'_>,
+    number: u64,
+    kind: AsmFaultKind,
+) -> Result<Option<&'static str>, Unshown> {
+    let file = program.file;
+    let Some(line) = line_at(file.bytes, number) else {
+        return Ok(None);
+    };
+    push_file(errors, file.name, number)?;
+    let Some(
+        PlacedFault {
+            at: Some(at),
+            unknown,
+            ..
+        },
+    ) = fault_of(alloc, program, number, kind)
+    else {
+        push_line(errors, line)?;
+        return Ok(None);
+    };
+    push_marked(errors, line, at)?;
+    let word = line
+        .get(at.at..at.at.saturating_add(at.length))
+        .unwrap_or(&[]);
+    match kind {
+        AsmFaultKind::UnknownName => push_name(alloc, errors, file.bytes, unknown, word)?,
+        AsmFaultKind::NameTwice => push_given(errors, file.bytes, word)?,
+        AsmFaultKind::UnknownWord => push_near_word(alloc, errors, word)?,
+        AsmFaultKind::OperandCount
+        | AsmFaultKind::BadRegister
+        | AsmFaultKind::BadNumber
+        | AsmFaultKind::OutOfRange
+        | AsmFaultKind::BadName
+        | AsmFaultKind::BadOption => push_form(errors, line, at)?,
+        _ => {}
+    }
+    Ok(helps_at(file.bytes, kind, number, word))
+}
+
+/// The place of the first word of what a line says, its label left out.
+fn place_of_first(line: &[u8]) -> Option<WordPlace> {
+    let text = before_comment(line);
+    let first = place_of_word(text, 0)?;
+    let word = text
+        .get(first.at..first.at.saturating_add(first.length))
+        .unwrap_or(&[]);
+    if is_label(word) {
+        place_of_word(text, 1)
+    } else {
+        Some(first)
+    }
+}
+
+/// The place of what a line says, its label left out.
+fn place_of_statement(line: &[u8]) -> Option<WordPlace> {
+    let at = place_of_first(line)?.at;
+    let last = before_comment(line)
+        .iter()
+        .rposition(|byte| !is_blank(*byte))?;
+    Some(WordPlace {
+        at,
+        length: last.saturating_add(1).saturating_sub(at),
+    })
+}
+
+/// The line that makes the thing of this number, from 0.
+fn push_made_place<E: Sink>(
+    alloc: Global,
+    errors: &mut E,
+    program: ProgramFile<'_>,
+    made: OperandKind,
+    number: u64,
+) -> Result<(), Unshown> {
+    let Some(at) = line_that_makes(alloc, program.text, made, number) else {
+        return Ok(());
+    };
+    let Some(line) = line_at(program.text, at) else {
+        return Ok(());
+    };
+    if let Some(place) = place_of_statement(line) {
+        push_file(errors, program.file.name, at)?;
+        push_marked(errors, line, place)?;
+    }
+    Ok(())
+}
+
+/// What the place of a load fault counts.
+fn made_of(fault: LoadFault) -> OperandKind {
+    match fault {
+        LoadFault::Target(Place::Thread(_)) => OperandKind::Thread,
+        LoadFault::Target(Place::Phaser(_)) | LoadFault::Declare(_, _) => OperandKind::Phaser,
+        LoadFault::Target(Place::Barrier(_)) | LoadFault::BarrierParties(_) => OperandKind::Barrier,
+        _ => OperandKind::Target,
+    }
+}
+
+/// The token of a schedule at an offset, marked in its line.
+fn push_token_place<E: Sink>(
+    errors: &mut E,
+    file: Named<'_>,
+    offset: usize,
+) -> Result<(), Unshown> {
+    let mut number: u64 = 0;
+    let mut begin: usize = 0;
+    for line in file.bytes.split(|byte| *byte == b'\n') {
+        number = number.saturating_add(1);
+        let end = begin.saturating_add(line.len());
+        if begin <= offset && offset <= end {
+            push_file(errors, file.name, number)?;
+            let at = offset - begin;
+            push_marked(errors, line, WordPlace { at, length: 1 })?;
+            return Ok(());
+        }
+        begin = end.saturating_add(1);
+    }
+    Ok(())
+}
+
+/// The token of a schedule, which stands in a file of its own or behind the program's text.
+fn push_schedule_place<E: Sink>(
+    errors: &mut E,
+    program: ProgramFile<'_>,
+    schedule: Option<Named<'_>>,
+    offset: u64,
+) -> Result<(), Unshown> {
+    let Ok(offset) = usize::try_from(offset) else {
+        return Ok(());
+    };
+    match schedule {
+        Some(schedule) => push_token_place(errors, schedule, offset),
+        None => push_token_place(
+            errors,
+            program.file,
+            program.schedule_at.saturating_add(offset),
+        ),
+    }
+}
+
+/// What helps where a schedule is refused, where that is more than its entry says.
+fn helps_at_schedule(
+    alloc: Global,
+    program: ProgramFile<'_>,
+    schedule: Option<Named<'_>>,
+) -> Option<&'static str> {
+    let bytes = match schedule {
+        Some(schedule) => schedule.bytes,
+        None => program.file.bytes.get(program.schedule_at..).unwrap_or(&[]),
+    };
+    if !bytes.is_empty() && is_plan(alloc, program.text, bytes) {
+        Some(AT_PLAN)
+    } else {
+        None
+    }
+}
+
+/// Where a question's place is in the files, and what helps there, where that is more than its entry says.
+fn push_found<E: Sink>(
+    alloc: Global,
+    errors: &mut E,
+    question: Question,
+    program: ProgramFile<'_>,
+    schedule: Option<Named<'_>>,
+) -> Result<Option<&'static str>, Unshown> {
+    let Some(place) = question.place else {
+        return Ok(None);
+    };
+    let is_image = program.file.bytes.starts_with(b"PBW");
+    match question.subject {
+        Subject::Asm(kind) => return push_text_place(alloc, errors, program, place, kind),
+        Subject::Load(fault) if !is_image => push_made_place(
+            alloc,
+            errors,
+            program,
+            made_of(fault),
+            place,
+        )?,
+        Subject::Declare(_) if !is_image => push_made_place(
+            alloc,
+            errors,
+            program,
+            OperandKind::Phaser,
+            place,
+        )?,
+        Subject::Schedule(_) => {
+            push_schedule_place(errors, program, schedule, place)?;
+            return Ok(helps_at_schedule(alloc, program, schedule));
+        }
+        _ => {}
+    }
+    Ok(None)
+}
+
+/// Writes where the place of a fault is, if it is one of a program's text or of a schedule, and then the words of its entry.
+pub fn push_place<E: Sink>(
+    alloc: Global,
+    fault: Fault,
+    program: ProgramFile<'_>,
+    schedule: Option<Named<'_>>,
+    errors: &mut E,
+) -> Result<(), Unshown> {
+    let question = question_about(fault);
+    let helps = push_found(alloc, errors, question, program, schedule)?;
+    let subject = question.subject;
+    let entry = subject.entry();
+    let entry = match helps {
+        Some(helps) => Entry { helps, ..entry },
+        None => entry,
+    };
+    entry.push_words(errors, subject.place_word(), question.place)?;
+    Ok(())
+}

@@ -1,0 +1,260 @@
+//! The place of a plan's fault, and its words.
+ghost use Rattle.std.specs.Prelude.{◌≤◌, length};
+
+use crate::names::distance;
+use crate::place::{Named, ProgramFile, Unshown};
+use crate::shown::{push_file, push_line, push_marked, push_shown};
+use assembler::word_place::{WordPlace, line_at};
+use byte_ports::Sink;
+use commands::plan::loaded_program;
+use line_reader::words::{before_comment, is_blank, length_before};
+use plans::fault::{PlanFault, PlanFaultKind};
+use plans::read_plan;
+use crate::subject::Subject;
+use std::alloc::{AllocError, Global};
+
+/// Whether a word can't go on with this byte.
+fn parts_words(byte: u8) -> bool {
+    is_blank(byte) || byte == b'(' || byte == b')'
+}
+
+/// How many bytes there are up to the first that parts words.
+fn length_to_part(text: &[u8]) -> usize {
+    text.iter()
+        .position(|byte| parts_words(*byte))
+        .unwrap_or(text.len())
+}
+
+/// How many bytes the word has that a text begins with: a parenthesis stands for itself, with its count if it has one.
+fn word_length(text: &[u8]) -> usize {
+    match text {
+        [b')', b'*', ..] => length_to_part(&text[1..]).saturating_add(1),
+        [b'(' | b')', ..] => 1,
+        _ => length_to_part(text),
+    }
+}
+
+/// The places of a line's words.
+fn word_places(alloc: Global, line: &[u8]) -> Result<Vec<WordPlace>, AllocError> {
+    let text = before_comment(line);
+    let mut places = Vec::new(alloc);
+    let mut behind = 0;
+    for at in 0..text.len() {
+        if at >= behind && !is_blank(text[at]) {
+            let length = word_length(&text[at..]);
+            places.push(WordPlace { at, length })?;
+            behind = at.saturating_add(length);
+        }
+    }
+    Ok(places)
+}
+
+/// The bytes of a word in its line.
+fn word_at(line: &[u8], place: WordPlace) -> &[u8] {
+    line.get(place.at..place.at.saturating_add(place.length))
+        .unwrap_or(&[])
+}
+
+/// The parenthesis that is never closed: the last that is opened where none is open.
+fn never_closed(alloc: Global, plan: &[u8]) -> Result<Option<WordPlace>, AllocError> {
+    let mut found = None;
+    let mut depth: u8 = 0;
+    for line in plan.split(|byte| *byte == b'\n') {
+        for place in word_places(alloc, line)?.iter() {
+            match word_at(line, *place).first() {
+                Some(b'(') => {
+                    if depth == 0 {
+                        found = Some(*place);
+                    }
+                    depth = depth.saturating_add(1);
+                }
+                Some(b')') => depth = depth.saturating_sub(1),
+                _ => {}
+            }
+        }
+    }
+    Ok(found)
+}
+
+/// Whether this fault comes already where a plan ends here.
+fn comes_before(alloc: Global, plan: &[u8], names: &[&[u8]], fault: PlanFault, end: usize) -> bool
+    requires { length names.now ≤ 64 }
+{
+    match read_plan(alloc, plan.get(..end).unwrap_or(plan), names) {
+        Ok(_) => false,
+        Err(found) => found == fault,
+    }
+}
+
+/// The word that makes a fault: the first of its line with which the fault comes.
+fn faulty_word(
+    alloc: Global,
+    plan: &[u8],
+    names: &[&[u8]],
+    fault: PlanFault,
+    begin: usize,
+    places: &[WordPlace],
+) -> Option<WordPlace>
+    requires { length names.now ≤ 64 }
+{
+    let mut low = 0;
+    let mut high = places.len();
+    for _ in 0..64 {
+        if low >= high {
+            break;
+        }
+        let middle = low.saturating_add(high.saturating_sub(low) / 2);
+        let place = *places.get(middle)?;
+        let end = begin.saturating_add(place.at).saturating_add(place.length);
+        if comes_before(alloc, plan, names, fault, end) {
+            high = middle;
+        } else {
+            low = middle.saturating_add(1);
+        }
+    }
+    places.get(low).copied()
+}
+
+/// Where the line of this number begins, from 1.
+fn begin_of(plan: &[u8], number: u64) -> usize {
+    let mut begin: usize = 0;
+    let mut at: u64 = 1;
+    for line in plan.split(|byte| *byte == b'\n') {
+        if at >= number {
+            return begin;
+        }
+        at = at.saturating_add(1);
+        begin = begin.saturating_add(line.len()).saturating_add(1);
+    }
+    begin
+}
+
+/// The word that makes a fault in this line.
+fn place_in(
+    alloc: Global,
+    plan: &[u8],
+    names: &[&[u8]],
+    fault: PlanFault,
+    line: &[u8],
+) -> Result<Option<WordPlace>, AllocError>
+    requires { length names.now ≤ 64 }
+{
+    if fault.kind == PlanFaultKind::NotClosed {
+        return never_closed(alloc, plan);
+    }
+    let places = word_places(alloc, line)?;
+    let begin = begin_of(plan, fault.line);
+    Ok(faulty_word(alloc, plan, names, fault, begin, places.as_slice()))
+}
+
+/// The name in a word: without its count, and without its dot.
+fn name_in(word: &[u8]) -> &[u8] {
+    let stem = word.get(..length_before(b'*', word)).unwrap_or(word);
+    if stem.last() == Some(&b'.') {
+        stem.get(..stem.len().saturating_sub(1)).unwrap_or(stem)
+    } else {
+        stem
+    }
+}
+
+/// A name that may have been meant, how far it is, and whether it is that of a thread whose wait is to run out.
+#[derive(Clone, Copy)]
+struct Near<'a> {
+    far: usize,
+    name: &'a [u8],
+    expiry: bool,
+}
+
+/// The nearer of the name that was found and the nearest of these names to this one, where it is near at all.
+fn nearer<'a>(
+    alloc: Global,
+    found: Option<Near<'a>>,
+    names: &[&'a [u8]],
+    name: &[u8],
+    expiry: bool,
+) -> Result<Option<Near<'a>>, AllocError> {
+    let mut best = found;
+    for given in names.iter() {
+        let far = distance(alloc, *given, name)?;
+        let least = match &best {
+            Some(near) => near.far,
+            None => 3,
+        };
+        if far < least && far < name.len() {
+            best = Some(Near {
+                far,
+                name: *given,
+                expiry,
+            });
+        }
+    }
+    Ok(best)
+}
+
+/// Writes the thread's name that may have been meant by a word.
+fn push_near<E: Sink>(
+    alloc: Global,
+    errors: &mut E,
+    names: &[&[u8]],
+    word: &[u8],
+) -> Result<(), Unshown> {
+    let name = name_in(word);
+    let mut near = nearer(alloc, None, names, name, false)?;
+    if let [b'x', waiting @ ..] = name {
+        near = nearer(alloc, near, names, waiting, true)?;
+    }
+    if let Some(near) = near {
+        errors.push(b"  Near:    ")?;
+        if near.expiry {
+            errors.push(b"x")?;
+        }
+        push_shown(errors, near.name)?;
+        errors.push(b"\n")?;
+    }
+    Ok(())
+}
+
+/// Shows the line of a plan's fault, with a mark below the word that is wrong.
+fn push_shown_place<E: Sink>(
+    alloc: Global,
+    errors: &mut E,
+    fault: PlanFault,
+    names: &[&[u8]],
+    plan: Named<'_>,
+) -> Result<(), Unshown>
+    requires { length names.now ≤ 64 }
+{
+    let Some(line) = line_at(plan.bytes, fault.line) else {
+        return Ok(());
+    };
+    push_file(errors, plan.name, fault.line)?;
+    let Some(place) = place_in(alloc, plan.bytes, names, fault, line)? else {
+        push_line(errors, line)?;
+        return Ok(());
+    };
+    push_marked(errors, line, place)?;
+    if fault.kind == PlanFaultKind::NotNamed {
+        push_near(alloc, errors, names, word_at(line, place))?;
+    }
+    Ok(())
+}
+
+/// Writes where a plan's fault is, where the plan can be read again, and then the words of its entry.
+pub fn push_plan_place<E: Sink>(
+    alloc: Global,
+    fault: PlanFault,
+    program: ProgramFile<'_>,
+    plan: Named<'_>,
+    errors: &mut E,
+) -> Result<(), Unshown> {
+    if !plan.bytes.is_empty() {
+        if let Ok((_, names)) = loaded_program(alloc, program.text) {
+            push_shown_place(alloc, errors, fault, names.as_slice(), plan)?;
+        }
+    }
+    let subject = Subject::Plan(fault.kind);
+    subject
+        .entry()
+        .push_words(errors, subject.place_word(), Some(fault.line))?;
+    Ok(())
+}

@@ -1,0 +1,75 @@
+//! The rows of calls, exceptions and output.
+ghost use Rattle.std.specs.Prelude.{◌≡◌, ◌<◌, ◌≤◌, MatchOption};
+ghost use Rattle.refusals.specs.Word.{IsRowEntry, IsOutside};
+
+use crate::word::WordEntry;
+
+/// What the table says of the row of this opcode, where it is one of these.
+pub(crate) fn control_row(opcode: u8) -> Option<WordEntry>
+    ensures { MatchOption result (IsOutside 9 15 opcode) (IsRowEntry opcode) }
+{
+    let entry = match opcode {
+        9 => WordEntry {
+            word: "call",
+            form: "call L",
+            operands: "L: a row, its label or # and a number",
+            java: "a method's call",
+            means: "goes to row L, and `ret` comes back to the next row; with 64 entries on the stack throws 6",
+            event: "`ok`",
+            more: "docs/FORMATS.md, \"Instruction table\"",
+            example: ".thread ann main\nmain: call five\nout r0\nhalt\nfive: ldi r0 5\nret\n.run\nt0*5",
+        },
+        10 => WordEntry {
+            word: "ret",
+            form: "ret",
+            operands: "none",
+            java: "return;",
+            means: "goes back behind the `call`, or ends the routine or the action; elsewhere throws 7",
+            event: "`ok`, `= v`",
+            more: "docs/FORMATS.md, \"Instruction table\"",
+            example: ".thread ann main\nmain: call five\nout r0\nhalt\nfive: ldi r0 5\nret\n.run\nt0*5",
+        },
+        11 => WordEntry {
+            word: "try",
+            form: "try L",
+            operands: "L: a row, its label or # and a number",
+            java: "try { .. } catch",
+            means: "from here on an exception leads to row L, with its number in r7; with 64 entries on the stack throws 6",
+            event: "`ok`",
+            more: "docs/FORMATS.md, \"Instruction table\"",
+            example: ".thread ann main\nmain: try failed\nldi r0 9\nthrow r0\nfailed: out r7\nhalt\n.run\nt0*6",
+        },
+        12 => WordEntry {
+            word: "endtry",
+            form: "endtry",
+            operands: "none",
+            java: "the } of try",
+            means: "takes back the last `try`; elsewhere throws 7",
+            event: "`ok`",
+            more: "docs/FORMATS.md, \"Instruction table\"",
+            example: ".thread ann main\nmain: try failed\nldi r0 9\nendtry\nhalt\nfailed: out r7\nhalt\n.run\nt0*4",
+        },
+        13 => WordEntry {
+            word: "throw",
+            form: "throw a",
+            operands: "a: a register, r0 to r7",
+            java: "throw",
+            means: "throws the number in a: 1 to 8 are the machine's own (`explain exception 1`)",
+            event: "`throw v`",
+            more: "docs/FORMATS.md, \"Instruction table\"",
+            example: ".thread ann main\nmain: try failed\nldi r0 9\nthrow r0\nfailed: out r7\nhalt\n.run\nt0*6",
+        },
+        14 => WordEntry {
+            word: "out",
+            form: "out a",
+            operands: "a: a register, r0 to r7",
+            java: "System.out.println(a);",
+            means: "puts the number in a out; after 4096 numbers throws 8",
+            event: "`out v`",
+            more: "docs/FORMATS.md, \"Instruction table\"",
+            example: ".thread ann main\nmain: ldi r0 5\nout r0\nhalt\n.run\nt0*3",
+        },
+        _ => return None,
+    };
+    Some(entry)
+}

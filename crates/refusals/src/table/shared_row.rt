@@ -1,0 +1,65 @@
+//! The rows of shared cells and of threads.
+ghost use Rattle.std.specs.Prelude.{◌≡◌, ◌<◌, ◌≤◌, MatchOption};
+ghost use Rattle.refusals.specs.Word.{IsRowEntry, IsOutside};
+
+use crate::word::WordEntry;
+
+/// What the table says of the row of this opcode, where it is one of these.
+pub(crate) fn shared_row(opcode: u8) -> Option<WordEntry>
+    ensures { MatchOption result (IsOutside 15 20 opcode) (IsRowEntry opcode) }
+{
+    let entry = match opcode {
+        15 => WordEntry {
+            word: "lds",
+            form: "lds a C",
+            operands: "a: a register, r0 to r7; C: a cell, its name or # and a number",
+            java: "a = cell;",
+            means: "puts cell C into a",
+            event: "`= v`",
+            more: "docs/FORMATS.md, \"Instruction table\"",
+            example: ".thread ann main\n.cell total\nmain: ldi r0 5\nsts r0 total\nlds r1 total\nout r1\nhalt\n.run\nt0*5",
+        },
+        16 => WordEntry {
+            word: "sts",
+            form: "sts a C",
+            operands: "a: a register, r0 to r7; C: a cell, its name or # and a number",
+            java: "cell = a;",
+            means: "puts a into cell C",
+            event: "`ok`",
+            more: "docs/FORMATS.md, \"Instruction table\"",
+            example: ".thread ann main\n.cell total\nmain: ldi r0 5\nsts r0 total\nlds r1 total\nout r1\nhalt\n.run\nt0*5",
+        },
+        17 => WordEntry {
+            word: "self",
+            form: "self a",
+            operands: "a: a register, r0 to r7",
+            java: "Thread.currentThread()",
+            means: "puts the thread's own number into a",
+            event: "`= v`",
+            more: "docs/FORMATS.md, \"Instruction table\"",
+            example: ".thread ann main\n.thread bob main\nmain: self r0\nout r0\nhalt\n.run\nt0*3 t1*3",
+        },
+        18 => WordEntry {
+            word: "intr",
+            form: "intr T",
+            operands: "T: a thread, its name or # and a number",
+            java: "t.interrupt()",
+            means: "interrupts thread T, unless it has ended or died",
+            event: "`ok`",
+            more: "docs/FORMATS.md, \"Instruction table\"",
+            example: ".thread ann main\n.thread bob other\nmain: intr bob\nhalt\nother: intrd r0\nout r0\nhalt\n.run\nt0*2 t1*3",
+        },
+        19 => WordEntry {
+            word: "intrd",
+            form: "intrd a",
+            operands: "a: a register, r0 to r7",
+            java: "Thread.interrupted()",
+            means: "puts 1 into a if the thread itself was interrupted, else 0, and forgets it",
+            event: "`= v`",
+            more: "docs/FORMATS.md, \"Instruction table\"",
+            example: ".thread ann main\nmain: intr ann\nintrd r0\nout r0\nhalt\n.run\nt0*4",
+        },
+        _ => return None,
+    };
+    Some(entry)
+}

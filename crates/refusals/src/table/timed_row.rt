@@ -1,0 +1,35 @@
+//! The rows that wait no longer than a time.
+ghost use Rattle.std.specs.Prelude.{◌≡◌, ◌<◌, ◌≤◌, MatchOption};
+ghost use Rattle.refusals.specs.Word.{IsRowEntry, IsOutside};
+
+use crate::word::WordEntry;
+
+/// What the table says of the row of this opcode, where it is one of these.
+pub fn timed_row(opcode: u8) -> Option<WordEntry>
+    ensures { MatchOption result (IsOutside 40 42 opcode) (IsRowEntry opcode) }
+{
+    let entry = match opcode {
+        40 => WordEntry {
+            word: "pawaitt",
+            form: "pawaitt a P b c",
+            operands: "a, b, c: registers, r0 to r7; P: a phaser, its name or # and a number",
+            java: "awaitAdvanceInterruptibly(b, c, ..)",
+            means: "as `pawaiti`, no longer than c, which `xN` in a schedule lets run out: throws 5",
+            event: "`= v`, `wait`",
+            more: "docs/FORMATS.md, \"Instruction table\"",
+            example: ".phaser door 1\n.thread ann main\nmain: try late\nldi r2 9\npawaitt r0 door r1 r2\nhalt\nlate: out r7\nhalt\n.run\nt0*3 x0 t0*3",
+        },
+        41 => WordEntry {
+            word: "cawaitt",
+            form: "cawaitt a B b",
+            operands: "a, b: registers, r0 to r7; B: a barrier, its name or # and a number",
+            java: "await(b, ..)",
+            means: "as `cawait`, no longer than b, which `xN` in a schedule lets run out: throws 5, and the barrier breaks",
+            event: "`= v`, `wait`, `enter`",
+            more: "docs/FORMATS.md, \"Instruction table\"",
+            example: ".barrier gate 2\n.thread ann main\nmain: try late\nldi r1 9\ncawaitt r0 gate r1\nhalt\nlate: out r7\nhalt\n.run\nt0*3 x0 t0*3",
+        },
+        _ => return None,
+    };
+    Some(entry)
+}

@@ -1,0 +1,61 @@
+//! What is told of a word of the language: a row of the instruction table, or a word that begins with a dot.
+ghost use Rattle.std.specs.Prelude.{IsTrue, MatchOption, OnErr, OnOk};
+ghost use Rattle.std.specs.Io.KnownBytes.{Appends};
+ghost use Rattle.refusals.specs.Word.{IsItsWord, IsNoWord, word_text};
+
+use crate::entry::push_line;
+use crate::table::directive::directive_entry;
+use crate::table::row::row_entry;
+use byte_ports::{Failed, Sink};
+use instruction_table::shape_of;
+
+/// What is told of a word.
+#[derive(Clone, Copy, Debug)]
+pub struct WordEntry {
+    pub word: &'static str,
+    /// The word and its operands, as the documents write them.
+    pub form: &'static str,
+    /// What may stand for each operand.
+    pub operands: &'static str,
+    /// What it is in Java.
+    pub java: &'static str,
+    /// What it does, and what it answers.
+    pub means: &'static str,
+    /// What a trace shows of it.
+    pub event: &'static str,
+    /// Where the documents say more.
+    pub more: &'static str,
+    /// A text with its schedule in which it is played.
+    pub example: &'static str,
+}
+
+impl WordEntry {
+    /// Writes the whole entry, its example last, so that it can be played from there on.
+    pub fn push<W: Sink>(self, output: &mut W) -> Result<(), Failed>
+        ensures bytes { OnOk result (Appends (W.written output.old) (W.written output.new) (word_text (self))) }
+        ensures failed { OnErr result (IsTrue (W.has_failed output.new)) }
+    {
+        push_line(output, b"", self.form)?;
+        push_line(output, b"  Operands: ", self.operands)?;
+        push_line(output, b"  Java:     ", self.java)?;
+        push_line(output, b"  Means:    ", self.means)?;
+        push_line(output, b"  Event:    ", self.event)?;
+        push_line(output, b"  More:     ", self.more)?;
+        push_line(
+            output,
+            b"  Example:  ",
+            "a text with its schedule, for `vuthgal`",
+        )?;
+        push_line(output, b"", self.example)
+    }
+}
+
+/// The entry of a word, if it is one of the language.
+pub fn word_entry(word: &str) -> Option<WordEntry>
+    ensures { MatchOption result (IsNoWord word.now) (λ e. IsItsWord e word.now) }
+{
+    match shape_of(word.as_bytes()) {
+        Some(shape) => row_entry(shape.opcode),
+        None => directive_entry(word),
+    }
+}

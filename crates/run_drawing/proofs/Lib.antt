@@ -1,3 +1,0 @@
-mod Awaited
-pub mod Cells
-pub mod Drawings

@@ -1,9 +1,0 @@
-use Rattle.std.proofs.Common.{drop}
-use Rattle.thread_machine.specs.World.{world_of}
-use Rattle.run_drawing.specs.Drawing.{IsDrawing}
-use Rattle.run_drawing.proofs.block.draw_choices.Given as goal
-
-abbrev pub invariant-loop-choice : goal.invariant-loop-choice
-invariant-loop-choice l =
-    IsDrawing l.sheet l.symbols l.first (world_of l.initial.machine) (world_of l.machine) l.choices
-    (drop l.choice-index l.choices) l.initial.text.items l.text.items

@@ -1,5 +1,0 @@
-pub mod Sheet
-pub mod Caption
-pub mod Turn
-pub mod Picture
-pub mod Drawing

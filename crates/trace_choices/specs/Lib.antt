@@ -1,5 +1,0 @@
-pub mod Naming
-pub mod Lines
-pub mod Named
-pub mod Shown
-pub mod Writing

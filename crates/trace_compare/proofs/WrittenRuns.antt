@@ -1,0 +1,188 @@
+-- A schedule that is written as its choices come.
+use Rattle.std.proofs.Common.{◌≡◌, ◌∙◌, ◌+◌, ◌<◌, ◌≤◌, ℕ, Bool, true, false, List, [], ◌∷◌, ◌++◌, Some, None, refl, ap, sym, subst, append_assoc, append-nil, arith, All}
+use Rattle.std.specs.Prelude.{Option, Result, Ok, Err, OnOk, IfOk, is_none, replicate}
+use Rattle.std.specs.List.{slice_split}
+use Rattle.line_reader.specs.Words.{is_line_end}
+use Rattle.std.specs.Io.KnownBytes.{Appends, Consumes, prepend_known}
+use Rattle.std.proofs.KnownBytes.{Appends-nil, Appends-trans, Consumes-trans, prepend_known-nil}
+use Rattle.std.proofs.lemmas.List.{replicate-append-replicate}
+use Rattle.std.proofs.lemmas.List.Elements.{All-append, All-cons, All-nil}
+use Rattle.byte_ports.specs.SourceLines.{Lines}
+use Rattle.schedule_reader.specs.declared.run.Run.{Run}
+use Rattle.schedule_reader.specs.Joined.{AreJoined}
+use Rattle.schedule_reader.specs.Schedule.{IsRun, choices_of, run_of}
+use Rattle.schedule_reader.specs.Text.{schedule_text, spaced_tokens, token_of}
+use Rattle.schedule_reader.proofs.Runs.{spelled}
+use Rattle.thread_machine.specs.declared.choice.Choice.{Choice}
+use Rattle.trace_compare.specs.declared.naming.NextName.{NextName}
+use Rattle.trace_compare.specs.NamedLines.{HasEnded, HasTaken, last_naming, none_read}
+use Rattle.trace_compare.specs.Naming.{HasRead, Naming, naming_from, naming_of}
+use Rattle.trace_compare.specs.Writing.{HasWritten, HasWrittenPart, HasWrittenUpTo, closed_text, line_by}
+use Rattle.trace_compare.proofs.NamedLines.{taken-all, unread}
+
+-- the choices of runs, and of more behind them
+choices-both : (runs more : List Run) → choices_of (runs ++ more) ≡ choices_of runs ++ choices_of more
+choices-both [] more = refl
+choices-both (run ∷ runs) more =
+    ap (λ cs. replicate run.times run.choice ++ cs) (choices-both runs more)
+    ∙ sym (append_assoc (replicate run.times run.choice) (choices_of runs) (choices_of more))
+
+-- the last run has another of its choice
+joined-last : (runs : List Run) (a b : Run) → b.choice ≡ a.choice → AreJoined (runs ++ a ∷ []) → AreJoined (runs ++ b ∷ [])
+joined-last [] a b same joined = tt
+joined-last (run ∷ []) a b same joined = (λ e. joined.0 (e ∙ same), tt)
+joined-last (run ∷ next ∷ runs) a b same joined = (joined.0, joined-last (next ∷ runs) a b same joined.1)
+
+-- another run behind it
+joined-next : (runs : List Run) (a b : Run) → (a.choice ≡ b.choice → a.times ≡ 1000000000) → AreJoined (runs ++ a ∷ [])
+    → AreJoined ((runs ++ a ∷ []) ++ b ∷ [])
+joined-next [] a b apart joined = (apart, tt)
+joined-next (run ∷ []) a b apart joined = (joined.0, (apart, tt))
+joined-next (run ∷ next ∷ runs) a b apart joined = (joined.0, joined-next (next ∷ runs) a b apart joined.1)
+
+closed-next : (runs : List Run) (run : Run) → closed_text (runs ++ run ∷ []) ≡ closed_text runs ++ (token_of run ++ 32 ∷ [])
+closed-next [] run = refl
+closed-next (first ∷ runs) run =
+    ap (λ text. token_of first ++ (32 ∷ text)) (closed-next runs run)
+    ∙ sym (append_assoc (token_of first) (32 ∷ closed_text runs) (token_of run ++ 32 ∷ []))
+
+closed-last : (runs : List Run) (last : Run) → schedule_text (runs ++ last ∷ []) ≡ closed_text runs ++ token_of last
+closed-last [] last = append-nil (token_of last)
+closed-last (run ∷ []) last =
+    ap (λ text. token_of run ++ (32 ∷ text)) (closed-last [] last) ∙ sym (append_assoc (token_of run) (32 ∷ []) (token_of last))
+closed-last (run ∷ next ∷ runs) last =
+    ap (λ text. token_of run ++ (32 ∷ text)) (closed-last (next ∷ runs) last)
+    ∙ sym (append_assoc (token_of run) (32 ∷ closed_text (next ∷ runs)) (token_of last))
+
+-- the first choice
+pub take-first : (start new : Option (List ℕ)) (choices : List Choice) (choice : Choice) (run : Run) → choice.thread ≤ 63
+    → run ≡ run_of choice 1 → HasWritten start None new choices → HasWritten start (Some run) new (choices ++ choice ∷ [])
+take-first start new choices choice run thread is (none, same) =
+    subst (λ r. HasWritten start (Some r) new (choices ++ choice ∷ [])) (sym is) (
+      [],
+      (
+        ap (λ cs. cs ++ choice ∷ []) none,
+        All-nil IsRun,
+        spelled choice 0 thread (omega arith),
+        tt,
+        subst (λ o. Appends start o []) (sym same) (Appends-nil start),
+      ),
+    )
+
+-- the same once more
+pub take-more : (start new : Option (List ℕ)) (choices : List Choice) (choice : Choice) (run more : Run) → choice.thread ≤ 63
+    → run.choice ≡ choice → run.times < 1000000000 → more ≡ run_of choice (run.times + 1) → HasWritten start (Some run) new choices
+    → HasWritten start (Some more) new (choices ++ choice ∷ [])
+take-more start new choices choice run more thread same few is (runs, (all, spelled-all, one, joined, text)) =
+    let grown : choices_of (run_of choice (run.times + 1) ∷ []) ≡ choices_of (run ∷ []) ++ choice ∷ [] =
+    append-nil (replicate (run.times + 1) choice) ∙ sym (replicate-append-replicate run.times 1 choice)
+    ∙ ap (λ c. replicate run.times c ++ choice ∷ []) (sym same)
+    ∙ ap (λ cs. cs ++ choice ∷ []) (sym (append-nil (replicate run.times run.choice))) in
+    let next = run_of choice (run.times + 1) in
+    subst (λ r. HasWritten start (Some r) new (choices ++ choice ∷ [])) (sym is) (
+      runs,
+      (
+        ap (λ cs. cs ++ choice ∷ []) (all ∙ choices-both runs (run ∷ []))
+            ∙ append_assoc (choices_of runs) (choices_of (run ∷ [])) (choice ∷ [])
+            ∙ ap (λ cs. choices_of runs ++ cs) (sym grown) ∙ sym (choices-both runs (next ∷ [])),
+        spelled-all,
+        spelled choice run.times thread few,
+        joined-last runs run next (sym same) joined,
+        text,
+      ),
+    )
+
+-- another one
+pub take-other : (start old new : Option (List ℕ)) (choices : List Choice) (choice : Choice) (run other : Run) → choice.thread ≤ 63
+    → (run.choice ≡ choice → run.times ≡ 1000000000) → other ≡ run_of choice 1 → Appends old new (token_of run ++ 32 ∷ [])
+    → HasWritten start (Some run) old choices → HasWritten start (Some other) new (choices ++ choice ∷ [])
+take-other start old new choices choice run other thread apart is pushed (runs, (all, spelled-all, one, joined, text)) =
+    subst (λ r. HasWritten start (Some r) new (choices ++ choice ∷ [])) (sym is) (
+      runs ++ run ∷ [],
+      (
+        ap (λ cs. cs ++ choice ∷ []) all ∙ sym (choices-both (runs ++ run ∷ []) (run_of choice 1 ∷ [])),
+        All-append IsRun runs (run ∷ []) spelled-all (All-cons IsRun run [] one (All-nil IsRun)),
+        spelled choice 0 thread (omega arith),
+        joined-next runs run (run_of choice 1) apart joined,
+        subst (Appends start new) (sym (closed-next runs run)) (Appends-trans start old new (closed_text runs) (token_of run ++ 32 ∷ []) text pushed),
+      ),
+    )
+
+line-some : (is_trace : Bool) (runs : List Run) (last : Run) → line_by is_trace (runs ++ last ∷ []) ≡ schedule_text (runs ++ last ∷ []) ++ 10 ∷ []
+line-some is_trace [] last = refl
+line-some is_trace (run ∷ runs) last = refl
+
+-- the end of the line
+pub end-some : (is_trace : Bool) (start old new : Option (List ℕ)) (choices : List Choice) (run : Run)
+    → Appends old new (token_of run ++ 10 ∷ []) → HasWritten start (Some run) old choices → HasWrittenUpTo is_trace choices start new
+end-some is_trace start old new choices run pushed (runs, (all, spelled-all, one, joined, text)) = (
+  runs ++ run ∷ [],
+  (
+    all,
+    All-append IsRun runs (run ∷ []) spelled-all (All-cons IsRun run [] one (All-nil IsRun)),
+    joined,
+    subst (Appends start new)
+        (sym (append_assoc (closed_text runs) (token_of run) (10 ∷ []))
+        ∙ ap (λ text. text ++ 10 ∷ []) (sym (closed-last runs run)) ∙ sym (line-some is_trace runs run))
+        (Appends-trans start old new (closed_text runs) (token_of run ++ 10 ∷ []) text pushed),
+  ),
+)
+
+-- what stands there where the trace can't be read
+written-runs : (start new : Option (List ℕ)) (last : Option Run) (choices : List Choice) → HasWritten start last new choices
+    → (runs : List Run) × ((rest : List Choice) × ((choices ≡ choices_of runs ++ rest) × Appends start new (closed_text runs)))
+written-runs start new None choices (none, same) = ([], ([], (none, subst (λ o. Appends start o []) (sym same) (Appends-nil start))))
+written-runs start new (Some run) choices (runs, (all, spelled-all, one, joined, text)) =
+    (runs, (choices_of (run ∷ []), (all ∙ choices-both runs (run ∷ []), text)))
+
+pub written-part : (n : ℕ) (choices : List Choice) (y z : Lines) (a b c start new : Option (List ℕ)) (last : Option Run)
+    → HasTaken 1 choices n none_read y a b → Consumes (prepend_known y.held b) (prepend_known z.held c) [] → HasWritten start last new choices
+    → HasWrittenPart a c start new
+written-part n choices y z a b c start new last (one, (gone, many, names)) on written =
+    let (runs, (rest, (is, text))) = written-runs start new last choices written in (
+      (one ++ []) ++ z.held,
+      (
+        runs,
+        (
+          rest ++ (naming_from n (slice_split is_line_end ([] ++ z.held))).choices,
+          (
+            subst (λ o. Consumes o c ((one ++ []) ++ z.held)) (prepend_known-nil a)
+                (unread (prepend_known [] a) c (one ++ []) z.held (Consumes-trans _ _ _ one [] gone.0 on)),
+            ap (λ bytes. (naming_of bytes).choices) (append_assoc one [] z.held)
+                ∙ ap (λ (naming : Naming). naming.choices) (names ([] ++ z.held))
+                ∙ ap (λ cs. cs ++ (naming_from n (slice_split is_line_end ([] ++ z.held))).choices) is
+                ∙ append_assoc (choices_of runs) rest (naming_from n (slice_split is_line_end ([] ++ z.held))).choices,
+            text,
+          ),
+        ),
+      ),
+    )
+
+pub on-ok : {T E P Q : Type 0} (r : Result T E) → (P → Q) → OnOk r P → OnOk r Q
+on-ok (Ok x) then p = then p
+on-ok (Err e) then p = tt
+
+-- where the line's end was written
+pub ended-ok : {T E F : Type 0} (u : T) (r : Result (Option ℕ) F) (w : Result T E) (stop : Option ℕ) (P : Option ℕ → Type 0) (Q : Type 0)
+    → OnOk r (w ≡ Ok u) → IfOk r (λ answer. answer ≡ stop) → OnOk w Q → (Q → P stop) → IfOk r P
+ended-ok u (Ok answer) w stop P Q ok is done then = subst P (sym is) (then (subst (λ x. OnOk x Q) ok done))
+ended-ok u (Err e) w stop P Q ok is done then = tt
+
+-- what was read and written then
+abbrev pub HasEndedSo : Option (List ℕ) → Option (List ℕ) → Option (List ℕ) → Option (List ℕ) → Option ℕ → Type 0
+HasEndedSo a c start new stop =
+    (choices : List Choice) × (HasRead a c (record { choices = choices; no_line = stop }) × HasWrittenUpTo (is_none stop) choices start new)
+
+pub ended-all : (n : ℕ) (choices all : List Choice) (name : NextName) (stop : Option ℕ) (y z : Lines) (a b c start new : Option (List ℕ))
+    → HasTaken 1 choices n none_read y a b → HasEnded n (last_naming name n) y z b c → choices ++ (last_naming name n).choices ≡ all
+    → (last_naming name n).no_line ≡ stop → HasWrittenUpTo (is_none stop) all start new → HasEndedSo a c start new stop
+ended-all n choices all name stop y z a b c start new taken end same is written = (
+  all,
+  (
+    subst (HasRead a c)
+        (ap (λ cs. record { choices = cs; no_line = (last_naming name n).no_line }) same
+        ∙ ap (λ line. record { choices = all; no_line = line }) is)
+        (taken-all n choices (last_naming name n) y z a b c taken end),
+    written,
+  ),
+)

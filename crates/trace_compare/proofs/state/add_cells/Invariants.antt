@@ -1,8 +1,0 @@
-use Rattle.std.proofs.Common.{◌≡◌, ◌++◌, drop}
-use Rattle.trace_compare.specs.State.{numbered_texts, cell_text}
-use Rattle.trace_compare.proofs.state.add_cells.Given as goal
-
-abbrev pub invariant-loop-number : goal.invariant-loop-number
-invariant-loop-number l =
-    l.text.items ++ numbered_texts cell_text l.number (drop l.number l.cells)
-    ≡ l.initial.text.items ++ numbered_texts cell_text 0 l.cells

@@ -1,0 +1,37 @@
+// What a line of a trace names.
+ghost use Rattle.std.specs.Prelude.{◌≡◌, ◌≤◌};
+ghost use Rattle.thread_machine.specs.declared.choice.Choice.{Choice};
+ghost use Rattle.trace_compare.specs.declared.line_names.LineNames.TheVariants.{Made};
+ghost use Rattle.trace_compare.specs.Naming.{line_names};
+
+use thread_machine::Choice;
+use trace_text::trace_line::{choice_in, is_state_line};
+
+/// How many bytes a line of a trace has at most, without its LF.
+const MOST_BYTES: usize = 65_536;
+
+/// What a line names.
+#[derive(Clone, Copy, Debug, PartialEq, Eq)]
+pub enum LineNames {
+    /// A choice.
+    Made(Choice),
+    /// The state, which ends the choices.
+    State,
+    /// Neither: it is no line of a trace.
+    Nothing,
+}
+
+/// What a line without its LF names.
+pub(crate) fn line_names(line: &[u8]) -> LineNames
+    ensures names { result ≡ line_names line.now }
+    ensures thread { (choice : Choice) → result ≡ Made choice → choice.thread ≤ 63 }
+{
+    if line.len() > MOST_BYTES {
+        return LineNames::Nothing;
+    }
+    match choice_in(line) {
+        Some(choice) => LineNames::Made(choice),
+        None if is_state_line(line) => LineNames::State,
+        None => LineNames::Nothing,
+    }
+}

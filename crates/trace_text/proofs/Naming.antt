@@ -1,0 +1,286 @@
+-- What a choice's own line names.
+use Rattle.std.proofs.Common.{◌≡◌, ◌∙◌, ◌+◌, ◌/◌, ◌%◌, ◌^◌, ◌<◌, ◌≤◌, ◌==◌, ◌&&◌, not, ℕ, zero, suc, Bool, true, false, List, [], ◌∷◌, ◌++◌, length, take, drop, cond, if◌then◌else◌, Option, Some, None, codes, decimal, refl, ap, sym, subst, arith, append_assoc, length-append, ℤ}
+use Rattle.std.specs.Fmt.{signed_decimal, digits, digits_onto, digit_glyph}
+use Rattle.std.specs.Char.{is_ascii_digit}
+use Rattle.std.specs.List.{before_first, after_first, list_all, position_or_len}
+use Rattle.std.specs.Str.{bytes_eq}
+use Rattle.std.proofs.lemmas.Bool.{and_from, ne_eqb, lt-ltb, le-leb, le-ltb, agree_below, agree_below_at, and_parts, eqb-true, not-true, false_from_ne_true, true≢false}
+use Rattle.std.proofs.lemmas.Slice.Eq.{bytes_eq-Decides}
+use Rattle.std.proofs.lemmas.Fmt.{length-decimal-le, decimal_nonempty}
+use Rattle.std.proofs.Math.Seq.{take-append_seam, drop-append-add}
+use Rattle.thread_machine.specs.declared.choice.Choice.{Choice}
+use Rattle.thread_state.specs.declared.event.Event.{Event}
+use Rattle.thread_state.specs.declared.event.What.{What}
+use Rattle.thread_state.specs.declared.event.What.TheVariants as what
+use Rattle.thread_state.specs.declared.event.Mark.{Mark}
+use Rattle.thread_state.specs.declared.event.Mark.TheVariants as mark
+use Rattle.trace_text.specs.Reading.{is_space, is_step, choice_of_digits, choice_named, choice_in, is_state_line, is_too_long}
+use Rattle.trace_text.specs.Lines.{what_text, mark_text, choice_text, event_text, refusal_text}
+use Rattle.trace_text.proofs.WholeLines.{is_within, IsPart, Part-append, Part-more, IsLine, Line-end, Line-after, decimal-part, signed-part}
+
+-- up to the first space
+space_after : (xs ys : List ℕ) → list_all (λ b. not (is_space b)) xs ≡ true → position_or_len is_space (xs ++ 32 ∷ ys) ≡ length xs
+space_after [] ys none = refl
+space_after (x ∷ xs) ys none =
+    ap (λ b. cond b (1 + position_or_len is_space (xs ++ 32 ∷ ys)) 0) (and_parts _ _ none).0
+    ∙ ap (λ n. 1 + n) (space_after xs ys (and_parts _ _ none).1) ∙ omega arith
+
+pub before_space : (xs ys : List ℕ) → list_all (λ b. not (is_space b)) xs ≡ true → before_first is_space (xs ++ 32 ∷ ys) ≡ xs
+before_space xs ys none = ap (λ n. take n (xs ++ 32 ∷ ys)) (space_after xs ys none) ∙ take-append_seam xs (32 ∷ ys)
+
+pub after_space : (xs ys : List ℕ) → list_all (λ b. not (is_space b)) xs ≡ true → after_first is_space (xs ++ 32 ∷ ys) ≡ ys
+after_space xs ys none = ap (λ n. drop (n + 1) (xs ++ 32 ∷ ys)) (space_after xs ys none) ∙ drop-append-add xs (32 ∷ ys) 1
+
+-- digits are no spaces
+digit-no_space : (b : ℕ) → is_ascii_digit b ≡ true → not (is_space b) ≡ true
+digit-no_space b digit = ap not (ne_eqb b 32 (λ e. let no : ⊥ = cc in no))
+
+-- the digits of a number
+glyph-digit : (d : ℕ) → d < 10 → is_ascii_digit (digit_glyph false d) ≡ true
+glyph-digit d small =
+    ap (λ b. is_ascii_digit (cond b (48 + d) (87 + d))) (lt-ltb d 10 small)
+    ∙ and_from _ _ (le-leb 48 (48 + d) (omega arith)) (le-leb (48 + d) 57 (omega (arith, small)))
+
+all_by : (test : ℕ → Bool) (last : Bool) (xs ys : List ℕ) → list_all test xs ≡ true → list_all test ys ≡ true
+    → list_all test (cond last xs ys) ≡ true
+all_by test true xs ys p q = p
+all_by test false xs ys p q = q
+
+digits-digits : (k n : ℕ) (acc : List ℕ) → list_all is_ascii_digit acc ≡ true
+    → list_all is_ascii_digit (digits_onto k 10 false n acc) ≡ true
+digits-digits zero n acc p = p
+digits-digits (suc k) n acc p =
+    let there = and_from _ _ (glyph-digit (n % 10) (omega arith)) p in
+    all_by is_ascii_digit (n / 10 == 0) (digit_glyph false (n % 10) ∷ acc) _ there
+    (digits-digits k (n / 10) (digit_glyph false (n % 10) ∷ acc) there)
+
+pub decimal-digits : (n : ℕ) → list_all is_ascii_digit (decimal n) ≡ true
+unfolding digits
+decimal-digits n = digits-digits 64 n [] refl
+
+all_more : (p q : ℕ → Bool) → ((b : ℕ) → p b ≡ true → q b ≡ true) → (xs : List ℕ) → list_all p xs ≡ true → list_all q xs ≡ true
+all_more p q more [] all = refl
+all_more p q more (x ∷ xs) all =
+    and_from _ _ (more x (and_parts _ _ all).0) (all_more p q more xs (and_parts _ _ all).1)
+
+decimal-no_space : (n : ℕ) → list_all (λ b. not (is_space b)) (decimal n) ≡ true
+decimal-no_space n = all_more is_ascii_digit _ digit-no_space (decimal n) (decimal-digits n)
+
+-- the name of each thread
+names : Bool → ℕ → Option Choice → Bool
+names expiry n None = false
+names true n (Some choice) = choice.expiry && (choice.thread == n)
+names false n (Some choice) = not choice.expiry && (choice.thread == n)
+
+each_is_named : (agree_below (λ n. names true n (choice_of_digits true (decimal n))) (λ n. true) 64 ≡ true)
+    × (agree_below (λ n. names false n (choice_of_digits false (decimal n))) (λ n. true) 64 ≡ true)
+unfolding digits names
+each_is_named = (refl, refl)
+
+named_is : (expiry : Bool) (n : ℕ) (named : Option Choice) → names expiry n named ≡ true
+    → named ≡ Some (record { thread = n; expiry = expiry })
+unfolding names
+named_is expiry n None is = let no : ⊥ = cc in absurd no
+named_is true n (Some choice) is =
+    let parts = and_parts _ _ is in
+    let number : choice.thread ≡ n = eqb-true _ _ parts.1 in
+    let yes : choice.expiry ≡ true = parts.0 in
+    rw (number, yes) refl
+named_is false n (Some choice) is =
+    let parts = and_parts _ _ is in
+    let number : choice.thread ≡ n = eqb-true _ _ parts.1 in
+    let no : choice.expiry ≡ false = not-true _ parts.0 in
+    rw (number, no) refl
+
+digits_named : (expiry : Bool) (n : ℕ) → n ≤ 63
+    → choice_of_digits expiry (decimal n) ≡ Some (record { thread = n; expiry = expiry })
+digits_named true n few =
+    named_is true n _ (agree_below_at (λ n. names true n (choice_of_digits true (decimal n))) (λ n. true) 64 n each_is_named.0 (omega (arith, few)))
+digits_named false n few =
+    named_is false n _ (agree_below_at (λ n. names false n (choice_of_digits false (decimal n))) (λ n. true) 64 n each_is_named.1 (omega (arith, few)))
+
+-- the letter of a choice, and the thread's number
+abbrev letter_text : Bool → List ℕ
+letter_text expiry = if expiry then codes " x" else codes " t"
+
+letter-part : (expiry : Bool) → IsPart 2 (letter_text expiry)
+letter-part true = record { within = refl; few = omega arith }
+letter-part false = record { within = refl; few = omega arith }
+
+-- a choice's name
+abbrev name_text : Choice → List ℕ
+name_text choice = cond choice.expiry 120 116 ∷ decimal choice.thread
+
+name-no_space : (expiry : Bool) (thread : ℕ) → list_all (λ b. not (is_space b)) (cond expiry 120 116 ∷ decimal thread) ≡ true
+name-no_space true thread = decimal-no_space thread
+name-no_space false thread = decimal-no_space thread
+
+name-named : (expiry : Bool) (thread : ℕ) → thread ≤ 63
+    → choice_named (cond expiry 120 116 ∷ decimal thread) ≡ Some (record { thread = thread; expiry = expiry })
+name-named true thread few = digits_named true thread few
+name-named false thread few = digits_named false thread few
+
+letter-is : (expiry : Bool) (text : List ℕ) → letter_text expiry ++ text ≡ 32 ∷ cond expiry 120 116 ∷ text
+letter-is true text = refl
+letter-is false text = refl
+
+-- a line by its two first words
+words-is : (step : ℕ) (choice : Choice) (rest : List ℕ)
+    → choice_text step choice ++ rest ≡ decimal step ++ 32 ∷ (name_text choice ++ 32 ∷ rest)
+words-is step choice rest =
+    append_assoc (decimal step) (letter_text choice.expiry ++ (decimal choice.thread ++ 32 ∷ [])) rest
+    ∙ ap (λ t. decimal step ++ (t ++ rest)) (letter-is choice.expiry (decimal choice.thread ++ 32 ∷ []))
+    ∙ ap (λ t. decimal step ++ 32 ∷ cond choice.expiry 120 116 ∷ t) (append_assoc (decimal choice.thread) (32 ∷ []) rest)
+
+step_word : (step : ℕ) → step < 10 ^ 13 → is_step (decimal step) ≡ true
+step_word step few =
+    and_from _ _ (lt-ltb 0 _ (decimal_nonempty step (omega (arith, few))))
+    (and_from _ _ (le-leb _ 13 (length-decimal-le 13 step (omega arith) few (omega (arith, few)))) (decimal-digits step))
+
+-- a line that begins with a choice names that choice
+pub line_names : (step : ℕ) (choice : Choice) (rest : List ℕ) → step < 10 ^ 13 → choice.thread ≤ 63
+    → choice_in (choice_text step choice ++ rest) ≡ Some choice
+line_names step choice rest few there =
+    let name = name_text choice in
+    let first = before_space (decimal step) (name ++ 32 ∷ rest) (decimal-no_space step) in
+    let after = after_space (decimal step) (name ++ 32 ∷ rest) (decimal-no_space step) in
+    ap choice_in (words-is step choice rest)
+    ∙ ap (λ b. cond b (choice_named (before_first is_space (after_first is_space (decimal step ++ 32 ∷ (name ++ 32 ∷ rest))))) None)
+    (ap is_step first ∙ step_word step few)
+    ∙ ap (λ t. choice_named (before_first is_space t)) after
+    ∙ ap choice_named (before_space name rest (name-no_space choice.expiry choice.thread))
+    ∙ name-named choice.expiry choice.thread there
+
+-- it isn't the state line
+not_state : (word : List ℕ) → list_all is_ascii_digit word ≡ true → bytes_eq word (codes "state") ≡ false
+not_state word digits = false_from_ne_true _ (λ same.
+    let is = (bytes_eq-Decides word (codes "state")).0 same in
+    let no : list_all is_ascii_digit (codes "state") ≡ true = subst (λ w. list_all is_ascii_digit w ≡ true) is digits in true≢false (sym no))
+
+pub line-no_state : (step : ℕ) (choice : Choice) (rest : List ℕ) → is_state_line (choice_text step choice ++ rest) ≡ false
+line-no_state step choice rest =
+    let name = name_text choice in
+    ap is_state_line (words-is step choice rest)
+    ∙ ap (λ w. bytes_eq w (codes "state")) (before_space (decimal step) (name ++ 32 ∷ rest) (decimal-no_space step))
+    ∙ not_state (decimal step) (decimal-digits step)
+
+-- the beginning of a choice's line
+pub choice-part : (step : ℕ) (choice : Choice) → IsPart 131 (choice_text step choice)
+choice-part step choice =
+    Part-append 64 67 (decimal step) _ (decimal-part step)
+    (Part-append 2 65 (letter_text choice.expiry) _ (letter-part choice.expiry)
+    (Part-append 64 1 (decimal choice.thread) (codes " ") (decimal-part choice.thread) (record { within = refl; few = omega arith })))
+
+-- what became of the thread
+after_word : (n : ℕ) (word : List ℕ) (value : ℤ) → IsPart n word → n ≤ 6 → IsPart 71 (word ++ signed_decimal value)
+after_word n word value p few = Part-more (n + 65) 71 _ (omega (arith, few)) (Part-append n 65 word _ p (signed-part value))
+
+what-part : (w : What) → IsPart 71 (what_text w)
+what-part what.Idle = record { within = refl; few = omega arith }
+what-part what.Done = record { within = refl; few = omega arith }
+what-part (what.Value value) = after_word 2 (codes "= ") value (record { within = refl; few = omega arith }) (omega arith)
+what-part (what.Out value) = after_word 4 (codes "out ") value (record { within = refl; few = omega arith }) (omega arith)
+what-part what.Waits = record { within = refl; few = omega arith }
+what-part (what.Throws code) = after_word 6 (codes "throw ") code (record { within = refl; few = omega arith }) (omega arith)
+what-part what.Enters = record { within = refl; few = omega arith }
+what-part what.Unwinds = record { within = refl; few = omega arith }
+what-part (what.Catches code) = after_word 6 (codes "catch ") code (record { within = refl; few = omega arith }) (omega arith)
+what-part (what.Dies code) = after_word 4 (codes "die ") code (record { within = refl; few = omega arith }) (omega arith)
+what-part what.Ends = record { within = refl; few = omega arith }
+
+-- the mark after it
+mark-part : (m : Mark) → IsPart 140 (mark_text m)
+mark-part mark.Nothing = record { within = refl; few = omega arith }
+mark-part (mark.Phase root view) =
+    Part-more 133 140 _ (omega arith)
+    (Part-append 3 130 (codes " +p") _ (record { within = refl; few = omega arith })
+    (Part-append 64 66 (decimal root) _ (decimal-part root)
+    (Part-append 1 65 (codes " ") _ (record { within = refl; few = omega arith }) (signed-part view))))
+mark-part (mark.Tripped barrier) =
+    Part-more 67 140 _ (omega arith)
+    (Part-append 3 64 (codes " +b") _ (record { within = refl; few = omega arith }) (decimal-part barrier))
+mark-part (mark.Broke barrier) =
+    Part-more 67 140 _ (omega arith)
+    (Part-append 3 64 (codes " -b") _ (record { within = refl; few = omega arith }) (decimal-part barrier))
+
+-- a choice's own line: it isn't long, it names the choice, and it isn't the state line
+pub record IsOwnLine (choice : Choice) (text : List ℕ) : Type 0 where
+  pub line : List ℕ
+  pub is : text ≡ line ++ 10 ∷ []
+  pub within : list_all is_within line ≡ true
+  pub short : is_too_long line ≡ false
+  pub names : choice_in line ≡ Some choice
+  pub no_state : is_state_line line ≡ false
+
+own_line : (step : ℕ) (choice : Choice) (n : ℕ) (rest : List ℕ) → n ≤ 276 → step < 10 ^ 13 → choice.thread ≤ 63
+    → IsLine n rest [] → IsOwnLine choice (choice_text step choice ++ rest)
+own_line step choice n rest short few there p =
+    let q = Line-after 131 n (choice_text step choice) rest [] (choice-part step choice) p in
+    record {
+      line = q.line;
+      is = q.is;
+      within = q.part.within;
+      short = let size = q.part.few in le-ltb 65536 (length q.line) (omega (arith, size, short));
+      names = line_names step choice p.line few there;
+      no_state = line-no_state step choice p.line;
+    }
+
+-- what stands behind a choice's name
+event-line : (pc : ℕ) (event : Event)
+    → IsLine 276 (decimal pc ++ (codes " " ++ (what_text event.what ++ (mark_text event.mark ++ codes "\n")))) []
+event-line pc event =
+    Line-after 64 212 (decimal pc) _ [] (decimal-part pc)
+    (Line-after 1 211 (codes " ") _ [] (record { within = refl; few = omega arith })
+    (Line-after 71 140 (what_text event.what) _ [] (what-part event.what)
+    (Line-after 140 0 (mark_text event.mark) _ [] (mark-part event.mark) (Line-end []))))
+
+none-line : IsLine 6 (codes "- none\n") []
+none-line = record { line = codes "- none"; part = record { within = refl; few = omega arith }; is = refl }
+
+limit-line : (pc : ℕ) → IsLine 70 (decimal pc ++ codes " limit\n") []
+limit-line pc =
+    Line-after 64 6 (decimal pc) (codes " limit\n") [] (decimal-part pc)
+    (record { line = codes " limit"; part = record { within = refl; few = omega arith }; is = refl })
+
+pub event-own : (step : ℕ) (choice : Choice) (pc : ℕ) (event : Event) → step < 10 ^ 13 → choice.thread ≤ 63
+    → IsOwnLine choice (event_text step choice pc event)
+event-own step choice pc event few there = own_line step choice 276 _ (omega arith) few there (event-line pc event)
+
+pub refusal-own : (step : ℕ) (choice : Choice) (pc : Option ℕ) → step < 10 ^ 13 → choice.thread ≤ 63
+    → IsOwnLine choice (refusal_text step choice pc)
+refusal-own step choice None few there = own_line step choice 6 (codes "- none\n") (omega arith) few there none-line
+refusal-own step choice (Some pc) few there =
+    own_line step choice 70 (decimal pc ++ codes " limit\n") (omega arith) few there (limit-line pc)
+
+-- whatever its numbers are, the line of a choice isn't long
+text-few : (step : ℕ) (choice : Choice) (n : ℕ) (rest : List ℕ) → n ≤ 276 → IsLine n rest []
+    → length (choice_text step choice ++ rest) ≤ 408
+text-few step choice n rest few p =
+    let first = choice-part step choice in
+    let name = first.few in
+    let others = p.part.few in
+    omega (arith, length-append (choice_text step choice) rest, name, others, ap length p.is, length-append p.line (10 ∷ []), few)
+
+pub event-few : (step : ℕ) (choice : Choice) (pc : ℕ) (event : Event) → length (event_text step choice pc event) ≤ 408
+event-few step choice pc event = text-few step choice 276 _ (omega arith) (event-line pc event)
+
+pub refusal-few : (step : ℕ) (choice : Choice) (pc : Option ℕ) → length (refusal_text step choice pc) ≤ 408
+refusal-few step choice None = text-few step choice 6 (codes "- none\n") (omega arith) none-line
+refusal-few step choice (Some pc) = text-few step choice 70 (decimal pc ++ codes " limit\n") (omega arith) (limit-line pc)
+
+-- each number has a digit
+some_by : (last : Bool) (xs ys : List ℕ) → 0 < length xs → 0 < length ys → 0 < length (cond last xs ys)
+some_by true xs ys p q = p
+some_by false xs ys p q = q
+
+digits-some : (k n : ℕ) (acc : List ℕ) → 0 < length acc → 0 < length (digits_onto k 10 false n acc)
+digits-some zero n acc some = some
+digits-some (suc k) n acc some =
+    let glyph : ℕ = digit_glyph false (n % 10) in
+    some_by (n / 10 == 0) (glyph ∷ acc) _ (omega arith) (digits-some k (n / 10) (glyph ∷ acc) (omega arith))
+
+pub decimal-some : (n : ℕ) → 0 < length (decimal n)
+unfolding digits
+decimal-some n =
+    let glyph : ℕ = digit_glyph false (n % 10) in
+    some_by (n / 10 == 0) (glyph ∷ []) (digits_onto 63 10 false (n / 10) (glyph ∷ [])) (omega arith) (digits-some 63 (n / 10) (glyph ∷ []) (omega arith))

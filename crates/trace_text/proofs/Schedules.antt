@@ -1,0 +1,259 @@
+-- Runs that a reader adds to a list, and what is played with them.
+use Rattle.std.proofs.Common.{◌≡◌, ◌≢◌, ◌∙◌, ◌++◌, ◌⊎◌, ℕ, Bool, true, inl, inr, List, [], Ok, Err, None, Result, ap, sym, subst, refl, append-nil, append_assoc, Option, Some}
+use Rattle.std.specs.Prelude.{IfOk, IfErr, OnOk, replicate}
+use Rattle.std.proofs.lemmas.Grind.{flat_map-append}
+use Rattle.std.specs.Io.KnownBytes.{Appends, Consumes, IsAtEnd}
+use Rattle.schedule_reader.specs.declared.fault.ScheduleFault.{ScheduleFault}
+use Rattle.schedule_reader.specs.declared.fault.ScheduleFault.TheVariants.{Memory}
+use Rattle.schedule_reader.specs.declared.run.Run.{Run}
+use Rattle.schedule_reader.specs.Places.{Progress, HasRead, rest_by_fault, with_runs, schedule_from}
+use Rattle.schedule_reader.specs.Reading.{Adds, answer_by, answer_of}
+use Rattle.schedule_reader.specs.Schedule.{Schedule, open_schedule, finished_schedule, choices_of}
+use Rattle.thread_machine.specs.World.{World}
+use Rattle.trace_text.specs.declared.run.RunFault.{RunFault}
+use Rattle.trace_text.specs.declared.run.RunFault.TheVariants as fault
+use Rattle.trace_text.specs.Outcome.{StopsFrom}
+use Rattle.trace_text.specs.Playing.{IsUpTo, PlaysOn, StopsAt, WritesOn, WritesPartOn}
+use Rattle.trace_text.specs.RunText.{faulty_after}
+use Rattle.trace_text.specs.Trace.{AppendsPartOf, Plays, lines_of}
+use Rattle.trace_text.proofs.Plays.{Part-longer}
+
+-- the choices of runs and of more runs
+choices_of-append : (xs ys : List Run) → choices_of (xs ++ ys) ≡ choices_of xs ++ choices_of ys
+choices_of-append xs ys = flat_map-append (λ (run : Run). replicate run.times run.choice) xs ys
+
+-- what a call added to an empty list stands between the shorter stream's runs and what was missing
+added_first : (told : Result (Unit {0}) ScheduleFault) (shorter longer : Schedule) (before after : List Run) → before ≡ []
+    → (adds : Adds told shorter longer before after)
+    → choices_of longer.runs ≡ (choices_of shorter.runs ++ choices_of after) ++ choices_of adds.missing
+added_first told shorter longer before after empty adds =
+    let after_is : after ≡ adds.added = adds.list ∙ ap (λ runs. runs ++ adds.added) empty in
+    ap choices_of (adds.schedule ∙ sym (append_assoc shorter.runs adds.added adds.missing))
+    ∙ choices_of-append (shorter.runs ++ adds.added) adds.missing
+    ∙ ap (λ choices. choices ++ choices_of adds.missing) (choices_of-append shorter.runs adds.added)
+    ∙ ap (λ runs. (choices_of shorter.runs ++ choices_of runs) ++ choices_of adds.missing) (sym after_is)
+
+-- nothing is missing where memory wasn't wanting
+all_added : (told : Result (Unit {0}) ScheduleFault) (shorter longer : Schedule) (before after : List Run) → before ≡ []
+    → told ≢ Err Memory → Adds told shorter longer before after
+    → choices_of longer.runs ≡ choices_of shorter.runs ++ choices_of after
+all_added told shorter longer before after empty enough adds =
+    added_first told shorter longer before after empty adds
+    ∙ elim adds.all [
+      | inl e ↦ absurd (enough e)
+      | inr none ↦ ap (λ missing. (choices_of shorter.runs ++ choices_of after) ++ choices_of missing) none ∙ append-nil _
+    ]
+
+-- all is played
+added-plays : (told : Result (Unit {0}) ScheduleFault) (shorter longer : Schedule) (first before after : World) (was all : Bool)
+    (old known new : Option (List ℕ)) (start runs : List Run) → start ≡ [] → told ≢ Err Memory
+    → Adds told shorter longer start runs → Plays first before (choices_of shorter.runs) was old known
+    → PlaysOn before after was all (choices_of runs) known new → Plays first after (choices_of longer.runs) all old new
+added-plays told shorter longer first before after was all old known new start runs empty enough adds plays on =
+    subst (λ choices. Plays first after choices all old new) (sym (all_added told shorter longer start runs empty enough adds))
+    (on first (choices_of shorter.runs) old plays)
+
+pub added-writes : (told : Result (Unit {0}) ScheduleFault) (shorter longer : Schedule) (first before : World) (was : Bool)
+    (old known new : Option (List ℕ)) (start runs : List Run) → start ≡ [] → told ≢ Err Memory
+    → Adds told shorter longer start runs → Plays first before (choices_of shorter.runs) was old known
+    → WritesOn before was (choices_of runs) known new → Appends old new (lines_of first (choices_of longer.runs))
+added-writes told shorter longer first before was old known new start runs empty enough adds plays on =
+    subst (λ choices. Appends old new (lines_of first choices)) (sym (all_added told shorter longer start runs empty enough adds))
+    (on first (choices_of shorter.runs) old plays)
+
+pub added-writes_part : (told : Result (Unit {0}) ScheduleFault) (shorter longer : Schedule) (first before : World) (was : Bool)
+    (old known new : Option (List ℕ)) (start runs : List Run) → start ≡ []
+    → Adds told shorter longer start runs → Plays first before (choices_of shorter.runs) was old known
+    → WritesPartOn before was (choices_of runs) known new → AppendsPartOf old new (lines_of first (choices_of longer.runs))
+added-writes_part told shorter longer first before was old known new start runs empty adds plays on =
+    subst (λ choices. AppendsPartOf old new (lines_of first choices)) (sym (added_first told shorter longer start runs empty adds))
+    (Part-longer first (choices_of shorter.runs ++ choices_of runs) (choices_of adds.missing) old new
+    (on first (choices_of shorter.runs) old plays))
+
+-- a reader that has told no want of memory stands behind its bytes
+pub has_read : (told : Result (Unit {0}) ScheduleFault) (reader : Progress) (bytes : List ℕ) → told ≢ Err Memory
+    → (told ≡ Err Memory) ⊎ HasRead reader bytes → HasRead reader bytes
+has_read told reader bytes enough (inl memory) = absurd (enough memory)
+has_read told reader bytes enough (inr read) = read
+
+-- a piece's tokens are played
+pub piece-plays : {E : Type 0} (result : Result Bool E) (told : Result (Unit {0}) ScheduleFault) (bytes longer : List ℕ)
+    (first before after : World) (was : Bool) (old known new : Option (List ℕ)) (start runs : List Run) (now next : Progress)
+    → start ≡ [] → IsUpTo first before bytes now was old known → OnOk result (told ≡ Ok tt)
+    → Adds told (open_schedule bytes) (open_schedule longer) start runs
+    → (told ≡ Err Memory) ⊎ HasRead next longer
+    → IfOk result (λ all. PlaysOn before after was all (choices_of runs) known new)
+    → IfOk result (λ all. IsUpTo first after longer next all old new)
+piece-plays (Ok all) told bytes longer first before after was old known new start runs now next empty up is adds read on =
+    let enough : told ≢ Err Memory = λ memory. let no : ◌≡◌ {A = Result (Unit {0}) ScheduleFault} (Ok tt) (Err Memory) = sym is ∙ memory in cc in
+    record {
+      reads = has_read told next longer enough read;
+      plays = added-plays told (open_schedule bytes) (open_schedule longer) first before after was all old known new start runs
+          empty enough adds up.plays on;
+    }
+piece-plays (Err e) told bytes longer first before after was old known new start runs now next empty up is adds read on = on
+
+-- behind a fault nothing makes a difference
+pub faulty_then : (reader : Progress) (bytes rest : List ℕ) (fault : ScheduleFault) → reader.fault ≡ Some fault → HasRead reader bytes
+    → finished_schedule (bytes ++ rest) ≡ faulty_after (open_schedule bytes).runs fault
+faulty_then reader bytes rest fault is read =
+    let given = (open_schedule bytes).runs in
+    read.rest true rest
+    ∙ ap (λ (f : Option ScheduleFault). with_runs given (rest_by_fault f (schedule_from true reader.place reader.read rest))) is
+    ∙ ap (λ runs. faulty_after runs fault) (append-nil given)
+
+-- a fault that was told is not want of memory
+pub told_other : (told : Result (Unit {0}) ScheduleFault) (fault : ScheduleFault) → told ≡ Err fault → fault ≢ Memory → told ≢ Err Memory
+told_other told fault is other = λ memory. other (let same : fault ≡ Memory = cc in same)
+
+-- the fault of a reader that has told it
+pub fault_told : (told : Result (Unit {0}) ScheduleFault) (fault : ScheduleFault) (reader : Progress) → told ≡ Err fault
+    → IfErr told (λ f. reader.fault ≡ Some f) → reader.fault ≡ Some fault
+fault_told told fault reader is err = subst (λ (t : Result (Unit {0}) ScheduleFault). IfErr t (λ f. reader.fault ≡ Some f)) is err
+
+-- an answer that is no fault
+no_fault : (fault : Option ScheduleFault)
+    → (let ok : Result (Unit {0}) ScheduleFault = Ok tt in ok ≡ answer_by fault) → fault ≡ None
+no_fault None is = refl
+no_fault (Some fault) is = let no : ⊥ = cc in absurd no
+
+end_without_fault : (told : Result (Unit {0}) ScheduleFault) (schedule : Schedule) → told ≡ Ok tt
+    → (told ≡ Err Memory) ⊎ (told ≡ answer_of schedule) → schedule.fault ≡ None
+end_without_fault told schedule is (inl memory) = let no : ⊥ = cc in absurd no
+end_without_fault told schedule is (inr answer) = no_fault schedule.fault (sym is ∙ answer)
+
+-- a fault that was answered
+fault_by : (fault : Option ScheduleFault) (e : ScheduleFault)
+    → ◌≡◌ {A = Result (Unit {0}) ScheduleFault} (Err e) (answer_by fault) → fault ≡ Some e
+fault_by None e is = let no : ⊥ = cc in absurd no
+fault_by (Some fault) e is = let same : fault ≡ e = cc in ap Some same
+
+pub end_with_fault : (told : Result (Unit {0}) ScheduleFault) (schedule : Schedule) (fault : ScheduleFault) → told ≡ Err fault
+    → told ≢ Err Memory → (told ≡ Err Memory) ⊎ (told ≡ answer_of schedule) → schedule.fault ≡ Some fault
+end_with_fault told schedule fault is enough (inl memory) = absurd (enough memory)
+end_with_fault told schedule fault is enough (inr answer) = fault_by schedule.fault fault (sym is ∙ answer)
+
+-- an answer that is none is no want of memory
+told_none : (told : Result (Unit {0}) ScheduleFault) → told ≡ Ok tt → told ≢ Err Memory
+told_none told is = λ memory. let no : ⊥ = cc in no
+
+-- the last token was played, where there is no fault
+pub end-plays : {E : Type 0} (result : Result Bool E) (told : Result (Unit {0}) ScheduleFault) (bytes : List ℕ)
+    (first before after : World) (was : Bool) (old known new : Option (List ℕ)) (start runs : List Run) (now : Progress)
+    → start ≡ [] → IsUpTo first before bytes now was old known
+    → Adds told (open_schedule bytes) (finished_schedule bytes) start runs
+    → (told ≡ Err Memory) ⊎ (told ≡ answer_of (finished_schedule bytes)) → OnOk result (told ≡ Ok tt)
+    → IfOk result (λ all. PlaysOn before after was all (choices_of runs) known new)
+    → IfOk result (λ all. ((finished_schedule bytes).fault ≡ None)
+    × Plays first after (choices_of (finished_schedule bytes).runs) all old new)
+end-plays (Ok all) told bytes first before after was old known new start runs now empty up adds answer is on = (
+  end_without_fault told (finished_schedule bytes) is answer,
+  added-plays told (open_schedule bytes) (finished_schedule bytes) first before after was all old known new start runs empty
+      (told_none told is) adds up.plays on,
+)
+end-plays (Err e) told bytes first before after was old known new start runs now empty up adds answer is on = on
+
+-- a schedule by its fault
+pub schedule_by_fault : (schedule : Schedule) (fault : Option ScheduleFault) → schedule.fault ≡ fault
+    → schedule ≡ record { runs = schedule.runs; fault = fault }
+schedule_by_fault schedule fault is =
+    let make : Option ScheduleFault → Schedule = λ f. record { runs = schedule.runs; fault = f } in ap make is
+
+-- what stops a run behind a piece of its schedule
+pub piece-stops : (f : RunFault) (told : Result (Unit {0}) ScheduleFault) (bytes longer : List ℕ) (first before : World) (was : Bool)
+    (schedule_before schedule_after old known new : Option (List ℕ)) (failed other : Bool) (start runs : List Run) (now next : Progress)
+    → start ≡ [] → IsUpTo first before bytes now was old known → Consumes schedule_before schedule_after longer
+    → Adds told (open_schedule bytes) (open_schedule longer) start runs
+    → (told ≡ Err Memory) ⊎ HasRead next longer → IfErr told (λ e. next.fault ≡ Some e)
+    → StopsAt f told before was (choices_of runs) known new other
+    → StopsFrom first f schedule_before schedule_after failed old new other
+piece-stops (fault.Schedule f) told bytes longer first before was schedule_before schedule_after old known new failed other start runs now next
+    empty up consumed adds read err (is, is_other, writes) =
+    let enough = told_other told f is is_other in
+    let has = has_read told next longer enough read in (
+      longer,
+      (
+        (open_schedule longer).runs,
+        (
+          is_other,
+          consumed,
+          inr (λ rest. faulty_then next longer rest f (fault_told told f next is err) has),
+          added-writes told (open_schedule bytes) (open_schedule longer) first before was old known new start runs empty enough adds up.plays writes,
+        ),
+      ),
+    )
+piece-stops fault.Memory told bytes longer first before was schedule_before schedule_after old known new failed other start runs now next
+    empty up consumed adds read err writes = (
+      longer,
+      (
+        open_schedule longer,
+        (
+          consumed,
+          inl refl,
+          added-writes_part told (open_schedule bytes) (open_schedule longer) first before was old known new start runs empty adds up.plays writes,
+        ),
+      ),
+    )
+piece-stops fault.Write told bytes longer first before was schedule_before schedule_after old known new failed other start runs now next
+    empty up consumed adds read err writes = writes
+piece-stops fault.Read told bytes longer first before was schedule_before schedule_after old known new failed other start runs now next
+    empty up consumed adds read err never = absurd never
+piece-stops (fault.Load f) told bytes longer first before was schedule_before schedule_after old known new failed other start runs now next
+    empty up consumed adds read err never = absurd never
+
+-- and behind its last token
+pub end-stops : (f : RunFault) (told : Result (Unit {0}) ScheduleFault) (bytes : List ℕ) (first before : World) (was : Bool)
+    (schedule_before schedule_after old known new : Option (List ℕ)) (failed other : Bool) (start runs : List Run) (now : Progress)
+    → start ≡ [] → IsUpTo first before bytes now was old known → Consumes schedule_before schedule_after bytes → IsAtEnd schedule_after
+    → Adds told (open_schedule bytes) (finished_schedule bytes) start runs
+    → (told ≡ Err Memory) ⊎ (told ≡ answer_of (finished_schedule bytes))
+    → StopsAt f told before was (choices_of runs) known new other
+    → StopsFrom first f schedule_before schedule_after failed old new other
+end-stops (fault.Schedule f) told bytes first before was schedule_before schedule_after old known new failed other start runs now
+    empty up consumed end adds answer (is, is_other, writes) =
+    let schedule = finished_schedule bytes in
+    let enough = told_other told f is is_other in
+    let by_fault : schedule ≡ faulty_after schedule.runs f = schedule_by_fault schedule (Some f) (end_with_fault told schedule f is enough answer) in (
+      bytes,
+      (
+        schedule.runs,
+        (
+          is_other,
+          consumed,
+          inl (end, by_fault),
+          added-writes told (open_schedule bytes) schedule first before was old known new start runs empty enough adds up.plays writes,
+        ),
+      ),
+    )
+end-stops fault.Memory told bytes first before was schedule_before schedule_after old known new failed other start runs now
+    empty up consumed end adds answer writes =
+    let schedule = finished_schedule bytes in (
+      bytes,
+      (
+        schedule,
+        (
+          consumed,
+          inr (end, refl),
+          added-writes_part told (open_schedule bytes) schedule first before was old known new start runs empty adds up.plays writes,
+        ),
+      ),
+    )
+end-stops fault.Write told bytes first before was schedule_before schedule_after old known new failed other start runs now
+    empty up consumed end adds answer writes = writes
+end-stops fault.Read told bytes first before was schedule_before schedule_after old known new failed other start runs now
+    empty up consumed end adds answer never = absurd never
+end-stops (fault.Load f) told bytes first before was schedule_before schedule_after old known new failed other start runs now
+    empty up consumed end adds answer never = absurd never
+
+pub end-stopped : {A : Type 0} (result : Result A RunFault) (told : Result (Unit {0}) ScheduleFault) (bytes : List ℕ) (first before : World) (was : Bool)
+    (schedule_before schedule_after old known new : Option (List ℕ)) (failed other : Bool) (start runs : List Run) (now : Progress)
+    → start ≡ [] → IsUpTo first before bytes now was old known → Consumes schedule_before schedule_after bytes → IsAtEnd schedule_after
+    → Adds told (open_schedule bytes) (finished_schedule bytes) start runs
+    → (told ≡ Err Memory) ⊎ (told ≡ answer_of (finished_schedule bytes))
+    → IfErr result (λ f. StopsAt f told before was (choices_of runs) known new other)
+    → IfErr result (λ f. StopsFrom first f schedule_before schedule_after failed old new other)
+end-stopped (Ok x) told bytes first before was schedule_before schedule_after old known new failed other start runs now
+    empty up consumed end adds answer stops = stops
+end-stopped (Err f) told bytes first before was schedule_before schedule_after old known new failed other start runs now
+    empty up consumed end adds answer stops =
+    end-stops f told bytes first before was schedule_before schedule_after old known new failed other start runs now empty up consumed end adds answer stops

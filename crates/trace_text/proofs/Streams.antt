@@ -1,0 +1,139 @@
+-- Bytes that are read one piece after another.
+use Rattle.std.proofs.Common.{◌≡◌, ◌↔◌, inr, refl, ◌∙◌, ◌+◌, ◌<◌, ◌≤◌, ◌++◌, ℕ, Bool, true, false, not, IsTrue, List, Option, Some, length, take, ap, sym, subst, append-nil, length-append, arith}
+use Rattle.std.proofs.lemmas.List.{length-take}
+use Rattle.std.proofs.KnownBytes.{Appends-trans, Consumes-trans}
+use Rattle.std.specs.Io.KnownBytes.{Appends, Consumes, IsAtEnd}
+use Rattle.std.specs.Prelude.{Result, Ok, Err, IfOk, OnOk, None, is_some}
+use Rattle.schedule_reader.specs.Schedule.{Schedule, finished_schedule, choices_of}
+use Rattle.thread_machine.specs.declared.fault.StepFault.{StepFault}
+use Rattle.thread_machine.specs.Standing.{standing_of}
+use Rattle.thread_machine.specs.World.{World}
+use Rattle.thread_machine.specs.declared.choice.Choice.{Choice}
+use Rattle.thread_machine.specs.Execution.{execution}
+use Rattle.trace_text.specs.NumberedLine.{NumberedLine}
+use Rattle.trace_text.specs.declared.run.RunFault.{RunFault}
+use Rattle.trace_text.specs.declared.run.RunFault.TheVariants as fault
+use Rattle.trace_text.specs.Outcome.{EndsFrom, Stops, StopsFrom}
+use Rattle.trace_text.specs.declared.play.PlayFault.{PlayFault}
+use Rattle.trace_text.specs.declared.play.PlayFault.TheVariants as play
+use Rattle.trace_text.specs.Playing.{HasPlayedAll, played_fault}
+use Rattle.trace_text.specs.RunText.{AreTraced, IsEndOf}
+use Rattle.trace_text.specs.Start.{Begins}
+use Rattle.row_code.specs.declared.image.Image.{Image}
+use Rattle.trace_text.specs.State.{state_text}
+use Rattle.trace_text.specs.Trace.{AppendsPartOf, Plays, lines_of}
+use Rattle.trace_text.proofs.Plays.{Part-whole}
+use Rattle.trace_text.proofs.Schedules.{schedule_by_fault}
+use Rattle.trace_text.specs.declared.run_end.RunEnd.{RunEnd}
+
+-- a read of nothing
+pub consumes-none : (a b c : Option (List ℕ)) (bytes buffer : List ℕ) (n : ℕ) → n ≡ 0
+    → Consumes a b bytes → Consumes b c (take n buffer) → Consumes a c bytes
+consumes-none a b c bytes buffer n none first second =
+    subst (Consumes a c) (ap (λ k. bytes ++ take k buffer) none ∙ append-nil bytes)
+    (Consumes-trans a b c bytes (take n buffer) first second)
+
+-- a read gives a byte at least
+pub longer_by_piece : (bytes buffer piece : List ℕ) (n turns : ℕ) → piece ≡ take n buffer → n ≤ length buffer → 0 < n
+    → turns ≤ length bytes → turns + 1 ≤ length (bytes ++ piece)
+longer_by_piece bytes buffer piece n turns is within some many =
+    omega (arith, length-append bytes piece, ap length is, length-take n buffer, within, some, many)
+
+-- a schedule was played to its end
+pub played-all : {E : Type 0} (result : Result Bool E) (first last : World) (bytes : List ℕ) (schedule_before schedule_after old new : Option (List ℕ))
+    → Consumes schedule_before schedule_after bytes → IsAtEnd schedule_after
+    → IfOk result (λ all. ((finished_schedule bytes).fault ≡ None) × Plays first last (choices_of (finished_schedule bytes).runs) all old new)
+    → IfOk result (λ all. HasPlayedAll first last all schedule_before schedule_after old new)
+played-all (Ok all) first last bytes schedule_before schedule_after old new consumed end p =
+    (bytes, ((finished_schedule bytes).runs, (consumed, end, schedule_by_fault (finished_schedule bytes) None p.0, p.1)))
+played-all (Err e) first last bytes schedule_before schedule_after old new consumed end p = p
+
+-- a choice was refused, where not all were accepted
+refused_where : (all : Bool) (refusal : Option StepFault) → (IsTrue all ↔ (refusal ≡ None)) → not all ≡ is_some refusal
+refused_where true refusal answer = ap is_some (sym (answer.0 refl))
+refused_where false None answer = absurd (cc (answer.1 refl))
+refused_where false (Some fault) answer = refl
+
+-- what is told of a run's end, beside the world that it leaves
+abbrev pub TellsEnd : World → Bool → RunEnd → Type 0
+TellsEnd last all end =
+    (end.standing ≡ standing_of last) × (end.state.items ≡ state_text last) × (is_some end.refused ≡ not all)
+
+pub tells_end : {E : Type 0} (result : Result RunEnd E) (last : World) (all : Bool) (refused : Option NumberedLine)
+    → is_some refused ≡ not all
+    → IfOk result (λ end. (end.standing ≡ standing_of last) × (end.state.items ≡ state_text last) × (end.refused ≡ refused))
+    → IfOk result (TellsEnd last all)
+tells_end (Ok end) last all refused is (standing, text, same) = (standing, text, ap is_some same ∙ is)
+tells_end (Err e) last all refused is told = told
+
+end_of : (first last : World) (choices : List Choice) (all : Bool) (end : RunEnd) (old new : Option (List ℕ))
+    → Plays first last choices all old new → TellsEnd last all end → IsEndOf (execution first choices) end
+end_of first last choices all end old new plays (standing, text, refused) = (
+  standing ∙ ap standing_of plays.world,
+  text ∙ ap (λ (world : World). state_text world) plays.world,
+  refused ∙ refused_where all (execution first choices).refusal plays.answer,
+)
+
+-- the lines, and then the state that they leave
+traced_by : (end : RunEnd) (first last : World) (choices : List Choice) (all : Bool) (old between new : Option (List ℕ))
+    → Plays first last choices all old between → TellsEnd last all end → Appends between new (state_text last)
+    → AreTraced first choices end old new
+traced_by end first last choices all old between new plays tells appends =
+    let state = λ (world : World). state_text world in (
+      end_of first last choices all end old between plays tells,
+      subst (λ text. Appends old new (lines_of first choices ++ text)) (ap state plays.world)
+          (Appends-trans old between new _ (state_text last) plays.lines appends),
+    )
+
+pub are_traced : {E : Type 0} (result : Result RunEnd E) (first last : World) (choices : List Choice) (all : Bool)
+    (old between new : Option (List ℕ)) → Plays first last choices all old between
+    → IfOk result (TellsEnd last all) → OnOk result (Appends between new (state_text last))
+    → IfOk result (λ end. AreTraced first choices end old new)
+are_traced (Ok end) first last choices all old between new plays tells appends =
+    traced_by end first last choices all old between new plays tells appends
+are_traced (Err e) first last choices all old between new plays tells appends = appends
+
+-- the same of a whole schedule
+pub ended : {E : Type 0} (result : Result RunEnd E) (first last : World) (all : Bool)
+    (schedule_before schedule_after old between new : Option (List ℕ))
+    → HasPlayedAll first last all schedule_before schedule_after old between
+    → IfOk result (TellsEnd last all) → OnOk result (Appends between new (state_text last))
+    → IfOk result (λ end. EndsFrom first end schedule_before schedule_after old new)
+ended (Ok end) first last all schedule_before schedule_after old between new
+    (bytes, (runs, (consumed, at_end, is, plays))) tells appends =
+    (bytes, (runs, (consumed, at_end, is, traced_by end first last (choices_of runs) all old between new plays tells appends)))
+ended (Err e) first last all schedule_before schedule_after old between new played tells appends = appends
+
+-- a part of the trace was written, where its state was not
+pub broken_off : (first last : World) (all : Bool) (schedule_before schedule_after old between new : Option (List ℕ)) (failed other : Bool)
+    → HasPlayedAll first last all schedule_before schedule_after old between → new ≡ between
+    → StopsFrom first fault.Memory schedule_before schedule_after failed old new other
+broken_off first last all schedule_before schedule_after old between new failed other (bytes, (runs, (consumed, at_end, is, plays))) same =
+    let whole = subst (λ rs. Appends old between (lines_of first (choices_of rs))) (ap (λ (schedule : Schedule). schedule.runs) (sym is)) plays.lines in
+    let lines = lines_of first (choices_of (finished_schedule bytes).runs) in (
+      bytes,
+      (
+        finished_schedule bytes,
+        (consumed, inr (at_end, refl), subst (λ out. AppendsPartOf old out lines) (sym same) (Part-whole old between lines whole)),
+      ),
+    )
+
+-- what stops behind the first world of an image's program stops its run
+pub stops : (f : RunFault) (image : Image) (world : World) (schedule_before schedule_after old new : Option (List ℕ)) (failed other : Bool)
+    → Begins image world → StopsFrom world f schedule_before schedule_after failed old new other
+    → Stops image f schedule_before schedule_after failed old new other
+stops (fault.Schedule f) image world schedule_before schedule_after old new failed other begins from = (world, (begins, from))
+stops fault.Memory image world schedule_before schedule_after old new failed other begins from = inr (world, (begins, from))
+stops fault.Read image world schedule_before schedule_after old new failed other begins from = (world, (begins, from))
+stops fault.Write image world schedule_before schedule_after old new failed other begins from = (world, (begins, from))
+stops (fault.Load f) image world schedule_before schedule_after old new failed other begins never = absurd never
+
+-- a run stops whose state can't be written
+pub unfinished : (f : PlayFault) (image : Image) (first last : World) (all : Bool) (schedule_before schedule_after old between new : Option (List ℕ))
+    (failed other : Bool) → Begins image first → HasPlayedAll first last all schedule_before schedule_after old between
+    → (f ≡ play.Memory → new ≡ between) → (f ≡ play.Write → IsTrue other)
+    → Stops image (played_fault f) schedule_before schedule_after failed old new other
+unfinished play.Memory image first last all schedule_before schedule_after old between new failed other begins played same write =
+    inr (first, (begins, broken_off first last all schedule_before schedule_after old between new failed other played (same refl)))
+unfinished play.Write image first last all schedule_before schedule_after old between new failed other begins played same write =
+    (first, (begins, write refl))

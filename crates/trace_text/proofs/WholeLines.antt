@@ -1,0 +1,191 @@
+-- Texts of whole lines.
+use Rattle.std.proofs.Common.{◌≡◌, ◌∙◌, ◌+◌, ◌/◌, ◌%◌, ◌≤◌, ◌==◌, not, ℕ, zero, suc, Bool, true, false, List, [], ◌∷◌, ◌++◌, length, take, drop, cond, codes, decimal, refl, ap, sym, subst, arith, append_assoc, length-append, All, flat_map, ℤ, pos, negsuc}
+use Rattle.std.specs.List.{slice_split, list_all, position_or_len}
+use Rattle.std.specs.Fmt.{digits, digits_onto, digit_glyph, signed_decimal}
+use Rattle.std.proofs.lemmas.List.{drop_all}
+use Rattle.std.proofs.lemmas.List.Folds.{list_all-append}
+use Rattle.std.proofs.lemmas.Bool.{and_from, ne_eqb, and_parts, not-true}
+use Rattle.std.proofs.lemmas.List.Sums.{AllPass-from_list_all}
+use Rattle.std.proofs.lemmas.List.Splits.{slice_split_at}
+use Rattle.std.proofs.Math.Seq.{take-append_seam, drop-append_seam}
+use Rattle.line_reader.specs.Words.{is_line_end}
+use Rattle.trace_text.specs.Reading.{HasNoLongLine, after_line, first_line}
+
+-- a byte within a line
+abbrev pub is_within : ℕ → Bool
+is_within byte = not (byte == 10)
+
+-- a text without an LF, and not longer than this
+pub record IsPart (n : ℕ) (text : List ℕ) : Type 0 where
+  pub within : list_all is_within text ≡ true
+  pub few : length text ≤ n
+
+-- not longer than more
+pub Part-more : (m n : ℕ) (text : List ℕ) → m ≤ n → IsPart m text → IsPart n text
+Part-more m n text more p = record { within = p.within; few = let a = p.few in omega (arith, a, more) }
+
+-- one part after another
+pub Part-append : (m n : ℕ) (xs ys : List ℕ) → IsPart m xs → IsPart n ys → IsPart (m + n) (xs ++ ys)
+Part-append m n xs ys p q = record {
+  within = list_all-append is_within xs ys ∙ and_from _ _ p.within q.within;
+  few = let a = p.few in let b = q.few in omega (arith, length-append xs ys, a, b);
+}
+
+glyph-within_by : (small : Bool) (d : ℕ) → is_within (cond small (48 + d) (87 + d)) ≡ true
+glyph-within_by true d = ap not (ne_eqb (48 + d) 10 (λ e. omega (arith, e)))
+glyph-within_by false d = ap not (ne_eqb (87 + d) 10 (λ e. omega (arith, e)))
+
+-- by whether a digit is the last to come
+digits_by : (last : Bool) (k : ℕ) (xs ys : List ℕ) → IsPart k xs → IsPart k ys → IsPart k (cond last xs ys)
+digits_by true k xs ys p q = p
+digits_by false k xs ys p q = q
+
+digits-part : (k n m : ℕ) (acc : List ℕ) → IsPart m acc → IsPart (k + m) (digits_onto k 10 false n acc)
+digits-part zero n m acc p = record { within = p.within; few = let a = p.few in omega (arith, a) }
+digits-part (suc k) n m acc p =
+    let glyph : ℕ = digit_glyph false (n % 10) in
+    let there : list_all is_within (glyph ∷ acc) ≡ true = and_from _ _ (glyph-within_by _ (n % 10)) p.within in
+    let next : IsPart (m + 1) (glyph ∷ acc) = record { within = there; few = let a = p.few in omega (arith, a) } in
+    let more = digits-part k (n / 10) (m + 1) (glyph ∷ acc) next in
+    digits_by (n / 10 == 0) (suc k + m) (glyph ∷ acc) _
+    (record { within = there; few = let a = p.few in omega (arith, a) })
+    (record { within = more.within; few = let a = more.few in omega (arith, a) })
+
+-- the text of any number
+pub decimal-part : (n : ℕ) → IsPart 64 (decimal n)
+unfolding digits
+decimal-part n = digits-part 64 n 0 [] (record { within = refl; few = omega arith })
+
+-- the text of any number with a sign
+pub signed-part : (z : ℤ) → IsPart 65 (signed_decimal z)
+signed-part (pos n) = Part-more 64 65 (decimal n) (omega arith) (decimal-part n)
+signed-part (negsuc n) = Part-append 1 64 (45 ∷ []) (decimal (suc n)) (record { within = refl; few = omega arith }) (decimal-part (suc n))
+
+-- these lines, each with its LF
+abbrev pub whole : List (List ℕ) → List ℕ
+whole lines = flat_map (λ line. line ++ 10 ∷ []) lines
+
+-- no LF within them
+abbrev pub AllWithin : List (List ℕ) → Type 0
+AllWithin [] = Unit {0}
+AllWithin (line ∷ lines) = (list_all is_within line ≡ true) × AllWithin lines
+
+pub no_end : (line : List ℕ) → list_all is_within line ≡ true → All (λ b. is_line_end b ≡ false) line
+no_end line within = λ k d there. not-true _ (AllPass-from_list_all is_within line within k d there)
+
+pub first-is : (line rest : List ℕ) → list_all is_within line ≡ true
+    → position_or_len is_line_end (line ++ 10 ∷ rest) ≡ length line
+first-is [] rest none = refl
+first-is (x ∷ xs) rest none =
+    ap (λ b. cond b (1 + position_or_len is_line_end (xs ++ 10 ∷ rest)) 0) (and_parts _ _ none).0
+    ∙ ap (λ n. 1 + n) (first-is xs rest (and_parts _ _ none).1) ∙ omega arith
+
+-- a line before others
+pub split-line : (line rest : List ℕ) → list_all is_within line ≡ true
+    → slice_split is_line_end ((line ++ 10 ∷ []) ++ rest) ≡ line ∷ slice_split is_line_end rest
+split-line line rest within =
+    ap (slice_split is_line_end) (append_assoc line (10 ∷ []) rest)
+    ∙ slice_split_at is_line_end line 10 rest (no_end line within) refl
+
+pub first_line-is : (line rest : List ℕ) → list_all is_within line ≡ true → first_line ((line ++ 10 ∷ []) ++ rest) ≡ line ++ 10 ∷ []
+first_line-is line rest within =
+    ap (λ n. take n ((line ++ 10 ∷ []) ++ rest))
+    (ap (λ t. position_or_len is_line_end t + 1) (append_assoc line (10 ∷ []) rest)
+    ∙ ap (λ n. n + 1) (first-is line rest within) ∙ sym (length-append line (10 ∷ [])))
+    ∙ take-append_seam (line ++ 10 ∷ []) rest
+
+pub after_line-is : (line rest : List ℕ) → list_all is_within line ≡ true → after_line ((line ++ 10 ∷ []) ++ rest) ≡ rest
+after_line-is line rest within =
+    ap (λ n. drop n ((line ++ 10 ∷ []) ++ rest))
+    (ap (λ t. position_or_len is_line_end t + 1) (append_assoc line (10 ∷ []) rest)
+    ∙ ap (λ n. n + 1) (first-is line rest within) ∙ sym (length-append line (10 ∷ [])))
+    ∙ drop-append_seam (line ++ 10 ∷ []) rest
+
+-- some lines, and others after them
+whole-append : (xs ys : List (List ℕ)) → whole (xs ++ ys) ≡ whole xs ++ whole ys
+whole-append [] ys = refl
+whole-append (x ∷ xs) ys = ap (λ t. (x ++ 10 ∷ []) ++ t) (whole-append xs ys) ∙ sym (append_assoc (x ++ 10 ∷ []) (whole xs) (whole ys))
+
+within-append : (xs ys : List (List ℕ)) → AllWithin xs → AllWithin ys → AllWithin (xs ++ ys)
+within-append [] ys p q = q
+within-append (x ∷ xs) ys p q = (p.0, within-append xs ys p.1 q)
+
+-- none of them is longer than a comparison reads
+abbrev pub AllFew : List (List ℕ) → Type 0
+AllFew [] = Unit {0}
+AllFew (line ∷ lines) = (length line ≤ 65536) × AllFew lines
+
+few-append : (xs ys : List (List ℕ)) → AllFew xs → AllFew ys → AllFew (xs ++ ys)
+few-append [] ys p q = q
+few-append (x ∷ xs) ys p q = (p.0, few-append xs ys p.1 q)
+
+-- a text of whole lines, none of them too long where this is so
+pub record IsWhole (short : Type 0) (text : List ℕ) : Type 0 where
+  pub lines : List (List ℕ)
+  pub within : AllWithin lines
+  pub few : short → AllFew lines
+  pub is : text ≡ whole lines
+
+pub Whole-nil : (short : Type 0) → IsWhole short []
+Whole-nil short = record { lines = []; within = tt; few = λ p. tt; is = refl }
+
+pub Whole-append : (short : Type 0) (xs ys : List ℕ) → IsWhole short xs → IsWhole short ys → IsWhole short (xs ++ ys)
+Whole-append short xs ys p q = record {
+  lines = p.lines ++ q.lines;
+  within = within-append p.lines q.lines p.within q.within;
+  few = λ s. few-append p.lines q.lines (p.few s) (q.few s);
+  is = ap (λ t. t ++ ys) p.is ∙ ap (λ t. whole p.lines ++ t) q.is ∙ sym (whole-append p.lines q.lines);
+}
+
+-- where more is so
+pub Whole-where : (short more : Type 0) (text : List ℕ) → (more → short) → IsWhole short text → IsWhole more text
+Whole-where short more text so p = record { lines = p.lines; within = p.within; few = λ s. p.few (so s); is = p.is }
+
+-- from any place of them on, an LF stands within as many bytes
+none-short : (at : ℕ) → position_or_len is_line_end (drop at []) ≤ 65536
+none-short at =
+    let none : position_or_len is_line_end [] ≡ 0 = refl in
+    omega (arith, ap (position_or_len is_line_end) (drop_all at [] (omega arith)), none)
+
+line-short : (line rest : List ℕ) → list_all is_within line ≡ true → length line ≤ 65536 → HasNoLongLine rest
+    → (at : ℕ) → position_or_len is_line_end (drop at (line ++ 10 ∷ rest)) ≤ 65536
+line-short [] rest within few more zero = let none : position_or_len is_line_end (10 ∷ rest) ≡ 0 = refl in omega (arith, none)
+line-short [] rest within few more (suc at) = more at
+line-short (x ∷ xs) rest within few more zero = omega (arith, first-is (x ∷ xs) rest within, few)
+line-short (x ∷ xs) rest within few more (suc at) = line-short xs rest (and_parts _ _ within).1 (omega (arith, few)) more at
+
+lines-short : (lines : List (List ℕ)) → AllWithin lines → AllFew lines → HasNoLongLine (whole lines)
+lines-short [] within few = none-short
+lines-short (line ∷ lines) within few =
+    subst HasNoLongLine (sym (append_assoc line (10 ∷ []) (whole lines)))
+    (line-short line (whole lines) within.0 few.0 (lines-short lines within.1 few.1))
+
+-- a comparison can hold all lines of such a text
+pub Whole-short : (short : Type 0) (text : List ℕ) → IsWhole short text → short → HasNoLongLine text
+Whole-short short text p s = subst HasNoLongLine (sym p.is) (lines-short p.lines p.within (p.few s))
+
+-- a line of at most so many bytes before its LF, and what follows it
+pub record IsLine (n : ℕ) (text rest : List ℕ) : Type 0 where
+  pub line : List ℕ
+  pub part : IsPart n line
+  pub is : text ≡ line ++ 10 ∷ rest
+
+pub Line-end : (rest : List ℕ) → IsLine 0 (codes "\n" ++ rest) rest
+Line-end rest = record { line = []; part = record { within = refl; few = omega arith }; is = refl }
+
+-- a part of the line before it
+abbrev pub Line-after : (m n : ℕ) (part text rest : List ℕ) → IsPart m part → IsLine n text rest → IsLine (m + n) (part ++ text) rest
+Line-after m n part text rest p q = record {
+  line = part ++ q.line;
+  part = Part-append m n part q.line p q.part;
+  is = ap (λ t. part ++ t) q.is ∙ sym (append_assoc part q.line (10 ∷ rest));
+}
+
+pub Whole-line : (short : Type 0) (n : ℕ) (text rest : List ℕ) → (short → n ≤ 65536) → IsLine n text rest → IsWhole short rest
+    → IsWhole short text
+Whole-line short n text rest few p q = record {
+  lines = p.line ∷ q.lines;
+  within = (p.part.within, q.within);
+  few = λ s. (let size = p.part.few in let least = few s in omega (arith, size, least), q.few s);
+  is = p.is ∙ ap (λ t. p.line ++ 10 ∷ t) q.is ∙ sym (append_assoc p.line (10 ∷ []) (whole q.lines));
+}

@@ -1,0 +1,57 @@
+use Rattle.std.proofs.Common.{◌≡◌, ◌∙◌, ◌+◌, ◌-◌, ◌≤◌, ◌++◌, List, ℕ, length, drop, set, ap, sym, arith, to_z-of_z, unsigned_abs}
+use Rattle.std.specs.Fmt.{decimal}
+use Rattle.std.proofs.lemmas.Fmt.{length-decimal-le}
+use Rattle.std.proofs.lemmas.List.{length-drop, length-set}
+use Rattle.trace_text.proofs.LineEnds.{room_for_value, longer_by_count, sign_before}
+use Rattle.trace_text.proofs.line_end.LineEnd.put_value.Goals as goal
+
+-- an i32 without its sign has at most ten digits
+short : (n m : ℕ) → n ≡ m → m ≤ 2147483648 → length (decimal n) ≤ 10
+short n m same few = length-decimal-le 10 n (omega arith) (omega (arith, same, few)) (omega (arith, same, few))
+
+-- one byte more before a number
+one_more : (bytes : List ℕ) (at start d line : ℕ) → length bytes ≡ 192 → at + d ≡ start → d ≤ 10 → 1 ≤ at → start ≤ 192
+    → line ≡ 192 - start → length (drop (at - 1) (set bytes (at - 1) 45)) ≤ line + 11
+one_more bytes at start d line long ends few some within is =
+    omega (arith, length-drop (at - 1) (set bytes (at - 1) 45), length-set bytes (at - 1) 45, long, ends, few, some, within, is)
+
+pub write_digits-self-inside-requires : goal.write_digits-self-inside-requires
+write_digits-self-inside-requires c =
+    let room = room_for_value c.self.inside.bytes c.args.self.now c.self.inside.start c.from.result c.self.told c.self.invariant
+    c.self.view_is c.requires (omega (arith, c.from.ensures, c.unsigned_abs.ensures.bound)) in
+    (omega (arith, room), omega (arith, c.self.told, c.self.invariant))
+
+pub overflow_sub-self : goal.overflow_sub-self
+overflow_sub-self c =
+    let room = room_for_value c.self.inside.bytes c.args.self.now c.self.inside.start c.from.result c.self.told c.self.invariant
+    c.self.view_is c.requires (omega (arith, c.from.ensures, c.unsigned_abs.ensures.bound)) in
+    omega (arith, room, c.write_digits-self-inside.ensures.start)
+
+pub returns-clause-text : goal.returns-clause-text
+returns-clause-text c =
+    let w = c.write_digits-self-inside in
+    let room = room_for_value c.self.inside.bytes c.args.self.now c.self.inside.start c.from.result c.self.told c.self.invariant
+    c.self.view_is c.requires (omega (arith, c.from.ensures, c.unsigned_abs.ensures.bound)) in
+    let back = to_z-of_z c.ranges.value in
+    sign_before w.new.buf w.result c.from.result c.args.value c.args.self.now
+    (omega (arith, room, w.ensures.start)) (omega (arith, w.ensures.start, c.self.invariant, w.auto.buf, c.self.told))
+    (w.ensures.written ∙ ap (λ line. decimal c.from.result ++ line) c.self.view_is)
+    (c.from.ensures ∙ c.unsigned_abs.ensures.value ∙ ap unsigned_abs back) (rw back at c.if-value-ge0.false)
+
+pub returns-clause-length : goal.returns-clause-length
+returns-clause-length c =
+    let w = c.write_digits-self-inside in
+    let room = room_for_value c.self.inside.bytes c.args.self.now c.self.inside.start c.from.result c.self.told c.self.invariant
+    c.self.view_is c.requires (omega (arith, c.from.ensures, c.unsigned_abs.ensures.bound)) in
+    one_more w.new.buf w.result c.self.inside.start (length (decimal c.from.result)) (length c.args.self.now)
+    (w.auto.buf ∙ c.self.told) w.ensures.start (short c.from.result c.unsigned_abs.result c.from.ensures c.unsigned_abs.ensures.bound)
+    (omega (arith, room, w.ensures.start)) c.self.invariant
+    (ap length (sym c.self.view_is) ∙ length-drop c.self.inside.start c.self.inside.bytes ∙ ap (λ n. n - c.self.inside.start) c.self.told)
+
+pub returns-then-value-ge0-clause-length : goal.returns-then-value-ge0-clause-length
+returns-then-value-ge0-clause-length c =
+    let w = c.write_digits-self-inside in
+    let more = longer_by_count c.args.self.now _ c.from.result 10
+    (w.ensures.written ∙ ap (λ line. decimal c.from.result ++ line) c.self.view_is)
+    (short c.from.result c.unsigned_abs.result c.from.ensures c.unsigned_abs.ensures.bound) in
+    omega (arith, more)

@@ -1,0 +1,68 @@
+use Rattle.std.proofs.Common.{◌≡◌, ◌++◌, ◌<◌, Bool, Result, Ok, take, length, refl, arith, rules}
+use Rattle.trace_text.specs.declared.run.RunFault.{RunFault}
+use Rattle.std.proofs.lemmas.List.{length-take}
+use Rattle.std.proofs.KnownBytes.{Consumes-trans}
+use Rattle.thread_machine.specs.World.{world_of}
+use Rattle.trace_text.proofs.Schedules.{end-plays, end-stopped, piece-plays, piece-stops}
+use Rattle.trace_text.proofs.Streams.{consumes-none, longer_by_piece, played-all}
+use Rattle.trace_text.proofs.run.play_stream.Goals as goal
+
+pub returns-then-count-eq0-clause-done : goal.returns-then-count-eq0-clause-done
+returns-then-count-eq0-clause-done g c =
+    let stream = c.loop.invariant.stream in
+    let first = world_of c.args.machine.now in
+    let bytes = stream.0 in
+    let f = c.finish-told.ensures in
+    let consumed = consumes-none _ _ _ bytes c.pull.new.buffer c.in-Ok.count c.if-count-eq0.true stream.1.0 c.in-Ok.ensures.bytes.0 in
+    let some : 0 < length c.pull.new.buffer = search rules in
+    played-all c.play_told.result first _ bytes _ _ _ _ consumed (c.in-Ok.ensures.bytes.1 c.if-count-eq0.true some)
+    (end-plays c.play_told.result c.finish-told.result bytes first _ _ _ _ _ _ _ _ _ c.loop.invariant.empty stream.1.2
+    (f.runs bytes stream.1.2.reads) (f.answer bytes stream.1.2.reads) c.play_told.ensures.told c.play_told.ensures.plays)
+
+pub returns-then-count-eq0-clause-stops : goal.returns-then-count-eq0-clause-stops
+returns-then-count-eq0-clause-stops g c =
+    let stream = c.loop.invariant.stream in
+    let first = world_of c.args.machine.now in
+    let bytes = stream.0 in
+    let f = c.finish-told.ensures in
+    let consumed = consumes-none _ _ _ bytes c.pull.new.buffer c.in-Ok.count c.if-count-eq0.true stream.1.0 c.in-Ok.ensures.bytes.0 in
+    let some : 0 < length c.pull.new.buffer = search rules in
+    end-stopped c.play_told.result c.finish-told.result bytes first _ _ _ _ _ _ _ _ _ _ _ _ c.loop.invariant.empty stream.1.2 consumed
+    (c.in-Ok.ensures.bytes.1 c.if-count-eq0.true some) (f.runs bytes stream.1.2.reads) (f.answer bytes stream.1.2.reads) c.play_told.ensures.stops
+
+pub returns-in-Err-play_told-clause-stops : goal.returns-in-Err-play_told-clause-stops
+returns-in-Err-play_told-clause-stops g c =
+    let stream = c.loop.invariant.stream in
+    let first = world_of c.args.machine.now in
+    let bytes = stream.0 in
+    let longer = bytes ++ take c.in-Ok.count c.pull.new.buffer in
+    let f = c.feed-told.ensures in
+    let consumed = Consumes-trans _ _ _ bytes _ stream.1.0 c.in-Ok.ensures.bytes.0 in
+    piece-stops c.in-Err-play_told.fault c.feed-told.result bytes longer first _ _ _ _ _ _ _ _ _ _ _ _ c.feed-told.new.self c.loop.invariant.empty stream.1.2
+    consumed (f.runs bytes stream.1.2.reads) (f.stream bytes stream.1.2.reads) f.err c.in-Err-play_told.ensures.stops
+
+pub loop-preserved : goal.loop-preserved
+loop-preserved g c =
+    let stream = c.loop.invariant.stream in
+    let first = world_of c.args.machine.now in
+    let bytes = stream.0 in
+    let piece = take c.in-Ok.count c.pull.new.buffer in
+    let f = c.feed-told.ensures in
+    let consumed = Consumes-trans _ _ _ bytes _ stream.1.0 c.in-Ok.ensures.bytes.0 in
+    let some : 0 < c.in-Ok.count = omega (arith, c.if-count-eq0.false) in
+    let size : length c.pull.new.buffer ≡ 4096 = search rules in
+    let played : Result Bool RunFault = Ok c.in-Ok-play_told.all in
+    record {
+      empty = c.play_told-in-loop.ensures.runs;
+      few = omega (arith, f.read, c.loop.invariant.few, size, length-take c.in-Ok.count c.pull.new.buffer, c.in-Ok.ensures.bound);
+      reads = omega (arith, c.pull.ensures.reads, c.loop.invariant.reads);
+      stream = (
+        bytes ++ piece,
+        (
+          consumed,
+          longer_by_piece bytes c.pull.new.buffer piece c.in-Ok.count c.loop.counter refl c.in-Ok.ensures.bound some stream.1.1,
+          piece-plays played c.feed-told.result bytes (bytes ++ piece) first _ _ _ _ _ _ _ _ _ _ c.loop.invariant.empty stream.1.2
+              c.in-Ok-play_told.ensures.told (f.runs bytes stream.1.2.reads) (f.stream bytes stream.1.2.reads) c.in-Ok-play_told.ensures.plays,
+        ),
+      );
+    }

@@ -1,0 +1,33 @@
+use Rattle.std.proofs.Common.{Result, Ok, Err, ap, subst, sym}
+use Rattle.thread_machine.specs.World.{world_of}
+use Rattle.trace_text.specs.declared.play.PlayFault.{PlayFault}
+use Rattle.trace_text.specs.declared.run_end.RunEnd.{RunEnd}
+use Rattle.trace_text.specs.Outcome.{Stops}
+use Rattle.trace_text.proofs.Streams.{ended, stops, tells_end, unfinished}
+use Rattle.trace_text.proofs.run.run_to_end.Goals as goal
+
+pub returns-in-Err-clause-outcome : goal.returns-in-Err-clause-outcome
+returns-in-Err-clause-outcome g c =
+    stops c.in-Err.fault c.args.image (world_of c.in-Ok.machine) _ _ _ _ _ _ c.in-Ok.ensures.machine c.in-Err.ensures.stops
+
+pub returns-in-Ok-push_end-clause-outcome : goal.returns-in-Ok-push_end-clause-outcome
+returns-in-Ok-push_end-clause-outcome g c =
+    let result : Result RunEnd PlayFault = Ok c.in-Ok-push_end.end in
+    let last = world_of c.play_stream.new.machine in
+    let all = c.in-Ok-play_stream.accepted in (
+      world_of c.in-Ok.machine,
+      (
+        c.in-Ok.ensures.machine,
+        ended result (world_of c.in-Ok.machine) last all _ _ _ _ _ c.in-Ok-play_stream.ensures.done
+            (tells_end result last all _ c.refused_in.ensures c.in-Ok-push_end.ensures.tells) c.in-Ok-push_end.ensures.state,
+      ),
+    )
+
+pub returns-clause-outcome : goal.returns-clause-outcome
+returns-clause-outcome g c =
+    subst (λ f. Stops c.args.image f (g.S.Source.left c.args.schedule.now) (g.S.Source.left c.play_stream.new.schedule)
+    (g.S.Source.has_failed c.play_stream.new.schedule) (g.W.Sink.written c.args.output.now) (g.W.Sink.written c.push_end.new.output)
+    (g.W.Sink.has_failed c.push_end.new.output)) (sym c.of_play.ensures)
+    (unfinished c.in-Err-push_end.fault c.args.image (world_of c.in-Ok.machine) (world_of c.play_stream.new.machine)
+    c.in-Ok-play_stream.accepted _ _ _ _ _ _ _ c.in-Ok.ensures.machine c.in-Ok-play_stream.ensures.done
+    (λ is. c.in-Err-push_end.ensures.memory (ap Err is)) (λ is. c.in-Err-push_end.ensures.write (ap Err is)))

@@ -1,0 +1,12 @@
+pub mod Expectation
+pub mod ExpectedLine
+pub mod Lines
+pub mod State
+pub mod Trace
+pub mod Start
+pub mod Reading
+pub mod RunText
+pub mod Outcome
+pub mod Brief
+pub mod NumberedLine
+pub mod Playing

@@ -1,0 +1,39 @@
+-- What becomes of an image and a schedule that comes as a stream.
+use Rattle.std.specs.Prelude.{◌≡◌, ◌⊎◌, ◌≤◌, ℕ, List, ◌++◌, length, Option, Some, is_some}
+use Rattle.std.specs.Io.KnownBytes.{Appends, Consumes, IsAtEnd}
+use Rattle.schedule_reader.specs.declared.fault.ScheduleFault.{ScheduleFault}
+use Rattle.schedule_reader.specs.declared.run.Run.{Run}
+use Rattle.schedule_reader.specs.Schedule.{Schedule, finished_schedule}
+use Rattle.thread_machine.specs.declared.choice.Choice.{Choice}
+use Rattle.thread_machine.specs.World.{World}
+use Rattle.thread_machine.specs.Standing.{standing_of}
+use Rattle.thread_machine.specs.Execution.{Execution, execution}
+use Rattle.trace_text.specs.declared.run_end.RunEnd.{RunEnd}
+use Rattle.trace_text.specs.State.{state_text}
+use Rattle.trace_text.specs.Trace.{trace_of}
+
+-- choices were executed to this end: how the program stands then, the text of its state, and whether a choice was refused
+abbrev pub IsEndOf : Execution → RunEnd → Type 0
+IsEndOf done end =
+    (end.standing ≡ standing_of done.world) × (end.state.items ≡ state_text done.world)
+    × (is_some end.refused ≡ is_some done.refusal)
+
+-- the trace of these choices was written, and this is its end
+abbrev pub AreTraced : World → List Choice → RunEnd → Option (List ℕ) → Option (List ℕ) → Type 0
+AreTraced first choices end old new =
+    IsEndOf (execution first choices) end × Appends old new (trace_of first choices)
+
+-- runs, and the fault after them
+abbrev pub faulty_after : List Run → ScheduleFault → Schedule
+faulty_after runs fault = record { runs = runs; fault = Some fault }
+
+-- a schedule that begins with these bytes has this fault, and these runs before it: it ends with them, or whatever comes
+-- after them makes no difference
+abbrev pub HasFault : List ℕ → Option (List ℕ) → List Run → ScheduleFault → Type 0
+HasFault bytes left runs fault =
+    (IsAtEnd left × (finished_schedule bytes ≡ faulty_after runs fault))
+    ⊎ ((rest : List ℕ) → finished_schedule (bytes ++ rest) ≡ faulty_after runs fault)
+
+-- a source gave 1,000,000,000 bytes at least: with fewer the bound of reads is never met
+abbrev pub GivesOnAndOn : Option (List ℕ) → Option (List ℕ) → Type 0
+GivesOnAndOn before after = (bytes : List ℕ) × (Consumes before after bytes × (1000000000 ≤ length bytes))

@@ -1,0 +1,44 @@
+-- The text of a trace: a line for each choice, and then the state of the machine.
+use Rattle.std.specs.Prelude.{◌≡◌, ◌↔◌, IsTrue, ℕ, ◌+◌, Bool, List, [], ◌∷◌, ◌++◌, Option, Some, None}
+use Rattle.std.specs.Io.KnownBytes.{Appends}
+use Rattle.thread_machine.specs.declared.choice.Choice.{Choice}
+use Rattle.thread_machine.specs.declared.fault.StepFault.{StepFault}
+use Rattle.thread_machine.specs.declared.fault.StepFault.TheVariants as fault
+use Rattle.thread_machine.specs.World.{World}
+use Rattle.machine_scene.specs.Scene.{thread_at}
+use Rattle.thread_machine.specs.Step.{Played, played, refusal_of}
+use Rattle.thread_machine.specs.Execution.{execution}
+use Rattle.trace_text.specs.Lines.{event_text, refusal_text}
+use Rattle.trace_text.specs.State.{state_text}
+
+-- the line of a choice, and the lines after it unless it is refused: a refused choice is the last
+abbrev pub lines_by : Option StepFault → World → Choice → (World → List ℕ) → List ℕ
+lines_by (Some fault.NoSuchThread) world choice rest = refusal_text (world.choices + 1) choice None
+lines_by (Some fault.StepLimit) world choice rest =
+    refusal_text (world.choices + 1) choice (Some (thread_at world.scene choice.thread).pc)
+lines_by (Some fault.Memory) world choice rest = []
+lines_by None world choice rest =
+    let play : Played = played world choice in
+    event_text (world.choices + 1) choice (thread_at world.scene choice.thread).pc play.event ++ rest play.world
+
+-- the lines of the choices in order, up to the first that is refused (never for memory, which is no reason here)
+abbrev pub lines_of : World → List Choice → List ℕ
+lines_of world [] = []
+lines_of world (choice ∷ choices) =
+    lines_by (refusal_of world choice) world choice (λ after. lines_of after choices)
+
+-- the lines of the choices, and the state of the world that their execution leaves
+abbrev pub trace_of : World → List Choice → List ℕ
+trace_of world choices = lines_of world choices ++ state_text (execution world choices).world
+
+-- choices were played: their lines were written, the world is the one that their execution leaves, and the answer is
+-- whether all of them were accepted
+pub record Plays (before after : World) (choices : List Choice) (all : Bool) (old new : Option (List ℕ)) : Type 0 where
+  pub lines : Appends old new (lines_of before choices)
+  pub world : after ≡ (execution before choices).world
+  pub answer : IsTrue all ↔ ((execution before choices).refusal ≡ None)
+
+-- a beginning of a text was written, perhaps nothing and perhaps all of it
+abbrev pub AppendsPartOf : Option (List ℕ) → Option (List ℕ) → List ℕ → Type 0
+AppendsPartOf old new text =
+    (part : List ℕ) × ((rest : List ℕ) × ((text ≡ part ++ rest) × Appends old new part))

@@ -1,0 +1,44 @@
+//! The texts that expect something.
+ghost use Rattle.std.specs.Prelude.{◌≡◌, List, ℕ, option_map};
+ghost use Rattle.std.specs.Borrow.{Bor};
+ghost use Rattle.trace_text.specs.Expectation.{end_words, is_expectation, subject_of, words_of};
+
+use crate::place::length_before;
+
+/// What a word for how a run ends wants in the line `state`, with the blank before it.
+pub fn end_words(text: &[u8]) -> Option<&'static [u8]>
+    ensures { option_map (λ (words : Bor (List ℕ)). words.now) result ≡ end_words text.now }
+{
+    if text == b"all".as_slice() {
+        Some(b" all")
+    } else if text == b"ended".as_slice() {
+        Some(b" all")
+    } else if text == b"stuck".as_slice() {
+        Some(b" stuck")
+    } else if text == b"live".as_slice() {
+        Some(b" live")
+    } else {
+        None
+    }
+}
+
+/// The word that names the line which a text is about.
+pub fn subject_of(text: &[u8]) -> &[u8]
+    ensures { result.now ≡ subject_of text.now }
+{
+    &text[..length_before(b' ', text)]
+}
+
+/// The words that are expected in that line, with the blank before them.
+pub fn words_of(text: &[u8]) -> &[u8]
+    ensures { result.now ≡ words_of text.now }
+{
+    &text[length_before(b' ', text)..]
+}
+
+/// Whether a text expects something: it is a word for how a run ends, or a name with words behind it.
+pub fn is_expectation(text: &[u8]) -> bool
+    ensures { result ≡ is_expectation text.now }
+{
+    end_words(text).is_some() || (!subject_of(text).is_empty() && words_of(text).len() > 1)
+}

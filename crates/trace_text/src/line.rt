@@ -1,0 +1,222 @@
+ghost use Rattle.std.specs.Prelude.{◌≡◌, ◌++◌, ◌+◌, ◌<◌, ◌≤◌, ℕ, [], OnOk, OnErr, codes, length};
+ghost use Rattle.std.specs.Fmt.{signed_decimal, decimal};
+ghost use Rattle.trace_text.specs.Lines.{what_text, mark_text, choice_text, event_text, refusal_text};
+
+use crate::digits::Digits;
+use crate::line_end::LineEnd;
+use std::alloc::AllocError;
+use std::marker::Model;
+use thread_machine::{Choice, Event, Mark, What};
+
+/// A word, and a number behind it.
+#[inline(always)]
+fn put_with_value<const N: usize>(line: &mut LineEnd, word: &[u8; N], value: i32)
+    requires { length line.old + length word.now + 11 ≤ 192 }
+    ensures text { line.new ≡ (word.now ++ signed_decimal value) ++ line.old }
+    ensures length { length line.new ≤ length line.old + length word.now + 11 }
+{
+    line.put_value(value);
+    line.put_word(word);
+}
+
+/// A word, and a number behind it that is never below 0.
+#[inline(always)]
+fn put_with_count<const N: usize>(line: &mut LineEnd, word: &[u8; N], count: u64)
+    requires { length line.old + length word.now + 20 ≤ 192 }
+    ensures text { line.new ≡ (word.now ++ decimal count) ++ line.old }
+    ensures length { length line.new ≤ length line.old + length word.now + 20 }
+{
+    line.put_count(count);
+    line.put_word(word);
+}
+
+/// What a choice did.
+#[inline(always)]
+fn put_what(line: &mut LineEnd, what: What)
+    requires { length line.old + 17 ≤ 192 }
+    ensures text { line.new ≡ what_text what ++ line.old }
+    ensures length { length line.new ≤ length line.old + 17 }
+{
+    match what {
+        What::Idle => line.put_word(b"idle"),
+        What::Done => line.put_word(b"ok"),
+        What::Value(value) => put_with_value(line, b"= ", value),
+        What::Out(value) => put_with_value(line, b"out ", value),
+        What::Waits => line.put_word(b"wait"),
+        What::Throws(code) => put_with_value(line, b"throw ", code),
+        What::Enters => line.put_word(b"enter"),
+        What::Unwinds => line.put_word(b"unwind"),
+        What::Catches(code) => put_with_value(line, b"catch ", code),
+        What::Dies(code) => put_with_value(line, b"die ", code),
+        What::Ends => line.put_word(b"end"),
+    }
+}
+
+/// A root's view after a phase's end or a termination.
+#[inline(always)]
+fn put_phase(line: &mut LineEnd, root: u8, view: i32)
+    requires { length line.old + 35 ≤ 192 }
+    ensures text { line.new ≡ mark_text (Mark.Phase root view) ++ line.old }
+    ensures length { length line.new ≤ length line.old + 35 }
+{
+    put_with_value(line, b" ", view);
+    put_with_count(line, b" +p", u64::from(root));
+}
+
+/// What it did beside its own thread.
+#[inline(always)]
+fn put_mark(line: &mut LineEnd, mark: Mark)
+    requires { length line.old + 35 ≤ 192 }
+    ensures text { line.new ≡ mark_text mark ++ line.old }
+    ensures length { length line.new ≤ length line.old + 35 }
+{
+    match mark {
+        Mark::Nothing => {}
+        Mark::Phase { root, view } => put_phase(line, root, view),
+        Mark::Tripped(barrier) => put_with_count(line, b" +b", u64::from(barrier)),
+        Mark::Broke(barrier) => put_with_count(line, b" -b", u64::from(barrier)),
+    }
+}
+
+/// What a choice did, from the space before it to the end of a line of which nothing else is there. The most usual answers
+/// are put in fewer words.
+#[inline(always)]
+fn put_answer(line: &mut LineEnd, event: &Event)
+    requires { line.old ≡ [] }
+    ensures text { line.new
+        ≡ codes " " ++ (what_text event.now.what ++ (mark_text event.now.mark ++ codes "\n")) }
+    ensures length { length line.new ≤ 54 }
+{
+    match (event.what, event.mark) {
+        (What::Done, Mark::Nothing) => line.put_word(b" ok\n"),
+        (What::Idle, Mark::Nothing) => line.put_word(b" idle\n"),
+        (What::Value(value), Mark::Nothing) => {
+            line.put_word(b"\n");
+            put_with_value(line, b" = ", value);
+        }
+        (what, mark) => {
+            line.put_word(b"\n");
+            put_mark(line, mark);
+            put_what(line, what);
+            line.put_word(b" ");
+        }
+    }
+}
+
+/// Whose turn or expiry a choice is, between its spaces. Where the thread's number has one digit or two, that is one word.
+#[inline(always)]
+fn put_thread(line: &mut LineEnd, choice: Choice)
+    requires { length line.old + 23 ≤ 192 }
+    ensures text { (step : ℕ) → decimal step ++ line.new ≡ choice_text step choice ++ line.old }
+    ensures length { length line.new ≤ length line.old + 23 }
+{
+    let thread = choice.thread;
+    let letter = if choice.expiry { b'x' } else { b't' };
+    if thread < 10 {
+        line.put_word(&[b' ', letter, b'0' + thread, b' ']);
+        return;
+    }
+    if thread < 100 {
+        line.put_word(&[b' ', letter, b'0' + thread / 10, b'0' + thread % 10, b' ']);
+        return;
+    }
+    line.put_word(b" ");
+    line.put_count(u64::from(thread));
+    line.put_word(&[b' ', letter]);
+}
+
+/// The line of a choice that was played by a thread at this row, from what stands behind its number.
+#[inline(always)]
+pub(super) fn put_played(line: &mut LineEnd, choice: Choice, pc: u16, event: &Event)
+    ensures text { (step : ℕ) → decimal step ++ line.new ≡ event_text step choice pc event.now }
+    ensures length { length line.new ≤ 100 }
+{
+    line.clear();
+    put_answer(line, event);
+    line.put_count(u64::from(pc));
+    put_thread(line, choice);
+}
+
+/// The line of a choice that was played by a thread at this row. Answers how many digits its number has.
+pub fn put_event(line: &mut LineEnd, step: u64, choice: Choice, pc: u16, event: &Event) -> usize
+    ensures digits { result ≡ length (decimal step) }
+    ensures text { line.new ≡ event_text step choice pc event.now }
+    ensures length { length line.new ≤ result + 100 }
+    ensures few { result ≤ 20 }
+{
+    put_played(line, choice, pc, event);
+    line.put_count(step)
+}
+
+/// The line of a choice that was played by a thread at this row, where the digits of its number are kept.
+#[inline(always)]
+pub(super) fn put_event_behind(
+    line: &mut LineEnd,
+    number: &Digits,
+    choice: Choice,
+    pc: u16,
+    event: &Event,
+)
+    ensures text { line.new ≡ event_text number.now choice pc event.now }
+    ensures some { 0 < length line.new }
+    ensures few { length line.new ≤ 120 }
+{
+    put_played(line, choice, pc, event);
+    line.put_digits(number);
+}
+
+/// The line of a choice that was refused, by the row of its thread, or `None` where there is no such thread, from what stands
+/// behind its number.
+pub(super) fn put_refused(line: &mut LineEnd, choice: Choice, pc: Option<u16>)
+    ensures text { (step : ℕ) → decimal step ++ line.new ≡ refusal_text step choice pc }
+    ensures length { length line.new ≤ 100 }
+{
+    line.clear();
+    match pc {
+        Some(pc) => {
+            line.put_word(b" limit\n");
+            line.put_count(u64::from(pc));
+        }
+        None => line.put_word(b"- none\n"),
+    }
+    put_thread(line, choice);
+}
+
+/// The line of a choice that was refused.
+pub fn put_refusal(line: &mut LineEnd, step: u64, choice: Choice, pc: Option<u16>)
+    ensures { line.new ≡ refusal_text step choice pc }
+{
+    put_refused(line, choice, pc);
+    line.put_count(step);
+}
+
+/// Appends the line of a choice that was played by a thread at this row.
+pub fn event_line(
+    text: &mut Vec<u8>,
+    step: u64,
+    choice: Choice,
+    pc: u16,
+    event: &Event,
+) -> Result<(), AllocError>
+    ensures ok { OnOk result (text.new.items ≡ text.old.items ++ event_text step choice pc event.now) }
+    ensures err { OnErr result (text.new.items ≡ text.old.items) }
+{
+    let mut line = LineEnd::new();
+    put_event(&mut line, step, choice, pc, event);
+    text.extend_from_slice(line.as_slice())
+}
+
+/// Appends the line of a choice that was refused, by the row of its thread, or `None` where there is no such thread.
+pub fn refusal_line(
+    text: &mut Vec<u8>,
+    step: u64,
+    choice: Choice,
+    pc: Option<u16>,
+) -> Result<(), AllocError>
+    ensures ok { OnOk result (text.new.items ≡ text.old.items ++ refusal_text step choice pc) }
+    ensures err { OnErr result (text.new.items ≡ text.old.items) }
+{
+    let mut line = LineEnd::new();
+    put_refusal(&mut line, step, choice, pc);
+    text.extend_from_slice(line.as_slice())
+}

@@ -1,0 +1,57 @@
+//! A loaded program under choices that are known.
+ghost use Rattle.std.specs.Prelude.{◌≡◌, IfOk, IsTrue};
+ghost use Rattle.schedule_reader.specs.Schedule.{choices_of};
+ghost use Rattle.thread_machine.specs.World.{first_world, world_of};
+ghost use Rattle.trace_text.specs.RunText.{AreTraced};
+ghost use Rattle.trace_text.specs.Trace.{AppendsPartOf, lines_of};
+
+use crate::kept_line::KeptLine;
+use crate::play::{PlayFault, play_runs};
+use crate::run_end::{RunEnd, push_end, refused_in};
+use crate::start::begun;
+use byte_ports::Sink;
+use loader::Loaded;
+use schedule_reader::Run;
+use std::alloc::Global;
+use thread_machine::Machine;
+
+/// Plays runs of choices on a machine, and writes their trace.
+fn play_known<W: Sink>(
+    alloc: Global,
+    machine: &mut Machine,
+    runs: &[Run],
+    output: &mut W,
+) -> Result<RunEnd, PlayFault>
+    ensures traced { IfOk result (λ end. AreTraced (world_of machine.old) (choices_of runs.now) end
+        (W.written output.old) (W.written output.new)) }
+    ensures memory { result ≡ Err PlayFault.Memory → AppendsPartOf (W.written output.old) (W.written output.new)
+        (lines_of (world_of machine.old) (choices_of runs.now)) }
+    ensures write { result ≡ Err PlayFault.Write → IsTrue (W.has_failed output.new) }
+{
+    let mut line = KeptLine::new();
+    let accepted = match play_runs(machine, runs, &mut line, output) {
+        Ok(accepted) => accepted,
+        Err(fault) => return Err(fault),
+    };
+    push_end(alloc, machine, refused_in(accepted, line), output)
+}
+
+/// Plays runs of choices on a loaded program from its beginning, writes the trace, and answers how the run has ended. After
+/// `Memory` a part of the lines is written.
+pub fn run_loaded<W: Sink>(
+    alloc: Global,
+    program: Loaded,
+    runs: &[Run],
+    output: &mut W,
+) -> Result<RunEnd, PlayFault>
+    ensures traced { IfOk result (λ end. AreTraced (first_world program 1000000000) (choices_of runs.now) end
+        (W.written output.old) (W.written output.new)) }
+    ensures memory { result ≡ Err PlayFault.Memory → AppendsPartOf (W.written output.old) (W.written output.new)
+        (lines_of (first_world program 1000000000) (choices_of runs.now)) }
+    ensures write { result ≡ Err PlayFault.Write → IsTrue (W.has_failed output.new) }
+{
+    match begun(alloc, program) {
+        Ok(mut machine) => play_known(alloc, &mut machine, runs, output),
+        Err(_) => Err(PlayFault::Memory),
+    }
+}

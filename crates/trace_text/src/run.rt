@@ -1,0 +1,186 @@
+ghost use Rattle.std.specs.Prelude.{◌≡◌, ◌+◌, ◌≤◌, [], Ok, Err, IfErr, IfOk, OnOk};
+ghost use Rattle.schedule_reader.specs.Schedule.{choices_of};
+ghost use Rattle.thread_machine.specs.World.{world_of};
+ghost use Rattle.trace_text.specs.declared.run_end.RunEnd.{RunEnd};
+ghost use Rattle.trace_text.specs.Outcome.{ComesTo, Stops, StopsFrom};
+ghost use Rattle.trace_text.specs.Playing.{HasPlayedAll, IsToldOf, PlaysOn, StopsAt, played_fault};
+
+use crate::kept_line::KeptLine;
+use crate::play::{PlayFault, play_runs};
+use crate::run_end::{RunEnd, push_end, refused_in};
+use crate::start::{StartFault, first_machine};
+use byte_ports::{Sink, Source};
+use loader::LoadFault;
+use row_code::Image;
+use schedule_reader::{Reader, Run, ScheduleFault};
+use std::alloc::Global;
+use thread_machine::Machine;
+
+/// How many bytes of a schedule are read at a time.
+const PIECE: usize = 4096;
+
+/// How many runs such a piece completes at most: one for every three bytes, and one that began before it.
+const MOST_RUNS: usize = 1400;
+
+/// How often a schedule is read at most.
+const MOST_READS: u64 = 1_000_000_000;
+
+/// Why a trace is not written, or is cut short.
+#[derive(Clone, Copy, Debug, PartialEq, Eq)]
+pub enum RunFault {
+    /// The image isn't loaded, for this fault, which isn't `Memory`.
+    Load(LoadFault),
+    /// The schedule has this fault, which isn't `Memory`.
+    Schedule(ScheduleFault),
+    /// Out of memory.
+    Memory,
+    /// The schedule can't be read.
+    Read,
+    /// The trace can't be written.
+    Write,
+}
+
+impl RunFault {
+    /// What a run stops for whose choices can't be played on.
+    fn of_play(fault: PlayFault) -> RunFault
+        ensures { result ≡ played_fault fault }
+    {
+        match fault {
+            PlayFault::Memory => RunFault::Memory,
+            PlayFault::Write => RunFault::Write,
+        }
+    }
+}
+
+/// What comes of a schedule whose reader told this, where all choices so far were accepted or not.
+fn told_of(told: Result<(), ScheduleFault>, accepted: bool) -> Result<bool, RunFault>
+    ensures ok { IfOk result (λ all. (told ≡ Ok tt) × (all ≡ accepted)) }
+    ensures err { IfErr result (λ fault. IsToldOf fault told) }
+{
+    match told {
+        Ok(()) => Ok(accepted),
+        Err(ScheduleFault::Memory) => Err(RunFault::Memory),
+        Err(fault) => Err(RunFault::Schedule(fault)),
+    }
+}
+
+/// Plays the runs that a reader added to the list, unless a choice was refused before, and empties it; then answers the fault
+/// that the reader told, if it told one. Whether all choices so far were accepted.
+fn play_told<W: Sink>(
+    machine: &mut Machine,
+    accepted: bool,
+    told: Result<(), ScheduleFault>,
+    runs: &mut Vec<Run>,
+    line: &mut KeptLine,
+    output: &mut W,
+) -> Result<bool, RunFault>
+    ensures told { OnOk result (told ≡ Ok tt) }
+    ensures plays { IfOk result (λ all. PlaysOn (world_of machine.old) (world_of machine.new) accepted all
+        (choices_of runs.old.items) (W.written output.old) (W.written output.new)) }
+    ensures stops { IfErr result (λ fault. StopsAt fault told (world_of machine.old) accepted
+        (choices_of runs.old.items) (W.written output.old) (W.written output.new) (W.has_failed output.new)) }
+    ensures runs { runs.new.items ≡ [] }
+{
+    if !accepted {
+        runs.clear();
+        return told_of(told, false);
+    }
+    let played = play_runs(machine, runs.as_slice(), line, output);
+    runs.clear();
+    match played {
+        Ok(all) => told_of(told, all),
+        Err(fault) => Err(RunFault::of_play(fault)),
+    }
+}
+
+/// Plays a schedule to its end; whether all choices were accepted. `line` keeps the last line.
+fn play_stream<S: Source, W: Sink>(
+    machine: &mut Machine,
+    schedule: &mut S,
+    runs: &mut Vec<Run>,
+    line: &mut KeptLine,
+    output: &mut W,
+) -> Result<bool, RunFault>
+    requires { runs.old.items ≡ [] }
+    ensures done { IfOk result (λ all. HasPlayedAll (world_of machine.old) (world_of machine.new) all
+        (S.left schedule.old) (S.left schedule.new) (W.written output.old) (W.written output.new)) }
+    ensures stops { IfErr result (λ fault. StopsFrom (world_of machine.old) fault
+        (S.left schedule.old) (S.left schedule.new) (S.has_failed schedule.new)
+        (W.written output.old) (W.written output.new) (W.has_failed output.new)) }
+    ensures reads { S.reads schedule.new ≤ S.reads schedule.old + 1000000000 }
+{
+    let mut reader = Reader::new();
+    let mut piece = [0u8; PIECE];
+    let mut accepted = true;
+    for _ in 0..MOST_READS {
+        let count = match schedule.pull(&mut piece) {
+            Ok(count) => count,
+            Err(_) => return Err(RunFault::Read),
+        };
+        if count == 0 {
+            let told = reader.finish(runs);
+            return play_told(machine, accepted, told, runs, line, output);
+        }
+        let told = reader.feed(&piece[..count], runs);
+        match play_told(machine, accepted, told, runs, line, output) {
+            Ok(all) => accepted = all,
+            Err(fault) => return Err(fault),
+        }
+    }
+    Err(RunFault::Read)
+}
+
+/// Plays an image's program under a schedule, writes the trace, and answers how the run has ended. The trace is a line for each
+/// choice as it is played, and then the state. The schedule is read a piece at a time; it is read to its end, and its first fault
+/// is answered, also where a choice was refused before. How much memory is taken doesn't depend on how long the schedule or the
+/// trace is.
+pub fn run_to_end<S: Source, W: Sink>(
+    alloc: Global,
+    image: Image,
+    schedule: &mut S,
+    output: &mut W,
+) -> Result<RunEnd, RunFault>
+    ensures outcome { ComesTo image result (S.left schedule.old) (S.left schedule.new) (S.has_failed schedule.new)
+        (W.written output.old) (W.written output.new) (W.has_failed output.new) }
+    ensures reads { S.reads schedule.new ≤ S.reads schedule.old + 1000000000 }
+{
+    let mut machine = match first_machine(alloc, image) {
+        Ok(machine) => machine,
+        Err(StartFault::Load(fault)) => return Err(RunFault::Load(fault)),
+        Err(StartFault::Memory) => return Err(RunFault::Memory),
+    };
+    let Ok(mut runs) = Vec::with_capacity(alloc, MOST_RUNS) else {
+        return Err(RunFault::Memory);
+    };
+    let mut line = KeptLine::new();
+    let accepted = match play_stream(&mut machine, schedule, &mut runs, &mut line, output) {
+        Ok(accepted) => accepted,
+        Err(fault) => return Err(fault),
+    };
+    match push_end(alloc, &machine, refused_in(accepted, line), output) {
+        Ok(end) => Ok(end),
+        Err(fault) => Err(RunFault::of_play(fault)),
+    }
+}
+
+/// `run_to_end`, where nobody asks how the run has ended.
+pub fn run_text<S: Source, W: Sink>(
+    alloc: Global,
+    image: Image,
+    schedule: &mut S,
+    output: &mut W,
+) -> Result<(), RunFault>
+    ensures ends { OnOk result ((end : RunEnd) × ComesTo image (Ok end)
+        (S.left schedule.old) (S.left schedule.new) (S.has_failed schedule.new)
+        (W.written output.old) (W.written output.new) (W.has_failed output.new)) }
+    ensures stops { IfErr result (λ fault. Stops image fault
+        (S.left schedule.old) (S.left schedule.new) (S.has_failed schedule.new)
+        (W.written output.old) (W.written output.new) (W.has_failed output.new)) }
+    ensures reads { S.reads schedule.new ≤ S.reads schedule.old + 1000000000 }
+{
+    let _end = match run_to_end(alloc, image, schedule, output) {
+        Ok(end) => end,
+        Err(fault) => return Err(fault),
+    };
+    Ok(())
+}

@@ -1,0 +1,48 @@
+// How a machine is made of an image.
+ghost use Rattle.std.specs.Prelude.{◌≡◌, ◌⊎◌, false, Err, IfOk};
+ghost use Rattle.thread_machine.specs.World.{first_world, world_of};
+ghost use Rattle.trace_text.specs.Start.{Begins, IsRefused, is_want_of_memory};
+
+use loader::{LoadFault, Loaded, load};
+use row_code::Image;
+use std::alloc::{AllocError, Global};
+use thread_machine::Machine;
+
+/// How many effective steps a program may take.
+const MOST_STEPS: u32 = 1_000_000_000;
+
+/// Why an image has no machine.
+#[derive(Clone, Copy, Debug, PartialEq, Eq)]
+pub enum StartFault {
+    /// It isn't loaded, for this fault, which isn't `Memory`.
+    Load(LoadFault),
+    /// Out of memory.
+    Memory,
+}
+
+/// The machine of a loaded program, before its first choice.
+pub(super) fn begun(alloc: Global, program: Loaded) -> Result<Machine, AllocError>
+    ensures { IfOk result (λ machine. world_of machine ≡ first_world program 1000000000) }
+{
+    Machine::new(alloc, program, MOST_STEPS)
+}
+
+/// The machine of an image, before its first choice.
+pub fn first_machine(alloc: Global, image: Image) -> Result<Machine, StartFault>
+    ensures machine { IfOk result (λ machine. Begins image (world_of machine)) }
+    ensures load { (fault : LoadFault) → result ≡ Err (StartFault.Load fault)
+        → IsRefused fault image }
+    ensures refused { (fault : LoadFault) → IsRefused fault image
+        → (result ≡ Err (StartFault.Load fault)) ⊎ (result ≡ Err StartFault.Memory) }
+    ensures wants { (fault : LoadFault) → result ≡ Err (StartFault.Load fault) → is_want_of_memory fault ≡ false }
+{
+    let program = match load(alloc, image) {
+        Ok(program) => program,
+        Err(LoadFault::Memory) => return Err(StartFault::Memory),
+        Err(fault) => return Err(StartFault::Load(fault)),
+    };
+    match begun(alloc, program) {
+        Ok(machine) => Ok(machine),
+        Err(_) => Err(StartFault::Memory),
+    }
+}

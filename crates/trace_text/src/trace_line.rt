@@ -1,0 +1,95 @@
+// What a line of a trace names.
+ghost use Rattle.std.specs.Prelude.{◌≡◌};
+ghost use Rattle.std.specs.List.{before_first, position, position_or_len};
+ghost use Rattle.trace_text.specs.Reading.{choice_by, choice_in, choice_named, choice_of_digits, is_space, is_state_line, is_no_digit};
+
+use crate::next_choice::rest_of;
+use line_reader::words::length_before;
+use thread_machine::Choice;
+
+/// A turn of this thread, or the expiry of its wait; `None` where there can't be such a thread.
+fn choice_by(expiry: bool, are_digits: bool, thread: u16) -> Option<Choice>
+    ensures { result ≡ choice_by expiry are_digits thread }
+{
+    if are_digits && thread <= 63 {
+        Some(Choice {
+            thread: thread as u8,
+            expiry,
+        })
+    } else {
+        None
+    }
+}
+
+/// The choice of a thread with one or two digits.
+fn choice_of_digits(expiry: bool, digits: &[u8]) -> Option<Choice>
+    ensures { result ≡ choice_of_digits expiry digits.now }
+{
+    match digits {
+        [one] => choice_by(
+            expiry,
+            one.is_ascii_digit(),
+            u16::from(one.saturating_sub(b'0')),
+        ),
+        [ten, one] => choice_by(
+            expiry,
+            ten.is_ascii_digit() && one.is_ascii_digit(),
+            10 * u16::from(ten.saturating_sub(b'0')) + u16::from(one.saturating_sub(b'0')),
+        ),
+        _ => None,
+    }
+}
+
+/// The choice of this name.
+fn choice_named(name: &[u8]) -> Option<Choice>
+    ensures { result ≡ choice_named name.now }
+{
+    match name {
+        [b't', digits @ ..] => choice_of_digits(false, digits),
+        [b'x', digits @ ..] => choice_of_digits(true, digits),
+        _ => None,
+    }
+}
+
+/// What stands before the first space.
+fn first_word(line: &[u8]) -> &[u8]
+    ensures { result.now ≡ before_first is_space line.now }
+{
+    &line[..length_before(b' ', line)]
+}
+
+/// Where the first byte stands that is no digit.
+fn place_of_no_digit(line: &[u8]) -> Option<usize>
+    ensures { result ≡ position is_no_digit line.now }
+{
+    line.iter().position(|byte| !byte.is_ascii_digit())
+}
+
+/// How many digits a line begins with.
+#[tactic(auto, using(line_reader::proofs::Places::position_some, line_reader::proofs::Places::position_none))]
+fn digits_before(line: &[u8]) -> usize
+    ensures { result ≡ position_or_len is_no_digit line.now }
+{
+    match place_of_no_digit(line) {
+        Some(place) => place,
+        None => line.len(),
+    }
+}
+
+/// The choice that a trace's line names. Its number is looked at once: what stands behind the digits is its end, or it is none.
+pub fn choice_in(line: &[u8]) -> Option<Choice>
+    ensures { result ≡ choice_in line.now }
+{
+    let end = digits_before(line);
+    if end == 0 || 13 < end || line.len() <= end || line[end] != b' ' {
+        return None;
+    }
+    choice_named(first_word(rest_of(line, end + 1)))
+}
+
+/// Whether the first word of a line is `state`.
+pub fn is_state_line(line: &[u8]) -> bool
+    ensures { result ≡ is_state_line line.now }
+{
+    first_word(line) == b"state".as_slice()
+}
