@@ -50,6 +50,10 @@ command name rules = record (new_app name).top { rules = rules }
 abbrev pub file_rule : Rule
 file_rule = place_rule (codes "FILE")
 
+-- a plan in place of a schedule
+abbrev pub plan_rule : Rule
+plan_rule = option_rule (codes "plan")
+
 abbrev pub asm_shape : Shape
 asm_shape = command (codes "asm") (place_rule (codes "SRC") ∷ place_rule (codes "OUT") ∷ [])
 
@@ -57,19 +61,19 @@ abbrev pub list_shape : Shape
 list_shape = command (codes "list") (file_rule ∷ flag_rule (codes "rows") ∷ [])
 
 abbrev pub run_shape : Shape
-run_shape = command (codes "run") (file_rule ∷ new_rule (codes "SCHEDULE") ∷ expect_rule ∷ [])
+run_shape = command (codes "run") (file_rule ∷ new_rule (codes "SCHEDULE") ∷ expect_rule ∷ plan_rule ∷ [])
 
 abbrev pub compare_shape : Shape
 compare_shape = command (codes "compare") (file_rule ∷ place_rule (codes "TRACE") ∷ flag_rule (codes "show") ∷ [])
 
 abbrev pub debug_shape : Shape
-debug_shape = command (codes "debug") (file_rule ∷ option_rule (codes "at") ∷ [])
+debug_shape = command (codes "debug") (file_rule ∷ option_rule (codes "at") ∷ plan_rule ∷ [])
 
 abbrev pub show_shape : Shape
-show_shape = command (codes "show") (file_rule ∷ new_rule (codes "SCHEDULE") ∷ [])
+show_shape = command (codes "show") (file_rule ∷ new_rule (codes "SCHEDULE") ∷ plan_rule ∷ [])
 
 abbrev pub draw_shape : Shape
-draw_shape = command (codes "draw") (file_rule ∷ new_rule (codes "SCHEDULE") ∷ width_rule ∷ [])
+draw_shape = command (codes "draw") (file_rule ∷ new_rule (codes "SCHEDULE") ∷ width_rule ∷ plan_rule ∷ [])
 
 abbrev pub live_shape : Shape
 live_shape = command (codes "live") (file_rule ∷ limit_rule ∷ option_rule (codes "stir") ∷ option_rule (codes "runs") ∷ expect_rule ∷ [])

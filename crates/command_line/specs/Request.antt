@@ -20,7 +20,7 @@ use Rattle.command_line.specs.declared.request.Request.TheVariants as request
 -- its numbers are in their ranges
 abbrev pub IsInRange : Request → Type 0
 IsInRange (request.Live file limit seed runs expected) = ((1 ≤ limit) × (limit ≤ 1000000000)) × IfSome runs (λ n. (1 ≤ n) × (n ≤ 100000))
-IsInRange (request.Draw file schedule width) = (60 ≤ width) × (width ≤ 1000)
+IsInRange (request.Draw file schedule width plan) = (60 ≤ width) × (width ≤ 1000)
 IsInRange (request.Race parties rounds) = ((1 ≤ parties) × (parties ≤ 16)) × ((1 ≤ rounds) × (rounds ≤ 1000000))
 IsInRange _ = Unit {0}
 
@@ -71,6 +71,20 @@ abbrev pub IsNoNumber : ℕ → ℕ → Option Text → Type 0
 IsNoNumber least most None = ⊥
 IsNoNumber least most (Some text) = SpellsNone text least most
 
+-- of two words at most one is there
+abbrev pub IsAlone : Option (Bor Text) → Option Text → Type 0
+IsAlone (Some text) (Some other) = ⊥
+IsAlone _ _ = Unit {0}
+
+-- both are there
+abbrev pub AreBoth : Option Text → Option Text → Type 0
+AreBoth (Some text) (Some other) = Unit {0}
+AreBoth _ _ = ⊥
+
+-- the plan is the one that is named, and this other word isn't there beside it
+abbrev pub IsPlan : Option Text → List Row → Option (Bor Text) → Type 0
+IsPlan other rows plan = (option_map (λ s. s.now) plan ≡ word_given (codes "plan") rows) × IsAlone plan other
+
 abbrev pub command_names : List Text
 command_names =
     codes "asm" ∷ codes "list" ∷ codes "run" ∷ codes "compare" ∷ codes "debug" ∷ codes "show" ∷ codes "draw"
@@ -83,19 +97,21 @@ IsAskedBy name rows (request.Asm source image) = (name ≡ codes "asm")
     × (source.now ≡ word_at (codes "SRC") rows) × (image.now ≡ word_at (codes "OUT") rows)
 IsAskedBy name rows (request.List file has_rows) = (name ≡ codes "list")
     × (file.now ≡ word_at (codes "FILE") rows) × IsFlag (word_given (codes "rows") rows) has_rows
-IsAskedBy name rows (request.Run file schedule expected) = (name ≡ codes "run")
+IsAskedBy name rows (request.Run file schedule plan expected) = (name ≡ codes "run")
     × (file.now ≡ word_at (codes "FILE") rows) × (option_map (λ s. s.now) schedule ≡ word_given (codes "SCHEDULE") rows)
-    × IsExpected (words_at (codes "expect") rows) expected
+    × IsPlan (word_given (codes "SCHEDULE") rows) rows plan × IsExpected (words_at (codes "expect") rows) expected
 IsAskedBy name rows (request.Compare file trace is_shown) = (name ≡ codes "compare")
     × (file.now ≡ word_at (codes "FILE") rows) × (trace.now ≡ word_at (codes "TRACE") rows)
     × IsFlag (word_given (codes "show") rows) is_shown
-IsAskedBy name rows (request.Debug file trace) = (name ≡ codes "debug")
+IsAskedBy name rows (request.Debug file trace plan) = (name ≡ codes "debug")
     × (file.now ≡ word_at (codes "FILE") rows) × (option_map (λ s. s.now) trace ≡ word_given (codes "at") rows)
-IsAskedBy name rows (request.Show file schedule) = (name ≡ codes "show")
+    × IsPlan (word_given (codes "at") rows) rows plan
+IsAskedBy name rows (request.Show file schedule plan) = (name ≡ codes "show")
     × (file.now ≡ word_at (codes "FILE") rows) × (option_map (λ s. s.now) schedule ≡ word_given (codes "SCHEDULE") rows)
-IsAskedBy name rows (request.Draw file schedule width) = (name ≡ codes "draw")
+    × IsPlan (word_given (codes "SCHEDULE") rows) rows plan
+IsAskedBy name rows (request.Draw file schedule width plan) = (name ≡ codes "draw")
     × (file.now ≡ word_at (codes "FILE") rows) × (option_map (λ s. s.now) schedule ≡ word_given (codes "SCHEDULE") rows)
-    × Spells (word_at (codes "width") rows) 60 1000 width
+    × Spells (word_at (codes "width") rows) 60 1000 width × IsPlan (word_given (codes "SCHEDULE") rows) rows plan
 IsAskedBy name rows (request.Live file limit seed runs expected) = (name ≡ codes "live")
     × (file.now ≡ word_at (codes "FILE") rows) × Spells (word_at (codes "limit") rows) 1 1000000000 limit
     × IsNumber 0 4294967295 (word_given (codes "stir") rows) seed
@@ -119,6 +135,10 @@ IsWrong option.Expect name rows = ((name ≡ codes "run") ⊎ (name ≡ codes "l
 IsWrong option.Stir name rows = (name ≡ codes "live") × IsNoNumber 0 4294967295 (word_given (codes "stir") rows)
 IsWrong option.Runs name rows = (name ≡ codes "live") × IsNoNumber 1 100000 (word_given (codes "runs") rows)
 IsWrong option.Early name rows = ⊥
+IsWrong option.Plan name rows =
+    (((name ≡ codes "run") ⊎ ((name ≡ codes "show") ⊎ (name ≡ codes "draw")))
+    × AreBoth (word_given (codes "plan") rows) (word_given (codes "SCHEDULE") rows))
+    ⊎ ((name ≡ codes "debug") × AreBoth (word_given (codes "plan") rows) (word_given (codes "at") rows))
 IsWrong option.Rounds name rows = (name ≡ codes "race") × SpellsNone (word_at (codes "rounds") rows) 1 1000000
 
 -- memory may be refused always, else an option is wrong

@@ -128,7 +128,7 @@ fn run<'a>(alloc: Global) -> Result<Command<'a>, AllocError>
         place(alloc, FILE, "The file of the image or of the program text"),
         schedule(alloc),
     )?;
-    command.arg(expect(alloc))
+    with_two(command, expect(alloc), plan_in_place(alloc))
 }
 
 fn compare<'a>(alloc: Global) -> Result<Command<'a>, AllocError>
@@ -158,7 +158,7 @@ fn compare<'a>(alloc: Global) -> Result<Command<'a>, AllocError>
 fn debug<'a>(alloc: Global) -> Result<Command<'a>, AllocError>
     ensures { IfOk result (λ command. app_of command ≡ alone debug_shape) }
 {
-    with_two(
+    let command = with_two(
         told(
             alloc,
             DEBUG,
@@ -172,7 +172,13 @@ fn debug<'a>(alloc: Global) -> Result<Command<'a>, AllocError>
             "TRACE",
             "Begins behind the choices of the trace in this file",
         ),
-    )
+    )?;
+    command.arg(option(
+        alloc,
+        PLAN,
+        "PLAN",
+        "Begins behind the choices of this plan, such as 'ann. bob.'",
+    ))
 }
 
 /// A schedule that may be left out.
@@ -183,14 +189,28 @@ fn schedule<'a>(alloc: Global) -> Arg<'a>
     Arg::new(alloc, SCHEDULE).help("The file of the schedule, or `-` for standard input")
 }
 
+/// A plan in place of a schedule.
+fn plan_in_place<'a>(alloc: Global) -> Arg<'a>
+    ensures rule { rule_of result ≡ option_rule (codes "plan") }
+    ensures local { result.global ≡ false }
+{
+    option(
+        alloc,
+        PLAN,
+        "PLAN",
+        "Plays this plan in place of a schedule, such as 'ann. bob.'",
+    )
+}
+
 fn show<'a>(alloc: Global) -> Result<Command<'a>, AllocError>
     ensures { IfOk result (λ command. app_of command ≡ alone show_shape) }
 {
-    with_two(
+    let command = with_two(
         told(alloc, SHOW, "Writes a page that shows a run", texts::SHOW),
         place(alloc, FILE, "The file of the image or of the program text"),
         schedule(alloc),
-    )
+    )?;
+    command.arg(plan_in_place(alloc))
 }
 
 /// How long a drawing's lines are at most.
@@ -213,7 +233,7 @@ fn draw<'a>(alloc: Global) -> Result<Command<'a>, AllocError>
         place(alloc, FILE, "The file of the image or of the program text"),
         schedule(alloc),
     )?;
-    command.arg(width(alloc))
+    with_two(command, width(alloc), plan_in_place(alloc))
 }
 
 /// How many steps a live run takes at most.

@@ -18,6 +18,8 @@ pub enum WrongOption {
     Runs,
     /// `--expect` before the name of a command.
     Early,
+    /// `--plan` beside a schedule or a trace.
+    Plan,
 }
 
 /// Why words that the commands take ask for nothing.
@@ -59,6 +61,7 @@ impl WrongOption {
             WrongOption::Stir => "--stir SEED: SEED is 0 to 4294967295, in digits alone",
             WrongOption::Runs => "--runs N: N is 1 to 100000, in digits alone",
             WrongOption::Early => "--expect STATE stands behind the command's name",
+            WrongOption::Plan => "--plan PLAN stands in place of a SCHEDULE or of --at TRACE",
         }
     }
 }

@@ -9,7 +9,7 @@ ghost use Rattle.trace_text.specs.Expectation.{is_expectation};
 ghost use Rattle.command_line.specs.Commands.{vuthgal};
 ghost use Rattle.command_line.specs.Request.{Asks, Fails, Refuses};
 ghost use Rattle.command_line.specs.Request.{IsAsked, IsAskedBy, IsInRange, IsRefused, IsRefusedBy, IsWrong};
-ghost use Rattle.command_line.specs.Request.{IsExpected, IsFlag, IsNoNumber, IsNoState, IsNumber};
+ghost use Rattle.command_line.specs.Request.{AreBoth, IsExpected, IsFlag, IsPlan, IsNoNumber, IsNoState, IsNumber};
 ghost use Rattle.command_line.specs.Request.{Spells, SpellsNone, word_at, word_given, words_at};
 ghost use Rattle.command_line.specs.declared.refusal.Refusal.TheVariants as refusal;
 ghost use Rattle.command_line.specs.declared.refusal.WrongOption.TheVariants as option;
@@ -42,10 +42,12 @@ pub enum Request<'a> {
         file: &'a str,
         has_rows: bool,
     },
-    /// `run FILE [SCHEDULE] [--expect STATE]..`; the schedule `-` is standard input, and without it it stands in FILE.
+    /// `run FILE [SCHEDULE | --plan PLAN] [--expect STATE]..`; the schedule `-` is standard input, and without both it stands
+    /// in FILE. The plan is its text.
     Run {
         file: &'a str,
         schedule: Option<&'a str>,
+        plan: Option<&'a str>,
         expected: Vec<&'a str>,
     },
     /// `compare FILE TRACE [--show]`; the trace `-` is standard input.
@@ -54,21 +56,24 @@ pub enum Request<'a> {
         trace: &'a str,
         is_shown: bool,
     },
-    /// `debug FILE [--at TRACE]`.
+    /// `debug FILE [--at TRACE | --plan PLAN]`.
     Debug {
         file: &'a str,
         trace: Option<&'a str>,
+        plan: Option<&'a str>,
     },
-    /// `show FILE [SCHEDULE]`; the schedule `-` is standard input, and without it it stands in FILE.
+    /// `show FILE [SCHEDULE | --plan PLAN]`; the schedule `-` is standard input, and without both it stands in FILE.
     Show {
         file: &'a str,
         schedule: Option<&'a str>,
+        plan: Option<&'a str>,
     },
-    /// `draw FILE [SCHEDULE] --width N`, the same; lines of 60 to 1,000 bytes at most.
+    /// `draw FILE [SCHEDULE | --plan PLAN] --width N`; lines of 60 to 1,000 bytes at most.
     Draw {
         file: &'a str,
         schedule: Option<&'a str>,
         width: u16,
+        plan: Option<&'a str>,
     },
     /// `live FILE --limit N [--stir SEED] [--runs N] [--expect STATE]..`: 1 to 1,000,000,000 steps, 1 to 100,000 runs.
     Live {
@@ -191,17 +196,30 @@ fn number_given(
     }
 }
 
+/// The plan that these matches name, where this other word isn't there too.
+fn plan_alone<'a>(matches: &ArgMatches<'a>, other: &str) -> Result<Option<&'a str>, WrongOption>
+    ensures asked { IfOk result (IsPlan (word_given other.now (rows_of (found_of matches.now))) (rows_of (found_of matches.now))) }
+    ensures wrong { IfErr result (λ why. (why ≡ option.Plan) × AreBoth (word_given (codes "plan") (rows_of (found_of matches.now)))
+        (word_given other.now (rows_of (found_of matches.now)))) }
+{
+    match (given(matches, PLAN), given(matches, other)) {
+        (Some(_), Some(_)) => Err(WrongOption::Plan),
+        (plan, _) => Ok(plan),
+    }
+}
+
 /// The run that these matches ask for, where it may end as it is expected to.
 fn run<'a>(alloc: Global, matches: &ArgMatches<'a>) -> Result<Request<'a>, Refusal>
     ensures range { IfOk result (λ request. IsInRange request) }
     ensures asked { IfOk result (IsAskedBy (codes "run") (rows_of (found_of matches.now))) }
     ensures refused { IfErr result (λ why. IsRefusedBy why (codes "run") (rows_of (found_of matches.now))) }
 {
+    let plan = plan_alone(matches, SCHEDULE)?;
     let expected = expected(alloc, matches)?;
-    let schedule = given(matches, SCHEDULE);
     Ok(Request::Run {
         file: word(matches, FILE),
-        schedule,
+        schedule: given(matches, SCHEDULE),
+        plan,
         expected,
     })
 }
@@ -212,11 +230,13 @@ fn draw<'a>(matches: &ArgMatches<'a>) -> Result<Request<'a>, Refusal>
     ensures asked { IfOk result (IsAskedBy (codes "draw") (rows_of (found_of matches.now))) }
     ensures refused { IfErr result (λ why. IsRefusedBy why (codes "draw") (rows_of (found_of matches.now))) }
 {
+    let plan = plan_alone(matches, SCHEDULE)?;
     match number(word(matches, WIDTH), 60, 1000) {
         Some(width) => Ok(Request::Draw {
             file: word(matches, FILE),
             schedule: given(matches, SCHEDULE),
             width: width as u16,
+            plan,
         }),
         None => Err(Refusal::Wrong(WrongOption::Width)),
     }
@@ -293,23 +313,31 @@ fn compare<'a>(matches: &ArgMatches<'a>) -> Request<'a>
 }
 
 /// The session that these matches ask for.
-fn debug<'a>(matches: &ArgMatches<'a>) -> Request<'a>
-    ensures { IsInRange result × IsAskedBy (codes "debug") (rows_of (found_of matches.now)) result }
+fn debug<'a>(matches: &ArgMatches<'a>) -> Result<Request<'a>, Refusal>
+    ensures range { IfOk result (λ request. IsInRange request) }
+    ensures asked { IfOk result (IsAskedBy (codes "debug") (rows_of (found_of matches.now))) }
+    ensures refused { IfErr result (λ why. IsRefusedBy why (codes "debug") (rows_of (found_of matches.now))) }
 {
-    Request::Debug {
+    let plan = plan_alone(matches, AT)?;
+    Ok(Request::Debug {
         file: word(matches, FILE),
         trace: given(matches, AT),
-    }
+        plan,
+    })
 }
 
 /// The page that these matches ask for.
-fn show<'a>(matches: &ArgMatches<'a>) -> Request<'a>
-    ensures { IsInRange result × IsAskedBy (codes "show") (rows_of (found_of matches.now)) result }
+fn show<'a>(matches: &ArgMatches<'a>) -> Result<Request<'a>, Refusal>
+    ensures range { IfOk result (λ request. IsInRange request) }
+    ensures asked { IfOk result (IsAskedBy (codes "show") (rows_of (found_of matches.now))) }
+    ensures refused { IfErr result (λ why. IsRefusedBy why (codes "show") (rows_of (found_of matches.now))) }
 {
-    Request::Show {
+    let plan = plan_alone(matches, SCHEDULE)?;
+    Ok(Request::Show {
         file: word(matches, FILE),
         schedule: given(matches, SCHEDULE),
-    }
+        plan,
+    })
 }
 
 /// The schedule that these matches ask for.
@@ -357,8 +385,8 @@ fn request_by<'a>(
         LIST => Ok(list(matches)),
         RUN => run(alloc, matches),
         COMPARE => Ok(compare(matches)),
-        DEBUG => Ok(debug(matches)),
-        SHOW => Ok(show(matches)),
+        DEBUG => debug(matches),
+        SHOW => show(matches),
         DRAW => draw(matches),
         LIVE => live(alloc, matches),
         RACE => race(matches),

@@ -12,7 +12,9 @@ Exit statuses:
   5  a file can't be read or written: standard error has `read` or `write`
 
 `vuthgal explain`, with the words of such a line behind it, says what it means
-and what helps. docs/FORMATS.md has the formats.";
+and what helps. At a terminal that follows by itself: `--explain always` beside
+any command, or VUTHGAL_EXPLAIN=always, has it follow everywhere, `never`
+nowhere. docs/FORMATS.md has the formats.";
 
 pub const PROGRAM: &str = "\
 Plays small programs of threads that call the phasers and barriers of
@@ -56,7 +58,8 @@ a line for each choice, and then the state.
 
 FILE is an image where its first four bytes are `PBW1` or `PBW2`, else a program
 text. SCHEDULE is a file, or `-` for standard input; it may be as long as you
-like. Without it FILE is a text with its schedule behind a line `.run`.
+like. Without it FILE is a text with its schedule behind a line `.run`. A plan
+may stand in its place: `--plan 'ann. bob.'`, or a file named `NAME.plan`.
 
 STATE is `all` where all threads have ended or died, `ended` where none of them
 died, `stuck` where none of the others can go on, `live` where one can; or words
@@ -66,7 +69,7 @@ What stands otherwise is told on standard error, a line for each, and the status
 is 1; so it is where a choice is refused.
 
 It may tell `refused asm`, `refused image`, `refused load`, `refused schedule`,
-`memory`, `read` or `write`.
+`refused plan`, `memory`, `read` or `write`.
 
 Example: vuthgal run examples/meeting.asm - <<< 't0 t1 t0*3 t1*2'";
 
@@ -108,13 +111,14 @@ standard output before the next line is read:
 
 What is none of these is answered with `?`. With `--at TRACE` the first command
 is a `g` with the choices of the trace in that file; of what is no trace it
-writes `not a trace LINE`, and reads no commands.
+writes `not a trace LINE`, and reads no commands. With `--plan PLAN`, or `--at`
+and a file named `NAME.plan`, it is a `g` with the choices of that plan.
 
 At a terminal `help` lists the commands, `w` writes the choices so far as a
 schedule, and behind each answer stands who may go on, and at which row.
 
-It may tell `refused asm`, `refused image`, `refused load`, `memory`, `read` or
-`write`.
+It may tell `refused asm`, `refused image`, `refused load`, `refused plan`,
+`memory`, `read` or `write`.
 
 Example: vuthgal debug examples/meeting.asm <<< 'g t0 t1 t0'";
 
@@ -124,10 +128,12 @@ network.
 
 FILE is an image where its first four bytes are `PBW1` or `PBW2`, else a program
 text. SCHEDULE is a file, or `-` for standard input. Without it FILE is a text
-with its schedule behind a line `.run`. A page shows 2000 choices at most.
+with its schedule behind a line `.run`. A plan may stand in place of a schedule:
+`--plan 'ann. bob.'`, or a file named `NAME.plan`. A page shows 2000 choices at
+most.
 
 It may tell `refused asm`, `refused image`, `refused load`, `refused schedule`,
-`refused show`, `memory`, `read` or `write`.
+`refused plan`, `refused show`, `memory`, `read` or `write`.
 
 Example: vuthgal show examples/two-threads-meet.txt > meeting.html";
 
@@ -136,10 +142,11 @@ Draws a run as text: a column for each thread, a line for each choice.
 
 FILE is an image where its first four bytes are `PBW1` or `PBW2`, else a program
 text. SCHEDULE is a file, or `-` for standard input. Without it FILE is a text
-with its schedule behind a line `.run`. No line has more than N bytes.
+with its schedule behind a line `.run`. A plan may stand in place of a schedule:
+`--plan 'ann. bob.'`, or a file named `NAME.plan`. No line has more than N bytes.
 
 It may tell `refused asm`, `refused image`, `refused load`, `refused schedule`,
-`refused draw`, `memory`, `read` or `write`.
+`refused plan`, `refused draw`, `memory`, `read` or `write`.
 
 Example: vuthgal draw examples/two-threads-meet.txt";
 

@@ -101,8 +101,8 @@ fn plan_words(alloc: Global, plan: &[u8], names: &[&[u8]]) -> Result<Words, Unpl
     }
 }
 
-/// What a plan comes to on the program in a file.
-fn planned_in(alloc: Global, file: &[u8], plan: &[u8]) -> Result<Planned, Unplanned>
+/// What a plan comes to on a program, an image or a text: its runs of choices, and the machine behind them.
+pub fn planned_in(alloc: Global, file: &[u8], plan: &[u8]) -> Result<Planned, Unplanned>
     ensures planned { IfOk result (λ planned. (progress : Progress) × (Plays file.now plan.now progress
         × Shows planned progress)) }
     ensures runs { IfOk result (λ planned. AreRuns planned.runs.items) }

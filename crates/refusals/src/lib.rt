@@ -16,16 +16,21 @@ pub mod line_kinds;
 pub mod question;
 pub mod word;
 
-// What a fault is about: the names that a text gives, what a name names, and what a file may be in place of what it should be.
+// What a fault is about: the names that a text gives and what a name names.
 mod about;
 mod kinds;
-mod mistaken;
 mod names;
+
+// What was meant: Java's words, what a line may be, and what a file may be in place of what it should be.
+mod java;
+mod meant;
+mod mistaken;
 
 // The place, as it is shown.
 pub mod place;
 pub mod plan;
 mod shown;
 
+pub use names::nearest_name;
 pub use place::push_place;
 pub use plan::push_plan_place;

@@ -1,5 +1,6 @@
 //! The names that a text gives.
 
+use crate::java::row_of;
 use line_reader::directive::is_directive;
 use line_reader::label::{before_last, is_label};
 use line_reader::words::{before_comment, is_blank};
@@ -44,7 +45,7 @@ pub fn distance(alloc: Global, a: &[u8], b: &[u8]) -> Result<usize, AllocError> 
 }
 
 /// The word in small letters.
-fn in_small_letters(alloc: Global, word: &[u8]) -> Result<Vec<u8>, AllocError> {
+pub fn in_small_letters(alloc: Global, word: &[u8]) -> Result<Vec<u8>, AllocError> {
     let mut small = Vec::new(alloc);
     for byte in word {
         small.push(byte.to_ascii_lowercase())?;
@@ -75,9 +76,13 @@ impl Nearest {
 }
 
 /// The other word of the language that is nearest to this one, where it is near at all: more than half of its letters are right.
+/// A method of Java's is nearest to its row.
 pub fn nearest_word(alloc: Global, word: &[u8]) -> Result<Option<&'static str>, AllocError> {
     if word == b".run".as_slice() {
         return Ok(None);
+    }
+    if let Some(row) = row_of(alloc, word)? {
+        return Ok(Some(row));
     }
     let small = in_small_letters(alloc, word)?;
     let mut nearest = Nearest {
@@ -93,6 +98,38 @@ pub fn nearest_word(alloc: Global, word: &[u8]) -> Result<Option<&'static str>, 
         nearest = nearest.or(alloc, *directive, small.as_slice())?;
     }
     Ok(nearest.word)
+}
+
+/// What a directive may say behind a name.
+static OPTIONS: [&str; 6] = ["action", "never", "onadvance", "parent", "phase", "until"];
+
+/// The other option that is nearest to this word, where it is near at all: an option that stands in the wrong place is right by
+/// itself.
+pub fn nearest_option(alloc: Global, word: &[u8]) -> Result<Option<&'static str>, AllocError> {
+    if OPTIONS.iter().any(|option| option.as_bytes() == word) {
+        return Ok(None);
+    }
+    let small = in_small_letters(alloc, word)?;
+    let mut nearest = Nearest {
+        word: None,
+        far: small.len().div_ceil(2).min(3),
+    };
+    for option in &OPTIONS {
+        nearest = nearest.or(alloc, *option, small.as_slice())?;
+    }
+    Ok(nearest.word)
+}
+
+/// Whether a row or a directive has this word.
+pub fn is_word_of_the_language(word: &[u8]) -> bool {
+    for opcode in 0..=255 {
+        if let Some(entry) = row_entry(opcode) {
+            if entry.word.as_bytes() == word {
+                return true;
+            }
+        }
+    }
+    is_directive(word)
 }
 
 /// The name of the text that is nearest to this one, where it is near at all.

@@ -2,10 +2,12 @@
 
 use crate::about::question_about;
 use crate::kinds::called;
-use crate::mistaken::is_plan;
-use crate::names::{first_line, nearest_name, nearest_word};
+use crate::meant::helps_at;
+use crate::mistaken::{is_plan, is_trace};
+use crate::names::{first_line, nearest_name, nearest_option, nearest_word};
 use crate::shown::{push_file, push_line, push_marked, push_shown};
 use assembler::made::line_that_makes;
+use assembler::assemble;
 use assembler::placed::{PlacedFault, UnknownName, assemble_placed};
 use assembler::word_place::{WordPlace, line_at, place_of_word};
 use byte_ports::{Failed, Sink};
@@ -53,17 +55,17 @@ impl From<AllocError> for Unshown {
     }
 }
 
-/// What helps where a text has a schedule and the command reads none.
-const AT_RUN: &str =
-    "this file is a text with its schedule: `run FILE` plays it, `show FILE` shows it; \
-    `debug` and `live` take what stands above `.run`";
-
-/// What helps where a text begins with a byte order mark.
-const AT_MARK: &str =
-    "the file begins with a UTF-8 byte order mark (EF BB BF): saved without one it can be read";
-
 /// What helps where a schedule is a plan.
 const AT_PLAN: &str = "this looks like a plan: `vuthgal plan FILE PLAN` writes its schedule";
+
+/// What helps where a plan stands in the program's place.
+const AT_PLAN_FIRST: &str = "this looks like a plan: the program comes first";
+
+/// What helps where a schedule is a trace.
+const AT_TRACE: &str = "this looks like a trace: `vuthgal choices TRACE` writes its schedule";
+
+/// What helps where a schedule holds a comment.
+const AT_COMMENT: &str = "a schedule has no comments: a text may have some above its line `.run`";
 
 /// What a name is, and what should stand in its place; or the name that may have been meant.
 fn push_name<E: Sink>(
@@ -98,13 +100,56 @@ fn push_name<E: Sink>(
 }
 
 /// The word of the language that may have been meant.
-fn push_near_word<E: Sink>(alloc: Global, errors: &mut E, word: &[u8]) -> Result<(), Unshown> {
-    if let Some(near) = nearest_word(alloc, word)? {
+fn push_near<E: Sink>(errors: &mut E, near: Option<&'static str>) -> Result<(), Unshown> {
+    if let Some(near) = near {
         errors.push(b"  Near:    ")?;
         errors.push(near.as_bytes())?;
         errors.push(b"\n")?;
     }
     Ok(())
+}
+
+/// What the letter of an operand stands for, and an operand like that.
+fn operand(letter: &[u8]) -> Option<(&'static str, &'static str)> {
+    match letter {
+        b"a" => Some(("REGISTER", "r0")),
+        b"b" => Some(("REGISTER", "r1")),
+        b"c" => Some(("REGISTER", "r2")),
+        b"n" => Some(("NUMBER", "1")),
+        b"L" => Some(("LABEL", "main")),
+        b"P" => Some(("PHASER", "p")),
+        b"B" => Some(("BARRIER", "b")),
+        b"T" => Some(("THREAD", "ann")),
+        b"C" => Some(("CELL", "sum")),
+        _ => None,
+    }
+}
+
+/// The operands of a row in words, and a row like that. What is no row stands as it is.
+fn push_operands<E: Sink>(errors: &mut E, form: &[u8]) -> Result<(), Unshown> {
+    if form.starts_with(b".") || !form.contains(&b' ') {
+        return Ok(errors.push(form)?);
+    }
+    for word in form.split(|byte| *byte == b' ') {
+        match operand(word) {
+            Some((name, _)) => {
+                errors.push(b" ")?;
+                errors.push(name.as_bytes())?;
+            }
+            None => errors.push(word)?,
+        }
+    }
+    errors.push(b", as `")?;
+    for word in form.split(|byte| *byte == b' ') {
+        match operand(word) {
+            Some((_, example)) => {
+                errors.push(b" ")?;
+                errors.push(example.as_bytes())?;
+            }
+            None => errors.push(word)?,
+        }
+    }
+    Ok(errors.push(b"`")?)
 }
 
 /// The operands of what the line says, where the wrong word is one of them or there are too few.
@@ -120,7 +165,7 @@ fn push_form<E: Sink>(errors: &mut E, line: &[u8], wrong: WordPlace) -> Result<(
     }
     if let Some(entry) = word_of(word) {
         errors.push(b"  Form:    ")?;
-        errors.push(entry.form.as_bytes())?;
+        push_operands(errors, entry.form.as_bytes())?;
         errors.push(b" (`vuthgal explain ")?;
         errors.push(entry.word.as_bytes())?;
         errors.push(b"`)\n")?;
@@ -172,14 +217,11 @@ fn fault_of(
     }
 }
 
-/// What helps at this word, where that is more than its kind's entry says.
-fn helps_at(text: &[u8], kind: AsmFaultKind, line: u64, word: &[u8]) -> Option<&'static str> {
-    match kind {
-        AsmFaultKind::UnknownWord if word == b".run".as_slice() => Some(AT_RUN),
-        AsmFaultKind::BadByte if line == 1 && text.starts_with(&[0xef, 0xbb, 0xbf]) => Some(
-            AT_MARK,
-        ),
-        _ => None,
+/// Whether a plan stands where the program should, and the program where the plan should.
+fn stands_first(alloc: Global, program: ProgramFile<'_>, other: Option<Named<'_>>) -> bool {
+    match other {
+        Some(other) => is_plan(alloc, other.bytes, program.text),
+        None => false,
     }
 }
 
@@ -188,6 +230,7 @@ fn push_text_place<E: Sink>(
     alloc: Global,
     errors: &mut E,
     program: ProgramFile<'_>,
+    other: Option<Named<'_>>,
     number: u64,
     kind: AsmFaultKind,
 ) -> Result<Option<&'static str>, Unshown> {
@@ -205,7 +248,7 @@ fn push_text_place<E: Sink>(
     ) = fault_of(alloc, program, number, kind)
     else {
         push_line(errors, line)?;
-        return Ok(None);
+        return Ok(helps_at(alloc, program.text, kind, number, line, &[]));
     };
     push_marked(errors, line, at)?;
     let word = line
@@ -214,16 +257,23 @@ fn push_text_place<E: Sink>(
     match kind {
         AsmFaultKind::UnknownName => push_name(alloc, errors, file.bytes, unknown, word)?,
         AsmFaultKind::NameTwice => push_given(errors, file.bytes, word)?,
-        AsmFaultKind::UnknownWord => push_near_word(alloc, errors, word)?,
+        AsmFaultKind::UnknownWord => push_near(errors, nearest_word(alloc, word)?)?,
+        AsmFaultKind::BadOption => {
+            push_near(errors, nearest_option(alloc, word)?)?;
+            push_form(errors, line, at)?;
+        }
         AsmFaultKind::OperandCount
         | AsmFaultKind::BadRegister
         | AsmFaultKind::BadNumber
         | AsmFaultKind::OutOfRange
-        | AsmFaultKind::BadName
-        | AsmFaultKind::BadOption => push_form(errors, line, at)?,
+        | AsmFaultKind::BadName => push_form(errors, line, at)?,
         _ => {}
     }
-    Ok(helps_at(file.bytes, kind, number, word))
+    let helps = helps_at(alloc, program.text, kind, number, line, word);
+    if helps.is_none() && stands_first(alloc, program, other) {
+        return Ok(Some(AT_PLAN_FIRST));
+    }
+    Ok(helps)
 }
 
 /// The place of the first word of what a line says, its label left out.
@@ -273,6 +323,27 @@ fn push_made_place<E: Sink>(
     Ok(())
 }
 
+/// The line of the last row.
+fn push_last_row<E: Sink>(
+    alloc: Global,
+    errors: &mut E,
+    program: ProgramFile<'_>,
+) -> Result<(), Unshown> {
+    let Ok(image) = assemble(alloc, program.text) else {
+        return Ok(());
+    };
+    match image.rows.as_slice().len() {
+        0 => Ok(()),
+        rows => push_made_place(
+            alloc,
+            errors,
+            program,
+            OperandKind::Target,
+            (rows - 1) as u64,
+        ),
+    }
+}
+
 /// What the place of a load fault counts.
 fn made_of(fault: LoadFault) -> OperandKind {
     match fault {
@@ -316,6 +387,8 @@ fn push_schedule_place<E: Sink>(
         return Ok(());
     };
     match schedule {
+        // Nothing is known of what came by a pipe.
+        Some(schedule) if schedule.bytes.is_empty() => Ok(()),
         Some(schedule) => push_token_place(errors, schedule, offset),
         None => push_token_place(
             errors,
@@ -335,7 +408,11 @@ fn helps_at_schedule(
         Some(schedule) => schedule.bytes,
         None => program.file.bytes.get(program.schedule_at..).unwrap_or(&[]),
     };
-    if !bytes.is_empty() && is_plan(alloc, program.text, bytes) {
+    if is_trace(bytes) {
+        Some(AT_TRACE)
+    } else if bytes.trim_ascii_start().starts_with(b";") {
+        Some(AT_COMMENT)
+    } else if !bytes.is_empty() && is_plan(alloc, program.text, bytes) {
         Some(AT_PLAN)
     } else {
         None
@@ -350,12 +427,15 @@ fn push_found<E: Sink>(
     program: ProgramFile<'_>,
     schedule: Option<Named<'_>>,
 ) -> Result<Option<&'static str>, Unshown> {
+    let is_image = program.file.bytes.starts_with(b"PBW");
     let Some(place) = question.place else {
+        if matches!(question.subject, Subject::Load(LoadFault::FallsOff)) && !is_image {
+            push_last_row(alloc, errors, program)?;
+        }
         return Ok(None);
     };
-    let is_image = program.file.bytes.starts_with(b"PBW");
     match question.subject {
-        Subject::Asm(kind) => return push_text_place(alloc, errors, program, place, kind),
+        Subject::Asm(kind) => return push_text_place(alloc, errors, program, schedule, place, kind),
         Subject::Load(fault) if !is_image => push_made_place(
             alloc,
             errors,

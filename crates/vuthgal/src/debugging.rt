@@ -1,9 +1,11 @@
 //! Sessions of the debugger.
 
 use crate::ending::flushed;
+use crate::planning::{Steps, runs_of_plan};
 use crate::trouble::Trouble;
 use crate::{files, notes, printable};
 use byte_ports::{BlockSource, ReadPort, Source, WritePort};
+use commands::pictures::parts_of;
 use commands::{GuidedCommands, list_rows};
 use headline::shown;
 use schedule_reader::Run;
@@ -62,25 +64,61 @@ fn not_a_trace<'a>(rt: &HostRuntime, line: u64) -> Answer<'a> {
     Ok(flushed(answer, &mut output)?)
 }
 
-/// What a trace names, if there is one.
-fn named_in<'a>(rt: &HostRuntime, trace: Option<File>) -> Result<Option<Named>, Trouble<'a>> {
-    let Some(trace) = trace else {
-        return Ok(None);
-    };
+/// What a session begins behind.
+#[derive(Drop)]
+enum Before<'a> {
+    Nothing,
+    Trace(File),
+    /// The choices of this plan.
+    Plan(&'a str),
+    /// The choices of the plan in this file.
+    PlanIn(File),
+}
+
+/// What the words name.
+fn before<'a>(rt: &HostRuntime, steps: Steps<'a>) -> Result<Before<'a>, Trouble<'a>> {
+    Ok(match steps {
+        Steps::Beside => Before::Nothing,
+        Steps::Named(trace) => Before::Trace(files::read(rt, trace)?),
+        Steps::Plan(plan) => Before::Plan(plan),
+        Steps::PlanIn(plan) => Before::PlanIn(files::read(rt, plan)?),
+    })
+}
+
+/// What a trace names.
+fn named_in<'a>(rt: &HostRuntime, trace: File) -> Result<Named, Trouble<'a>> {
     match choices_in(rt.alloc(), &mut ReadPort::new(trace)) {
-        Ok(named) => Ok(Some(named)),
+        Ok(named) => Ok(named),
         Err(NamingFault::Memory) => Err(Trouble::Fault(Fault::Memory)),
         Err(NamingFault::Read) => Err(Trouble::Fault(Fault::Read)),
     }
 }
 
-/// Answers the commands on standard input, behind a trace if there is one.
-fn begin<'a>(rt: &HostRuntime, program: &[u8], trace: Option<File>) -> Answer<'a> {
+/// The choices that a session begins behind, if there are some.
+fn named_before<'a>(
+    rt: &HostRuntime,
+    program: &[u8],
+    before: Before<'a>,
+) -> Result<Option<Named>, Trouble<'a>> {
+    let (program, _) = parts_of(program);
+    Ok(match before {
+        Before::Nothing => None,
+        Before::Trace(trace) => Some(named_in(rt, trace)?),
+        Before::Plan(plan) => Some(Named::Choices(runs_of_plan(rt, program, plan.as_bytes())?)),
+        Before::PlanIn(plan) => {
+            let plan = read_all(rt.alloc(), &mut ReadPort::new(plan))?;
+            Some(Named::Choices(runs_of_plan(rt, program, plan.as_slice())?))
+        }
+    })
+}
+
+/// Answers the commands on standard input, behind choices if there are some.
+fn begin<'a>(rt: &HostRuntime, program: &[u8], before: Before<'a>) -> Answer<'a> {
     notes::push_waiting(
         rt,
         b"reading commands from the terminal (debug --help lists them)\n",
     );
-    match named_in(rt, trace)? {
+    match named_before(rt, program, before)? {
         Some(Named::Choices(runs)) => session_of_input(rt, program, Some(runs.as_slice())),
         Some(Named::NotATrace { line }) => not_a_trace(rt, line),
         None => session_of_input(rt, program, None),
@@ -88,14 +126,14 @@ fn begin<'a>(rt: &HostRuntime, program: &[u8], trace: Option<File>) -> Answer<'a
 }
 
 /// The same for a person, who is shown the program's rows first.
-fn begin_with_rows<'a>(rt: &HostRuntime, program: &[u8], trace: Option<File>) -> Answer<'a> {
+fn begin_with_rows<'a>(rt: &HostRuntime, program: &[u8], before: Before<'a>) -> Answer<'a> {
     let mut rows = WritePort::new(printable::errors(rt));
     list_rows(rt.alloc(), program, &mut rows)?;
     notes::push_waiting(
         rt,
         b"reading commands from the terminal (`help` lists them)\n",
     );
-    match named_in(rt, trace)? {
+    match named_before(rt, program, before)? {
         Some(Named::Choices(runs)) => session_of_person(rt, program, Some(runs.as_slice())),
         Some(Named::NotATrace { line }) => not_a_trace(rt, line),
         None => session_of_person(rt, program, None),
@@ -103,16 +141,13 @@ fn begin_with_rows<'a>(rt: &HostRuntime, program: &[u8], trace: Option<File>) ->
 }
 
 /// Answers the commands on standard input, which are about the program in a file.
-pub fn debug<'a>(rt: &HostRuntime, file: &'a str, trace: Option<&'a str>) -> Answer<'a> {
+pub fn debug<'a>(rt: &HostRuntime, file: &'a str, steps: Steps<'a>) -> Answer<'a> {
     let program = files::read(rt, file)?;
-    let trace = match trace {
-        Some(trace) => Some(files::read(rt, trace)?),
-        None => None,
-    };
+    let before = before(rt, steps)?;
     let program = read_all(rt.alloc(), &mut ReadPort::new(program))?;
     if rt.stdin().is_terminal() && rt.stderr().is_terminal() {
-        begin_with_rows(rt, program.as_slice(), trace)
+        begin_with_rows(rt, program.as_slice(), before)
     } else {
-        begin(rt, program.as_slice(), trace)
+        begin(rt, program.as_slice(), before)
     }
 }

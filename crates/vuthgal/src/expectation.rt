@@ -5,6 +5,7 @@ ghost use Rattle.trace_text.specs.Expectation.{are_met};
 ghost use Rattle.vuthgal.specs.Standings.{all_allow};
 ghost use Rattle.workbench.specs.declared.done.Done.TheVariants as done;
 
+use crate::explaining::is_explained;
 use crate::printable;
 use crate::standings::all_allow;
 use assembler::{Symbols, assemble_named};
@@ -14,6 +15,7 @@ use trace_text::meeting::{are_met, is_met};
 use trace_text::state_line::{has_died, line_of};
 use instruction_table::OperandKind;
 use itoa::Buffer;
+use refusals::nearest_name;
 use line_reader::asm_fault::{AsmFault, AsmFaultKind};
 use row_code::is_image_file;
 use std::alloc::{AllocError, Global};
@@ -130,6 +132,15 @@ fn line_against<'a>(state: &'a [u8], text: &[u8]) -> Option<&'a [u8]> {
     line_of(state, b"state")
 }
 
+/// Tells which name of the program is nearly the one that a text expects something of, where nothing is called so.
+fn push_near<E: Sink>(alloc: Global, errors: &mut E, program: &[u8], text: &[u8]) {
+    if let Ok(Some(name)) = nearest_name(alloc, program, subject_of(text)) {
+        let _ = errors.push(b"Near: ");
+        let _ = errors.push(name);
+        let _ = errors.push(b"\n");
+    }
+}
+
 /// Adds what is expected, and what stands in its place.
 fn push_unmet<E: Sink>(errors: &mut E, text: &[u8], line: &[u8]) -> Result<(), Failed> {
     errors.push(b"expected ")?;
@@ -166,8 +177,16 @@ fn push_all_unmet<E: Sink>(
     Ok(())
 }
 
-/// Tells what stands otherwise than it was expected to, a line for each.
-pub fn tell_unmet(rt: &HostRuntime, expected: &[Vec<u8>], end: &RunEnd) {
+/// Tells what stands otherwise than it was expected to, a line for each, and on a terminal which name may have been meant.
+pub fn tell_unmet(rt: &HostRuntime, program: &[u8], expected: &[Vec<u8>], end: &RunEnd) {
     let mut errors = WritePort::new(printable::errors(rt));
     let _ = push_all_unmet(&mut errors, expected, end);
+    if end.refused.is_some() || !is_explained(rt) {
+        return;
+    }
+    for text in expected {
+        if line_against(end.state.as_slice(), text.as_slice()).is_none() {
+            push_near(rt.alloc(), &mut errors, program, text.as_slice());
+        }
+    }
 }

@@ -1,7 +1,9 @@
-//! The words that follow what is told, where standard error is a terminal: a person's help alone.
+//! The words that follow what is told, where standard error is a terminal or they are asked for: a person's help alone.
 
+use crate::explaining::is_explained;
 use crate::files::writes_to_pipe;
 use crate::missing::missing;
+use crate::planning::Steps;
 use crate::printable;
 use byte_ports::{Sink, WritePort};
 use command_line::request::Request;
@@ -12,7 +14,6 @@ use refusals::push_plan_place;
 use std::alloc::AllocError;
 use std::fmt::Display;
 use std::fs;
-use std::io::IsTerminal;
 use thread_machine::Choice;
 use workbench::fault::Fault;
 use workbench::run_line::split_at_run;
@@ -23,11 +24,13 @@ const LONGEST: u64 = 16_777_216;
 /// The name of standard input as a file.
 const INPUT: &str = "/dev/stdin";
 
-/// The files that a refusal may be about: the program's, and the schedule's or the plan's where it isn't the same.
+/// The files that a refusal may be about: the program's, and the schedule's or the plan's where it isn't the same. A plan may be a
+/// word itself.
 #[derive(Clone, Copy)]
 pub struct Files<'a> {
     program: &'a str,
     schedule: Option<&'a str>,
+    plan: Option<&'a str>,
 }
 
 /// A word that may name standard input.
@@ -38,22 +41,40 @@ fn named(word: &str) -> &str {
 impl<'a> Files<'a> {
     /// Those that the words name.
     pub fn of(request: &Request<'a>) -> Files<'a> {
-        let (program, schedule) = match request {
-            Request::Asm { source, .. } => (*source, None),
-            Request::Run { file, schedule, .. }
-            | Request::Show { file, schedule }
-            | Request::Draw { file, schedule, .. } => (*file, schedule.map(|word| named(word))),
-            Request::Plan { file, plan } => (*file, Some(named(plan.unwrap_or(INPUT)))),
+        let (program, schedule, plan) = match request {
+            Request::Asm { source, .. } => (*source, None, None),
+            Request::Run {
+                file,
+                schedule,
+                plan,
+                ..
+            }
+            | Request::Show {
+                file,
+                schedule,
+                plan,
+            }
+            | Request::Draw {
+                file,
+                schedule,
+                plan,
+                ..
+            } => (*file, schedule.map(|word| named(word)), *plan),
+            Request::Plan { file, plan } => (*file, Some(named(plan.unwrap_or(INPUT))), None),
+            Request::Debug { file, trace, plan } => (*file, *trace, *plan),
             Request::List { file, .. }
-            | Request::Debug { file, .. }
             | Request::Compare { file, .. }
-            | Request::Live { file, .. } => (*file, None),
+            | Request::Live { file, .. } => (*file, None, None),
             Request::Both { .. }
             | Request::Race { .. }
             | Request::Choices { .. }
-            | Request::Explain { .. } => (INPUT, None),
+            | Request::Explain { .. } => (INPUT, None, None),
         };
-        Files { program, schedule }
+        Files {
+            program,
+            schedule,
+            plan,
+        }
     }
 }
 
@@ -82,7 +103,7 @@ fn program_file<'a>(name: &'a str, bytes: &'a [u8]) -> ProgramFile<'a> {
 
 /// Shows where a fault is, and says what it means. Nobody need be told why a pipe took no more: who read it has gone.
 pub fn push_help(rt: &HostRuntime, fault: Fault, files: Files<'_>) {
-    if !rt.stderr().is_terminal() || (matches!(fault, Fault::Write) && writes_to_pipe(rt)) {
+    if !is_explained(rt) || (matches!(fault, Fault::Write) && writes_to_pipe(rt)) {
         return;
     }
     let program = contents(rt, files.program);
@@ -103,40 +124,48 @@ pub fn push_help(rt: &HostRuntime, fault: Fault, files: Files<'_>) {
 
 /// The same of a plan's fault.
 pub fn push_plan_help(rt: &HostRuntime, fault: PlanFault, files: Files<'_>) {
-    if !rt.stderr().is_terminal() {
+    if !is_explained(rt) {
         return;
     }
     let program = contents(rt, files.program);
-    let name = files.schedule.unwrap_or(INPUT);
-    let plan = contents(rt, name);
+    let program = program_file(files.program, program.as_slice());
     let mut errors = WritePort::new(printable::errors(rt));
-    let _ = push_plan_place(
-        rt.alloc(),
-        fault,
-        program_file(files.program, program.as_slice()),
-        Named {
-            name,
-            bytes: plan.as_slice(),
-        },
-        &mut errors,
-    );
+    let _ = match files.plan {
+        Some(plan) => {
+            let plan = Named {
+                name: "--plan",
+                bytes: plan.as_bytes(),
+            };
+            push_plan_place(rt.alloc(), fault, program, plan, &mut errors)
+        }
+        None => {
+            let name = files.schedule.unwrap_or(INPUT);
+            let plan = contents(rt, name);
+            let plan = Named {
+                name,
+                bytes: plan.as_slice(),
+            };
+            push_plan_place(rt.alloc(), fault, program, plan, &mut errors)
+        }
+    };
 }
 
-/// Tells of a choice of a thread that isn't there, which ended the run that was shown.
-pub fn push_missing(rt: &HostRuntime, file: &str, schedule: Option<&str>) {
-    if !rt.stderr().is_terminal() {
+/// Tells of a choice of a thread that isn't there, which ended the run that was shown. A plan makes none.
+pub fn push_missing(rt: &HostRuntime, file: &str, steps: Steps<'_>) {
+    if !is_explained(rt) {
         return;
     }
     let file = contents(rt, file);
-    let found = match schedule {
-        None => {
+    let found = match steps {
+        Steps::Beside => {
             let (program, behind) = parts_of(file.as_slice());
             missing(rt.alloc(), program, behind)
         }
-        Some(word) => {
+        Steps::Named(word) => {
             let schedule = contents(rt, named(word));
             missing(rt.alloc(), file.as_slice(), schedule.as_slice())
         }
+        Steps::Plan(_) | Steps::PlanIn(_) => None,
     };
     if let Some((step, Choice { thread, expiry })) = found {
         let letter = if expiry { "x" } else { "t" };
@@ -158,8 +187,11 @@ pub fn push_text(rt: &HostRuntime, text: Result<String, AllocError>) {
 
 /// Says which file can't be opened and why, and what the line means.
 pub fn push_reason<R: Display>(rt: &HostRuntime, fault: Fault, path: &str, reason: &R) {
-    if rt.stderr().is_terminal() {
+    if is_explained(rt) {
         push_text(rt, format!(in rt.alloc(); "{path}: {reason}\n"));
+        if path == "-" {
+            push_text(rt, format!(in rt.alloc(); "`-` is standard input where SCHEDULE, TRACE or PLAN stands; FILE is a file\n"));
+        }
         let nothing = program_file(path, &[]);
         let mut errors = WritePort::new(printable::errors(rt));
         let _ = push_place(rt.alloc(), fault, nothing, None, &mut errors);

@@ -11,6 +11,7 @@ ghost use Rattle.command_line.specs.Request.{IsInRange};
 mod debugging;
 mod ending;
 mod expectation;
+mod explaining;
 mod files;
 mod help;
 mod input;
@@ -34,7 +35,7 @@ use commands::choices::choices;
 use commands::drawing::Drawing;
 use commands::page::Page;
 use commands::picture::Picture;
-use commands::pictures::{make, make_of_both};
+use commands::pictures::{make, make_of_both, parts_of};
 use commands::{LinesSeen, list_rows, show_comparison};
 use debugging::debug;
 use ending::{flushed, handed_on};
@@ -44,10 +45,9 @@ use help::Files;
 use input::Input;
 use commands::{Asked, Pauses, report_runs};
 use no_command::NoCommand;
-use planning::write_plan;
+use planning::{Steps, schedule_of_plan, write_plan};
 use progress::{BehindProgress, ShownGate, ShownPace, ShownSource, ShownWriter, trace_port};
 use refusals::explain::explain;
-use row_code::is_image_file;
 use short_schedule::ShortSchedule;
 use std::io::{BufWriter, IsTerminal, Stdout};
 use std::process::ExitCode;
@@ -81,11 +81,12 @@ fn ended<'a>(
     rt: &HostRuntime,
     answer: Result<RunEnd, Fault>,
     output: TracePort<'_>,
+    program: &[u8],
     expected: &[Vec<u8>],
 ) -> Answer<'a> {
     let end = handed_on(answer, output)?;
     notes::push_refused(rt, &end);
-    tell_unmet(rt, expected, &end);
+    tell_unmet(rt, program, expected, &end);
     Ok(as_expected(expected, &end))
 }
 
@@ -104,7 +105,7 @@ fn play_both<'a>(rt: &HostRuntime, expected: &[&str]) -> Answer<'a> {
     if answer.is_ok() && program.len() == text.len() {
         notes::push_no_schedule(rt);
     }
-    ended(rt, answer, output, expected.as_slice())
+    ended(rt, answer, output, program, expected.as_slice())
 }
 
 /// Writes the image of the text in one file to another.
@@ -142,39 +143,51 @@ fn play<'a, S: Source>(
     let expected = expectations(rt.alloc(), program, expected)?;
     let mut output = trace_port(rt)?;
     let answer = shown::run(rt.alloc(), program, schedule, &mut output);
-    ended(rt, answer, output, expected.as_slice())
+    ended(rt, answer, output, program, expected.as_slice())
 }
 
-/// The program and the schedule of a file that holds both; an image holds no schedule.
-fn parts_of(file: &[u8]) -> (&[u8], &[u8]) {
-    if is_image_file(file) {
-        (file, &[])
-    } else {
-        split_at_run(file)
+/// Plays a file that holds a program and its schedule.
+fn play_parts<'a>(rt: &HostRuntime, file: &[u8], expected: &[&str]) -> Answer<'a> {
+    let (program, schedule) = parts_of(file);
+    if program.len() == file.len() {
+        notes::push_no_schedule(rt);
     }
+    play(rt, program, &mut SliceSource::new(schedule), expected)
 }
 
-/// Plays the program in a file under a schedule, which stands in the same file where none is named.
-fn run<'a>(
-    rt: &HostRuntime,
-    file: &'a str,
-    schedule: Option<&'a str>,
-    expected: &[&str],
-) -> Answer<'a> {
-    let program = files::read(rt, file)?;
-    let schedule = match schedule {
-        Some(word) => Some(ReadPort::new(Input::named(rt, word)?)),
-        None => None,
-    };
-    let file = read_all(rt.alloc(), &mut ReadPort::new(program))?;
-    match schedule {
-        Some(mut schedule) => play(rt, file.as_slice(), &mut schedule, expected),
-        None => {
-            let (program, schedule) = parts_of(file.as_slice());
-            if program.len() == file.len() {
-                notes::push_no_schedule(rt);
-            }
-            play(rt, program, &mut SliceSource::new(schedule), expected)
+/// Plays what a plan stands for.
+fn play_plan<'a>(rt: &HostRuntime, file: &[u8], plan: &[u8], expected: &[&str]) -> Answer<'a> {
+    let (program, _) = parts_of(file);
+    let schedule = schedule_of_plan(rt, program, plan)?;
+    play(
+        rt,
+        program,
+        &mut SliceSource::new(schedule.as_bytes()),
+        expected,
+    )
+}
+
+/// Plays the program in a file.
+fn run<'a>(rt: &HostRuntime, file: &'a str, steps: Steps<'a>, expected: &[&str]) -> Answer<'a> {
+    let mut program = ReadPort::new(files::read(rt, file)?);
+    match steps {
+        Steps::Beside => {
+            let file = read_all(rt.alloc(), &mut program)?;
+            play_parts(rt, file.as_slice(), expected)
+        }
+        Steps::Named(word) => {
+            let mut schedule = ReadPort::new(Input::named(rt, word)?);
+            let program = read_all(rt.alloc(), &mut program)?;
+            play(rt, program.as_slice(), &mut schedule, expected)
+        }
+        Steps::Plan(plan) => {
+            let file = read_all(rt.alloc(), &mut program)?;
+            play_plan(rt, file.as_slice(), plan.as_bytes(), expected)
+        }
+        Steps::PlanIn(word) => {
+            let plan = files::contents(rt, word)?;
+            let file = read_all(rt.alloc(), &mut program)?;
+            play_plan(rt, file.as_slice(), plan.as_slice(), expected)
         }
     }
 }
@@ -212,27 +225,64 @@ fn draw_both<P: Picture, F: Source, K: Sink>(
     make_of_both(rt.alloc(), picture, &mut SliceSource::new(file), output)
 }
 
-/// Writes the picture of the program in a file under a schedule, which is read as far as its fault or a choice too many, or stands
-/// in the same file where none is named. It is written at once, so nothing is kept back.
+/// Writes the picture of a program under a schedule, which is read as far as its fault or a choice too many.
+fn draw_under<P: Picture, F: Source, S: Source + Drop, K: Sink>(
+    rt: &HostRuntime,
+    picture: &P,
+    file: &mut F,
+    schedule: S,
+    output: &mut K,
+) -> Result<(), Fault> {
+    let Ok(mut choices) = ShortSchedule::new(rt.alloc(), schedule) else {
+        return Err(Fault::Memory);
+    };
+    make(rt.alloc(), picture, file, &mut choices, output)
+}
+
+/// Writes the picture of what a plan stands for.
+fn draw_plan<'a, P: Picture, F: Source, K: Sink>(
+    rt: &HostRuntime,
+    picture: &P,
+    file: &mut F,
+    plan: &[u8],
+    output: &mut K,
+) -> Result<Result<(), Fault>, Trouble<'a>> {
+    let file = read_all(rt.alloc(), file)?;
+    let (program, _) = parts_of(file.as_slice());
+    let schedule = schedule_of_plan(rt, program, plan)?;
+    Ok(draw_under(
+        rt,
+        picture,
+        &mut SliceSource::new(program),
+        SliceSource::new(schedule.as_bytes()),
+        output,
+    ))
+}
+
+/// Writes the picture of the program in a file. It is written at once, so nothing is kept back.
 fn draw<'a, P: Picture>(
     rt: &HostRuntime,
     picture: &P,
     file: &'a str,
-    schedule: Option<&'a str>,
+    steps: Steps<'a>,
 ) -> Answer<'a> {
     let mut program = ReadPort::new(files::read(rt, file)?);
-    let choices = match schedule {
-        Some(word) => Some(ShortSchedule::new(rt.alloc(), ReadPort::new(Input::named(rt, word)?))?),
-        None => None,
-    };
     let mut output = WritePort::new(rt.stdout());
-    let answer = match choices {
-        Some(mut choices) => make(rt.alloc(), picture, &mut program, &mut choices, &mut output),
-        None => draw_both(rt, picture, &mut program, &mut output),
+    let answer = match steps {
+        Steps::Beside => draw_both(rt, picture, &mut program, &mut output),
+        Steps::Named(word) => {
+            let schedule = ReadPort::new(Input::named(rt, word)?);
+            draw_under(rt, picture, &mut program, schedule, &mut output)
+        }
+        Steps::Plan(plan) => draw_plan(rt, picture, &mut program, plan.as_bytes(), &mut output)?,
+        Steps::PlanIn(word) => {
+            let plan = files::contents(rt, word)?;
+            draw_plan(rt, picture, &mut program, plan.as_slice(), &mut output)?
+        }
     };
     let answer = flushed(answer, &mut output);
     if answer.is_ok() {
-        help::push_missing(rt, file, schedule);
+        help::push_missing(rt, file, steps);
     }
     Ok(as_asked(answer)?)
 }
@@ -253,7 +303,7 @@ fn live<'a, R: Threads + Wait + Sync>(
     let gate = pauses.of_run(0, &shown);
     let answer = shown::live(threads, rt.alloc(), limit, &gate, program, &mut output);
     shown.end();
-    ended(rt, answer, output, expected)
+    ended(rt, answer, output, program, expected)
 }
 
 /// Plays it so often, and writes what the runs came to.
@@ -351,23 +401,29 @@ fn done<'a, R: Threads + Wait + Sync>(
         Request::Run {
             file,
             schedule,
+            plan,
             expected,
-        } => run(rt, file, schedule, expected.as_slice()),
+        } => run(rt, file, Steps::of(schedule, plan), expected.as_slice()),
         Request::Compare {
             file,
             trace,
             is_shown,
         } => compare(rt, file, trace, is_shown),
-        Request::Debug { file, trace } => debug(rt, file, trace),
-        Request::Show { file, schedule } => {
+        Request::Debug { file, trace, plan } => debug(rt, file, Steps::of(trace, plan)),
+        Request::Show {
+            file,
+            schedule,
+            plan,
+        } => {
             notes::push_page_on_terminal(rt);
-            draw(rt, &Page, file, schedule)
+            draw(rt, &Page, file, Steps::of(schedule, plan))
         }
         Request::Draw {
             file,
             schedule,
             width,
-        } => draw(rt, &Drawing { width }, file, schedule),
+            plan,
+        } => draw(rt, &Drawing { width }, file, Steps::of(schedule, plan)),
         Request::Live {
             file,
             limit,

@@ -5,6 +5,7 @@ use crate::usage;
 use byte_ports::WritePort;
 use clap::Error as WordsError;
 use clap::error::ErrorKind;
+use command_line::names::{DEBUG, LIVE};
 use std::alloc::AllocError;
 use std::io;
 use thiserror::Error;
@@ -79,10 +80,46 @@ fn tell_words(rt: &HostRuntime, error: &WordsError, words: &[String]) -> u8 {
         return print_help(rt, error);
     }
     let status = push_wrong(rt, usage::told(rt, error));
-    if status == WRONG_WORDS && error.kind() == ErrorKind::InvalidSubcommand {
-        push_file_hint(rt, words);
+    if status == WRONG_WORDS {
+        push_tip(rt, error.kind(), words);
     }
     status
+}
+
+/// Tells what may have been meant by words that ask for nothing.
+fn push_tip(rt: &HostRuntime, kind: ErrorKind, words: &[String]) {
+    match (kind, words) {
+        (ErrorKind::InvalidSubcommand, [_, help, word, ..]) if help.as_str() == "help" =>
+            push_near_command(rt, word.as_str()),
+        (ErrorKind::InvalidSubcommand, [_, word, ..]) => {
+            push_near_command(rt, word.as_str());
+            push_file_hint(rt, words);
+        }
+        (ErrorKind::UnknownArgument, [_, command, rest @ ..]) =>
+            push_other_way(rt, command.as_str(), rest),
+        _ => {}
+    }
+}
+
+/// Tells which command is called nearly so.
+fn push_near_command(rt: &HostRuntime, word: &str) {
+    if let Ok(Some(command)) = usage::nearest_command(rt, word) {
+        push_text(rt, format!(in rt.alloc(); "similar: {command}\n"));
+    }
+}
+
+/// Tells how what a command doesn't take is asked for.
+fn push_other_way(rt: &HostRuntime, command: &str, words: &[String]) {
+    let way = if words.iter().any(|word| word.as_str().starts_with("-o")) {
+        "`> FILE` writes it to a file"
+    } else if command == LIVE {
+        "`run FILE SCHEDULE` plays a schedule; `live` lets the threads choose"
+    } else if command == DEBUG {
+        "`--at TRACE` begins behind a trace, `--plan PLAN` behind a plan; a schedule is a command, `g t0 t1`"
+    } else {
+        return;
+    };
+    push_text(rt, format!(in rt.alloc(); "{way}\n"));
 }
 
 impl<'a> NoCommand<'a> {

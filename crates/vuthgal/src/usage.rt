@@ -7,9 +7,18 @@ use command_line::commands::program;
 use command_line::names::EXPECT;
 use std::alloc::AllocError;
 use std::env::{Env, FillError};
+use strsim::levenshtein;
 
 /// How long a word may be that is looked at; no command has a longer name.
 const LONGEST_WORD: usize = 64;
+
+/// Whether a word's next is its value, also where no command stands before it.
+fn is_option_with_value(word: &[u8]) -> bool {
+    match word.strip_prefix(b"--".as_slice()) {
+        Some(name) => name == EXPECT.as_bytes() || name == b"explain".as_slice(),
+        None => false,
+    }
+}
 
 /// The first word that is no option, and not the value of `--expect`, where it is a command's name: the command that was meant.
 fn meant(rt: &HostRuntime) -> Result<Option<&'static str>, AllocError> {
@@ -31,9 +40,25 @@ fn meant(rt: &HostRuntime) -> Result<Option<&'static str>, AllocError> {
                     .find(|name| name.as_bytes() == word),
             );
         }
-        is_value = !is_value && word.strip_prefix(b"--") == Some(EXPECT.as_bytes());
+        is_value = !is_value && is_option_with_value(word);
     }
     Ok(None)
+}
+
+/// The command whose name is nearest to a word, where it is near at all: at most half of its letters are wrong.
+pub fn nearest_command(rt: &HostRuntime, word: &str) -> Result<Option<&'static str>, AllocError> {
+    let program = program(rt.alloc(), VERSION)?;
+    let mut nearest = None;
+    let mut far = word.len().div_ceil(2).min(3);
+    for command in program.get_subcommands() {
+        let name = command.get_name();
+        let distance = levenshtein(rt.alloc(), name, word)?;
+        if distance < far {
+            nearest = Some(name);
+            far = distance;
+        }
+    }
+    Ok(nearest)
 }
 
 /// The line of a help that tells the usage.
@@ -79,8 +104,12 @@ fn length_of_why(text: &str, kind: ErrorKind) -> Option<usize> {
 /// What is told of an error of the words.
 pub fn told(rt: &HostRuntime, error: &WordsError) -> Result<String, AllocError> {
     let text = format!(in rt.alloc(); "{error}")?;
-    match length_of_why(text.as_str(), error.kind()) {
-        Some(length) => with_usage(rt, text.as_str().get(..length).unwrap_or("")),
+    let why = text.as_str();
+    if why.starts_with("error: unexpected argument '-o") {
+        return with_usage(rt, why.lines().next().unwrap_or(""));
+    }
+    match length_of_why(why, error.kind()) {
+        Some(length) => with_usage(rt, why.get(..length).unwrap_or("")),
         None => Ok(text),
     }
 }

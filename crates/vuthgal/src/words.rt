@@ -3,6 +3,7 @@ ghost use Rattle.std.specs.Prelude.{IfOk, map};
 ghost use Rattle.std.specs.String.{string_bytes};
 ghost use Rattle.command_line.specs.Request.{Asks, IsInRange};
 
+use crate::explaining::words_at;
 use crate::no_command::NoCommand;
 use crate::origin::VERSION;
 use command_line::request::{Request, parse};
@@ -23,17 +24,25 @@ fn push_word(rt: &HostRuntime, words: &mut Vec<String>, word: &str) -> Result<()
 }
 
 /// The program's name and its words: a word may be no text. The name that it was called by isn't looked at, so the name of its
-/// folder may be any.
+/// folder may be any. Words that say when a refusal is explained are left out.
 pub fn given(rt: &HostRuntime) -> Result<Vec<String>, NoCommand<'static>> {
     let mut words = Vec::new(rt.alloc());
     push_word(rt, &mut words, NAME)?;
     let mut room = Vec::from_elem(rt.alloc(), 0u8, LONGEST_WORD)?;
+    let mut left_out = 0;
     for number in 1..usize::MAX {
         let length = match rt.arg(number, room.as_mut_slice()) {
             Ok(length) => length,
             Err(FillError::TooLong) => return Err(NoCommand::Memory),
             Err(FillError::NotPresent) => break,
         };
+        if left_out == 0 {
+            left_out = words_at(rt, number, &room[..length]);
+        }
+        if left_out > 0 {
+            left_out -= 1;
+            continue;
+        }
         match str::from_utf8(&room[..length]) {
             Ok(word) => push_word(rt, &mut words, word)?,
             Err(_) => return Err(NoCommand::NotText),
