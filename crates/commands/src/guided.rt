@@ -1,9 +1,9 @@
 //! The commands of a person at a terminal.
 //!
 //! The session stays `debug`'s: `GuidedCommands` is the source from which it takes its lines. Before a line is waited for, `notes`
-//! is told who may go on and at which row, by the names of the program. Two words more are answered here and not handed on:
-//! `help`, and `w`, which writes the choices that were played as a schedule. So that it knows who may go on, the source plays what
-//! it hands on in a session of its own.
+//! is told who may go on and at which row, by the names of the program, which a line may have in place of numbers. An empty line is
+//! the one before it once more. Two words are answered here and not handed on: `help`, and `w`, which writes the choices that were
+//! played as a schedule. So that it knows who may go on, the source plays what it hands on in a session of its own.
 
 ghost use Rattle.std.specs.Prelude.{◌≤◌, IfOk, None, length};
 ghost use Rattle.std.specs.Io.KnownBytes.{ReadConsumes};
@@ -12,7 +12,7 @@ ghost use Rattle.byte_ports.specs.Port.{FailsForGood};
 use crate::mirror::Mirror;
 use byte_ports::{Failed, Sink, Source};
 use schedule_reader::Run;
-use std::alloc::Global;
+use std::alloc::{AllocError, Global};
 use workbench::fault::Fault;
 
 /// How long a line is at most that is looked at; a terminal hands on no longer one.
@@ -23,13 +23,18 @@ const MOST_LINES: u64 = 1_000_000_000;
 
 /// What can be written.
 const HELP: &[u8] = b"  s tN      one choice: thread N's turn; `s xN` lets its timed wait run out
-  g TOKENS  choices, as in a schedule (`g t0 t1*3`), up to a breakpoint
+  s NAME    the same by its name, also NAME alone, or `s xNAME`
+  g TOKENS  choices, as in a schedule (`g t0 bob*3`), up to a breakpoint
   b         one choice back
   k ROW     a breakpoint at a row; `c ROW` takes it away
   p         the state
   w         the choices so far, as a schedule
   q         the end
+  Enter     the last command once more
 ";
+
+/// What is told of a line that was answered with `?`.
+const NO_COMMAND: &[u8] = b"  no command, or no thread or row of this program: `help` lists them\n";
 
 /// What a line asks for.
 #[derive(Clone, Copy)]
@@ -64,6 +69,10 @@ struct Guide<'a, S, K, E> {
     /// The line that is handed on, with its LF, and how much of it was.
     line: Vec<u8>,
     given: usize,
+    /// The command that was handed on last, without an LF.
+    last: Vec<u8>,
+    /// Whether it is answered with `?`.
+    is_unknown: bool,
     /// Whether the session isn't followed any more: a line was too long, or there was no memory for it. All is handed on then.
     is_lost: bool,
 }
@@ -86,6 +95,23 @@ impl<'a, S: Source + Drop, K: Sink + Drop, E: Sink + Drop> Guide<'a, S, K, E> {
         Ok(())
     }
 
+    /// Puts the command in place of the line that asks for it: with numbers for names, and the last one for an empty line. What
+    /// ends it stays.
+    fn interpret(&mut self) -> Result<(), AllocError> {
+        let line = self.line.as_slice();
+        let said = line.strip_suffix(b"\n").unwrap_or(line);
+        let is_ended = said.len() < line.len();
+        if !said.trim_ascii().is_empty() {
+            self.last = self.mirror.in_numbers(self.alloc, said)?;
+        }
+        self.line.clear();
+        self.line.extend_from_slice(self.last.as_slice())?;
+        if is_ended {
+            self.line.push(b'\n')?;
+        }
+        Ok(())
+    }
+
     /// Answers the line, where that is asked for here; whether it is to be handed on.
     fn is_handed_on(&mut self) -> bool {
         match wanted_by(self.line.as_slice()) {
@@ -100,7 +126,10 @@ impl<'a, S: Source + Drop, K: Sink + Drop, E: Sink + Drop> Guide<'a, S, K, E> {
             Wanted::Command => {
                 let line = self.line.as_slice();
                 let line = line.strip_suffix(b"\n").unwrap_or(line);
-                self.is_lost = self.mirror.follow(self.alloc, line).is_err();
+                match self.mirror.follow(self.alloc, line) {
+                    Ok(is_command) => self.is_unknown = !is_command,
+                    Err(_) => self.is_lost = true,
+                }
                 true
             }
         }
@@ -109,9 +138,17 @@ impl<'a, S: Source + Drop, K: Sink + Drop, E: Sink + Drop> Guide<'a, S, K, E> {
     /// Takes the next line that is to be handed on, and answers those before it.
     fn refill(&mut self) -> Result<(), Failed> {
         for _ in 0..MOST_LINES {
+            if self.is_unknown {
+                note(self.notes.push(NO_COMMAND));
+                self.is_unknown = false;
+            }
             note(self.mirror.tell_may_go(self.alloc, &mut self.notes));
             self.take_line()?;
-            if self.line.is_empty() || self.is_lost || self.is_handed_on() {
+            if self.line.is_empty() || self.is_lost {
+                return Ok(());
+            }
+            self.is_lost = self.interpret().is_err();
+            if self.is_lost || self.is_handed_on() {
                 return Ok(());
             }
         }
@@ -177,6 +214,8 @@ impl<'a, S: Source + Drop, K: Sink + Drop, E: Sink + Drop> GuidedCommands<'a, S,
             mirror,
             line,
             given: 0,
+            last: Vec::new(alloc),
+            is_unknown: false,
             is_lost,
         };
         Ok(GuidedCommands {

@@ -29,8 +29,9 @@ mod shown;
 mod guided;
 mod may_go;
 mod mirror;
-mod nowhere;
 mod played;
+mod reply;
+mod spoken;
 
 // Many live runs.
 pub mod command;

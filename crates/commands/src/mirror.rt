@@ -2,7 +2,8 @@
 
 use crate::drawing::named_program;
 use crate::may_go::push_may_go;
-use crate::nowhere::Nowhere;
+use crate::reply::Reply;
+use crate::spoken::in_numbers;
 use crate::picture_fault::start_fault;
 use crate::played::Played;
 use assembler::Symbols;
@@ -45,19 +46,26 @@ impl<'a> Mirror<'a> {
     /// Plays runs as `g` does.
     pub fn go(&mut self, runs: &[Run]) -> Result<(), AllocError> {
         let before = self.debugger.machine().choices();
-        let _ = self.debugger.go_command(runs, &mut Nowhere);
+        let _ = self.debugger.go_command(runs, &mut Reply::new());
         let after = self.debugger.machine().choices();
         self.played.push_runs(runs, before, after)
     }
 
-    /// Plays what a line asks the debugger for.
-    pub fn follow(&mut self, alloc: Global, line: &[u8]) -> Result<(), AllocError> {
+    /// A person's line as the debugger reads it.
+    pub fn in_numbers(&self, alloc: Global, said: &[u8]) -> Result<Vec<u8>, AllocError> {
+        in_numbers(alloc, &self.symbols, said)
+    }
+
+    /// Plays what a line asks the debugger for. Whether it was a command.
+    pub fn follow(&mut self, alloc: Global, line: &[u8]) -> Result<bool, AllocError> {
         let before = self.debugger.machine().choices();
-        if self.debugger.command(line, &mut Nowhere).is_err() {
+        let mut reply = Reply::new();
+        if self.debugger.command(line, &mut reply).is_err() {
             return Err(AllocError);
         }
         let after = self.debugger.machine().choices();
-        self.played.follow(alloc, line, before, after)
+        self.played.follow(alloc, line, before, after)?;
+        Ok(!reply.is_question())
     }
 
     /// Tells who may go on.

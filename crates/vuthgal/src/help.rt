@@ -31,6 +31,8 @@ pub struct Files<'a> {
     program: &'a str,
     schedule: Option<&'a str>,
     plan: Option<&'a str>,
+    /// What was read of standard input, where that is known.
+    input: Option<&'a [u8]>,
 }
 
 /// A word that may name standard input.
@@ -74,6 +76,15 @@ impl<'a> Files<'a> {
             program,
             schedule,
             plan,
+            input: None,
+        }
+    }
+
+    /// The same where so much was read of standard input.
+    pub fn with_input(self, input: &'a [u8]) -> Files<'a> {
+        Files {
+            input: Some(input),
+            ..self
         }
     }
 }
@@ -109,9 +120,16 @@ pub fn push_help(rt: &HostRuntime, fault: Fault, files: Files<'_>) {
     let program = contents(rt, files.program);
     let program = program_file(files.program, program.as_slice());
     let mut errors = WritePort::new(printable::errors(rt));
-    let _ = match files.schedule {
-        None => push_place(rt.alloc(), fault, program, None, &mut errors),
-        Some(name) => {
+    let _ = match (files.input, files.schedule) {
+        (Some(bytes), _) => {
+            let schedule = Named {
+                name: "standard input",
+                bytes,
+            };
+            push_place(rt.alloc(), fault, program, Some(schedule), &mut errors)
+        }
+        (None, None) => push_place(rt.alloc(), fault, program, None, &mut errors),
+        (None, Some(name)) => {
             let schedule = contents(rt, name);
             let schedule = Named {
                 name,

@@ -15,6 +15,7 @@ mod explaining;
 mod files;
 mod help;
 mod input;
+mod kept_source;
 mod missing;
 mod no_command;
 mod notes;
@@ -43,6 +44,7 @@ use expectation::{as_expected, expectations, tell_unmet};
 use headline::shown;
 use help::Files;
 use input::Input;
+use kept_source::KeptSource;
 use commands::{Asked, Pauses, report_runs};
 use no_command::NoCommand;
 use planning::{Steps, schedule_of_plan, write_plan};
@@ -167,6 +169,14 @@ fn play_plan<'a>(rt: &HostRuntime, file: &[u8], plan: &[u8], expected: &[&str]) 
     )
 }
 
+/// An answer, with what was read of a schedule that is refused, where that was standard input.
+fn with_input<'a>(answer: Answer<'a>, word: &str, kept: Vec<u8>) -> Answer<'a> {
+    match answer {
+        Err(Trouble::Fault(fault @ Fault::Schedule(_))) if word == "-" => Err(Trouble::OfInput(fault, kept)),
+        answer => answer,
+    }
+}
+
 /// Plays the program in a file.
 fn run<'a>(rt: &HostRuntime, file: &'a str, steps: Steps<'a>, expected: &[&str]) -> Answer<'a> {
     let mut program = ReadPort::new(files::read(rt, file)?);
@@ -176,9 +186,11 @@ fn run<'a>(rt: &HostRuntime, file: &'a str, steps: Steps<'a>, expected: &[&str])
             play_parts(rt, file.as_slice(), expected)
         }
         Steps::Named(word) => {
-            let mut schedule = ReadPort::new(Input::named(rt, word)?);
+            let schedule = ReadPort::new(Input::named(rt, word)?);
+            let mut schedule = KeptSource::new(rt.alloc(), schedule);
             let program = read_all(rt.alloc(), &mut program)?;
-            play(rt, program.as_slice(), &mut schedule, expected)
+            let answer = play(rt, program.as_slice(), &mut schedule, expected);
+            with_input(answer, word, schedule.into_kept())
         }
         Steps::Plan(plan) => {
             let file = read_all(rt.alloc(), &mut program)?;
@@ -211,32 +223,36 @@ fn compare<'a>(rt: &HostRuntime, file: &'a str, trace: &'a str, is_shown: bool) 
 }
 
 /// Writes the picture of a file that holds program and schedule.
-fn draw_both<P: Picture, F: Source, K: Sink>(
+fn draw_both<'a, P: Picture, F: Source, K: Sink>(
     rt: &HostRuntime,
     picture: &P,
     file: &mut F,
     output: &mut K,
-) -> Result<(), Fault> {
+) -> Answer<'a> {
     let file = read_all(rt.alloc(), file)?;
     let file = file.as_slice();
     if parts_of(file).0.len() == file.len() {
         notes::push_no_schedule(rt);
     }
-    make_of_both(rt.alloc(), picture, &mut SliceSource::new(file), output)
+    make_of_both(rt.alloc(), picture, &mut SliceSource::new(file), output)?;
+    Ok(Done::AsAsked)
 }
 
-/// Writes the picture of a program under a schedule, which is read as far as its fault or a choice too many.
-fn draw_under<P: Picture, F: Source, S: Source + Drop, K: Sink>(
+/// Writes the picture of a program under the schedule that a word names, which is read as far as its fault or a choice too many.
+fn draw_under<'a, P: Picture, F: Source, K: Sink>(
     rt: &HostRuntime,
     picture: &P,
     file: &mut F,
-    schedule: S,
+    word: &'a str,
     output: &mut K,
-) -> Result<(), Fault> {
-    let Ok(mut choices) = ShortSchedule::new(rt.alloc(), schedule) else {
-        return Err(Fault::Memory);
+) -> Answer<'a> {
+    let schedule = KeptSource::new(rt.alloc(), ReadPort::new(Input::named(rt, word)?));
+    let mut schedule = ShortSchedule::new(rt.alloc(), schedule)?;
+    let answer = match make(rt.alloc(), picture, file, &mut schedule, output) {
+        Ok(()) => Ok(Done::AsAsked),
+        Err(fault) => Err(Trouble::Fault(fault)),
     };
-    make(rt.alloc(), picture, file, &mut choices, output)
+    with_input(answer, word, schedule.into_source().into_kept())
 }
 
 /// Writes the picture of what a plan stands for.
@@ -246,17 +262,19 @@ fn draw_plan<'a, P: Picture, F: Source, K: Sink>(
     file: &mut F,
     plan: &[u8],
     output: &mut K,
-) -> Result<Result<(), Fault>, Trouble<'a>> {
+) -> Answer<'a> {
     let file = read_all(rt.alloc(), file)?;
     let (program, _) = parts_of(file.as_slice());
     let schedule = schedule_of_plan(rt, program, plan)?;
-    Ok(draw_under(
-        rt,
+    let mut schedule = ShortSchedule::new(rt.alloc(), SliceSource::new(schedule.as_bytes()))?;
+    make(
+        rt.alloc(),
         picture,
         &mut SliceSource::new(program),
-        SliceSource::new(schedule.as_bytes()),
+        &mut schedule,
         output,
-    ))
+    )?;
+    Ok(Done::AsAsked)
 }
 
 /// Writes the picture of the program in a file. It is written at once, so nothing is kept back.
@@ -268,23 +286,18 @@ fn draw<'a, P: Picture>(
 ) -> Answer<'a> {
     let mut program = ReadPort::new(files::read(rt, file)?);
     let mut output = WritePort::new(rt.stdout());
-    let answer = match steps {
+    let done = match steps {
         Steps::Beside => draw_both(rt, picture, &mut program, &mut output),
-        Steps::Named(word) => {
-            let schedule = ReadPort::new(Input::named(rt, word)?);
-            draw_under(rt, picture, &mut program, schedule, &mut output)
-        }
-        Steps::Plan(plan) => draw_plan(rt, picture, &mut program, plan.as_bytes(), &mut output)?,
+        Steps::Named(word) => draw_under(rt, picture, &mut program, word, &mut output),
+        Steps::Plan(plan) => draw_plan(rt, picture, &mut program, plan.as_bytes(), &mut output),
         Steps::PlanIn(word) => {
             let plan = files::contents(rt, word)?;
-            draw_plan(rt, picture, &mut program, plan.as_slice(), &mut output)?
+            draw_plan(rt, picture, &mut program, plan.as_slice(), &mut output)
         }
-    };
-    let answer = flushed(answer, &mut output);
-    if answer.is_ok() {
-        help::push_missing(rt, file, steps);
-    }
-    Ok(as_asked(answer)?)
+    }?;
+    let done = flushed(Ok(done), &mut output)?;
+    help::push_missing(rt, file, steps);
+    Ok(done)
 }
 
 /// Plays a program on real threads, which pause a little where there is a seed.

@@ -85,6 +85,11 @@ impl<S: Drop> ShortSchedule<S> {
             is_over: false,
         })
     }
+
+    /// The source, read as far as it was.
+    pub fn into_source(self) -> S {
+        self.source
+    }
 }
 
 impl<S: Source> Source for ShortSchedule<S> {

@@ -17,6 +17,8 @@ pub enum Trouble<'a> {
     NoCommand(NoCommand<'a>),
     /// A command met a fault.
     Fault(Fault),
+    /// A command met a fault of what came by standard input, of which so much was kept.
+    OfInput(Fault, Vec<u8>),
     /// A plan has a fault.
     Plan(PlanFault),
     /// Nothing is explained.
@@ -71,6 +73,7 @@ impl<'a> Trouble<'a> {
         match self {
             Trouble::NoCommand(no_command) => no_command.tell(rt, words),
             Trouble::Fault(fault) => tell_fault(rt, *fault, files),
+            Trouble::OfInput(fault, input) => tell_fault(rt, *fault, files.with_input(input.as_slice())),
             Trouble::Plan(fault) => tell_plan(rt, *fault, files),
             Trouble::Unexplained(Unexplained::Write) => tell_fault(rt, Fault::Write, files),
             Trouble::Unexplained(why) => {

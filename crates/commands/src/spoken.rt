@@ -1,0 +1,85 @@
+//! A person's line as the debugger reads it: the names of threads in place of their numbers.
+
+use assembler::Symbols;
+use instruction_table::OperandKind;
+use itoa::Buffer;
+use line_reader::words::is_blank;
+use std::alloc::{AllocError, Global};
+
+/// The number of the thread that is called so.
+fn thread_called(symbols: &Symbols<'_>, name: &[u8]) -> Option<u16> {
+    for index in 0..symbols.len() {
+        let symbol = symbols.get(index)?;
+        if symbol.kind == OperandKind::Thread && symbol.name == name {
+            return Some(symbol.number);
+        }
+    }
+    None
+}
+
+/// The letter and the number of the choice that a word names, where it has a declared name: `ann`, or `xann` for the end of her
+/// wait's time.
+fn choice_called(symbols: &Symbols<'_>, word: &[u8]) -> Option<(u8, u16)> {
+    if let Some(thread) = thread_called(symbols, word) {
+        return Some((b't', thread));
+    }
+    let thread = thread_called(symbols, word.strip_prefix(b"x".as_slice())?)?;
+    Some((b'x', thread))
+}
+
+/// Adds a token, in which a name may stand before `*`.
+fn push_token(
+    line: &mut Vec<u8>,
+    symbols: &Symbols<'_>,
+    token: &[u8],
+) -> Result<(), AllocError> {
+    let end = token
+        .iter()
+        .position(|byte| *byte == b'*')
+        .unwrap_or(token.len());
+    let (name, times) = token.split_at(end.min(token.len()));
+    match choice_called(symbols, name) {
+        Some((letter, thread)) => {
+            line.push(letter)?;
+            line.extend_from_slice(Buffer::new().format(thread).as_bytes())?;
+            line.extend_from_slice(times)
+        }
+        None => line.extend_from_slice(token),
+    }
+}
+
+/// Whether a word is a command that choices follow.
+fn is_before_choices(word: &[u8]) -> bool {
+    word == b"s".as_slice() || word == b"g".as_slice()
+}
+
+/// The line that the debugger reads, without an end: `s t0` for `s ann` and for `ann` alone. What names nobody stays as it is.
+pub fn in_numbers(
+    alloc: Global,
+    symbols: &Symbols<'_>,
+    said: &[u8],
+) -> Result<Vec<u8>, AllocError> {
+    let mut line = Vec::new(alloc);
+    let mut words = said
+        .split(|byte| is_blank(*byte))
+        .filter(|word| !word.is_empty());
+    let Some(first) = words.next() else {
+        return Ok(line);
+    };
+    if choice_called(symbols, first).is_some() && words.next().is_none() {
+        line.extend_from_slice(b"s ")?;
+        push_token(&mut line, symbols, first)?;
+    } else if is_before_choices(first) {
+        line.extend_from_slice(first)?;
+        let words = said
+            .split(|byte| is_blank(*byte))
+            .filter(|word| !word.is_empty());
+        for word in words.skip(1) {
+            line.push(b' ')?;
+            push_token(&mut line, symbols, word)?;
+        }
+    } else {
+        line.extend_from_slice(said)?;
+    }
+    Ok(line)
+}
