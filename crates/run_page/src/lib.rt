@@ -1,7 +1,7 @@
 //! A page that shows a run: one HTML file that any browser opens, with no network.
 //!
 //! Between fixed parts stand three texts, proved to be of just this program and schedule: the listing, the source, and the
-//! run. The page's script draws them and plays nothing. `bin/page` makes the constants of `fixed` of the sources in `page/`.
+//! run. The page's script draws them and plays nothing. `bin/made` makes the constants of `fixed` of the sources in `page/`.
 #![tactic(auto)]
 
 pub mod choices;
