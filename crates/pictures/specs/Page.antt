@@ -52,7 +52,7 @@ moments world (choice ∷ choices) =
 abbrev pub run_shown : World → List Choice → List ℕ
 run_shown world choices = moment world ++ moments world choices
 
--- the parts of a page that are the same of every run, as `bin/page` makes them of the sources in `page/`
+-- the parts of a page that are the same of every run, as `bin/made` makes them of the sources in `page/`
 pub record Parts : Type 0 where
   pub head : List ℕ
   pub before_source : List ℕ

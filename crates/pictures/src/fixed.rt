@@ -1,4 +1,4 @@
-// The parts of a page that are the same of every run, made by bin/page of the sources in page/.
+// The parts of a page that are the same of every run, made by bin/made of the sources in page/.
 
 /// What a page begins with, up to the listing.
 #[rattlefmt::skip]

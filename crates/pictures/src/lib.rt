@@ -1,7 +1,7 @@
 //! A run as a picture: a page that any browser opens, with no network, and a text for a terminal.
 //!
 //! Between fixed parts of a page stand three texts, proved to be of just this program and schedule: the listing, the source,
-//! and the run. The page's script draws them and plays nothing. `bin/page` makes the constants of `fixed` of the sources in
+//! and the run. The page's script draws them and plays nothing. `bin/made` makes the constants of `fixed` of the sources in
 //! `page/`. `picture` answers exactly the text that `specs/Picture.antt` defines, a column for each thread and a line for each
 //! choice; threads that don't fit side by side stand in further blocks.
 #![tactic(auto)]

@@ -1,4 +1,4 @@
-//! What this program was made of, as `bin/origin` wrote it.
+//! What this program was made of, as `bin/program` wrote it.
 
 /// The version, the kit whose logic proves it, and the sum of the sources but for this file.
 pub const VERSION: &str =

@@ -1,23 +1,17 @@
-#!/usr/bin/env python3
-"""Writes two tables of the kit, between two marks each. Into kit/cases/README.md that of the cases: for each heading of
-docs/BEHAVIOUR.md the cases whose first line names it, in the order of the headings. Into docs/PORTING.md that of the adapters in
-kit/wrong/burst: what each has misunderstood, the kind of burst that finds it, and where lock-step does, as its comment says; and
-of the faults in kit/wrong/lockfree/table.txt.
-
-cases           writes them
-cases --check   says whether they stand there, and writes nothing; also whether each heading is one of BEHAVIOUR's, and each kind
-                of burst one of the player's"""
+"""Makes two tables of the kit. In kit/cases/README.md that of the cases: for each heading of docs/BEHAVIOUR.md the cases whose first
+line names it, in the order of the headings. In docs/PORTING.md that of the adapters in kit/wrong/burst: what each has
+misunderstood, the kind of burst that finds it, and where lock-step does, as its comment says; and of the faults in
+kit/wrong/lockfree/table.txt. Each heading has to be one of BEHAVIOUR's, and each kind of burst one of the player's."""
 import re
 import sys
-from pathlib import Path
 
-TOP = Path(__file__).resolve().parent.parent
+from marks import TOP, between
+
 KEPT = TOP / "kit" / "cases" / "README.md"
 GUIDE = TOP / "docs" / "PORTING.md"
 ADAPTERS = TOP / "kit" / "wrong" / "burst"
 LOCK_FREE = TOP / "kit" / "wrong" / "lockfree" / "table.txt"
 RULES = (TOP / "docs" / "BEHAVIOUR.md").read_text()
-MADE = re.compile(r"(<!-- the table, by bin/cases -->\n).*?(<!-- end of the table -->)", re.S)
 RIGHT = "UnderOneLock"  # the classes of which the wrong ones are made
 ADAPTER = re.compile(r"/\*\*\n((?: \* .*\n)+) \*\n \* <p>Found by ([\w-]+)(?:; in lock-step (.*))?\.\n \*/\npublic final class (\w+)")
 
@@ -44,7 +38,7 @@ def table_of_cases():
     if missing:
         sys.exit(f"no headings of docs/BEHAVIOUR.md: {'; '.join(missing)}")
     rows = [f"| {heading} | {len(cases[heading])} | {', '.join(cases[heading])} |\n" for heading in sorted(cases, key=place_of)]
-    return "\n| Heading | Cases | Names |\n|---|---|---|\n" + "".join(rows) + "\n"
+    return "| Heading | Cases | Names |\n|---|---|---|\n" + "".join(rows)
 
 
 def table_of_adapters():
@@ -69,20 +63,9 @@ def table_of_adapters():
             sys.exit(f"{LOCK_FREE.relative_to(TOP)}: there is no kind of burst {kind}")
         if rest:
             rows.append(f"| `{name}`, in C++: {said} | `{kind}` |  |\n")
-    return "\n| Adapter, and its fault | A burst that finds it | Lock-step |\n|---|---|---|\n" + "".join(rows) + "\n"
+    return "| Adapter, and its fault | A burst that finds it | Lock-step |\n|---|---|---|\n" + "".join(rows)
 
 
-def main():
-    stale = []
-    for page, table in ((KEPT, table_of_cases()), (GUIDE, table_of_adapters())):
-        kept = page.read_text()
-        made = MADE.sub(lambda marks: marks[1] + table + marks[2], kept)
-        if made != kept:
-            stale.append(str(page.relative_to(TOP)))
-            if sys.argv[1:] != ["--check"]:
-                page.write_text(made)
-    if stale and sys.argv[1:] == ["--check"]:
-        sys.exit(f"stale: {', '.join(stale)}; bin/cases writes their tables anew")
-
-
-main()
+def made():
+    tables = {KEPT: table_of_cases(), GUIDE: table_of_adapters()}
+    return {page: between(page, page.read_text(), "the table", "kit", table) for page, table in tables.items()}

@@ -1,21 +1,17 @@
-#!/usr/bin/env python3
-"""Writes into docs/crates/NAME.md, a page for each crate of crates.txt, what can be made, between two marks each: what the crate
-is for, as its lib.rt (a program's main.rt) begins; its laws; its definitions that somebody has to believe (docs/believed knows
-which), each with its comment, a file behind those that it names; and its wrong ideas, the edits in must-fail/. Then, in
-docs/PROMISES.md, the list of the pages. What else a crate promises is written by hand.
-
-crate-pages           writes these, and begins the page of a crate that has none
-crate-pages --check   says whether they stand there, and writes nothing; also whether each crate has a page on which something is
-                      promised, each page a crate, and each name in brackets is one of a clause, a function or a test"""
-import importlib.machinery
-import importlib.util
+"""Makes of crates.txt and of the crates their map in docs/ARCHITECTURE.md, the list of their pages in docs/PROMISES.md, and of
+each page, docs/crates/NAME.md, what the crate is for, as its lib.rt (a program's main.rt) begins; its laws; its definitions that
+somebody has to believe, each with its comment, a file behind those that it names; and its wrong ideas, the edits in must-fail/.
+What else a crate promises is written by hand; the page of a crate that has none is begun. Wrong is a page on which nothing is
+promised, and a name in brackets that is none of a clause, a function or a test."""
 import itertools
 import re
 import sys
 import textwrap
-from pathlib import Path
 
-TOP = Path(__file__).resolve().parent.parent
+import believed
+from marks import TOP, begin_of, between, end_of
+
+MAP = TOP / "docs" / "ARCHITECTURE.md"
 PAGES = TOP / "docs" / "crates"
 LIST = TOP / "docs" / "PROMISES.md"
 WIDTH = 126
@@ -23,15 +19,6 @@ PUBLIC = r"(?:pub(?:\([^)]*\))? )?"
 ITEM = re.compile(rf"{PUBLIC}(?:fn|impl|trait|const|static|enum|struct|macro_rules!)\b")
 LAW = re.compile(r"(?m)((?:^ *///.*\n)+)(?:^ *#.*\n)*^ *pub fn (\w+)\(([^)]*)\)\n((?: +(?:requires|ensures).*\n(?:  .*\n)*)+)")
 PART = re.compile(rf"    {PUBLIC}(?:fn|const|ghost) ")
-
-
-def believed_module():
-    """docs/believed, which knows the definitions and who names them."""
-    sys.dont_write_bytecode = True
-    loader = importlib.machinery.SourceFileLoader("believed", str(TOP / "docs" / "believed"))
-    module = importlib.util.module_from_spec(importlib.util.spec_from_loader("believed", loader))
-    loader.exec_module(module)
-    return module
 
 
 def floors():
@@ -64,11 +51,18 @@ def comment_of(lines, sign):
 
 # -- what a crate is for
 
+def head_of(crate):
+    """What its lib.rt or main.rt begins with."""
+    source = next(it for it in (crate / "src" / "lib.rt", crate / "src" / "main.rt") if it.is_file())
+    return re.sub(r"(?m)^//! ?", "", re.match(r"(?://!.*\n)*", source.read_text()).group())
+
+
 def purpose(crate):
-    source = crate / "src" / "lib.rt"
-    source = source if source.is_file() else crate / "src" / "main.rt"
-    head = re.match(r"(?://!.*\n)*", source.read_text()).group()
-    return re.sub(r"(?m)^//! ?", "", head) + "\nHow to read this page: [promises](../PROMISES.md), [definitions](../DEFINITIONS.md).\n"
+    return head_of(crate) + "\nHow to read this page: [promises](../PROMISES.md), [definitions](../DEFINITIONS.md).\n"
+
+
+def first_sentence(crate):
+    return re.match(r".*?\.(?= |$)|.*", " ".join(head_of(crate).partition("\n\n")[0].split())).group()
 
 
 # -- definitions and laws
@@ -100,14 +94,14 @@ def named_with_comments(found):
     return "".join(item(", ".join(names) + (f": {comment}" if comment else ""), "  ") for names, comment in groups)
 
 
-def definitions(crate, its, believed):
+def definitions(crate, its, all_believed):
     """The definitions of a crate by files, those that somebody has to believe; the names of the others; the types named."""
     text, abstract, others = "", [], []
     for path in files_of(crate):
         here = [(key[2], it) for key, it in its.items() if key[1] == path.stem]
-        kept = [(name, comment_of(it.text, "-")) for name, it in here if (crate.name, path.stem, name) in believed]
+        kept = [(name, comment_of(it.text, "-")) for name, it in here if (crate.name, path.stem, name) in all_believed]
         handed = [f"`{name}`" for name, it in here if it.mark]
-        rest = [f"`{name}`" for name, it in here if (crate.name, path.stem, name) not in believed and not it.mark]
+        rest = [f"`{name}`" for name, it in here if (crate.name, path.stem, name) not in all_believed and not it.mark]
         if kept:
             head = comment_of(path.read_text().split("\n"), "-")
             text += item(f"`specs/{path.name}`" + (f": {head}" if head else "")) + named_with_comments(kept)
@@ -115,7 +109,7 @@ def definitions(crate, its, believed):
             abstract.append(f"{', '.join(handed)} (`specs/{path.name}`)")
         if rest:
             others.append(f"{', '.join(rest)} (`specs/{path.name}`)")
-    types = [(key[2], comment_of(it.text, "/")) for key, it in its.items() if key[1] == "declared" and key in believed]
+    types = [(key[2], comment_of(it.text, "/")) for key, it in its.items() if key[1] == "declared" and key in all_believed]
     if types:
         text += item("Types of the code that these and the contracts name") + "".join(
             item(f"`{name}`" + (f": {comment}" if comment else ""), "  ") for name, comment in types)
@@ -216,72 +210,68 @@ def unknown_in(text, known):
 
 # -- pages
 
-def between(text, mark, made, page):
-    """The text with what is made between two marks."""
-    begin, end = f"<!-- {mark}, by bin/crate-pages -->\n", f"<!-- end of {mark} -->"
-    if text.count(begin) != 1 or text.count(end) != 1:
-        sys.exit(f"{page.relative_to(TOP)} has to have the lines {begin.strip()} and {end} once")
-    before, _, rest = text.partition(begin)
-    return f"{before}{begin}\n{made}\n{end}{rest.partition(end)[2]}"
-
-
-def new_page(crate, parts):
+def new_page(name, parts):
     """A page without promises."""
-    text = f"# {crate.name}\n\n"
+    text = f"# {name}\n\n"
     for mark, made in parts.items():
         if made:
             heading = "" if mark == "the purpose" else f"## {mark.removeprefix('the ').capitalize()}\n\n"
-            text += f"{heading}<!-- {mark}, by bin/crate-pages -->\n<!-- end of {mark} -->\n\n"
+            text += f"{heading}{begin_of(mark, 'crates')}{end_of(mark)}\n\n"
             text += "## Promises\n\n" if mark == "the purpose" else ""
     return text.rstrip("\n") + "\n"
 
 
-def page_list():
-    text = ""
-    for floor, crates in floors().items():
-        text += item(f"{floor}: " + ", ".join(f"[{crate}](crates/{crate}.md)" for crate in crates))
+def page_of(name, all_definitions, all_believed):
+    crate, page = TOP / "crates" / name, PAGES / f"{name}.md"
+    its = {key: it for key, it in all_definitions.items() if key[0] == name}
+    parts = {
+        "the purpose": purpose(crate),
+        "the laws": laws(crate),
+        "the definitions": definitions(crate, its, all_believed),
+        "the wrong ideas": wrong_ideas(crate),
+    }
+    text = page.read_text() if page.is_file() else new_page(name, parts)
+    for mark, part in parts.items():
+        if part or begin_of(mark, "crates") in text:
+            text = between(page, text, mark, "crates", part)
     return text
 
 
-def main():
-    looks = sys.argv[1:] == ["--check"]
-    tool = believed_module()
-    all_definitions = tool.all_definitions()
-    roots = set().union(*(tool.contracts_of(it)[0] for it in (TOP / "crates").iterdir() if it.is_dir()))
-    believed = tool.closure(roots, all_definitions)
-    made, crates = {}, {name: below for floor in floors().values() for name, below in floor.items()}
-    for name, below in crates.items():
-        crate, page = TOP / "crates" / name, PAGES / f"{name}.md"
-        its = {key: it for key, it in all_definitions.items() if key[0] == name}
-        parts = {
-            "the purpose": purpose(crate),
-            "the laws": laws(crate),
-            "the definitions": definitions(crate, its, believed),
-            "the wrong ideas": wrong_ideas(crate),
-        }
-        if not page.is_file() and looks:
-            sys.exit(f"the crate {name} has no page: bin/crate-pages begins one")
-        text = page.read_text() if page.is_file() else new_page(crate, parts)
-        for mark, part in parts.items():
-            if part or f"<!-- {mark}, by bin/crate-pages -->" in text:
-                text = between(text, mark, part, page)
-        made[page] = text
-        if looks and not re.search(r"(?m)^## Promises\n\n(?!##|<!--)\S", text):
-            sys.exit(f"docs/crates/{name}.md has no promises")
-        unknown = list(unknown_in(text, names_of(name, below))) if looks else []
-        if unknown:
-            sys.exit(f"docs/crates/{name}.md names no clause, function or test: {', '.join(unknown)}")
-    made[LIST] = between(LIST.read_text(), "the pages", page_list(), LIST)
-    over = sorted(it.name for it in PAGES.glob("*.md") if it.stem not in crates)
+def page_list():
+    return "".join(item(f"{floor}: " + ", ".join(f"[{it}](crates/{it}.md)" for it in its)) for floor, its in floors().items())
+
+
+def crate_map():
+    lines = {it: item(f"[`{it}`](crates/{it}.md): {first_sentence(TOP / 'crates' / it)}") for its in floors().values() for it in its}
+    return "\n".join(f"{floor}:\n\n" + "".join(lines[it] for it in its) for floor, its in floors().items())
+
+
+def crates():
+    """Each crate with those that it stands on."""
+    return {name: below for floor in floors().values() for name, below in floor.items()}
+
+
+def made():
+    over = sorted(it.name for it in PAGES.glob("*.md") if it.stem not in crates())
     if over:
         sys.exit(f"pages of no crate: {', '.join(over)}")
-    stale = [page for page, text in made.items() if not page.is_file() or page.read_text() != text]
-    if looks and stale:
-        sys.exit(f"stale: {', '.join(str(it.relative_to(TOP)) for it in stale)}; bin/crate-pages writes them anew")
+    all_definitions = believed.all_definitions()
+    all_believed = believed.closure(believed.all_roots(), all_definitions)
     PAGES.mkdir(exist_ok=True)
-    for page in stale:
-        page.write_text(made[page])
+    texts = {PAGES / f"{name}.md": page_of(name, all_definitions, all_believed) for name in crates()}
+    texts[LIST] = between(LIST, LIST.read_text(), "the pages", "crates", page_list())
+    texts[MAP] = between(MAP, MAP.read_text(), "the map", "crates", crate_map())
+    return texts
 
 
-if __name__ == "__main__":
-    main()
+def wrong():
+    found = []
+    for name, below in crates().items():
+        page = PAGES / f"{name}.md"
+        text = page.read_text() if page.is_file() else ""
+        if not re.search(r"(?m)^## Promises\n\n(?!##|<!--)\S", text):
+            found.append(f"docs/crates/{name}.md has no promises")
+        unknown = list(unknown_in(text, names_of(name, below)))
+        if unknown:
+            found.append(f"docs/crates/{name}.md names no clause, function or test: {', '.join(unknown)}")
+    return found

@@ -1,20 +1,15 @@
-#!/usr/bin/env python3
-"""Writes into README and docs/ the programs that they show, and what the program prints, between two marks each. The first mark
-names a file, or has in lines of its own the commands of a run, as a reader types them:
+"""Makes the programs that README and docs/ show, and what the program prints. The first mark names a file, or has in lines of its
+own the commands of a run, as a reader types them:
 
-<!-- the program examples/meeting.asm, by bin/examples -->
+<!-- the program examples/meeting.asm, by bin/made examples -->
 <!-- end of the program -->
 
-<!-- the run, by bin/examples
+<!-- the run, by bin/made examples
 ./vuthgal draw examples/two-threads-meet.txt -->
 <!-- end of the run -->
 
 Between them comes the text of the file; or the commands, and then what they print. A command knows the variables that a run
-before it in the same document has set.
-
-examples           writes these
-examples --check   says whether they stand there, and writes nothing
-VUTHGAL=PROGRAM in front names another program than bin/vuthgal"""
+before it in the same document has set."""
 import os
 import re
 import subprocess
@@ -22,9 +17,10 @@ import sys
 import tempfile
 from pathlib import Path
 
-TOP = Path(__file__).resolve().parent.parent
+from marks import TOP
+
 PROGRAM = Path(os.environ.get("VUTHGAL", TOP / "bin" / "vuthgal")).resolve()
-MARKED = re.compile(r"(<!-- the (program|run)(?: (\S+))?, by bin/examples(?:\n([^>]*?))? -->\n).*?(<!-- end of the \2 -->)", re.S)
+MARKED = re.compile(r"(<!-- the (program|run)(?: (\S+))?, by bin/made examples(?:\n([^>]*?))? -->\n).*?(<!-- end of the \2 -->)", re.S)
 
 
 def room_of(folder):
@@ -60,21 +56,12 @@ def filled(page, room):
         return f"{begin}\n{block(commands)}\n{block(output)}\n{end}"
 
     text = page.read_text()
-    if text.count(", by bin/examples") != len(MARKED.findall(text)):
-        sys.exit(f"{page.relative_to(TOP)} has a mark of bin/examples that is spelled otherwise, or has no end")
+    if text.count(", by bin/made examples") != len(MARKED.findall(text)):
+        sys.exit(f"{page.relative_to(TOP)} has a mark of bin/made that is spelled otherwise, or has no end")
     return MARKED.sub(made, text)
 
 
-def main():
+def made():
     with tempfile.TemporaryDirectory() as folder:
         room = room_of(Path(folder))
-        pages = [TOP / "README.md", *sorted((TOP / "docs").glob("*.md"))]
-        stale = [(page, text) for page in pages if (text := filled(page, room)) != page.read_text()]
-    if sys.argv[1:] != ["--check"]:
-        for page, text in stale:
-            page.write_text(text)
-    elif stale:
-        sys.exit(f"stale: {', '.join(str(page.relative_to(TOP)) for page, _ in stale)}; bin/examples writes them anew")
-
-
-main()
+        return {page: filled(page, room) for page in (TOP / "README.md", *sorted((TOP / "docs").glob("*.md")))}

@@ -15,9 +15,10 @@ takes it answers or changes something; and no law, which has no arguments, ends 
 believed, but by the calls of its own file. A view is from or to such a type, and two calls promise something by it."""
 import re
 import sys
-from pathlib import Path
 
-LIST = Path(__file__).resolve().parent / "abstract.txt"
+from marks import TOP
+
+LIST = TOP / "docs" / "abstract.txt"
 WORD = r"[A-Za-z_][\w-]*"
 GIVEN, TAKEN, WITHIN = "given", "taken", "within"
 BEHIND = {"OnOk", "OnErr", "OnSome", "IfOk", "IfErr", "IfSome"}
@@ -237,10 +238,7 @@ class Believed:
         return key in seen
 
 
-def check(definitions, believed, calls):
-    """Ends the program where a line of the list is wrong."""
+def wrong(definitions, believed, calls):
+    """What is wrong with the lines of the list."""
     all_of_it = Believed(definitions, believed, calls)
-    for mark in marks():
-        why = all_of_it.wrong(mark)
-        if why:
-            sys.exit(f"docs/abstract.txt: {mark.name}: {why}")
+    return [f"docs/abstract.txt: {mark.name}: {why}" for mark in marks() if (why := all_of_it.wrong(mark))]

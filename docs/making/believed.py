@@ -1,0 +1,296 @@
+"""What somebody who trusts the checker must still read and believe: the definitions (specs/) that a public contract names, and what
+these name in turn, in whichever crate it stands; the clauses of the public functions; and the types of the code that both
+name, less their private fields. The other lines of specs/ are the steps of proofs, what private types and fields stand for,
+and what contracts hand from call to call (docs/abstract.txt; abstract.py says when that is so). A line counts that says
+something: no comment, no import, no blank. Made of it is docs/headline.txt; wrong is a line of abstract.txt that isn't so."""
+import functools
+import re
+import sys
+
+import abstract
+from marks import TOP
+
+NAME = r"[A-Za-z_][\w-]*"
+HEADLINE = TOP / "docs" / "headline.txt"
+
+
+class Definition:
+    """Its lines with their comments, those of them that say something, and what they name: triples (crate, module, name).
+    What its words stand for; and the line of docs/abstract.txt that it has, if any."""
+
+    def __init__(self):
+        self.text, self.lines, self.names, self.scope, self.mark = [], [], set(), ({}, {}), None
+
+
+def without_comments(text):
+    return re.sub(r"--.*|//[^\n]*", "", text)
+
+
+# -- definitions
+
+def imports_of(text, word):
+    """What each word of an import stands for: a triple, or for an alias of a module a pair. A type that code declares has the
+    module `declared`."""
+    names, modules = {}, {}
+    for path, rest in re.findall(rf"(?m)^\s*{word} Rattle\.([\w.]+?)(\.\{{[^}}]*\}}| as {NAME})?;?\s*$", text):
+        steps = path.split(".")
+        if len(steps) < 3 or steps[1] != "specs":
+            continue
+        if steps[2] == "declared":
+            kind = [step for step in steps if step != "TheVariants"][-1]
+            names.update({name: (steps[0], "declared", kind) for name in re.findall(NAME, rest.replace(" as ", " "))})
+            continue
+        crate, module = steps[0], ".".join(steps[2:])
+        if rest.startswith(" as "):
+            modules[rest[4:]] = (crate, module)
+        for item in rest[2:-1].split(",") if rest.startswith(".{") else []:
+            first, _, alias = item.strip().partition(" as ")
+            names[(alias or first).strip()] = (crate, module, first.strip())
+    return names, modules
+
+
+def named_in(text, names, modules):
+    found = {names[word] for word in re.findall(NAME, text) if word in names}
+    for alias, word in re.findall(rf"\b({NAME})\.({NAME})", text):
+        if alias in modules:
+            found.add((*modules[alias], word))
+    return found
+
+
+def definitions_of(path, crate, module):
+    """Each definition of a file: its first line names it; lines that begin with its name, or with blanks, go on with it. The
+    comment above it is its own."""
+    raw = path.read_text()
+    names, modules = imports_of(without_comments(raw), "use")
+    found, current, comment = {}, None, []
+    for line in raw.split("\n"):
+        said = without_comments(line)
+        if not said.strip():
+            comment = comment + [line] if line.startswith("--") else []
+            continue
+        if re.match(r"(use|pub mod|mod|pub use)\b|#", line):
+            comment = []
+            continue
+        start = re.match(rf"(?:(?:abbrev|unfoldable|pub|record|data|relation|inductive)\s+)*({NAME}|\S+)", line)
+        if line[0] not in " })" and start:
+            current = start.group(1)
+        it = found.setdefault(current, Definition())
+        it.text += comment + [line]
+        it.lines.append(said)
+        comment = []
+    own = {name: (crate, module, name) for name in found}
+    for name, it in found.items():
+        it.scope = ({**names, **own}, modules)
+        it.names = named_in("\n".join(it.lines), *it.scope) - {own[name]}
+    return {own[name]: it for name, it in found.items()}
+
+
+def without_private_fields(block):
+    """A type as others see it. The fields of an enum's kinds are as public as the enum."""
+    if not re.search(r"(?m)^pub struct [^;{]*\{$", block):
+        return block
+    private = r"(?m)^(?: *///.*\n| *#.*\n)*    (?:pub\([^)]*\) )?(?:ghost )?(?!pub\b)\w+:(?:.*\n)*?(?=    (?:///|#|pub|\w+:)|\})"
+    return re.sub(private, "", block)
+
+
+def types_of(crate):
+    """The types that a crate's code declares, with the doc comments of the types and of their parts."""
+    found = {}
+    for path in sorted((crate / "src").rglob("*.rt")):
+        for block in re.finditer(r"(?m)((?:^ *///.*\n)*)(?:^#.*\n)*(^pub (?:enum|struct) (\w+)[^;{]*(?:;|\{\n(?:.*\n)*?\}))", path.read_text()):
+            it, seen = Definition(), without_private_fields(block.group(2))
+            it.text = (block.group(1) + seen).split("\n")
+            it.lines = [line for line in without_comments(seen).split("\n") if line.strip()]
+            found[(crate.name, "declared", block.group(3))] = it
+    return found
+
+
+@functools.cache
+def all_definitions():
+    found = {}
+    for crate in sorted(it for it in (TOP / "crates").iterdir() if (it / "specs").is_dir()):
+        found.update(types_of(crate))
+        for path in sorted((crate / "specs").rglob("*.antt")):
+            if path.stem != "Lib":
+                found.update(definitions_of(path, crate.name, ".".join(path.relative_to(crate / "specs").with_suffix("").parts)))
+    by_name = {}
+    for key in found:
+        if key[1] == "declared":
+            by_name.setdefault(key[2], []).append(key)
+    for key, it in found.items():
+        if key[1] == "declared":
+            # the names of its kinds and fields are no types
+            inside = re.sub(r"(?m)^ +(?:pub )?(?:ghost )?\w+", "", "\n".join(it.lines))
+            for word in set(re.findall(r"\w+", inside)) - {key[2]}:
+                same = [other for other in by_name.get(word, []) if other[0] == key[0]] or by_name.get(word, [])
+                it.names |= {same[0]} if len(same) == 1 else set()
+    for mark in abstract.marks():
+        if mark.key not in found:
+            sys.exit(f"docs/abstract.txt names {mark.name}, which is no definition")
+        found[mark.key].mark = mark
+    return found
+
+
+# -- what public contracts name
+
+def blocks(text):
+    """A file's text at its top, and each `impl` or `trait` with its head."""
+    top, parts, at = "", [], 0
+    for head in re.finditer(r"(?m)^(?:pub )?(?:impl|trait)\b[^{;]*\{", text):
+        if head.start() < at:
+            continue
+        end = text.find("\n}", head.end())
+        top += text[at:head.start()]
+        parts.append((head.group(), text[head.end():end]))
+        at = end
+    return top + text[at:], parts
+
+
+def contracts(text, chosen, word="pub fn"):
+    """The functions behind this word that are chosen by name, each up to its body: its name, and its head with its clauses."""
+    found = re.finditer(rf"(?m)^\s*{word} (\w+)(.*?)(?=^\s*\{{|\Z)", text, re.S)
+    return [it.groups() for it in found if chosen(it.group(1))]
+
+
+def subject_of(head):
+    """The type that an `impl` is of, or the trait that is declared."""
+    head = re.sub(r"<[^<>]*>", "", re.sub(r"<[^<>]*>", "", head))
+    return re.findall(r"\w+", head.split(" for ")[-1].split(" where ")[0])[-1 if " for " not in head else 0]
+
+
+def said_in(path, is_public, exported):
+    """The exported functions of a file, as pairs of a name and of a head with its clauses; what else is said to others; and
+    what the words in it all stand for. A private type's functions are as private, and nobody outside sees what a type's
+    fields stand for, nor what is true of them."""
+    text = re.sub(r"(?s)#\[cfg\(test\)\].*", "", without_comments(path.read_text()))
+    top, parts = blocks(text)
+    private = re.findall(r"(?m)^(?:pub\([^)]*\) )?(?:struct|enum|trait) (\w+)", text)
+    calls = contracts(top, lambda name: is_public or name in exported)
+    said = re.findall(r"pub ghost \w+: \{(.*?)\},", top, re.S)
+    for head, body in parts:
+        subject = subject_of(head)
+        if subject in private or not is_public and subject not in exported:
+            continue
+        # the functions of a trait are as public as the trait
+        its = contracts(body, lambda name: True, "fn" if " for " in head else "pub fn")
+        calls += [(f"{subject}::{name}", contract) for name, contract in its]
+        if "trait " in head or " for " in head:
+            said += re.findall(r"ghost (?!(?:view|invariant|inverse)\b)\w+\s*[:=]\s*\{(.*?)\};", body, re.S)
+            if "trait " in head:
+                said += re.findall(r"(?:requires|ensures)[^{]*\{.*?\}\s*(?=ensures|requires|;|\{)", body, re.S)
+    return calls, said, imports_of(text, r"ghost use")
+
+
+def clauses_of(contract):
+    """The lines of a contract's clauses."""
+    found = re.search(r"\b(?:requires|ensures)\b", contract)
+    return [line for line in contract[found.start():].split("\n") if line.strip()] if found else []
+
+
+def contracts_of(crate, left_out=()):
+    """What the public contracts of a crate name, how many lines their clauses have, and its calls, but for these modules of it."""
+    source, found, clauses, calls = crate / "src", set(), 0, []
+
+    def visit(path, folder, is_public, exported):
+        nonlocal clauses
+        text = path.read_text()
+        its, said, scope = said_in(path, is_public, exported)
+        file = str(path.relative_to(TOP))
+        calls.append(abstract.Call.of_others(file, said, scope))
+        said += [contract for _, contract in its]
+        found.update(named_in("".join(said), *scope))
+        clauses += sum(len(clauses_of(it)) for it in said)
+        calls.extend(abstract.Call(f"{crate.name}:{name}", file, contract, scope) for name, contract in its)
+        here = {}
+        for module, items in re.findall(r"(?m)^pub use (?:self::|crate::)?([\w:]+?)::(\{[^}]*\}|\w+);", text):
+            here.setdefault(module.split("::")[0], set()).update(re.findall(r"\w+", items))
+        for public, module in re.findall(r"(?m)^(pub )?mod (\w+);", text):
+            below = folder / f"{module}.rt"
+            if below.is_file() and module not in left_out:
+                visit(below, folder / module, is_public and bool(public), here.get(module, set()) | exported)
+
+    if (source / "lib.rt").is_file():
+        visit(source / "lib.rt", source, True, set())
+    return found, clauses, calls
+
+
+def page_of(crate):
+    """The contracts of a crate: the headline's page is that of a program's machine; `shown` adds what commands show."""
+    if crate == "shown":
+        return contracts_of(TOP / "crates" / "headline")
+    return contracts_of(TOP / "crates" / crate, {"shown"} if crate == "headline" else ())
+
+
+def closure(roots, definitions):
+    """What these names lead to, less what is handed from call to call."""
+    believed, ahead = set(), set(roots)
+    while ahead:
+        name = ahead.pop()
+        if name in definitions and name not in believed and not definitions[name].mark:
+            believed.add(name)
+            ahead |= definitions[name].names
+    return believed
+
+
+def abstract_in(roots, believed, definitions):
+    """What is handed from call to call among these names and those that they lead to."""
+    names = set(roots).union(*(definitions[it].names for it in believed))
+    return [it.mark for key, it in definitions.items() if it.mark and key in names]
+
+
+@functools.cache
+def all_contracts():
+    return {crate.name: contracts_of(crate) for crate in sorted((TOP / "crates").iterdir()) if crate.is_dir()}
+
+
+def all_roots():
+    return set().union(*(names for names, _, _ in all_contracts().values()))
+
+
+# -- the text of it
+
+def file_of(key):
+    return f"crates/{key[0]}/src, type {key[2]}" if key[1] == "declared" else f"crates/{key[0]}/specs/{key[1].replace('.', '/')}.antt"
+
+
+def reading(crate, definitions):
+    """The text of what is believed for a crate, from the top down: each definition before those that it names, where none names
+    another in a ring."""
+    roots, _, _ = page_of(crate)
+    believed, seen, order = closure(roots, definitions), set(), []
+    places = {key: place for place, key in enumerate(definitions)}
+
+    # the later ones of a file first, since all is turned round in the end; the crate's own come last
+    def in_order(keys):
+        return sorted(keys & believed, key=lambda it: (it[0] == crate, -places[it]))
+
+    for root in in_order(roots):
+        ahead = [(root, iter(in_order(definitions[root].names)))] if root not in seen else []
+        seen.add(root)
+        while ahead:
+            key, rest = ahead[-1]
+            below = next((it for it in rest if it not in seen), None)
+            if below is None:
+                order.append(key)
+                ahead.pop()
+            else:
+                seen.add(below)
+                ahead.append((below, iter(in_order(definitions[below].names))))
+    lines, last = [], None
+    for key in reversed(order):
+        if file_of(key) != last:
+            last = file_of(key)
+            lines += ["", f"==== {last}"]
+        lines += definitions[key].text
+    marks = abstract_in(roots, believed, definitions)
+    lines += ["", "==== docs/abstract.txt", *(f"abstract: {mark.line}" for mark in marks)] if marks else []
+    return "\n".join(lines[1:]) + "\n"
+
+
+def made():
+    return {HEADLINE: reading("headline", all_definitions())}
+
+
+def wrong():
+    calls = [call for _, _, calls in all_contracts().values() for call in calls]
+    return abstract.wrong(all_definitions(), closure(all_roots(), all_definitions()), calls)

@@ -1,0 +1,50 @@
+"""Makes crates/pictures/src/fixed.rt of the sources in crates/pictures/page: the parts of a page of `vuthgal show` that are the
+same of every run, as constants, and the two sums by which the page's content policy names its style and its script."""
+import base64
+import hashlib
+import re
+import sys
+
+from marks import TOP
+
+CRATE = TOP / "crates" / "pictures"
+SCRIPTS = ("read", "words", "draw", "paper", "steps")
+CONSTANTS = {
+    "HEAD": "What a page begins with, up to the listing.",
+    "BEFORE_SOURCE": "What stands between the listing and the program's text.",
+    "BEFORE_RUN": "What stands between the program's text and the run.",
+    "TAIL": "What a page ends with: its script.",
+}
+
+
+def source(name):
+    return (CRATE / "page" / name).read_text()
+
+
+def sum_of(text):
+    """A text's SHA-256 as a content policy names it: what stands between the lines of two tags."""
+    return base64.b64encode(hashlib.sha256(f"\n{text}\n".encode()).digest()).decode()
+
+
+def page():
+    """The page, in which each of the three texts is left as `@@TEXT@@`."""
+    style = source("page.css").rstrip("\n")
+    script = "".join(source(f"{it}.js") for it in SCRIPTS).rstrip("\n")
+    script = f'(function () {{\n"use strict";\n{script}\n}})();'
+    made = {"@@STYLE-SUM@@": sum_of(style), "@@SCRIPT-SUM@@": sum_of(script), "@@STYLE@@": style, "@@SCRIPT@@": script}
+    return re.sub("|".join(made), lambda found: made[found.group()], source("page.html"))
+
+
+def constant(name, text):
+    return f'\n/// {CONSTANTS[name]}\n#[rattlefmt::skip]\npub const {name}: &[u8] = br###"{text}"###;\n'
+
+
+def made():
+    text = page()
+    if '"###' in text or re.search(r"[^ -~\n]", text):
+        sys.exit("the page holds a byte that isn't ASCII, or what ends a constant")
+    parts = text.split("@@TEXT@@")
+    if len(parts) != len(CONSTANTS):
+        sys.exit(f"the page has {len(parts) - 1} places for its texts, and not {len(CONSTANTS) - 1}")
+    head = "// The parts of a page that are the same of every run, made by bin/made of the sources in page/.\n"
+    return {CRATE / "src" / "fixed.rt": head + "".join(map(constant, CONSTANTS, parts))}
