@@ -216,9 +216,10 @@ fn run<'a>(alloc: Global, matches: &ArgMatches<'a>) -> Result<Request<'a>, Refus
 {
     let plan = plan_alone(matches, SCHEDULE)?;
     let expected = expected(alloc, matches)?;
+    let schedule = given(matches, SCHEDULE);
     Ok(Request::Run {
         file: word(matches, FILE),
-        schedule: given(matches, SCHEDULE),
+        schedule,
         plan,
         expected,
     })
