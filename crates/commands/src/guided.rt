@@ -1,8 +1,8 @@
 //! The commands of a person at a terminal.
 //!
 //! The session stays `debug`'s: `GuidedCommands` is the source from which it takes its lines. Before a line is waited for, `notes`
-//! is told who may go on and at which row, by the names of the program, which a line may have in place of numbers. An empty line is
-//! the one before it once more. Two words are answered here and not handed on: `help`, and `w`, which writes the choices that were
+//! is told who may go on and at which row, by the names of the program, which a line may have in place of numbers. A line may be words of
+//! a plan, too, and an empty one is the command before it once more. Two words are answered here and not handed on: `help`, and `w`, which writes the choices that were
 //! played as a schedule. So that it knows who may go on, the source plays what it hands on in a session of its own.
 
 ghost use Rattle.std.specs.Prelude.{◌≤◌, IfOk, None, length};
@@ -11,6 +11,7 @@ ghost use Rattle.byte_ports.specs.Port.{FailsForGood};
 
 use crate::mirror::Mirror;
 use byte_ports::{Failed, Sink, Source};
+use line_reader::words::is_blank;
 use schedule_reader::Run;
 use std::alloc::{AllocError, Global};
 use workbench::fault::Fault;
@@ -30,6 +31,7 @@ const HELP: &[u8] = b"  s tN      one choice: thread N's turn; `s xN` lets its t
   p         the state
   w         the choices so far, as a schedule
   q         the end
+  PLAN      words of a plan: `bob.`, `..`, `?7`, `(ann bob)*3`
   Enter     the last command once more
 ";
 
@@ -50,6 +52,15 @@ fn wanted_by(line: &[u8]) -> Wanted {
         b"help" | b"?" => Wanted::Help,
         b"w" => Wanted::Schedule,
         _ => Wanted::Command,
+    }
+}
+
+/// Whether the first word of a line is one of a command.
+fn is_command(line: &[u8]) -> bool {
+    match line.trim_ascii() {
+        [b's' | b'g' | b'b' | b'k' | b'c' | b'p' | b'q' | b'w' | b'?'] | b"help" => true,
+        [b's' | b'g' | b'b' | b'k' | b'c' | b'p' | b'q', behind, ..] => is_blank(*behind),
+        _ => false,
     }
 }
 
@@ -103,6 +114,11 @@ impl<'a, S: Source + Drop, K: Sink + Drop, E: Sink + Drop> Guide<'a, S, K, E> {
         let is_ended = said.len() < line.len();
         if !said.trim_ascii().is_empty() {
             self.last = self.mirror.in_numbers(self.alloc, said)?;
+            if !is_command(self.last.as_slice()) {
+                if let Some(planned) = self.mirror.planned(self.alloc, said)? {
+                    self.last = planned;
+                }
+            }
         }
         self.line.clear();
         self.line.extend_from_slice(self.last.as_slice())?;

@@ -5,17 +5,23 @@ use crate::may_go::push_may_go;
 use crate::reply::Reply;
 use crate::spoken::in_numbers;
 use crate::picture_fault::start_fault;
+use crate::plan::thread_names;
 use crate::played::Played;
 use assembler::Symbols;
 use byte_ports::{Failed, Sink};
 use debugger::Debugger;
-use schedule_reader::Run;
+use plans::plan_runs::plan_runs_at;
+use plans::read_plan;
+use schedule_reader::{Run, write_schedule};
 use std::alloc::{AllocError, Global};
 use trace_text::start::first_machine;
 use workbench::fault::Fault;
 
 /// How many choices can be taken back.
 const MOST_KEPT: u16 = 4096;
+
+/// How many threads a program has at most.
+const MOST_THREADS: usize = 64;
 
 /// The session as far as its lines have come.
 #[derive(Drop)]
@@ -54,6 +60,24 @@ impl<'a> Mirror<'a> {
     /// A person's line as the debugger reads it.
     pub fn in_numbers(&self, alloc: Global, said: &[u8]) -> Result<Vec<u8>, AllocError> {
         in_numbers(alloc, &self.symbols, said)
+    }
+
+    /// The command `g` with the choices that a plan makes from where the session stands, where a line is a plan.
+    pub fn planned(&self, alloc: Global, said: &[u8]) -> Result<Option<Vec<u8>>, AllocError> {
+        let machine = self.debugger.machine();
+        let threads = machine.thread_count();
+        let names = thread_names(alloc, &self.symbols, threads)?;
+        if names.len() > MOST_THREADS {
+            return Ok(None);
+        }
+        let Ok(words) = read_plan(alloc, said, names.as_slice()) else {
+            return Ok(None);
+        };
+        let planned = plan_runs_at(alloc, machine.copy(alloc)?, &words.all())?;
+        let tokens = write_schedule(alloc, planned.runs.as_slice())?;
+        let mut line = Vec::from_slice(alloc, b"g ")?;
+        line.extend_from_slice(tokens.as_bytes())?;
+        Ok(Some(line))
     }
 
     /// Plays what a line asks the debugger for. Whether it was a command.

@@ -45,7 +45,7 @@ fn thread_name<'a>(symbols: &Symbols<'a>, thread: u32) -> &'a [u8]
 }
 
 /// The names of so many threads.
-fn thread_names<'a>(
+pub(crate) fn thread_names<'a>(
     alloc: Global,
     symbols: &Symbols<'a>,
     count: usize,

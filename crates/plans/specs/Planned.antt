@@ -1,7 +1,7 @@
 -- What is handed out: the schedule of a plan, and the world behind it.
 use Rattle.std.specs.Prelude.{◌≡◌, All, List}
 use Rattle.loader.specs.Program.{Program}
-use Rattle.thread_machine.specs.World.{world_of}
+use Rattle.thread_machine.specs.World.{World, world_of}
 use Rattle.schedule_reader.specs.Joined.{AreJoined}
 use Rattle.schedule_reader.specs.Schedule.{IsRun, choices_of}
 use Rattle.schedule_reader.specs.declared.run.Run.{Run}
@@ -9,7 +9,7 @@ use Rattle.plans.specs.Tree.{Plan}
 use Rattle.plans.specs.declared.word.Word.{Word}
 use Rattle.plans.specs.Tree.{words_of_plan}
 use Rattle.plans.specs.declared.planned.Planned.{Planned}
-use Rattle.plans.specs.Progress.{Progress, begun}
+use Rattle.plans.specs.Progress.{Progress, begun, begun_at}
 use Rattle.plans.specs.Play.{plays}
 
 -- runs that tokens can spell, joined where they can be
@@ -23,6 +23,10 @@ pub record Shows (planned : Planned) (progress : Progress) : Type 0 where
   pub world : world_of planned.machine ≡ progress.world
   pub stopped : planned.stopped ≡ progress.stopped
 
--- whatever plan is written as these words, this is what it plays
+-- whatever plan is written as these words, this is what it plays from this world on
+abbrev pub IsPlanAt : World → List Word → Planned → Type 0
+IsPlanAt world words planned = (plan : Plan) → words_of_plan plan ≡ words → Shows planned (plays plan (begun_at world))
+
+-- the same from a program's first world on
 abbrev pub IsPlanOf : Program → List Word → Planned → Type 0
 IsPlanOf program words planned = (plan : Plan) → words_of_plan plan ≡ words → Shows planned (plays plan (begun program))

@@ -15,15 +15,19 @@ pub record Progress : Type 0 where
   pub left : ℕ
   pub stopped : Bool
 
--- before the first of 1,000,000 choices
-unfoldable pub begun : Program → Progress
-begun program = record {
-  world = first_world program 1000000000;
+-- before the first of 1,000,000 choices, from this world on
+unfoldable pub begun_at : World → Progress
+begun_at world = record {
+  world = world;
   choices = [];
   next = 0;
   left = 1000000;
   stopped = false;
 }
+
+-- the same from a program's first world on
+unfoldable pub begun : Program → Progress
+begun program = begun_at (first_world program 1000000000)
 
 -- a choice that the program refuses isn't made: there is no such thread
 abbrev pub chosen_by : Option StepFault → Choice → Progress → Progress

@@ -1,11 +1,13 @@
 ghost use Rattle.std.specs.Prelude.{IfOk};
-ghost use Rattle.plans.specs.Planned.{AreRuns, IsPlanOf};
+ghost use Rattle.plans.specs.Planned.{AreRuns, IsPlanAt, IsPlanOf};
+ghost use Rattle.thread_machine.specs.World.{world_of};
 
 use crate::planned::Planned;
 use crate::player::Player;
 use loader::Loaded;
 use crate::words::WordsFrom;
 use std::alloc::{AllocError, Global};
+use thread_machine::Machine;
 
 /// The schedule of a plan for a program, and the machine that it leads to.
 pub fn plan_runs(
@@ -17,6 +19,20 @@ pub fn plan_runs(
     ensures runs { IfOk result (λ planned. AreRuns planned.runs.items) }
 {
     let mut player = Player::new(alloc, program)?;
+    player.play_words(alloc, &mut words.again())?;
+    Ok(player.into_planned())
+}
+
+/// The schedule of a plan that is played from where a machine stands, and the machine that it leads to.
+pub fn plan_runs_at(
+    alloc: Global,
+    machine: Machine,
+    words: &WordsFrom<'_>,
+) -> Result<Planned, AllocError>
+    ensures planned { IfOk result (λ planned. IsPlanAt (world_of machine) words.now planned) }
+    ensures runs { IfOk result (λ planned. AreRuns planned.runs.items) }
+{
+    let mut player = Player::at(alloc, machine);
     player.play_words(alloc, &mut words.again())?;
     Ok(player.into_planned())
 }

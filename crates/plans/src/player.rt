@@ -3,7 +3,7 @@ ghost use Rattle.thread_machine.specs.World.{world_of};
 ghost use Rattle.thread_machine.specs.Step.{refusal_of};
 ghost use Rattle.schedule_reader.specs.Schedule.{choices_of};
 ghost use Rattle.plans.specs.Planned.{AreRuns};
-ghost use Rattle.plans.specs.Progress.{begun, chosen, chosen_by};
+ghost use Rattle.plans.specs.Progress.{begun, begun_at, chosen, chosen_by};
 ghost use Rattle.plans.specs.Rules.{can_expire_in, is_ready_in, thread_count};
 
 use crate::planned::Planned;
@@ -49,18 +49,26 @@ impl Model for Player {
 }
 
 impl Player {
-    /// Before the first choice.
-    #[tactic(auto, unfolding(crate::specs::Progress::begun))]
-    pub fn new(alloc: Global, program: Loaded) -> Result<Player, AllocError>
-        ensures { IfOk result (λ player. player ≡ begun program) }
+    /// Before the first choice from where a machine stands.
+    #[tactic(auto, unfolding(crate::specs::Progress::begun_at))]
+    pub fn at(alloc: Global, machine: Machine) -> Player
+        ensures { result ≡ begun_at (world_of machine) }
     {
-        Ok(Player {
-            machine: Machine::new(alloc, program, MOST_STEPS)?,
+        Player {
+            machine,
             runs: Vec::new(alloc),
             next: 0,
             left: MOST_CHOICES,
             stopped: false,
-        })
+        }
+    }
+
+    /// Before the first choice of a program.
+    #[tactic(auto, unfolding(crate::specs::Progress::begun))]
+    pub fn new(alloc: Global, program: Loaded) -> Result<Player, AllocError>
+        ensures { IfOk result (λ player. player ≡ begun program) }
+    {
+        Ok(Player::at(alloc, Machine::new(alloc, program, MOST_STEPS)?))
     }
 
     /// What has come of it.

@@ -37,7 +37,7 @@ const AT_ASSIGNMENT: &str = "the instruction comes first: `parr r0 p` is `r0 = p
 const AT_NUMBER: &str = "a number goes into a register first, as by `ldi r1 1`";
 
 /// What helps where a number stands for a name.
-const AT_REFERENCE: &str = "a name stands here, or a number behind `#`, as in `intr #1`";
+const AT_REFERENCE: &str = "a name stands here, or a number behind `#`, such as #1";
 
 /// How many bytes a text has at most.
 const LONGEST: usize = 16_777_216;
