@@ -15,33 +15,45 @@ use crossbeam_utils::sync::Key;
 use std::hint::spin_loop;
 use std::marker::Brand;
 use std::sync::Wait;
+use std::thread::yield_now;
 
 /// No party was left that could arrive.
 #[derive(Clone, Copy, Debug, PartialEq, Eq)]
 pub struct NotThere;
 
-/// How often a wait looks at the word before it sleeps until a phase ends, where few parties meet,
-/// who may all have a processor, and where more do: then one who spins may keep a processor from
-/// one who has yet to arrive. No wait yields: a thread that yields gives whatever else the machine
-/// has to do a whole slice of time, some milliseconds.
-const LOOKS_AMONG_FEW: u32 = 96;
-
-const LOOKS_AMONG_MANY: u32 = 24;
-
-/// The most parties that are few.
+/// The most parties that are few: they may all have a processor.
 const FEW: u64 = 4;
 
-/// How many pauses go before each further look: one that comes too early takes the word's cache
+/// How often a wait looks at the phase before it sleeps until one ends.
+const LOOKS_AMONG_FEW: u32 = 96;
+
+const LOOKS_AMONG_MANY: u32 = 16;
+
+/// How many pauses go before each look among few: one that comes too early takes the word's cache
 /// line from the thread that is about to end the phase.
 const PAUSES: u32 = 12;
 
-/// How often a wait at a phaser with this word looks at it.
+/// How often a wait looks at the phase.
 #[inline(always)]
-fn looks_at(bits: u64) -> u32 {
-    if bits >> 16 & 0xffff <= FEW {
+fn looks_among(few: bool) -> u32 {
+    if few {
         LOOKS_AMONG_FEW
     } else {
         LOOKS_AMONG_MANY
+    }
+}
+
+/// What goes before a look. Among many a wait yields: one that spins may keep a processor from a
+/// thread that has yet to arrive. Among few it doesn't: nobody waits for its processor but what else
+/// the machine has to do, which may keep it for milliseconds.
+#[inline(always)]
+fn rest_among(few: bool) {
+    if few {
+        for _ in 0..PAUSES {
+            spin_loop();
+        }
+    } else {
+        yield_now();
     }
 }
 
@@ -63,10 +75,9 @@ impl SharedPhaser {
     fn lingers(&self, phase: i32) -> bool {
         let phase = u64::from(phase.unsigned_abs());
         let table = &*self.table;
-        for _ in 0..looks_at(table.shared.peek(0)) {
-            for _ in 0..PAUSES {
-                spin_loop();
-            }
+        let few = table.shared.peek(0) >> 16 & 0xffff <= FEW;
+        for _ in 0..looks_among(few) {
+            rest_among(few);
             if table.shared.peek(0) >> 32 != phase {
                 return false;
             }
@@ -75,7 +86,7 @@ impl SharedPhaser {
     }
 
     /// What goes between two tries of a wait. One that was announced before the last try sleeps,
-    /// unless a phase has ended since, and another one spins. Whether the next one is announced.
+    /// unless a phase has ended since, and another one lingers. Whether the next one is announced.
     #[inline(always)]
     fn rests<R: Wait>(&self, rt: &R, key: Option<Key<'_>>, call: Call) -> bool {
         if let Some(key) = key {
