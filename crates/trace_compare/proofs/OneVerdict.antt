@@ -156,7 +156,7 @@ found-same image one trace begins same left v (other, (bytes, (begins', consumed
 
 -- the verdict on a trace, beside the program that it is of
 pub begun-verdict : (image : Image) (world : World) (choices : List Choice) → Begins image world → All IsNamed choices
-    → verdict_of world (trace_of world choices) ≡ Same
+    → verdict_of world (trace_of world choices) ≡ verdict.Same
 begun-verdict image world choices (loads, first) named =
     own-trace choices world 1 (omega (arith, ap (λ (w : World). w.choices) first)) named
 

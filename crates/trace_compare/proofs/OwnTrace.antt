@@ -21,6 +21,7 @@ use Rattle.trace_text.specs.Reading.{is_state_line}
 use Rattle.trace_text.specs.Lines.{event_text}
 use Rattle.trace_text.specs.State.{state_text}
 use Rattle.trace_text.specs.Trace.{lines_by, lines_of, trace_of}
+use Rattle.trace_text.proofs.Plays.{played-choices}
 use Rattle.trace_text.proofs.Naming.{IsOwnLine, event-own, refusal-own}
 use Rattle.trace_compare.proofs.SameTrace.{after_choice, left_by}
 use Rattle.trace_text.proofs.StateLines.{parts_text, state-is_state, state-line, state-whole}

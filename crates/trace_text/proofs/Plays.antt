@@ -393,7 +393,7 @@ replicate-some n times choice few =
     ap (λ k. replicate k choice) is ∙ sym (replicate-append-replicate times (n - times) choice)
 
 -- an accepted choice is counted
-played-choices : (outcome : Option Outcome) (world : World) → (played_by outcome world).world.choices ≡ world.choices + 1
+pub played-choices : (outcome : Option Outcome) (world : World) → (played_by outcome world).world.choices ≡ world.choices + 1
 played-choices (Some outcome) world = refl
 played-choices None world = refl
 
