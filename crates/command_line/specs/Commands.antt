@@ -85,7 +85,7 @@ abbrev pub choices_shape : Shape
 choices_shape = command (codes "choices") (place_rule (codes "TRACE") ∷ [])
 
 abbrev pub plan_shape : Shape
-plan_shape = command (codes "plan") (file_rule ∷ new_rule (codes "PLAN") ∷ [])
+plan_shape = command (codes "plan") (file_rule ∷ new_rule (codes "PLAN") ∷ option_rule (codes "seeds") ∷ [])
 
 abbrev pub explain_shape : Shape
 explain_shape = command (codes "explain") (words_rule ∷ [])

@@ -1,5 +1,5 @@
 -- What a command line asks for, by the subcommand that its words name and by that one's matches.
-use Rattle.std.specs.Prelude.{◌≡◌, ◌≢◌, ◌≤◌, ◌⊎◌, ℕ, List, [], ◌∷◌, Option, Some, None, length, map}
+use Rattle.std.specs.Prelude.{◌≡◌, ◌≢◌, ◌≤◌, ◌<◌, ◌+◌, ◌++◌, ◌⊎◌, ℕ, List, [], ◌∷◌, Option, Some, None, length, map}
 use Rattle.std.specs.Prelude.{All, IfSome, codes, option_map, true, false, Bool, unwrap_or}
 use Rattle.std.specs.Borrow.{Bor}
 use Rattle.std.specs.Global.{Vec}
@@ -16,11 +16,13 @@ use Rattle.command_line.specs.declared.refusal.WrongOption.{WrongOption}
 use Rattle.command_line.specs.declared.refusal.WrongOption.TheVariants as option
 use Rattle.command_line.specs.declared.request.Request.{Request}
 use Rattle.command_line.specs.declared.request.Request.TheVariants as request
+use Rattle.command_line.specs.declared.request.Seeds.{Seeds}
 
 -- its numbers are in their ranges
 abbrev pub IsInRange : Request → Type 0
 IsInRange (request.Live file limit seed runs expected) = ((1 ≤ limit) × (limit ≤ 1000000000)) × IfSome runs (λ n. (1 ≤ n) × (n ≤ 100000))
 IsInRange (request.Draw file schedule width plan) = (60 ≤ width) × (width ≤ 1000)
+IsInRange (request.Plan file plan seeds) = IfSome seeds (λ s. (s.first ≤ s.last) × (s.last < s.first + 100000))
 IsInRange (request.Race parties rounds) = ((1 ≤ parties) × (parties ≤ 16)) × ((1 ≤ rounds) × (rounds ≤ 1000000))
 IsInRange _ = Unit {0}
 
@@ -65,6 +67,20 @@ IsNumber least most None None = Unit {0}
 IsNumber least most None (Some number) = ⊥
 IsNumber least most (Some text) None = ⊥
 IsNumber least most (Some text) (Some number) = Spells text least most number
+
+-- two numbers with two dots between them are the first seed and the last, of 100,000 at most
+abbrev pub SpellsSeeds : Text → Seeds → Type 0
+SpellsSeeds text seeds =
+    (first : Text) × ((last : Text) × ((text ≡ first ++ (codes ".." ++ last))
+    × Spells first 0 4294967295 seeds.first × Spells last 0 4294967295 seeds.last
+    × (seeds.first ≤ seeds.last) × (seeds.last < seeds.first + 100000)))
+
+-- the seeds, none where none are named
+abbrev pub IsSeeds : Option Text → Option Seeds → Type 0
+IsSeeds None None = Unit {0}
+IsSeeds None (Some seeds) = ⊥
+IsSeeds (Some text) None = ⊥
+IsSeeds (Some text) (Some seeds) = SpellsSeeds text seeds
 
 -- there are digits, and they spell no such number
 abbrev pub IsNoNumber : ℕ → ℕ → Option Text → Type 0
@@ -121,8 +137,9 @@ IsAskedBy name rows (request.Race parties rounds) = (name ≡ codes "race")
     × Spells (word_at (codes "rounds") rows) 1 1000000 rounds
 IsAskedBy name rows (request.Choices trace) = (name ≡ codes "choices")
     × (trace.now ≡ word_at (codes "TRACE") rows)
-IsAskedBy name rows (request.Plan file plan) = (name ≡ codes "plan")
+IsAskedBy name rows (request.Plan file plan seeds) = (name ≡ codes "plan")
     × (file.now ≡ word_at (codes "FILE") rows) × (option_map (λ s. s.now) plan ≡ word_given (codes "PLAN") rows)
+    × IsSeeds (word_given (codes "seeds") rows) seeds
 IsAskedBy name rows (request.Explain words) = (name ≡ codes "explain")
     × (map (λ w. w.now) words.items ≡ words_at (codes "WORD") rows)
 
@@ -135,6 +152,7 @@ IsWrong option.Expect name rows = ((name ≡ codes "run") ⊎ (name ≡ codes "l
 IsWrong option.Stir name rows = (name ≡ codes "live") × IsNoNumber 0 4294967295 (word_given (codes "stir") rows)
 IsWrong option.Runs name rows = (name ≡ codes "live") × IsNoNumber 1 100000 (word_given (codes "runs") rows)
 IsWrong option.Early name rows = ⊥
+IsWrong option.Seeds name rows = (name ≡ codes "plan") × (word_given (codes "seeds") rows ≢ None)
 IsWrong option.Plan name rows =
     (((name ≡ codes "run") ⊎ ((name ≡ codes "show") ⊎ (name ≡ codes "draw")))
     × AreBoth (word_given (codes "plan") rows) (word_given (codes "SCHEDULE") rows))

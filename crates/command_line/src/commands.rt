@@ -7,7 +7,7 @@ ghost use Rattle.command_line.specs.Commands.{choices_shape, draw_shape, explain
 
 use crate::names::{
     ASM, AT, CHOICES, COMPARE, DEBUG, DRAW, EXPECT, EXPLAIN, FILE, LIMIT, LIST, LIVE, OUT, PARTIES,
-    PLAN, RACE, ROUNDS, ROWS, RUN, RUNS, SCHEDULE, SHOW, SRC, STEPS, STIR, TRACE, WIDTH, WORD,
+    PLAN, RACE, ROUNDS, ROWS, RUN, RUNS, SCHEDULE, SEEDS, SHOW, SRC, STEPS, STIR, TRACE, WIDTH, WORD,
 };
 use crate::texts;
 use clap::{Arg, ArgAction, Command};
@@ -321,11 +321,17 @@ fn choices<'a>(alloc: Global) -> Result<Command<'a>, AllocError>
 fn plan<'a>(alloc: Global) -> Result<Command<'a>, AllocError>
     ensures { IfOk result (λ command. app_of command ≡ alone plan_shape) }
 {
-    with_two(
+    let command = with_two(
         told(alloc, PLAN, "Writes the schedule of a plan", texts::PLAN),
         place(alloc, FILE, "The file of the image or of the program text"),
         Arg::new(alloc, STEPS).help("The file of the plan, or `-` for standard input"),
-    )
+    )?;
+    command.arg(option(
+        alloc,
+        SEEDS,
+        "FROM..TO",
+        "Counts what the orders of these seeds come to, such as 1..1000",
+    ))
 }
 
 /// The words of a line, as many as there are.

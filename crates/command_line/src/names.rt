@@ -55,3 +55,5 @@ pub const AT: &str = "at";
 pub const ROWS: &str = "rows";
 
 pub const RUNS: &str = "runs";
+
+pub const SEEDS: &str = "seeds";

@@ -20,6 +20,7 @@ pub enum WrongOption {
     Early,
     /// `--plan` beside a schedule or a trace.
     Plan,
+    Seeds,
 }
 
 /// Why words that the commands take ask for nothing.
@@ -62,6 +63,8 @@ impl WrongOption {
             WrongOption::Runs => "--runs N: N is 1 to 100000, in digits alone",
             WrongOption::Early => "--expect STATE stands behind the command's name",
             WrongOption::Plan => "--plan PLAN stands in place of a SCHEDULE or of --at TRACE",
+            WrongOption::Seeds =>
+                "--seeds FROM..TO: up to 100000 numbers from 0 to 4294967295, in digits alone, as 1..1000",
         }
     }
 }

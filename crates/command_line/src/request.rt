@@ -1,5 +1,5 @@
 //! What the words of a command line ask for.
-ghost use Rattle.std.specs.Prelude.{◌≡◌, ◌⊎◌, ◌≤◌, IfErr, IfOk, IfSome, List, MatchOption, None, codes, map, option_map, true, ℕ};
+ghost use Rattle.std.specs.Prelude.{◌≡◌, ◌≢◌, ◌⊎◌, ◌≤◌, IfErr, IfOk, IfSome, List, MatchOption, None, codes, map, option_map, true, ℕ};
 ghost use Rattle.clap.specs.Words.{app_of, found_of, kind_of, rows_of, subcommand_rows_of, takes};
 ghost use Rattle.clap.specs.declared.error.kind.ErrorKind.TheVariants.{OutOfMemory};
 ghost use Rattle.std.specs.String.{string_bytes};
@@ -10,7 +10,7 @@ ghost use Rattle.command_line.specs.Commands.{vuthgal};
 ghost use Rattle.command_line.specs.Request.{Asks, Fails, Refuses};
 ghost use Rattle.command_line.specs.Request.{IsAsked, IsAskedBy, IsInRange, IsRefused, IsRefusedBy, IsWrong};
 ghost use Rattle.command_line.specs.Request.{AreBoth, IsExpected, IsFlag, IsPlan, IsNoNumber, IsNoState, IsNumber};
-ghost use Rattle.command_line.specs.Request.{Spells, SpellsNone, word_at, word_given, words_at};
+ghost use Rattle.command_line.specs.Request.{IsSeeds, Spells, SpellsNone, SpellsSeeds, word_at, word_given, words_at};
 ghost use Rattle.command_line.specs.declared.refusal.Refusal.TheVariants as refusal;
 ghost use Rattle.command_line.specs.declared.refusal.WrongOption.TheVariants as option;
 
@@ -20,7 +20,7 @@ use clap::{ArgMatches, Command, Error};
 use crate::commands::program;
 use crate::names::{
     ASM, AT, CHOICES, COMPARE, DEBUG, DRAW, EXPECT, EXPLAIN, FILE, LIMIT, LIST, LIVE, OUT, PARTIES,
-    PLAN, RACE, ROUNDS, ROWS, RUN, RUNS, SCHEDULE, SHOW, SRC, STEPS, STIR, TRACE, WIDTH, WORD,
+    PLAN, RACE, ROUNDS, ROWS, RUN, RUNS, SCHEDULE, SEEDS, SHOW, SRC, STEPS, STIR, TRACE, WIDTH, WORD,
 };
 use trace_text::form::is_expectation;
 use std::alloc::{AllocError, Global};
@@ -92,15 +92,23 @@ pub enum Request<'a> {
     Choices {
         trace: &'a str,
     },
-    /// `plan FILE [PLAN]`; the plan `-` is standard input, and so it is without it.
+    /// `plan FILE [PLAN] [--seeds FROM..TO]`; the plan `-` is standard input, and so it is without both.
     Plan {
         file: &'a str,
         plan: Option<&'a str>,
+        seeds: Option<Seeds>,
     },
     /// `explain WORD..`: the words of a line on standard error, none where they are to be listed.
     Explain {
         words: Vec<&'a str>,
     },
+}
+
+/// Seeds from one on: 1 to 100,000 numbers up to 4,294,967,295.
+#[derive(Clone, Copy, Debug, PartialEq, Eq)]
+pub struct Seeds {
+    pub first: u32,
+    pub last: u32,
 }
 
 /// The word in this place, which is there where the place has to be filled.
@@ -350,14 +358,46 @@ fn choices<'a>(matches: &ArgMatches<'a>) -> Request<'a>
     }
 }
 
-/// The schedule of a plan that these matches ask for.
-fn plan<'a>(matches: &ArgMatches<'a>) -> Request<'a>
-    ensures { IsInRange result × IsAskedBy (codes "plan") (rows_of (found_of matches.now)) result }
+/// The seeds that a text spells as `1..1000`.
+fn seeds_in(text: &str) -> Option<Seeds>
+    ensures { IfSome result (SpellsSeeds text.now) }
 {
-    Request::Plan {
+    let (first, last) = text.split_once("..")?;
+    let first = number(first, 0, 4_294_967_295)?;
+    let last = number(last, 0, 4_294_967_295)?;
+    if first <= last && last - first < 100_000 {
+        Some(Seeds { first, last })
+    } else {
+        None
+    }
+}
+
+/// The seeds that these matches name, if they name some.
+fn seeds_given(matches: &ArgMatches<'_>) -> Result<Option<Seeds>, WrongOption>
+    ensures asked { IfOk result (IsSeeds (word_given (codes "seeds") (rows_of (found_of matches.now)))) }
+    ensures wrong { IfErr result (λ why. (why ≡ option.Seeds) × (word_given (codes "seeds") (rows_of (found_of matches.now)) ≢ None)) }
+{
+    let Some(text) = given(matches, SEEDS) else {
+        return Ok(None);
+    };
+    match seeds_in(text) {
+        Some(seeds) => Ok(Some(seeds)),
+        None => Err(WrongOption::Seeds),
+    }
+}
+
+/// The schedule of a plan that these matches ask for, or what the orders of seeds come to.
+fn plan<'a>(matches: &ArgMatches<'a>) -> Result<Request<'a>, Refusal>
+    ensures range { IfOk result (λ request. IsInRange request) }
+    ensures asked { IfOk result (IsAskedBy (codes "plan") (rows_of (found_of matches.now))) }
+    ensures refused { IfErr result (λ why. IsRefusedBy why (codes "plan") (rows_of (found_of matches.now))) }
+{
+    let seeds = seeds_given(matches)?;
+    Ok(Request::Plan {
         file: word(matches, FILE),
         plan: given(matches, STEPS),
-    }
+        seeds,
+    })
 }
 
 /// The words that these matches ask about, where there is memory for them.
@@ -392,7 +432,7 @@ fn request_by<'a>(
         LIVE => live(alloc, matches),
         RACE => race(matches),
         CHOICES => Ok(choices(matches)),
-        PLAN => Ok(plan(matches)),
+        PLAN => plan(matches),
         EXPLAIN => explain(alloc, matches),
         _ => Ok(Request::Both {
             expected: Vec::new(alloc),

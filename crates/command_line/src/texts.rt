@@ -225,6 +225,12 @@ What `.`, `..` and `?` choose is never idle. A plan makes 1000000 choices at
 most. Where it wants one more, the schedule so far is written, standard error
 has `stopped at 1000000 choices`, and the status is 1.
 
+With `--seeds 1..1000` each of these seeds has its order: PLAN, or nothing where
+none is named, and then any thread that can go on, by the seed, to the end. What
+is written is a line for each state that one ended in, the most frequent first:
+how often one did, `all`, `stuck` or `live`, with `+died` where a thread died,
+and the schedule of the first that did.
+
 It may tell `refused asm`, `refused image`, `refused load`, `refused plan`,
 `memory`, `read` or `write`.
 

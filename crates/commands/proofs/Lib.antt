@@ -8,6 +8,7 @@ pub mod ListedRows
 pub mod Told
 mod Written
 pub mod Counting
+pub mod Seeded
 pub mod Reports
 pub mod Reported
 pub mod Shown

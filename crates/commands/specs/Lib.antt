@@ -10,5 +10,6 @@ pub mod Unplanned
 pub mod Planning
 pub mod Ends
 pub mod Outcomes
+pub mod Seeds
 pub mod Pauses
 pub mod Runs

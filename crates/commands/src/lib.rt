@@ -33,7 +33,7 @@ mod played;
 mod reply;
 mod spoken;
 
-// Many live runs.
+// Many live runs, and the orders of many seeds.
 pub mod command;
 pub mod end_state;
 pub mod outcomes;
@@ -41,6 +41,7 @@ pub mod pause;
 pub mod pauses;
 mod report;
 mod runs;
+pub mod seeds;
 pub mod stirred;
 
 mod law;

@@ -62,7 +62,7 @@ impl<'a> Files<'a> {
                 plan,
                 ..
             } => (*file, schedule.map(|word| named(word)), *plan),
-            Request::Plan { file, plan } => (*file, Some(named(plan.unwrap_or(INPUT))), None),
+            Request::Plan { file, plan, .. } => (*file, Some(named(plan.unwrap_or(INPUT))), None),
             Request::Debug { file, trace, plan } => (*file, *trace, *plan),
             Request::List { file, .. }
             | Request::Compare { file, .. }

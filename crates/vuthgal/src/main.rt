@@ -47,7 +47,7 @@ use input::Input;
 use kept_source::KeptSource;
 use commands::{Asked, Pauses, report_runs};
 use no_command::NoCommand;
-use planning::{Steps, schedule_of_plan, write_plan};
+use planning::{Steps, count_orders, schedule_of_plan, write_plan};
 use progress::{BehindProgress, ShownGate, ShownPace, ShownSource, ShownWriter, trace_port};
 use refusals::explain::explain;
 use short_schedule::ShortSchedule;
@@ -454,7 +454,16 @@ fn done<'a, R: Threads + Wait + Sync>(
         ),
         Request::Race { parties, rounds } => meet(threads, rt, parties, rounds),
         Request::Choices { trace } => write_choices(rt, trace),
-        Request::Plan { file, plan } => write_plan(rt, file, plan),
+        Request::Plan {
+            file,
+            plan,
+            seeds: None,
+        } => write_plan(rt, file, plan),
+        Request::Plan {
+            file,
+            plan,
+            seeds: Some(seeds),
+        } => count_orders(rt, file, plan, seeds),
         Request::Explain { words } => explain_words(rt, words.as_slice()),
     }
 }

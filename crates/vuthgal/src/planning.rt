@@ -1,14 +1,21 @@
 //! The schedules of plans.
 
+ghost use Rattle.std.specs.Prelude.{◌<◌, ◌≤◌, ◌+◌, IfOk};
+ghost use Rattle.plans.specs.Planned.{AreRuns};
+
 use crate::ending::flushed;
 use crate::input::Input;
 use crate::trouble::Trouble;
 use crate::{files, notes};
 use byte_ports::{ReadPort, Sink, WritePort};
+use command_line::request::Seeds;
+use commands::pictures::parts_of;
 use commands::plan::{plan, planned_in};
+use commands::seeds::{self, report_seeds};
 use schedule_reader::{Run, write_schedule};
-use workbench::done::Done;
+use workbench::done::{Done, as_asked};
 use workbench::fault::Fault;
+use workbench::input::read_all;
 
 /// What ends the name of a file that holds a plan.
 const PLAN_FILE: &str = ".plan";
@@ -48,7 +55,9 @@ pub fn runs_of_plan<'a>(
     rt: &HostRuntime,
     program: &[u8],
     plan: &[u8],
-) -> Result<Vec<Run>, Trouble<'a>> {
+) -> Result<Vec<Run>, Trouble<'a>>
+    ensures { IfOk result (λ runs. AreRuns runs.items) }
+{
     let planned = planned_in(rt.alloc(), program, plan)?;
     if planned.stopped {
         push_stopped(rt);
@@ -93,4 +102,30 @@ pub fn write_plan<'a>(
         return Ok(Done::Unlike);
     }
     Ok(Done::AsAsked)
+}
+
+/// Writes what the orders of seeds come to, each behind a plan if there is one.
+pub fn count_orders<'a>(
+    rt: &HostRuntime,
+    file: &'a str,
+    steps: Option<&'a str>,
+    seeds: Seeds,
+) -> Result<Done, Trouble<'a>>
+    requires first { seeds.first ≤ seeds.last }
+    requires few { seeds.last < seeds.first + 100000 }
+{
+    let program = files::read(rt, file)?;
+    let plan = match steps {
+        Some(word) => read_all(rt.alloc(), &mut ReadPort::new(Input::named(rt, word)?))?,
+        None => Vec::new(rt.alloc()),
+    };
+    let file = read_all(rt.alloc(), &mut ReadPort::new(program))?;
+    let (program, _) = parts_of(file.as_slice());
+    let seeds = seeds::Seeds {
+        first: seeds.first,
+        count: seeds.last - seeds.first + 1,
+    };
+    let mut output = WritePort::new(rt.stdout());
+    report_seeds(rt.alloc(), program, plan.as_slice(), seeds, &mut output)?;
+    Ok(as_asked(flushed(Ok(()), &mut output))?)
 }
