@@ -2,7 +2,7 @@
 
 use crate::ending::flushed;
 use crate::planning::{Steps, runs_of_plan};
-use crate::trouble::Trouble;
+use crate::trouble::{Answer, Trouble};
 use crate::{files, notes, printable};
 use byte_ports::{BlockSource, ReadPort, Source, WritePort};
 use commands::pictures::parts_of;
@@ -15,9 +15,6 @@ use trace_compare::naming::{Named, NamingFault, choices_in};
 use workbench::done::{Done, as_asked};
 use workbench::fault::{Fault, push_counted_line};
 use workbench::input::read_all;
-
-/// What a session comes to.
-type Answer<'a> = Result<Done, Trouble<'a>>;
 
 /// Answers commands that are about a program, behind the choices of a trace if there is one. Nothing is kept back: standard output
 /// is flushed at each line's end.

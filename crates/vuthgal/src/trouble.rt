@@ -7,8 +7,11 @@ use commands::unplanned::Unplanned;
 use plans::fault::PlanFault;
 use refusals::explain::Unexplained;
 use std::alloc::AllocError;
-use workbench::done::settled;
+use workbench::done::{Done, settled};
 use workbench::fault::Fault;
+
+/// What a command comes to.
+pub type Answer<'a> = Result<Done, Trouble<'a>>;
 
 /// Why the program doesn't do what it is asked for.
 #[derive(Drop)]

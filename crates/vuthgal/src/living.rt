@@ -1,0 +1,95 @@
+//! What real threads do: live runs, and a race.
+
+ghost use Rattle.std.specs.Prelude.{◌≤◌, IfSome};
+
+use crate::ending::flushed;
+use crate::expectation::expectations;
+use crate::files;
+use crate::progress::{BehindProgress, ShownGate, ShownPace, trace_port};
+use crate::running::ended;
+use crate::trouble::Answer;
+use byte_ports::WritePort;
+use commands::{Asked, Pauses, report_runs};
+use headline::shown;
+use std::sync::Wait;
+use std::thread::Threads;
+use workbench::done::as_asked;
+use workbench::racing;
+
+/// Plays a program on real threads, which pause a little where there is a seed.
+fn live<'a, R: Threads + Wait + Sync>(
+    threads: &R,
+    rt: &HostRuntime,
+    program: &[u8],
+    limit: u32,
+    pauses: Pauses,
+    expected: &[Vec<u8>],
+) -> Answer<'a>
+    requires { limit ≤ 1000000000 }
+{
+    let mut output = trace_port(rt)?;
+    let shown = ShownGate::of_trace(rt);
+    let gate = pauses.of_run(0, &shown);
+    let answer = shown::live(threads, rt.alloc(), limit, &gate, program, &mut output);
+    shown.end();
+    ended(rt, answer, output, program, expected)
+}
+
+/// Plays it so often, and writes what the runs came to.
+fn live_often<'a, R: Threads + Wait + Sync>(
+    threads: &R,
+    rt: &HostRuntime,
+    program: &[u8],
+    asked: &Asked<'_>,
+) -> Answer<'a>
+    requires limit { asked.now.limit ≤ 1000000000 }
+    requires count { asked.now.runs ≤ 100000 }
+{
+    let shown = ShownGate::of_runs(rt);
+    let mut output = WritePort::new(BehindProgress::new(rt.stdout(), &shown));
+    let answer = report_runs(threads, rt.alloc(), asked, &shown, program, &mut output);
+    shown.end();
+    Ok(flushed(answer, &mut output)?)
+}
+
+/// Plays the program in a file on real threads, once, or as often as is asked for.
+pub fn play_live<'a, R: Threads + Wait + Sync>(
+    threads: &R,
+    rt: &HostRuntime,
+    file: &'a str,
+    runs: Option<u32>,
+    limit: u32,
+    pauses: Pauses,
+    expected: &[&str],
+) -> Answer<'a>
+    requires limit { limit ≤ 1000000000 }
+    requires count { IfSome runs (λ n. n ≤ 100000) }
+{
+    let program = files::contents(rt, file)?;
+    let expected = expectations(rt.alloc(), program.as_slice(), expected)?;
+    let expected = expected.as_slice();
+    let Some(runs) = runs else {
+        return live(threads, rt, program.as_slice(), limit, pauses, expected);
+    };
+    let asked = Asked {
+        runs,
+        limit,
+        pauses,
+        expected,
+    };
+    live_often(threads, rt, program.as_slice(), &asked)
+}
+
+/// Lets real threads meet at a shared phaser.
+pub fn meet<'a, R: Threads + Wait + Sync>(
+    threads: &R,
+    rt: &HostRuntime,
+    parties: u16,
+    rounds: u32,
+) -> Answer<'a> {
+    let mut output = WritePort::new(rt.stdout());
+    let pace = ShownPace::new(rt);
+    let answer = racing::race(threads, rt.alloc(), parties, rounds, &pace, &mut output);
+    pace.end();
+    Ok(as_asked(flushed(answer, &mut output))?)
+}

@@ -1,0 +1,52 @@
+//! What is written of a program's text, of its image, and of the words of a line.
+
+use crate::ending::flushed;
+use crate::trouble::{Answer, Trouble};
+use crate::until_failure::UntilFailure;
+use crate::{files, printable};
+use byte_ports::{ReadPort, WritePort};
+use commands::list_rows;
+use refusals::explain::explain;
+use std::io::BufWriter;
+use workbench::asm::asm;
+use workbench::done::as_asked;
+use workbench::fault::Fault;
+use workbench::input::read_all;
+use workbench::list::list;
+
+/// How many bytes are written at a time.
+const BUFFER: usize = 65_536;
+
+/// Writes the image of the text in one file to another.
+pub fn write_image<'a>(rt: &HostRuntime, source: &'a str, image: &'a str) -> Answer<'a> {
+    let input = files::read(rt, source)?;
+    let file = files::write(rt, image, &input)?;
+    let text = read_all(rt.alloc(), &mut ReadPort::new(input))?;
+    let Ok(writer) = BufWriter::with_capacity(rt.alloc(), BUFFER, UntilFailure::new(file)) else {
+        return Err(Trouble::Fault(Fault::Memory));
+    };
+    let mut output = WritePort::new(writer);
+    let answer = asm(rt.alloc(), text.as_slice(), &mut output);
+    Ok(as_asked(flushed(answer, &mut output))?)
+}
+
+/// Writes the canonical text of the program in a file, or its rows.
+pub fn write_list<'a>(rt: &HostRuntime, file: &'a str, has_rows: bool) -> Answer<'a> {
+    let program = files::contents(rt, file)?;
+    let mut output = WritePort::new(printable::output(rt));
+    let answer = if has_rows {
+        list_rows(rt.alloc(), program.as_slice(), &mut output)
+    } else {
+        list(rt.alloc(), program.as_slice(), &mut output)
+    };
+    Ok(as_asked(flushed(answer, &mut output))?)
+}
+
+/// Tells what the words of a line mean.
+pub fn explain_words<'a>(rt: &HostRuntime, words: &[&'a str]) -> Answer<'a> {
+    let mut output = WritePort::new(rt.stdout());
+    match explain(words, &mut output) {
+        Ok(()) => Ok(as_asked(flushed(Ok(()), &mut output))?),
+        Err(why) => Err(Trouble::Unexplained(why)),
+    }
+}

@@ -1,0 +1,43 @@
+//! Traces that are read: compared with their run, and as the schedule that they have.
+
+use crate::ending::{flushed, handed_on};
+use crate::input::Input;
+use crate::progress::ShownSource;
+use crate::trouble::Answer;
+use crate::{files, printable};
+use byte_ports::{BlockPort, ReadPort, WritePort};
+use commands::choices::choices;
+use commands::{LinesSeen, show_comparison};
+use workbench::compare::{compared, done_by};
+use workbench::done::Done;
+use workbench::input::read_all;
+
+/// Compares a trace with the run of the program in a file, and shows the lines that differ where that is asked for.
+pub fn compare<'a>(rt: &HostRuntime, file: &'a str, trace: &'a str, is_shown: bool) -> Answer<'a> {
+    let program = files::read(rt, file)?;
+    let trace = Input::named(rt, trace)?;
+    let size = trace.size();
+    let mut trace = ShownSource::new(rt, ReadPort::new(trace), size);
+    let program = read_all(rt.alloc(), &mut ReadPort::new(program))?;
+    let program = program.as_slice();
+    let mut output = WritePort::new(printable::output(rt));
+    let verdict = if is_shown {
+        let mut trace = LinesSeen::new(rt.alloc(), trace)?;
+        show_comparison(rt.alloc(), program, &mut trace, &mut output)
+    } else {
+        compared(rt.alloc(), program, &mut trace, &mut output)
+    };
+    Ok(done_by(flushed(verdict, &mut output)?))
+}
+
+/// Writes the schedule of a trace.
+pub fn write_choices<'a>(rt: &HostRuntime, trace: &'a str) -> Answer<'a> {
+    let mut trace = ReadPort::new(Input::named(rt, trace)?);
+    let mut output = BlockPort::new(rt.alloc(), WritePort::new(rt.stdout()))?;
+    let answer = choices(rt.alloc(), &mut trace, &mut output);
+    if handed_on(answer, output)? {
+        Ok(Done::AsAsked)
+    } else {
+        Ok(Done::Unlike)
+    }
+}
