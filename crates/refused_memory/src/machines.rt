@@ -1,43 +1,96 @@
-//! Machines that are made and copied.
+//! Trees of phasers, and machines.
 
-use crate::marks::{self, Refusal};
-use crate::programs::{
-    MEETING, MEETING_AT_FIRST, is_meeting_after, meeting_after, program_of, shows,
-};
-use crate::trial::{Answer, Trial, right_if};
-use std::alloc::{AllocError, Global};
-use thread_machine::Machine;
+use crate::programs::{FIRST, MEETING, goes_on, is_at, meeting_after, program_of};
+use crate::trial::{Answer, Trial, Tried};
+use packed_phaser::Policy;
+use phase_number::Phase;
+use thread_machine::{Event, Machine, StepFault, What};
+use tier_tree::{DeclareFault, Forest, PhaserId};
+
+/// `Forest::new`.
+pub fn new_forest(trial: Trial) -> Tried {
+    Ok(match trial.end(Forest::new(trial.begin())) {
+        Ok(forest) => Answer::Right.provided(forest.len() == 0),
+        Err(_) => Answer::Memory,
+    })
+}
+
+fn declare_root(forest: &mut Forest) -> Result<PhaserId, DeclareFault> {
+    forest.declare(None, 2, Policy::Default, Phase::prevailing(7))
+}
+
+/// `Forest::declare`: after `Memory` the forest is as before, and takes the phaser.
+pub fn declaring(trial: Trial) -> Tried {
+    let mut forest = Forest::new(trial.alloc)?;
+    trial.begin();
+    Ok(match trial.end(declare_root(&mut forest)) {
+        Ok(id) => Answer::Right.provided(id == PhaserId(0) && forest.len() == 1),
+        Err(DeclareFault::Memory) => {
+            Answer::Memory.provided(
+                forest.len() == 0 && declare_root(&mut forest) == Ok(PhaserId(0)),
+            )
+        }
+        Err(_) => Answer::Wrong,
+    })
+}
+
+/// `Forest::copy`: what was copied stands.
+pub fn copying_forest(trial: Trial) -> Tried {
+    let mut forest = Forest::new(trial.alloc)?;
+    let _ = declare_root(&mut forest);
+    Ok(match trial.end(forest.copy(trial.begin())) {
+        Ok(copy) => Answer::Right.provided(copy.len() == 1 && forest.len() == 1),
+        Err(_) => Answer::Memory.provided(forest.len() == 1),
+    })
+}
 
 /// `Machine::new`.
-pub struct Beginning;
-
-impl Trial for Beginning {
-    fn tried(&self, alloc: Global, refusal: Refusal) -> Result<Answer, AllocError> {
-        let program = program_of(alloc, MEETING)?;
-        marks::begin(alloc, refusal);
-        let result = Machine::new(alloc, program, 1000);
-        marks::end(alloc);
-        Ok(match result {
-            Ok(machine) => right_if(shows(alloc, &machine, MEETING_AT_FIRST)?),
-            Err(_) => Answer::Memory,
-        })
-    }
+pub fn beginning(trial: Trial) -> Tried {
+    let program = program_of(trial.alloc, MEETING)?;
+    let answered = trial.end(Machine::new(trial.begin(), program, 1000));
+    Ok(match answered {
+        Ok(machine) => Answer::Right.provided(is_at(trial.alloc, &machine, 0)?),
+        Err(_) => Answer::Memory,
+    })
 }
 
 /// `Machine::copy`. What was copied stands, and goes on.
-pub struct CopyingMachine;
+pub fn copying(trial: Trial) -> Tried {
+    let mut machine = meeting_after(trial.alloc, 4)?;
+    let answer = match trial.end(machine.copy(trial.begin())) {
+        Ok(mut copy) => Answer::Right.provided(goes_on(trial.alloc, &mut copy, 4)?),
+        Err(_) => Answer::Memory,
+    };
+    Ok(answer.provided(goes_on(trial.alloc, &mut machine, 4)?))
+}
 
-impl Trial for CopyingMachine {
-    fn tried(&self, alloc: Global, refusal: Refusal) -> Result<Answer, AllocError> {
-        let mut machine = meeting_after(alloc, 4)?;
-        marks::begin(alloc, refusal);
-        let result = machine.copy(alloc);
-        marks::end(alloc);
-        let answer = match result {
-            Ok(mut copy) => right_if(is_meeting_after(alloc, &mut copy, 4)?),
-            Err(_) => Answer::Memory,
-        };
-        let stands = is_meeting_after(alloc, &mut machine, 4)?;
-        Ok(if stands { answer } else { Answer::Wrong })
-    }
+/// The answer of the fourth choice of the meeting, `out`: no other step takes memory. After `Memory` the machine is as before,
+/// and takes it.
+fn out_answer(trial: Trial, machine: &mut Machine, answered: Result<Event, StepFault>) -> Tried {
+    Ok(match answered {
+        Ok(event) => Answer::Right.provided(
+            event.what == What::Out(1) && goes_on(trial.alloc, machine, 4)?,
+        ),
+        Err(StepFault::Memory) => Answer::Memory.provided(goes_on(trial.alloc, machine, 3)?),
+        Err(_) => Answer::Wrong,
+    })
+}
+
+/// `Machine::step`.
+pub fn stepping(trial: Trial) -> Tried {
+    let mut machine = meeting_after(trial.alloc, 3)?;
+    trial.begin();
+    let answered = trial.end(machine.step(FIRST.choice));
+    out_answer(trial, &mut machine, answered)
+}
+
+/// `Machine::step_noting`.
+pub fn noting(trial: Trial) -> Tried {
+    let mut machine = meeting_after(trial.alloc, 3)?;
+    trial.begin();
+    let answered = match trial.end(machine.step_noting(FIRST.choice)) {
+        Ok((event, _)) => Ok(event),
+        Err(fault) => Err(fault),
+    };
+    out_answer(trial, &mut machine, answered)
 }

@@ -3,127 +3,90 @@
 //! anything.
 #![tactic(auto)]
 
-// What is refused, what comes of it, and how it is told.
+// What is refused, the one trial that all calls have, and what trials are made of.
 mod marks;
-mod report;
-mod sweep;
+mod programs;
 mod trial;
 
-// What the trials are made of.
-mod programs;
-
-// The trials, by what they try: a trial makes what a call needs, has one of the call's requests refused, makes the call, and
-// looks at what it answered and at what stands then.
-mod forests;
-mod images;
-mod lines;
-mod live;
-mod long_runs;
+// The trials, by what they try.
 mod machines;
-mod pictures;
-mod records;
 mod runs;
 mod schedules;
 mod sessions;
-mod shared;
-mod steps;
 mod texts;
+mod threads;
 
-use report::{tell, tell_counts};
-use std::alloc::Global;
+use programs::MEETING;
+use runs::ROUND;
 use std::io;
+use trial::Trials;
 
 /// Texts, images and trees.
-fn tell_programs(rt: &HostRuntime, alloc: Global) -> io::Result<()> {
-    tell(rt, alloc, "assemble", &texts::Assembling)?;
-    tell(rt, alloc, "assemble_named", &texts::AssemblingNamed)?;
-    tell(rt, alloc, "disassemble", &texts::Listing)?;
-    tell(rt, alloc, "read_image", &images::ReadingImage)?;
-    tell(rt, alloc, "load", &images::Loading)?;
-    tell(rt, alloc, "Loaded::copy", &images::CopyingProgram)?;
-    tell(rt, alloc, "Forest::new", &forests::NewForest)?;
-    tell(rt, alloc, "Forest::declare", &forests::Declaring)?;
-    tell(rt, alloc, "Forest::copy", &forests::CopyingForest)
+fn tell_programs(trials: &Trials) -> io::Result<()> {
+    trials.tell("assemble", texts::assembling)?;
+    trials.tell("disassemble", texts::listing)?;
+    trials.tell("read_image", texts::reading)?;
+    trials.tell("load", texts::loading)?;
+    trials.tell("Loaded::copy", texts::copying)?;
+    trials.tell("Forest::new", machines::new_forest)?;
+    trials.tell("Forest::declare", machines::declaring)?;
+    trials.tell("Forest::copy", machines::copying_forest)
 }
 
 /// Machines, schedules and lines.
-fn tell_machines(rt: &HostRuntime, alloc: Global) -> io::Result<()> {
-    tell(rt, alloc, "Machine::new", &machines::Beginning)?;
-    tell(rt, alloc, "Machine::copy", &machines::CopyingMachine)?;
-    tell(rt, alloc, "step at out", &steps::Stepping)?;
-    tell(rt, alloc, "step_noting at out", &steps::Noting)?;
-    tell(rt, alloc, "feed", &schedules::Feeding)?;
-    tell(rt, alloc, "finish", &schedules::Finishing)?;
-    tell(rt, alloc, "write_schedule", &schedules::Writing)?;
-    tell(rt, alloc, "event_line", &lines::EventLine)?;
-    tell(rt, alloc, "refusal_line", &lines::RefusalLine)?;
-    tell(rt, alloc, "state_text", &lines::StateText)
+fn tell_machines(trials: &Trials) -> io::Result<()> {
+    trials.tell("Machine::new", machines::beginning)?;
+    trials.tell("Machine::copy", machines::copying)?;
+    trials.tell("step at out", machines::stepping)?;
+    trials.tell("step_noting at out", machines::noting)?;
+    trials.tell("feed", schedules::feeding)?;
+    trials.tell("finish", schedules::finishing)?;
+    trials.tell("write_schedule", schedules::writing)?;
+    trials.tell("event_line", runs::event)?;
+    trials.tell("refusal_line", runs::refusal)?;
+    trials.tell("state_text", runs::state)
 }
 
-const MEETING_TRACE: &[u8] =
-    b"1 t0 0 wait\n2 t1 0 = 1 +p0 1\n3 t0 0 = 1\n4 t0 1 out 1\n5 t0 2 end\n6 t1 1 out 1\n\
-7 t1 2 end\nstate 7 7 all\nt0 2 ended 0 regs 1 0 0 0 0 0 0 0 stack out 1\n\
-t1 2 ended 0 regs 1 0 0 0 0 0 0 0 stack out 1\np0 1 2 0 2\n";
-
-/// Runs, and what is made of them.
-fn tell_runs(rt: &HostRuntime, alloc: Global) -> io::Result<()> {
-    let comparing = runs::Comparing {
-        program: runs::MEETING_RUN.program,
-        trace: MEETING_TRACE,
-    };
-    tell(rt, alloc, "run_text", &runs::Playing(runs::MEETING_RUN))?;
-    tell(rt, alloc, "compare", &comparing)?;
-    tell(rt, alloc, "page", &pictures::Paging)?;
-    tell(rt, alloc, "picture", &pictures::Drawing)
-}
-
-/// How many requests long runs make.
-fn tell_long_runs(rt: &HostRuntime, alloc: Global) -> io::Result<()> {
-    tell_counts(
-        rt,
+/// Runs, and how many requests long ones make.
+fn tell_runs(trials: &Trials) -> io::Result<()> {
+    let turns = b"t0 t1 t0*3 t1*2";
+    trials.tell("run_text", |trial| runs::playing(trial, MEETING, turns))?;
+    trials.tell("compare", |trial| runs::comparing(trial, MEETING, turns))?;
+    let short = runs::rounds(trials.alloc, 10_000)?;
+    let long = runs::rounds(trials.alloc, 100_000)?;
+    trials.tell_counts(
         "run_text of 10,000 and of 100,000 tokens",
-        long_runs::played(alloc, 10_000),
-        long_runs::played(alloc, 100_000),
+        |trial| runs::playing(trial, ROUND, short.as_slice()),
+        |trial| runs::playing(trial, ROUND, long.as_slice()),
     )?;
-    tell_counts(
-        rt,
+    trials.tell_counts(
         "compare with 10,000 and with 100,000 lines",
-        long_runs::compared(alloc, 10_000),
-        long_runs::compared(alloc, 100_000),
+        |trial| runs::comparing(trial, ROUND, short.as_slice()),
+        |trial| runs::comparing(trial, ROUND, long.as_slice()),
     )
 }
 
-/// The debugger.
-fn tell_sessions(rt: &HostRuntime, alloc: Global) -> io::Result<()> {
-    tell(rt, alloc, "Debugger::new", &sessions::Opening)?;
-    tell(rt, alloc, "Debugger::step at out", &sessions::Stepping)?;
-    tell(rt, alloc, "go", &sessions::Going)?;
-    for (name, line, reply, stands) in &sessions::COMMANDS {
-        let command = sessions::Commanding {
-            line,
-            reply,
-            stands: *stands,
-        };
-        tell(rt, alloc, *name, &command)?;
+/// The debugger and real threads.
+fn tell_debugger(trials: &Trials) -> io::Result<()> {
+    trials.tell("Debugger::new", sessions::opening)?;
+    trials.tell("Debugger::step at out", sessions::stepping)?;
+    trials.tell("go", sessions::going)?;
+    for command in &sessions::COMMANDS {
+        trials.tell(command.0, |trial| sessions::commanding(trial, command))?;
     }
-    Ok(())
-}
-
-/// Real threads.
-fn tell_threads(rt: &HostRuntime, alloc: Global) -> io::Result<()> {
-    tell(rt, alloc, "Journaled::new", &records::Recording)?;
-    tell(rt, alloc, "take_step at out", &records::OUT)?;
-    tell(rt, alloc, "take_expiry", &records::EXPIRY)?;
-    tell(rt, alloc, "SharedPhaser::new", &shared::Sharing)
+    trials.tell("Journaled::new", threads::recording)?;
+    trials.tell("take_step at out", threads::taking_step)?;
+    trials.tell("take_expiry", threads::taking_expiry)?;
+    trials.tell("SharedPhaser::new", threads::sharing)
 }
 
 fn main(rt: HostRuntime) -> io::Result<()> {
     let alloc = rt.alloc();
-    tell_programs(&rt, alloc)?;
-    tell_machines(&rt, alloc)?;
-    tell_runs(&rt, alloc)?;
-    tell_long_runs(&rt, alloc)?;
-    tell_sessions(&rt, alloc)?;
-    tell_threads(&rt, alloc)?;
-    live::tell(&rt, &rt, alloc)
+    let trials = Trials { rt: &rt, alloc };
+    tell_programs(&trials)?;
+    tell_machines(&trials)?;
+    tell_runs(&trials)?;
+    tell_debugger(&trials)?;
+    let live = threads::swept(&rt, alloc)?;
+    println!(&rt; "run_live: {live}")
 }

@@ -3,7 +3,7 @@
 
 use std::alloc::Global;
 
-/// The request of so many bytes and as many as the number of the request that is to be refused.
+/// The request of so many bytes and as many as the number of the request that is to be refused, counted from 1.
 const REFUSE_ONE: usize = 7_000_000;
 
 /// The same for that request and all that follow.
@@ -18,32 +18,18 @@ const COUNT: usize = 7_200_001;
 /// Refused where there are more or fewer blocks than at `COUNT`.
 const COMPARE: usize = 7_200_002;
 
-/// Which requests are refused, counted from 1.
-#[derive(Clone, Copy, Debug, PartialEq, Eq)]
-pub enum Refusal {
-    One(u16),
-    AllFrom(u16),
-}
-
 fn is_refused(alloc: Global, size: usize) -> bool {
     Vec::<u8>::with_capacity(alloc, size).is_err()
 }
 
-/// From now on these requests are refused.
-pub fn begin(alloc: Global, refusal: Refusal) {
-    let _ = match refusal {
-        Refusal::One(n) => is_refused(alloc, REFUSE_ONE + usize::from(n)),
-        Refusal::AllFrom(n) => is_refused(alloc, REFUSE_ALL + usize::from(n)),
-    };
+/// From now on this request is refused, alone or with all that follow.
+pub fn begin(alloc: Global, request: u16, all: bool) {
+    let mark = if all { REFUSE_ALL } else { REFUSE_ONE };
+    let _ = is_refused(alloc, mark + usize::from(request));
 }
 
-/// From now on none is refused.
-pub fn end(alloc: Global) {
-    let _ = is_refused(alloc, END);
-}
-
-/// Whether one was refused, asked behind the end.
-pub fn was_refused(alloc: Global) -> bool {
+/// From now on none is refused; whether one was.
+pub fn end(alloc: Global) -> bool {
     is_refused(alloc, END)
 }
 

@@ -1,32 +1,39 @@
-//! Programs and their machines.
+//! Programs, their machines and their traces.
 
 use assembler::assemble;
+use byte_ports::{MemorySink, MemorySource};
 use loader::{Loaded, load};
 use row_code::Image;
+use schedule_reader::Run;
 use std::alloc::{AllocError, Global};
 use thread_machine::{Choice, Machine};
+use trace_text::run::run_text;
 use trace_text::state::state_text;
 
 /// Two threads meet at a phaser and put out what they got.
 pub const MEETING: &[u8] =
     b".phaser p 2\n.thread a main\n.thread b main\nmain: paaa r0 p\nout r0\nhalt\n";
 
-/// Its state before the first choice.
-pub const MEETING_AT_FIRST: &[u8] = b"state 0 0 live\nt0 0 runs 0 regs 0 0 0 0 0 0 0 0 stack out\n\
-t1 0 runs 0 regs 0 0 0 0 0 0 0 0 stack out\np0 0 2 0 2\n";
-
-const FIRST: Choice = Choice {
-    thread: 0,
-    expiry: false,
+/// A turn of its first thread.
+pub const FIRST: Run = Run {
+    choice: Choice {
+        thread: 0,
+        expiry: false,
+    },
+    times: 1,
 };
 
-const SECOND: Choice = Choice {
-    thread: 1,
-    expiry: false,
+/// A turn of its second thread.
+pub const SECOND: Run = Run {
+    choice: Choice {
+        thread: 1,
+        expiry: false,
+    },
+    times: 1,
 };
 
-/// The choices of its run: `t0 t1 t0*3 t1*2`.
-pub const MEETING_CHOICES: [Choice; 7] = [FIRST, SECOND, FIRST, FIRST, FIRST, SECOND, SECOND];
+/// The turns until all have ended. The fourth and the sixth put a value out.
+pub const TURNS: [Run; 7] = [FIRST, SECOND, FIRST, FIRST, FIRST, SECOND, SECOND];
 
 /// The image of a text that has no fault.
 pub fn image_of(alloc: Global, text: &[u8]) -> Result<Image, AllocError> {
@@ -44,30 +51,32 @@ pub fn program_of(alloc: Global, text: &[u8]) -> Result<Loaded, AllocError> {
     }
 }
 
-/// The machine of a text, before its first choice.
-pub fn machine_of(alloc: Global, text: &[u8]) -> Result<Machine, AllocError> {
-    Machine::new(alloc, program_of(alloc, text)?, 1000)
+/// The trace of a text and a schedule that is not refused.
+pub fn trace_of(alloc: Global, text: &[u8], schedule: &[u8]) -> Result<MemorySink, AllocError> {
+    let mut source = MemorySource::new(schedule, None);
+    let mut trace = MemorySink::new(alloc, 2_000_000, None)?;
+    match run_text(alloc, image_of(alloc, text)?, &mut source, &mut trace) {
+        Ok(()) => Ok(trace),
+        Err(_) => Err(AllocError),
+    }
 }
 
 /// Plays choices that are not refused.
-pub fn play(machine: &mut Machine, choices: &[Choice]) -> bool {
-    for choice in choices {
-        if machine.step(*choice).is_err() {
-            return false;
+fn play(machine: &mut Machine, turns: &[Run]) -> Result<(), AllocError> {
+    for turn in turns {
+        if machine.step(turn.choice).is_err() {
+            return Err(AllocError);
         }
     }
-    true
+    Ok(())
 }
 
 /// The machine of the meeting after its first choices.
 pub fn meeting_after(alloc: Global, count: usize) -> Result<Machine, AllocError> {
-    let mut machine = machine_of(alloc, MEETING)?;
-    let (choices, _) = MEETING_CHOICES.split_at(count.min(7));
-    if play(&mut machine, choices) {
-        Ok(machine)
-    } else {
-        Err(AllocError)
-    }
+    let mut machine = Machine::new(alloc, program_of(alloc, MEETING)?, 1000)?;
+    let (turns, _) = TURNS.split_at(count.min(7));
+    play(&mut machine, turns)?;
+    Ok(machine)
 }
 
 /// Whether a machine shows this state.
@@ -76,24 +85,14 @@ pub fn shows(alloc: Global, machine: &Machine, state: &[u8]) -> Result<bool, All
     Ok(text.as_slice() == state)
 }
 
-/// Whether two machines show the same state.
-pub fn are_alike(alloc: Global, one: &Machine, other: &Machine) -> Result<bool, AllocError> {
-    let text = state_text(alloc, other)?;
-    shows(alloc, one, text.as_slice())
+/// Whether a machine shows the state of the meeting after so many of its choices.
+pub fn is_at(alloc: Global, machine: &Machine, count: usize) -> Result<bool, AllocError> {
+    let wanted = state_text(alloc, &meeting_after(alloc, count)?)?;
+    shows(alloc, machine, wanted.as_slice())
 }
 
 /// Whether a machine is that of the meeting after so many of its choices, and plays the rest of them.
-pub fn is_meeting_after(
-    alloc: Global,
-    machine: &mut Machine,
-    count: usize,
-) -> Result<bool, AllocError> {
-    if !are_alike(alloc, machine, &meeting_after(alloc, count)?)? {
-        return Ok(false);
-    }
-    let (_, rest) = MEETING_CHOICES.split_at(count.min(7));
-    if !play(machine, rest) {
-        return Ok(false);
-    }
-    are_alike(alloc, machine, &meeting_after(alloc, 7)?)
+pub fn goes_on(alloc: Global, machine: &mut Machine, count: usize) -> Result<bool, AllocError> {
+    let (_, rest) = TURNS.split_at(count.min(7));
+    Ok(is_at(alloc, machine, count)? && play(machine, rest).is_ok() && is_at(alloc, machine, 7)?)
 }

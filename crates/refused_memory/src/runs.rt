@@ -1,73 +1,111 @@
-//! Runs whose trace is written, and traces that are compared.
+//! Lines of traces, states, runs whose trace is written, and traces that are compared.
 
-use crate::marks::{self, Refusal};
-use crate::programs::{MEETING, image_of};
-use crate::trial::{Answer, Trial, memory_if, right_if};
+use crate::programs::{FIRST, image_of, meeting_after, shows, trace_of};
+use crate::trial::{Answer, Trial, Tried};
 use byte_ports::{MemorySink, MemorySource};
 use std::alloc::{AllocError, Global};
-use trace_compare::{CompareFault, Verdict, compare};
-use trace_text::{RunFault, run_text};
+use thread_machine::{Event, Mark, What};
+use trace_text::line::{event_line, refusal_line};
+use trace_text::state::state_text;
+use trace_compare::{CompareFault, RunFault, Verdict, compare, run_text};
 
-/// A program, a schedule, and the trace: the lines of the choices, and the state.
-#[derive(Clone, Copy)]
-pub struct Run<'a> {
-    pub program: &'a [u8],
-    pub schedule: &'a [u8],
-    pub events: &'a [u8],
-    pub state: &'a [u8],
-}
-
-pub const MEETING_RUN: Run<'static> = Run {
-    program: MEETING,
-    schedule: b"t0 t1 t0*3 t1*2",
-    events: b"1 t0 0 wait\n2 t1 0 = 1 +p0 1\n3 t0 0 = 1\n4 t0 1 out 1\n5 t0 2 end\n6 t1 1 out 1\n7 t1 2 end\n",
-    state: b"state 7 7 all\nt0 2 ended 0 regs 1 0 0 0 0 0 0 0 stack out 1\n\
-t1 2 ended 0 regs 1 0 0 0 0 0 0 0 stack out 1\np0 1 2 0 2\n",
+const EVENT: Event = Event {
+    what: What::Value(-5),
+    mark: Mark::Phase { root: 0, view: 1 },
 };
 
-/// The answer of a run with what it wrote; after `Memory` that is a beginning of the lines of the choices.
-fn run_answer(answered: Result<(), RunFault>, written: &[u8], run: &Run) -> Answer {
-    match answered {
-        Ok(()) => right_if(written.strip_prefix(run.events) == Some(run.state)),
-        Err(RunFault::Memory) => memory_if(run.events.starts_with(written)),
+/// A text of three bytes with room for no more.
+fn full_text(alloc: Global) -> Result<Vec<u8>, AllocError> {
+    let mut text = Vec::with_capacity(alloc, 3)?;
+    text.extend_from_slice(b"abc")?;
+    Ok(text)
+}
+
+/// The answer of a call that puts a line behind these three bytes: after a refusal the text is as before.
+fn line_answer(answered: Result<(), AllocError>, text: &[u8], wanted: &[u8]) -> Tried {
+    Ok(match answered {
+        Ok(()) => Answer::Right.provided(text == wanted),
+        Err(_) => Answer::Memory.provided(text == b"abc".as_slice()),
+    })
+}
+
+/// `event_line`.
+pub fn event(trial: Trial) -> Tried {
+    let mut text = full_text(trial.alloc)?;
+    trial.begin();
+    let answered = trial.end(event_line(&mut text, 7, FIRST.choice, 5, &EVENT));
+    line_answer(answered, text.as_slice(), b"abc7 t0 5 = -5 +p0 1\n")
+}
+
+/// `refusal_line`.
+pub fn refusal(trial: Trial) -> Tried {
+    let mut text = full_text(trial.alloc)?;
+    trial.begin();
+    let answered = trial.end(refusal_line(&mut text, 8, FIRST.choice, None));
+    line_answer(answered, text.as_slice(), b"abc8 t0 - none\n")
+}
+
+/// The state of the meeting before the first choice.
+const AT_FIRST: &[u8] = b"state 0 0 live\nt0 0 runs 0 regs 0 0 0 0 0 0 0 0 stack out\n\
+t1 0 runs 0 regs 0 0 0 0 0 0 0 0 stack out\np0 0 2 0 2\n";
+
+/// `state_text`. The machine stands.
+pub fn state(trial: Trial) -> Tried {
+    let machine = meeting_after(trial.alloc, 0)?;
+    let answer = match trial.end(state_text(trial.begin(), &machine)) {
+        Ok(text) => Answer::Right.provided(text.as_slice() == AT_FIRST),
+        Err(_) => Answer::Memory,
+    };
+    Ok(answer.provided(shows(trial.alloc, &machine, AT_FIRST)?))
+}
+
+/// A thread that goes round for ever.
+pub const ROUND: &[u8] = b".thread a m\nm: jmp m\n";
+
+/// A schedule of so many of its choices: a token for each, and not one for all.
+pub fn rounds(alloc: Global, choices: u32) -> Result<Vec<u8>, AllocError> {
+    let mut schedule = Vec::new(alloc);
+    for _ in 0..choices {
+        schedule.extend_from_slice(b"t0 ")?;
+    }
+    Ok(schedule)
+}
+
+/// Whether bytes are a beginning of the lines of a trace, and have nothing of its state.
+fn is_beginning(bytes: &[u8], trace: &[u8]) -> bool {
+    for line in bytes.split(|byte| *byte == b'\n') {
+        if line.starts_with(b"s") {
+            return false;
+        }
+    }
+    trace.starts_with(bytes)
+}
+
+/// `run_text`: what was written before `Memory` is a beginning of the lines of the choices.
+pub fn playing(trial: Trial, text: &[u8], schedule: &[u8]) -> Tried {
+    let wanted = trace_of(trial.alloc, text, schedule)?;
+    let image = image_of(trial.alloc, text)?;
+    let mut source = MemorySource::new(schedule, None);
+    let mut trace = MemorySink::new(trial.alloc, 2_000_000, None)?;
+    let answered = trial.end(run_text(trial.begin(), image, &mut source, &mut trace));
+    Ok(match answered {
+        Ok(()) => Answer::Right.provided(trace.bytes() == wanted.bytes()),
+        Err(RunFault::Memory) => {
+            Answer::Memory.provided(is_beginning(trace.bytes(), wanted.bytes()))
+        }
         Err(_) => Answer::Wrong,
-    }
+    })
 }
 
-/// `run_text`.
-#[derive(Clone, Copy)]
-pub struct Playing<'a>(pub Run<'a>);
-
-impl<'a> Trial for Playing<'a> {
-    fn tried(&self, alloc: Global, refusal: Refusal) -> Result<Answer, AllocError> {
-        let image = image_of(alloc, self.0.program)?;
-        let mut schedule = MemorySource::new(self.0.schedule, None);
-        let mut output = MemorySink::new(alloc, 2_000_000, None)?;
-        marks::begin(alloc, refusal);
-        let result = run_text(alloc, image, &mut schedule, &mut output);
-        marks::end(alloc);
-        Ok(run_answer(result, output.bytes(), &self.0))
-    }
-}
-
-/// `compare` of a program and a trace of it.
-#[derive(Clone, Copy)]
-pub struct Comparing<'a> {
-    pub program: &'a [u8],
-    pub trace: &'a [u8],
-}
-
-impl<'a> Trial for Comparing<'a> {
-    fn tried(&self, alloc: Global, refusal: Refusal) -> Result<Answer, AllocError> {
-        let image = image_of(alloc, self.program)?;
-        let mut trace = MemorySource::new(self.trace, None);
-        marks::begin(alloc, refusal);
-        let result = compare(alloc, image, &mut trace);
-        marks::end(alloc);
-        Ok(match result {
-            Ok(verdict) => right_if(verdict == Verdict::Same),
-            Err(CompareFault::Memory) => Answer::Memory,
-            Err(_) => Answer::Wrong,
-        })
-    }
+/// `compare`.
+pub fn comparing(trial: Trial, text: &[u8], schedule: &[u8]) -> Tried {
+    let trace = trace_of(trial.alloc, text, schedule)?;
+    let image = image_of(trial.alloc, text)?;
+    let mut source = MemorySource::new(trace.bytes(), None);
+    let answered = trial.end(compare(trial.begin(), image, &mut source));
+    Ok(match answered {
+        Ok(verdict) => Answer::Right.provided(verdict == Verdict::Same),
+        Err(CompareFault::Memory) => Answer::Memory,
+        Err(_) => Answer::Wrong,
+    })
 }

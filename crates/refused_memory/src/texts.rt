@@ -1,81 +1,88 @@
-//! Texts that are assembled, and images that are listed.
+//! Texts, images and programs.
 
-use crate::marks::{self, Refusal};
-use crate::programs::image_of;
-use crate::trial::{Answer, Trial, answer_in_bytes, memory_if, right_if};
-use assembler::{AsmFault, AsmFaultKind, Symbols, assemble, assemble_named, disassemble};
-use instruction_table::OperandKind;
-use row_code::Image;
+use crate::programs::{image_of, program_of, shows};
+use crate::trial::{Answer, Trial, Tried};
+use assembler::{AsmFaultKind, assemble, disassemble};
+use loader::{LoadFault, Loaded, load};
+use row_code::{Image, ImageFault, read_image};
 use std::alloc::{AllocError, Global};
+use thread_machine::Machine;
 
-/// Each kind of thing that has a name, and names that are looked up before and behind their place.
-pub const TEXT: &[u8] =
+/// Each kind of thing that has a name, and names that are looked up before and behind their place: eight lines.
+const TEXT: &[u8] =
     b".phaser root 2 onadvance adv\n.phaser child 1 parent root\n.barrier gate 1 action act\n\
 .thread first main\n.cell sum\nmain: sts r1 sum\nact: cawait r0 gate\nadv: halt\n";
-
-const LINES: u64 = 8;
 
 const LISTING: &[u8] =
     b".phaser p0 2 onadvance #2\n.phaser p1 1 parent #0\n.barrier b0 1 action #1\n\
 .thread t0 #0\nsts r1 #0\ncawait r0 #0\nhalt\n";
 
-fn is_listed(alloc: Global, image: &Image) -> Result<bool, AllocError> {
-    let listing = disassemble(alloc, image)?;
-    Ok(listing.as_slice() == LISTING)
+/// The state of its machine before the first choice.
+const AT_FIRST: &[u8] = b"state 0 0 live\nt0 0 runs 0 regs 0 0 0 0 0 0 0 0 stack out\n\
+p0 0 3 0 3\np1 0 1 0 1\nb0 0 0\n";
+
+/// The image of two threads that put out their first register.
+const IMAGE: &[u8] = b"PBW1\x00\x00\x00\x00\x02\x00\x02\x00\
+\x01\x00\x00\x00\x00\x00\x00\x00\x0e\x00\x00\x00\x00\x00\x00\x00\x00\x00\x00\x00\x00\x00\x00\x00";
+
+fn lists(alloc: Global, image: &Image, listing: &[u8]) -> Result<bool, AllocError> {
+    let text = disassemble(alloc, image)?;
+    Ok(text.as_slice() == listing)
 }
 
-/// Memory, where the fault says so and names a line of the text.
-fn fault_answer(fault: AsmFault) -> Answer {
-    memory_if(fault.kind == AsmFaultKind::Memory && fault.line > 0 && fault.line <= LINES)
+/// Whether the machine of a program begins as that of the text.
+fn begins(alloc: Global, program: Loaded) -> Result<bool, AllocError> {
+    let machine = Machine::new(alloc, program, 1000)?;
+    shows(alloc, &machine, AT_FIRST)
 }
 
-/// `assemble`.
-pub struct Assembling;
-
-impl Trial for Assembling {
-    fn tried(&self, alloc: Global, refusal: Refusal) -> Result<Answer, AllocError> {
-        marks::begin(alloc, refusal);
-        let result = assemble(alloc, TEXT);
-        marks::end(alloc);
-        Ok(match result {
-            Ok(image) => right_if(is_listed(alloc, &image)?),
-            Err(fault) => fault_answer(fault),
-        })
-    }
+/// `assemble`. A fault for want of memory names a line of the text.
+pub fn assembling(trial: Trial) -> Tried {
+    Ok(match trial.end(assemble(trial.begin(), TEXT)) {
+        Ok(image) => Answer::Right.provided(lists(trial.alloc, &image, LISTING)?),
+        Err(fault) if fault.kind == AsmFaultKind::Memory => {
+            Answer::Memory.provided(fault.line > 0 && fault.line <= 8)
+        }
+        Err(_) => Answer::Wrong,
+    })
 }
 
-/// Whether these are the names of the text.
-fn are_names(symbols: &Symbols) -> bool {
-    symbols.len() == 8
-        && symbols.rows() == [6, 7, 8].as_slice()
-        && symbols.name_of(OperandKind::Target, 2) == Some(b"adv".as_slice())
+/// `disassemble`. The image stands.
+pub fn listing(trial: Trial) -> Tried {
+    let image = image_of(trial.alloc, TEXT)?;
+    let answer = match trial.end(disassemble(trial.begin(), &image)) {
+        Ok(text) => Answer::Right.provided(text.as_slice() == LISTING),
+        Err(_) => Answer::Memory,
+    };
+    Ok(answer.provided(lists(trial.alloc, &image, LISTING)?))
 }
 
-/// `assemble_named`.
-pub struct AssemblingNamed;
-
-impl Trial for AssemblingNamed {
-    fn tried(&self, alloc: Global, refusal: Refusal) -> Result<Answer, AllocError> {
-        marks::begin(alloc, refusal);
-        let result = assemble_named(alloc, TEXT);
-        marks::end(alloc);
-        Ok(match result {
-            Ok((image, symbols)) => right_if(is_listed(alloc, &image)? && are_names(&symbols)),
-            Err(fault) => fault_answer(fault),
-        })
-    }
+/// `read_image`.
+pub fn reading(trial: Trial) -> Tried {
+    let listing = b".thread t0 #1\n.thread t1 #0\nout r0\nhalt\n";
+    Ok(match trial.end(read_image(trial.begin(), IMAGE)) {
+        Ok(image) => Answer::Right.provided(lists(trial.alloc, &image, listing)?),
+        Err(ImageFault::Memory) => Answer::Memory,
+        Err(_) => Answer::Wrong,
+    })
 }
 
-/// `disassemble`.
-pub struct Listing;
+/// `load`.
+pub fn loading(trial: Trial) -> Tried {
+    let image = image_of(trial.alloc, TEXT)?;
+    Ok(match trial.end(load(trial.begin(), image)) {
+        Ok(program) => Answer::Right.provided(begins(trial.alloc, program)?),
+        Err(LoadFault::Memory) => Answer::Memory,
+        Err(_) => Answer::Wrong,
+    })
+}
 
-impl Trial for Listing {
-    fn tried(&self, alloc: Global, refusal: Refusal) -> Result<Answer, AllocError> {
-        let image = image_of(alloc, TEXT)?;
-        marks::begin(alloc, refusal);
-        let result = disassemble(alloc, &image);
-        marks::end(alloc);
-        let again = disassemble(alloc, &image);
-        Ok(answer_in_bytes(result, again, LISTING))
-    }
+/// `Loaded::copy`. What was copied stands.
+pub fn copying(trial: Trial) -> Tried {
+    let program = program_of(trial.alloc, TEXT)?;
+    let answer = match trial.end(program.copy(trial.begin())) {
+        Ok(copy) => Answer::Right.provided(begins(trial.alloc, copy)?),
+        Err(_) => Answer::Memory,
+    };
+    Ok(answer.provided(begins(trial.alloc, program)?))
 }
