@@ -5,8 +5,9 @@ use row_code::Image;
 use schedule_reader::ScheduleFault;
 use std::alloc::{AllocError, Global};
 use thread_machine::{Choice, Event, Machine};
-use trace_compare::{CompareFault, Verdict, compare};
-use trace_text::{RunFault, event_line, refusal_line, run_text, state_text};
+use trace_compare::{
+    CompareFault, RunFault, Verdict, compare, event_line, refusal_line, run_text, state_text,
+};
 
 /// Why a run isn't written.
 pub fn of_run(fault: RunFault) -> (Option<LoadFault>, Option<ScheduleFault>) {
