@@ -112,10 +112,29 @@ fn program_file<'a>(name: &'a str, bytes: &'a [u8]) -> ProgramFile<'a> {
     }
 }
 
+/// Says which file can't be read, where it is a folder or longer than may be.
+fn push_unreadable(rt: &HostRuntime, path: &str) {
+    let Ok(metadata) = fs::metadata(rt, path) else {
+        return;
+    };
+    let length = metadata.len();
+    if metadata.is_dir() {
+        push_text(rt, format!(in rt.alloc(); "{path}: it is a folder\n"));
+    } else if metadata.is_file() && length > LONGEST {
+        push_text(rt, format!(in rt.alloc(); "{path}: it has {length} bytes\n"));
+    }
+}
+
 /// Shows where a fault is, and says what it means. Nobody need be told why a pipe took no more: who read it has gone.
 pub fn push_help(rt: &HostRuntime, fault: Fault, files: Files<'_>) {
     if !is_explained(rt) || (matches!(fault, Fault::Write) && writes_to_pipe(rt)) {
         return;
+    }
+    if matches!(fault, Fault::Read) {
+        push_unreadable(rt, files.program);
+        if let Some(schedule) = files.schedule {
+            push_unreadable(rt, schedule);
+        }
     }
     let program = contents(rt, files.program);
     let program = program_file(files.program, program.as_slice());

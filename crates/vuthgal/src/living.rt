@@ -4,7 +4,8 @@ ghost use Rattle.std.specs.Prelude.{◌≤◌, IfSome};
 
 use crate::ending::flushed;
 use crate::expectation::expectations;
-use crate::files;
+use crate::explaining::is_explained;
+use crate::{files, notes};
 use crate::progress::{BehindProgress, ShownGate, ShownPace, trace_port};
 use crate::running::ended;
 use crate::trouble::Answer;
@@ -13,7 +14,7 @@ use commands::{Asked, Pauses, report_runs};
 use headline::shown;
 use std::sync::Wait;
 use std::thread::Threads;
-use workbench::done::as_asked;
+use workbench::done::{Done, as_asked};
 use workbench::racing;
 
 /// Plays a program on real threads, which pause a little where there is a seed.
@@ -49,7 +50,11 @@ fn live_often<'a, R: Threads + Wait + Sync>(
     let mut output = WritePort::new(BehindProgress::new(rt.stdout(), &shown));
     let answer = report_runs(threads, rt.alloc(), asked, &shown, program, &mut output);
     shown.end();
-    Ok(flushed(answer, &mut output)?)
+    let done = flushed(answer, &mut output)?;
+    if done == Done::Unlike && is_explained(rt) {
+        notes::push_unlike_runs(rt);
+    }
+    Ok(done)
 }
 
 /// Plays the program in a file on real threads, once, or as often as is asked for.

@@ -63,6 +63,13 @@ pub fn push_refused(rt: &HostRuntime, end: &RunEnd) {
     }
 }
 
+/// Not all of several runs ended as they were expected to.
+pub fn push_unlike_runs(rt: &HostRuntime) {
+    let _ = WritePort::new(printable::errors(rt)).push(
+        b"some runs ended otherwise than expected: a line above has the schedule of one of each kind\n",
+    );
+}
+
 /// A page is for a browser.
 pub fn push_page_on_terminal(rt: &HostRuntime) {
     if rt.stdout().is_terminal() {
