@@ -11,4 +11,4 @@ pub mod Counting
 pub mod Seeded
 pub mod Reports
 pub mod Reported
-pub mod Shown
+pub mod ShownSchedules

@@ -3,7 +3,7 @@ use Rattle.std.specs.String.{string_bytes}
 use Rattle.schedule_reader.specs.Schedule.{choices_of, finished_schedule}
 use Rattle.thread_machine.specs.World.{world_of}
 use Rattle.commands.specs.Outcomes.{Ended}
-use Rattle.commands.proofs.Shown.{same_replay}
+use Rattle.commands.proofs.ShownSchedules.{same_replay}
 use Rattle.commands.proofs.runs.add_run.Goals as goal
 
 pub returns-in-Ok-add-clause-added : goal.returns-in-Ok-add-clause-added
