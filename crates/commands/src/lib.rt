@@ -22,7 +22,7 @@ pub mod drawing;
 pub mod page;
 pub mod picture;
 pub mod picture_fault;
-pub mod pictures;
+pub mod making;
 mod shown;
 
 // The debugger for a person.

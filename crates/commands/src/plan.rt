@@ -18,7 +18,7 @@ ghost use Rattle.workbench.specs.Input.{GivesTooMuch};
 ghost use Rattle.workbench.specs.declared.fault.Fault.{Fault};
 
 use crate::drawing::named_program;
-use crate::pictures::parts_of;
+use crate::making::parts_of;
 use crate::unplanned::Unplanned;
 use assembler::Symbols;
 use byte_ports::{Sink, Source};

@@ -3,7 +3,7 @@ use byte_ports::{MemorySink, MemorySource, Source};
 use commands::drawing::Drawing;
 use commands::list_rows;
 use commands::page::Page;
-use commands::pictures::make;
+use commands::making::make;
 use std::alloc::Global;
 use std::sync::Wait;
 use std::test::Fail;

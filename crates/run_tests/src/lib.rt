@@ -23,7 +23,7 @@ mod names;
 #[cfg(test)]
 mod orders;
 #[cfg(test)]
-mod plans;
+mod orders_by_plan;
 #[cfg(test)]
 mod programs;
 #[cfg(test)]

@@ -5,7 +5,7 @@ use crate::planning::{Steps, runs_of_plan};
 use crate::trouble::{Answer, Trouble};
 use crate::{files, notes, printable};
 use byte_ports::{BlockSource, ReadPort, Source, WritePort};
-use commands::pictures::parts_of;
+use commands::making::parts_of;
 use commands::{GuidedCommands, list_rows};
 use headline::shown;
 use schedule_reader::Run;

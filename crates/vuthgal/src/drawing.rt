@@ -10,7 +10,7 @@ use crate::trouble::{Answer, Trouble};
 use crate::{files, help, notes};
 use byte_ports::{ReadPort, Sink, Source, WritePort};
 use commands::picture::Picture;
-use commands::pictures::{make, make_of_both, parts_of};
+use commands::making::{make, make_of_both, parts_of};
 use workbench::done::Done;
 use workbench::input::read_all;
 use workbench::slice_source::SliceSource;

@@ -7,7 +7,7 @@ use crate::planning::Steps;
 use crate::printable;
 use byte_ports::{Sink, WritePort};
 use command_line::request::Request;
-use commands::pictures::parts_of;
+use commands::making::parts_of;
 use plans::fault::PlanFault;
 use refusals::place::{Named, ProgramFile, push_place};
 use refusals::push_plan_place;

@@ -9,7 +9,7 @@ use crate::trouble::Trouble;
 use crate::{files, notes};
 use byte_ports::{ReadPort, Sink, WritePort};
 use command_line::request::Seeds;
-use commands::pictures::parts_of;
+use commands::making::parts_of;
 use commands::plan::{plan, planned_in};
 use commands::seeds::{self, report_seeds};
 use schedule_reader::{Run, write_schedule};

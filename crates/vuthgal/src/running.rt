@@ -9,7 +9,7 @@ use crate::progress::{ShownWriter, trace_port};
 use crate::trouble::{Answer, Trouble};
 use crate::{files, notes};
 use byte_ports::{BlockPort, ReadPort, Source, WritePort};
-use commands::pictures::parts_of;
+use commands::making::parts_of;
 use headline::shown;
 use std::io::Stdout;
 use trace_text::RunEnd;

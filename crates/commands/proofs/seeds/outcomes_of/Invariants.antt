@@ -5,6 +5,6 @@ use Rattle.commands.proofs.seeds.outcomes_of.Given as goal
 
 -- so many orders came to the outcomes
 abbrev pub invariant-loop-number : goal.invariant-loop-number
-invariant-loop-number g l =
+invariant-loop-number l =
     (runs : List Ended) × ((length runs ≡ l.number)
     × AreEndsBy l.fn.program.now l.fn.plan.now l.fn.seeds.first runs × AreOutcomes runs l.outcomes.entries)

@@ -1,6 +1,6 @@
 use Rattle.std.proofs.Common.{rules, ◌≡◌}
 use Rattle.commands.proofs.Written.{both_read}
-use Rattle.commands.proofs.pictures.make.Goals as goal
+use Rattle.commands.proofs.making.make.Goals as goal
 
 pub returns-clause-done : goal.returns-clause-done
 returns-clause-done g c =

@@ -1,7 +1,7 @@
 use Rattle.std.proofs.Common.{rules, ◌≡◌, ◌∙◌, ap}
 use Rattle.commands.specs.Pictures.{program_of, schedule_behind}
 use Rattle.commands.proofs.Written.{one_read}
-use Rattle.commands.proofs.pictures.make_of_both.Goals as goal
+use Rattle.commands.proofs.making.make_of_both.Goals as goal
 
 pub returns-clause-done : goal.returns-clause-done
 returns-clause-done g c =

@@ -1,6 +1,6 @@
 use Rattle.std.proofs.Common.{rules, ◌≡◌}
 use Rattle.commands.proofs.Written.{picture_written}
-use Rattle.commands.proofs.pictures.write.Goals as goal
+use Rattle.commands.proofs.making.write.Goals as goal
 
 pub returns-in-Ok-clause-done : goal.returns-in-Ok-clause-done
 returns-in-Ok-clause-done g c =
