@@ -5,6 +5,7 @@
 #![tactic(auto)]
 
 // What a line consists of.
+pub mod first_line;
 pub mod label;
 pub mod name;
 pub mod number;
