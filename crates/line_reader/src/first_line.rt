@@ -7,18 +7,12 @@ ghost use Rattle.line_reader.specs.Seen.{name_seen};
 ghost use Rattle.line_reader.specs.Words.{is_allowed, is_blank, lines_of, words_of};
 
 use crate::asm_fault::AsmFaultKind;
+use crate::byte_kind::is_letter;
 use crate::words::{is_blank, is_line_end, length_before, place_of_forbidden};
 use std::alloc::AllocError;
 
 /// The most bytes that a line holds.
 const LONGEST_LINE: usize = 256;
-
-/// Whether a byte is one of a word, wherever it stands before a comment.
-fn is_letter(byte: u8) -> bool
-    ensures { result ≡ is_letter byte }
-{
-    32 < byte && byte < 127 && byte != b';'
-}
 
 /// Where a byte first stands that is of no word.
 fn place_of_end(bytes: &[u8]) -> Option<usize>

@@ -2,6 +2,8 @@ ghost use Rattle.std.specs.Prelude.{◌≡◌, ◌==◌, ◌<◌, ◌≤◌, IfS
 ghost use Rattle.std.specs.List.{before_first, position, position_or_len};
 ghost use Rattle.line_reader.specs.Words.{begins_comment, is_allowed, is_blank, is_line_end};
 
+use crate::byte_kind::is_allowed;
+
 /// Space, tab and CR.
 pub fn is_blank(byte: u8) -> bool
     ensures { result ≡ is_blank byte }
@@ -14,12 +16,6 @@ pub fn is_line_end(byte: u8) -> bool
     ensures { result ≡ is_line_end byte }
 {
     byte == b'\n'
-}
-
-fn is_allowed(byte: u8) -> bool
-    ensures { result ≡ is_allowed byte }
-{
-    (31 < byte && byte < 127) || byte == b'\t' || byte == b'\r'
 }
 
 /// Where a byte first stands that no line may hold.
