@@ -1,10 +1,10 @@
-ghost use Rattle.std.specs.Prelude.{◌≡◌, ◌+◌, ◌<◌, ◌≤◌, ◌⊎◌, ◌++◌, ◌∷◌, [], Err, IfErr, IfOk, Ok, drop, if◌then◌else◌, length, map, not, slice_index_or, true};
+ghost use Rattle.std.specs.Prelude.{◌≡◌, ◌+◌, ◌<◌, ◌≤◌, ◌⊎◌, ◌++◌, ◌∷◌, Err, IfErr, IfOk, Ok, drop, length, map, not, slice_index_or, true};
 ghost use Rattle.std.specs.List.{list_all, position, position_or_len};
 ghost use Rattle.line_reader.specs.declared.asm_fault.AsmFaultKind.TheVariants as fault;
 ghost use Rattle.line_reader.specs.FirstLine.{IsLeft, first_line, is_letter, word_alone};
 ghost use Rattle.line_reader.specs.Reading.{line_words};
 ghost use Rattle.line_reader.specs.Seen.{name_seen};
-ghost use Rattle.line_reader.specs.Words.{is_allowed, is_blank, lines_of, words_of};
+ghost use Rattle.line_reader.specs.Words.{is_allowed, is_blank, is_line_end, lines_of, words_of};
 
 use crate::asm_fault::AsmFaultKind;
 use crate::byte_kind::is_letter;
@@ -61,9 +61,9 @@ fn begins_blank(text: &[u8]) -> bool
 /// nor a blank: answers what stands from there on.
 #[inline(always)]
 fn put_words<'a>(words: &mut Vec<&'a [u8]>, text: &'a [u8]) -> Result<&'a [u8], AllocError>
-    ensures left { IfOk result (λ rest. IsLeft text.now (map name_seen words.new.items) rest.now) }
-    ensures none { IfOk result (λ rest. list_all is_allowed (first_line rest.now) ≡ true
-        → words_of (first_line rest.now) ≡ []) }
+    ensures left { IfOk result (λ rest. IsLeft text.now rest.now) }
+    ensures words { IfOk result (λ rest. list_all is_allowed (first_line rest.now) ≡ true
+        → words_of (first_line text.now) ≡ map name_seen words.new.items) }
 {
     words.clear();
     let mut rest = text;
@@ -78,21 +78,27 @@ fn put_words<'a>(words: &mut Vec<&'a [u8]>, text: &'a [u8]) -> Result<&'a [u8], 
     }
 }
 
-/// The length of a text's first line, where it may hold each of its bytes, those of its comment among them.
+/// How many bytes a text begins with that a line may hold.
 #[inline(always)]
-fn length_to_end(text: &[u8]) -> Result<usize, AsmFaultKind>
-    ensures { result ≡ if list_all is_allowed (first_line text.now)
-        then Ok (length (first_line text.now)) else Err fault.BadByte }
+#[tactic(auto, using(crate::proofs::Places::position_some, crate::proofs::Places::position_none))]
+fn length_allowed(text: &[u8]) -> usize
+    ensures length { result ≡ position_or_len (λ byte. not (is_allowed byte)) text.now }
+    ensures within { result ≤ length text.now }
 {
     match place_of_forbidden(text) {
-        Some(place) => {
-            if is_line_end(text[place]) {
-                Ok(place)
-            } else {
-                Err(AsmFaultKind::BadByte)
-            }
-        }
-        None => Ok(text.len()),
+        Some(place) => place,
+        None => text.len(),
+    }
+}
+
+/// Whether a line ends at this place: there is LF, or nothing.
+#[inline(always)]
+fn ends_line(text: &[u8], place: usize) -> bool
+    ensures { result ≡ is_line_end (slice_index_or text.now place 10) }
+{
+    match text.get(place) {
+        Some(byte) => is_line_end(*byte),
+        None => true,
     }
 }
 
@@ -122,7 +128,7 @@ pub fn first_line(text: &[u8]) -> (&[u8], &[u8])
 /// Puts the words of a text's first line in the place of what the list held, and answers what follows the line's end. Each byte
 /// is looked at once, up to the line's end or its first byte that can't stand there.
 #[inline(always)]
-#[tactic(auto, unfolding(crate::specs::Reading::line_words), using(crate::proofs::FirstLines::lines_first, crate::proofs::FirstLines::shorter_after))]
+#[tactic(auto, unfolding(crate::specs::Reading::line_words), using(crate::proofs::FirstLines::end_of, crate::proofs::FirstLines::end_at, crate::proofs::FirstLines::first_long, crate::proofs::FirstLines::lines_first, crate::proofs::FirstLines::shorter_after))]
 pub fn put_line<'a>(words: &mut Vec<&'a [u8]>, text: &'a [u8]) -> Result<&'a [u8], AsmFaultKind>
     ensures words { IfOk result (λ _. line_words (first_line text.now) ≡ Ok (map name_seen words.new.items)) }
     ensures lines { 0 < length text.now
@@ -131,7 +137,10 @@ pub fn put_line<'a>(words: &mut Vec<&'a [u8]>, text: &'a [u8]) -> Result<&'a [u8
     ensures fault { IfErr result (λ kind. (kind ≡ fault.Memory) ⊎ (line_words (first_line text.now) ≡ Err kind)) }
 {
     let rest = put_words(words, text)?;
-    let left = length_to_end(rest)?;
+    let left = length_allowed(rest);
+    if !ends_line(rest, left) {
+        return Err(AsmFaultKind::BadByte);
+    }
     if text.len() - rest.len() + left > LONGEST_LINE {
         return Err(AsmFaultKind::LongLine);
     }
