@@ -33,7 +33,7 @@ abbrev pub check : Bool → AsmFaultKind → Result (Unit {0}) AsmFaultKind
 check true kind = Ok tt
 check false kind = Err kind
 
--- the words of a line, a byte of which may be forbidden, its comment's too, or which may be too long
+-- the words of a line; before them its bytes are checked, those of its comment too, and then its length
 unfoldable pub line_words : List ℕ → Result (List (List ℕ)) AsmFaultKind
 line_words line = do
   allowed ← check (list_all is_allowed line) fault.BadByte

@@ -1,3 +1,4 @@
+//! The first line of a text: where it ends, and the words in it.
 ghost use Rattle.std.specs.Prelude.{◌≡◌, ◌+◌, ◌<◌, ◌≤◌, ◌⊎◌, ◌++◌, ◌∷◌, Err, IfErr, IfOk, Ok, drop, length, map, not, slice_index_or, true};
 ghost use Rattle.std.specs.List.{list_all, position, position_or_len};
 ghost use Rattle.line_reader.specs.declared.asm_fault.AsmFaultKind.TheVariants as fault;
@@ -125,8 +126,8 @@ pub fn first_line(text: &[u8]) -> (&[u8], &[u8])
     (&text[..length], behind_end(text, length))
 }
 
-/// Puts the words of a text's first line in the place of what the list held, and answers what follows the line's end. Each byte
-/// is looked at once, up to the line's end or its first byte that can't stand there.
+/// Puts the words of a text's first line in the place of what the list held, and answers what follows the line's end. Bytes are
+/// looked at up to the line's end, or to the first one that can't stand there.
 #[inline(always)]
 #[tactic(auto, unfolding(crate::specs::Reading::line_words), using(crate::proofs::FirstLines::end_of, crate::proofs::FirstLines::end_at, crate::proofs::FirstLines::first_long, crate::proofs::FirstLines::lines_first, crate::proofs::FirstLines::shorter_after))]
 pub fn put_line<'a>(words: &mut Vec<&'a [u8]>, text: &'a [u8]) -> Result<&'a [u8], AsmFaultKind>
