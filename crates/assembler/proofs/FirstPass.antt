@@ -1,9 +1,11 @@
 -- The first pass, one line more.
-use Rattle.std.proofs.Common.{◌≡◌, ◌∙◌, ℕ, ◌+◌, ◌<◌, List, [], ◌∷◌, length, take, drop, Result, Ok, Err, sym, ap, arith}
+use Rattle.std.proofs.Common.{◌≡◌, ◌∙◌, ℕ, ◌+◌, ◌<◌, ◌==◌, true, false, List, [], ◌∷◌, length, take, drop, Result, Ok, Err, refl, sym, ap, arith}
+use Rattle.std.proofs.lemmas.Bool.Decides.{nat_tests}
 use Rattle.std.proofs.lemmas.List.{length-take, length-drop, drop-drop, take-take, drop-take}
 use Rattle.line_reader.specs.declared.asm_fault.AsmFault.{AsmFault}
 use Rattle.line_reader.specs.declared.statement.Line.{Line}
 use Rattle.line_reader.specs.Symbols.{Name}
+use Rattle.line_reader.specs.Words.{lines_of}
 use Rattle.row_code.specs.Answers.{◌>>=◌}
 use Rattle.assembler.specs.Reading.{line_behind}
 use Rattle.assembler.specs.Passes.{behind, lines_read}
@@ -61,3 +63,12 @@ unfolding lines_read
 all_read texts k middle met none =
     lines_read-middle 1 k [] middle texts met
     ∙ ap (λ (ts : List (List ℕ)). lines_read (1 + length (take k texts)) middle ts) none
+
+-- an empty text has no lines, and another one has bytes
+pub no_lines : (text : List ℕ) → true ≡ (length text == 0) → lines_of text ≡ []
+no_lines [] h = refl
+no_lines (byte ∷ bytes) h = absurd (grind (arith, nat_tests, h))
+
+pub some_text : (text : List ℕ) → false ≡ (length text == 0) → 0 < length text
+some_text [] h = absurd (cc)
+some_text (byte ∷ bytes) h = omega arith

@@ -1,8 +1,5 @@
 pub mod Drafts
-pub mod FirstLines
-pub mod PlainLines
-pub mod PlainWords
-pub mod PlainSplits
+pub mod Pieces
 pub mod KeptLines
 pub mod SpelledLines
 pub mod ReadLines

@@ -6,12 +6,19 @@ use Rattle.line_reader.specs.declared.statement.Line.{Line}
 use Rattle.line_reader.specs.declared.statement.Statement.{Statement}
 use Rattle.std.specs.List.{slice_split}
 use Rattle.line_reader.specs.Words.{is_line_end, without_empty_last, lines_of}
-use Rattle.assembler.proofs.FirstLines.{without_empty_end}
 use Rattle.line_reader.specs.Symbols.{Name}
 use Rattle.line_reader.specs.Spelling.{Says}
 use Rattle.line_reader.specs.Listing.{joined, line_text, numbered}
 use Rattle.assembler.specs.Meaning.{SayInOrder}
 use Rattle.assembler.proofs.JoinedWords.{lines_of-ended}
+
+without_empty_end : (pieces : List (List ℕ)) → without_empty_last (pieces ++ ([] ∷ [])) ≡ pieces
+without_empty_end [] = refl
+without_empty_end ([] ∷ []) = refl
+without_empty_end ((byte ∷ bytes) ∷ []) = refl
+without_empty_end ([] ∷ next ∷ pieces) = ap (λ rest. [] ∷ rest) (without_empty_end (next ∷ pieces))
+without_empty_end ((byte ∷ bytes) ∷ next ∷ pieces) =
+    ap (λ rest. (byte ∷ bytes) ∷ rest) (without_empty_end (next ∷ pieces))
 
 -- statements as lines, from n on
 abbrev pub lines_from : ℕ → List (Statement Name) → List (Line Name)

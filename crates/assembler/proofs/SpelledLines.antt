@@ -13,8 +13,9 @@ use Rattle.line_reader.specs.Words.{is_allowed, words_of}
 use Rattle.line_reader.specs.Names.{is_name}
 use Rattle.line_reader.specs.Symbols.{Name}
 use Rattle.line_reader.specs.Spelling.{SpellRow, SpellsLabel, Spell, IsLine, Says, SaysNothing}
+use Rattle.row_code.specs.Answers.{◌>>=◌}
 use Rattle.assembler.specs.Statements.{name_in, is_code, has_code, is_new, has_room, Follows}
-use Rattle.line_reader.specs.Reading.{name_at, row_at, is_directive, directive_at, is_label, before_last}
+use Rattle.line_reader.specs.Reading.{line_words, name_at, row_at, is_directive, directive_at, is_label, before_last}
 use Rattle.assembler.specs.Reading.{directive_behind, row_behind, labelled_behind, statement_behind, words_behind, line_behind}
 use Rattle.line_reader.proofs.Steps.{bound, ok_is, check_ok, by_test, passed, not_true, both_true, or_right, is_bytes}
 use Rattle.line_reader.proofs.SpelledNumbers.{name_takes, name_again}
@@ -227,21 +228,32 @@ said_by : (before : List (Line Name)) (text : List ℕ) (o : Option (Statement N
 said_by before text None is s = (is, s)
 said_by before text (Some said) is s = ((is, s.0), s.1)
 
+words_taken : (text : List ℕ) (words : List (List ℕ)) → line_words text ≡ Ok words → IsLine text × (words_of text ≡ words)
+unfolding line_words
+words_taken text words e =
+    let allowed = check_ok (list_all is_allowed text) fault.BadByte _ words e in
+    let short = check_ok (not (ltb 256 (length text))) fault.LongLine _ words allowed.1 in
+    (record { allowed = allowed.0; short = ltb-false _ _ (not_true _ short.0) }, ok_is _ _ short.1)
+
 pub line_takes : (before : List (Line Name)) (text : List ℕ) (o : Option (Statement Name)) →
     line_behind before text ≡ Ok o → LineSays before text o
 unfolding line_behind
 line_takes before text o e =
-    let allowed = check_ok (list_all is_allowed text) fault.BadByte _ o e in
-    let short = check_ok (not (ltb 256 (length text))) fault.LongLine _ o allowed.1 in
-    said_by before text o (record { allowed = allowed.0; short = ltb-false _ _ (not_true _ short.0) })
-    (words_take before (words_of text) o short.1)
+    bound (line_words text) (words_behind before) o e (λ words is e.
+    let taken = words_taken text words is in
+    said_by before text o taken.0 (words_take before (words_of text) o (ap (words_behind before) taken.1 ∙ e)))
+
+line_words_again : (text : List ℕ) → IsLine text → line_words text ≡ Ok (words_of text)
+unfolding line_words
+line_words_again text is =
+    let short : ltb 256 (length text) ≡ false = le-ltb _ _ is.short in
+    rw (is.allowed, short) refl
 
 line_behind_again : (before : List (Line Name)) (text : List ℕ) (o : Option (Statement Name)) → IsLine text →
     WordsSay before (words_of text) o → line_behind before text ≡ Ok o
 unfolding line_behind
 line_behind_again before text o is s =
-    let short : ltb 256 (length text) ≡ false = le-ltb _ _ is.short in
-    rw (is.allowed, short) (words_again before (words_of text) o s)
+    ap (λ words. words >>= words_behind before) (line_words_again text is) ∙ words_again before (words_of text) o s
 
 pub line_again : (before : List (Line Name)) (text : List ℕ) (o : Option (Statement Name)) → LineSays before text o →
     line_behind before text ≡ Ok o

@@ -6,5 +6,4 @@ pub mod Placed
 pub mod Symbols
 pub mod Answers
 pub mod Draft
-pub mod PlainLine
 pub mod KeptLine

@@ -1,16 +1,14 @@
 -- How a line is read behind those before it, and what is wrong with it: the first of the checks, in
 -- the order in which they stand here.
-use Rattle.std.specs.Prelude.{ℕ, not, nat_lt, if◌then◌else◌, List, [], ◌∷◌, length, Option, Some, None, Result, Ok, Err}
-use Rattle.std.specs.List.{list_all}
+use Rattle.std.specs.Prelude.{ℕ, not, if◌then◌else◌, List, [], ◌∷◌, Option, Some, None, Result, Ok, Err}
 use Rattle.line_reader.specs.declared.asm_fault.AsmFaultKind.{AsmFaultKind}
 use Rattle.line_reader.specs.declared.asm_fault.AsmFaultKind.TheVariants as fault
 use Rattle.line_reader.specs.declared.statement.Line.{Line}
 use Rattle.line_reader.specs.declared.statement.Statement.{Statement}
 use Rattle.line_reader.specs.declared.statement.Statement.TheVariants as statement
-use Rattle.line_reader.specs.Words.{is_allowed, words_of}
 use Rattle.line_reader.specs.Symbols.{Name}
 use Rattle.row_code.specs.Answers.{◌>>=◌}
-use Rattle.line_reader.specs.Reading.{check, name_at, row_at, is_directive, directive_at, is_label, before_last}
+use Rattle.line_reader.specs.Reading.{check, line_words, name_at, row_at, is_directive, directive_at, is_label, before_last}
 use Rattle.assembler.specs.Statements.{name_in, is_new, has_code, has_room}
 
 -- a directive behind these lines: it comes before all code, with a new name, while there is room
@@ -61,7 +59,4 @@ words_behind before (word ∷ words) =
 -- a line behind these lines
 unfoldable pub line_behind : List (Line Name) → List ℕ →
     Result (Option (Statement Name)) AsmFaultKind
-line_behind before text = do
-  allowed ← check (list_all is_allowed text) fault.BadByte
-  short ← check (not (nat_lt 256 (length text))) fault.LongLine
-  words_behind before (words_of text)
+line_behind before text = line_words text >>= words_behind before

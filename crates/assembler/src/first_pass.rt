@@ -1,27 +1,22 @@
-ghost use Rattle.std.specs.Prelude.{◌≡◌, [], ◌∷◌, IfErr, IsErr, Ok, OnOk, false, map, true};
+ghost use Rattle.std.specs.Prelude.{◌≡◌, ◌<◌, [], ◌∷◌, IfErr, IfOk, IsErr, Ok, OnOk, false, length, map, true};
 ghost use Rattle.line_reader.specs.Reading.{is_directive, is_label};
-ghost use Rattle.std.specs.List.{list_all};
 ghost use Rattle.assembler.specs.Answers.{AnswersAt, at_line};
 ghost use Rattle.line_reader.specs.declared.asm_fault.AsmFaultKind.TheVariants as fault;
 ghost use Rattle.assembler.specs.Passes.{behind, lines_read};
-ghost use Rattle.assembler.specs.PlainLine.{is_plain};
 ghost use Rattle.assembler.specs.Reading.{line_behind, words_behind};
+ghost use Rattle.line_reader.specs.FirstLine.{first_line};
 ghost use Rattle.line_reader.specs.Seen.{name_seen};
-ghost use Rattle.line_reader.specs.Words.{lines_of, words_in};
+ghost use Rattle.line_reader.specs.Words.{lines_of};
 
 use crate::draft::Draft;
 use crate::kept_line::KeptLine;
 use crate::name_hash::NameHash;
-use crate::plain_line::{FirstLine, first_line, put_words};
 use crate::reading::{directive_behind, label_behind, row_behind};
 use line_reader::asm_fault::{AsmFault, AsmFaultKind};
 use line_reader::directive::is_directive;
+use line_reader::first_line::put_line;
 use line_reader::label::is_label;
-use line_reader::words::{are_allowed, before_comment};
 use std::alloc::{AllocError, Global};
-
-/// The most bytes that a line holds.
-const LONGEST_LINE: usize = 256;
 
 /// Whether a line was added: it is read, so only memory can be missing.
 #[inline(always)]
@@ -109,69 +104,25 @@ fn add_words<'a>(draft: &mut Draft<'a>, number: u64, words: &[&'a [u8]]) -> Resu
     }
 }
 
-/// Adds what the line of this number says. The list is only a place to put its words.
-#[inline(never)]
+/// Adds what the first line of a text says, which has this number, and answers what follows it. The list is only a place to put
+/// its words.
+#[inline(always)]
 #[tactic(auto, unfolding(crate::specs::Reading::line_behind))]
-fn read_any<'a>(
-    draft: &mut Draft<'a>,
-    words: &mut Vec<&'a [u8]>,
-    number: u64,
-    line: &'a [u8],
-) -> Result<(), AsmFaultKind>
-    ensures { AnswersAt (λ _. draft.new) (at_line number result)
-        (behind draft.old number (line_behind draft.old line.now)) }
-{
-    if !are_allowed(line) {
-        return Err(AsmFaultKind::BadByte);
-    }
-    if line.len() > LONGEST_LINE {
-        return Err(AsmFaultKind::LongLine);
-    }
-    match put_words(words, before_comment(line)) {
-        Ok(()) => add_words(draft, number, words),
-        Err(_) => Err(AsmFaultKind::Memory),
-    }
-}
-
-/// Adds what the line of this number says, which is plain and has these words.
-#[inline(always)]
-#[tactic(auto, unfolding(crate::specs::Reading::line_behind), using(crate::proofs::PlainLines::plain_allowed, crate::proofs::PlainLines::plain_words))]
-fn read_plain<'a>(
-    draft: &mut Draft<'a>,
-    words: &[&'a [u8]],
-    number: u64,
-    line: &'a [u8],
-) -> Result<(), AsmFaultKind>
-    requires plain { list_all is_plain line.now ≡ true }
-    requires words { map name_seen words.now ≡ words_in line.now }
-    ensures { AnswersAt (λ _. draft.new) (at_line number result)
-        (behind draft.old number (line_behind draft.old line.now)) }
-{
-    if line.len() > LONGEST_LINE {
-        return Err(AsmFaultKind::LongLine);
-    }
-    add_words(draft, number, words)
-}
-
-/// Adds what the line of this number says. The list has its words, where it is split.
-#[inline(always)]
 fn read_line<'a>(
     draft: &mut Draft<'a>,
     words: &mut Vec<&'a [u8]>,
     number: u64,
-    line: FirstLine<'a>,
-) -> Result<(), AsmFaultKind>
-    requires plain { line.is_split ≡ true → list_all is_plain line.bytes.now ≡ true }
-    requires words { line.is_split ≡ true
-        → map name_seen words.old.items ≡ words_in line.bytes.now }
-    ensures { AnswersAt (λ _. draft.new) (at_line number result)
-        (behind draft.old number (line_behind draft.old line.entry.bytes.now)) }
+    text: &'a [u8],
+) -> Result<&'a [u8], AsmFaultKind>
+    requires { 0 < length text.now }
+    ensures read { AnswersAt (λ _. draft.new) (at_line number result)
+        (behind draft.old number (line_behind draft.old (first_line text.now))) }
+    ensures lines { IfOk result (λ after. lines_of text.now ≡ first_line text.now ∷ lines_of after.now) }
+    ensures shorter { IfOk result (λ after. length after.now < length text.now) }
 {
-    if line.is_split {
-        read_plain(draft, words, number, line.bytes)
-    } else {
-        read_any(draft, words, number, line.bytes)
-    }
+    let after = put_line(words, text)?;
+    add_words(draft, number, words)?;
+    Ok(after)
 }
 
 /// Reads all lines of a text: what they say, and how many lines there are.
@@ -184,17 +135,10 @@ pub fn lines_read(alloc: Global, text: &[u8]) -> Result<(Draft<'_>, u64), AsmFau
     let mut number = 0u64;
     while !rest.is_empty() {
         number += 1;
-        let Ok(line) = first_line(&mut words, rest) else {
-            return Err(AsmFault {
-                line: number,
-                kind: AsmFaultKind::Memory,
-            });
-        };
-        let after = line.after;
-        if let Err(kind) = read_line(&mut draft, &mut words, number, line) {
-            return Err(AsmFault { line: number, kind });
+        match read_line(&mut draft, &mut words, number, rest) {
+            Ok(after) => rest = after,
+            Err(kind) => return Err(AsmFault { line: number, kind }),
         }
-        rest = after;
     }
     Ok((draft, number))
 }

@@ -9,7 +9,6 @@
 mod draft;
 mod kept_line;
 pub mod name_hash;
-mod plain_line;
 mod reading;
 
 // From a text to its image, and to its names.

@@ -12,11 +12,11 @@ ghost use Rattle.assembler.specs.Placed.{IsPlaceOf, IsPlacedIn, IsWordAt, unplac
 use crate::assembling::assemble;
 use crate::draft::Draft;
 use crate::first_pass::lines_read;
-use crate::plain_line::put_words;
 use crate::word_place::{WordPlace, line_at, place_of_word};
 use instruction_table::OperandKind;
 use line_reader::asm_fault::{AsmFault, AsmFaultKind};
 use line_reader::directive::{directive_at, is_directive};
+use line_reader::first_line::put_line;
 use line_reader::kept_row::row_at;
 use line_reader::label::{before_last, is_label};
 use line_reader::name::name_at;
@@ -199,7 +199,7 @@ fn placed_in(alloc: Global, text: &[u8], fault: AsmFault, line: &[u8]) -> Placed
         return without_place(fault);
     }
     let mut words = Vec::new(alloc);
-    if put_words(&mut words, before_comment(line)).is_err() {
+    if put_line(&mut words, line).is_err() {
         return without_place(fault);
     }
     if fault.kind == AsmFaultKind::UnknownName {

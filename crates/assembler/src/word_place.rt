@@ -1,9 +1,12 @@
 //! Where a word stands in its line.
-ghost use Rattle.std.specs.Prelude.{◌≡◌, ◌-◌, ◌<◌, IfSome, Some, length, slice_get};
-ghost use Rattle.line_reader.specs.Words.{lines_of};
+ghost use Rattle.std.specs.Prelude.{◌≡◌, ◌-◌, ◌<◌, ◌≤◌, ◌++◌, IfSome, Some, drop, length, slice_get, take};
+ghost use Rattle.std.specs.List.{position};
+ghost use Rattle.line_reader.specs.FirstLine.{word_alone};
+ghost use Rattle.line_reader.specs.Words.{is_blank, lines_of, words_in};
 ghost use Rattle.assembler.specs.Placed.{IsWordAt};
 
-use crate::plain_line::{any_line, first_piece};
+use line_reader::first_line::first_line;
+use line_reader::words::is_blank;
 
 /// A word of a line: the place of its first byte, from 0, and how many bytes it has.
 #[derive(Clone, Copy, Debug, PartialEq, Eq)]
@@ -19,7 +22,7 @@ pub fn line_at(text: &[u8], number: u64) -> Option<&[u8]>
     let mut rest = text;
     let mut left = number.checked_sub(1)?;
     while !rest.is_empty() {
-        let (line, after) = any_line(rest);
+        let (line, after) = first_line(rest);
         if left == 0 {
             return Some(line);
         }
@@ -27,6 +30,28 @@ pub fn line_at(text: &[u8], number: u64) -> Option<&[u8]>
         rest = after;
     }
     None
+}
+
+/// Where the first blank stands.
+fn place_of_blank(bytes: &[u8]) -> Option<usize>
+    ensures { result ≡ position is_blank bytes.now }
+{
+    bytes.iter().position(|byte| is_blank(*byte))
+}
+
+/// What stands before the first blank, and what follows it.
+fn first_piece(text: &[u8]) -> (&[u8], &[u8])
+    requires { 0 < length text.now }
+    ensures words { words_in text.now ≡ word_alone result.0.now ++ words_in result.1.now }
+    ensures piece { result.0.now ≡ take (length result.0.now) text.now }
+    ensures after { result.1.now ≡ drop (length text.now - length result.1.now) text.now }
+    ensures within { length result.0.now ≤ length text.now }
+    ensures shorter { length result.1.now < length text.now }
+{
+    match place_of_blank(text) {
+        Some(place) => (&text[..place], &text[place + 1..]),
+        None => (text, &text[text.len()..]),
+    }
 }
 
 /// The place of the word of this number, from 0, in a line without its comment.

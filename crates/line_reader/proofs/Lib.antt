@@ -10,3 +10,4 @@ pub mod SpelledDirectives
 pub mod KeptRows
 pub mod ListedTexts
 pub mod OneDigit
+pub mod FirstLines

@@ -6,5 +6,6 @@ pub mod Spelling
 pub mod Reading
 pub mod Seen
 pub mod KeptRow
+pub mod FirstLine
 pub mod FaultNumber
 pub mod Listing

@@ -1,7 +1,7 @@
 -- How the words of a line are read, and what is wrong with them: the first of the checks, in the order
 -- in which they stand here.
 use Rattle.std.specs.Prelude.{ℕ, ◌-◌, ◌==◌, ◌||◌, not, nat_lt, int_lt, if◌then◌else◌, Bool, true, false, ℤ, pos, negsuc, List, [], ◌∷◌, length, take, codes, bytes_eq, find, Option, Some, None, Result, Ok, Err}
-use Rattle.std.specs.List.{slice_get}
+use Rattle.std.specs.List.{list_all, slice_get}
 use Rattle.instruction_table.specs.declared.register.Reg.{Reg}
 use Rattle.instruction_table.specs.declared.register.Reg.TheVariants.{R0, R1, R2, R3, R4, R5, R6, R7}
 use Rattle.instruction_table.specs.declared.shape.OperandKind.{OperandKind}
@@ -23,6 +23,7 @@ use Rattle.line_reader.specs.declared.symbolic_thread.SymbolicThread.{SymbolicTh
 use Rattle.line_reader.specs.declared.statement.Statement.{Statement}
 use Rattle.line_reader.specs.declared.statement.Statement.TheVariants as statement
 use Rattle.line_reader.specs.Names.{is_name}
+use Rattle.line_reader.specs.Words.{is_allowed, words_of}
 use Rattle.line_reader.specs.Numbers.{is_number, digits_in, value_in}
 use Rattle.line_reader.specs.Symbols.{Name}
 use Rattle.line_reader.specs.Spelling.{least_int, greatest_int, greatest_number, register_word}
@@ -31,6 +32,13 @@ use Rattle.line_reader.specs.Spelling.{least_int, greatest_int, greatest_number,
 abbrev pub check : Bool → AsmFaultKind → Result (Unit {0}) AsmFaultKind
 check true kind = Ok tt
 check false kind = Err kind
+
+-- the words of a line; before them its bytes are checked, those of its comment too, and then its length
+unfoldable pub line_words : List ℕ → Result (List (List ℕ)) AsmFaultKind
+line_words line = do
+  allowed ← check (list_all is_allowed line) fault.BadByte
+  short ← check (not (nat_lt 256 (length line))) fault.LongLine
+  Ok (words_of line)
 
 -- a name
 unfoldable pub name_at : List ℕ → Result Name AsmFaultKind

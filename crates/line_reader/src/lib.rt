@@ -5,6 +5,8 @@
 #![tactic(auto)]
 
 // What a line consists of.
+mod byte_kind;
+pub mod first_line;
 pub mod label;
 pub mod name;
 pub mod number;

@@ -17,10 +17,10 @@ mod threads;
 
 use crate::listing::barriers::push_barriers;
 use crate::listing::phasers::push_phasers;
-use row_code::Image;
 use crate::listing::rows::push_rows;
-use std::alloc::{AllocError, Global};
 use crate::listing::threads::push_threads;
+use row_code::Image;
+use std::alloc::{AllocError, Global};
 
 /// The canonical text of an image. Phaser `n` is named `pn`, barrier `n` `bn` and thread `n` `tn`;
 /// what an operand or a directive refers to stands there by its number.

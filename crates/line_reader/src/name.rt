@@ -6,41 +6,12 @@ ghost use Rattle.line_reader.specs.Reading.{name_at};
 ghost use Rattle.line_reader.specs.Seen.{name_seen};
 
 use crate::asm_fault::AsmFaultKind;
+use crate::byte_kind::goes_on_name;
 
 fn begins_name(byte: u8) -> bool
     ensures { result ≡ begins_name byte }
 {
     byte.is_ascii_alphabetic() || byte == b'_'
-}
-
-/// For each byte whether it goes on a name: a letter, a digit or `_`.
-const GOES_ON: [bool; 256] = [
-    false, false, false, false, false, false, false, false, false, false, false, false, false,
-    false, false, false, false, false, false, false, false, false, false, false, false, false,
-    false, false, false, false, false, false, false, false, false, false, false, false, false,
-    false, false, false, false, false, false, false, false, false, true, true, true, true, true,
-    true, true, true, true, true, false, false, false, false, false, false, false, true, true,
-    true, true, true, true, true, true, true, true, true, true, true, true, true, true, true, true,
-    true, true, true, true, true, true, true, true, false, false, false, false, true, false, true,
-    true, true, true, true, true, true, true, true, true, true, true, true, true, true, true, true,
-    true, true, true, true, true, true, true, true, true, false, false, false, false, false, false,
-    false, false, false, false, false, false, false, false, false, false, false, false, false,
-    false, false, false, false, false, false, false, false, false, false, false, false, false,
-    false, false, false, false, false, false, false, false, false, false, false, false, false,
-    false, false, false, false, false, false, false, false, false, false, false, false, false,
-    false, false, false, false, false, false, false, false, false, false, false, false, false,
-    false, false, false, false, false, false, false, false, false, false, false, false, false,
-    false, false, false, false, false, false, false, false, false, false, false, false, false,
-    false, false, false, false, false, false, false, false, false, false, false, false, false,
-    false, false, false, false, false, false, false, false, false, false, false, false, false,
-    false, false, false, false, false, false, false, false, false, false,
-];
-
-/// Whether a byte goes on a name. Each byte of a name is asked about, so the answers are listed.
-fn goes_on_name(byte: u8) -> bool
-    ensures { result ≡ goes_on_name byte }
-{
-    GOES_ON[usize::from(byte)]
 }
 
 fn all_go_on_name(word: &[u8]) -> bool

@@ -1,6 +1,8 @@
-ghost use Rattle.std.specs.Prelude.{◌≡◌, ◌==◌, ◌<◌, ◌≤◌, IfSome, bytes_eq, false, length, slice_index};
-ghost use Rattle.std.specs.List.{before_first, list_all, position, position_or_len};
+ghost use Rattle.std.specs.Prelude.{◌≡◌, ◌==◌, ◌<◌, ◌≤◌, IfSome, bytes_eq, false, length, not, slice_index};
+ghost use Rattle.std.specs.List.{before_first, position, position_or_len};
 ghost use Rattle.line_reader.specs.Words.{begins_comment, is_allowed, is_blank, is_line_end};
+
+use crate::byte_kind::is_allowed;
 
 /// Space, tab and CR.
 pub fn is_blank(byte: u8) -> bool
@@ -16,29 +18,12 @@ pub fn is_line_end(byte: u8) -> bool
     byte == b'\n'
 }
 
-fn is_allowed(byte: u8) -> bool
-    ensures { result ≡ is_allowed byte }
-{
-    (31 < byte && byte < 127) || byte == b'\t' || byte == b'\r'
-}
-
-/// Whether a line may hold each of its bytes, those of its comment among them.
-pub fn are_allowed(line: &[u8]) -> bool
-    ensures { result ≡ list_all is_allowed line.now }
-{
-    line.iter().all(|byte| is_allowed(*byte))
-}
-
 /// Where a byte first stands that no line may hold.
 pub fn place_of_forbidden(line: &[u8]) -> Option<usize>
-    ensures { IfSome result (λ place. (place < length line.now) × (is_allowed (slice_index line.now place) ≡ false)) }
+    ensures first { result ≡ position (λ byte. not (is_allowed byte)) line.now }
+    ensures there { IfSome result (λ place. (place < length line.now) × (is_allowed (slice_index line.now place) ≡ false)) }
 {
-    for (place, byte) in line.iter().enumerate() {
-        if !is_allowed(*byte) {
-            return Some(place);
-        }
-    }
-    None
+    line.iter().position(|byte| !is_allowed(*byte))
 }
 
 /// Where this byte first stands.

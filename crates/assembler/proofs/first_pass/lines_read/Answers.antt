@@ -1,12 +1,13 @@
 use Rattle.std.proofs.Common.{◌∙◌, ◌+◌, Ok, sym, ap, subst, refl, arith}
 use Rattle.line_reader.specs.declared.asm_fault.AsmFault.{AsmFault}
 use Rattle.assembler.specs.Answers.{FailsAt}
+use Rattle.line_reader.specs.FirstLine.{after_line, first_line}
 use Rattle.line_reader.specs.Words.{lines_of}
 use Rattle.assembler.specs.Passes.{lines_read, behind}
 use Rattle.assembler.specs.Reading.{line_behind}
-use Rattle.assembler.proofs.FirstPass.{next_line, one_left, one_more, one_less, all_read}
+use Rattle.assembler.proofs.FirstPass.{next_line, no_lines, one_left, one_more, one_less, all_read, some_text}
 use Rattle.assembler.proofs.ReadLines.{fails_then}
-use Rattle.assembler.proofs.FirstLines.{no_lines}
+use Rattle.line_reader.proofs.FirstLines.{lines_first}
 use Rattle.assembler.proofs.first_pass.lines_read.Goals as goal
 
 pub loop-rest-init : goal.loop-rest-init
@@ -21,17 +22,19 @@ loop-rest-init c = record {
 pub returns-in-Err : goal.returns-in-Err
 returns-in-Err c =
     let before = c.loop-rest.invariant in
-    let texts = lines_of c.args.text.now in
+    let rest = c.loop-rest.rest.now in
     let k = c.loop-rest.number in
     let draft = c.loop-rest.draft in
-    let line = c.in-Ok.line.bytes.now in
-    let more = lines_of c.in-Ok.line.after.now in
-    let next = next_line texts k draft line more before.met (sym before.left ∙ c.in-Ok.ensures.lines) in
+    let line = first_line rest in
+    let more = lines_of (after_line rest) in
+    let next =
+    next_line (lines_of c.args.text.now) k draft line more before.met
+    (sym before.left ∙ lines_first rest (some_text rest c.loop-rest-test.ensures)) in
     let fault : AsmFault = record { line = k + 1; kind = c.in-Err.kind } in
     record {
       read = subst (λ r. FailsAt fault.kind fault r) (sym next)
           (fails_then fault.kind fault (behind draft (k + 1) (line_behind draft line))
-          (λ lines. lines_read (k + 1 + 1) lines more) c.in-Err.ensures);
+          (λ lines. lines_read (k + 1 + 1) lines more) c.in-Err.ensures.read);
     }
 
 pub loop-rest-preserved : goal.loop-rest-preserved
@@ -39,12 +42,12 @@ loop-rest-preserved c =
     let before = c.loop-rest.invariant in
     let texts = lines_of c.args.text.now in
     let k = c.loop-rest.number in
-    let line = c.in-Ok.line.bytes.now in
-    let more = lines_of c.in-Ok.line.after.now in
+    let line = first_line c.loop-rest.rest.now in
+    let more = lines_of c.in-Ok.after.now in
     let left = sym before.left ∙ c.in-Ok.ensures.lines in
     let within = one_left texts k line more left in
     record {
-      met = one_more texts k c.loop-rest.draft c.read_line.new.draft line more before.met left c.in_default-read_line.ensures;
+      met = one_more texts k c.loop-rest.draft c.read_line.new.draft line more before.met left c.in-Ok.ensures.read;
       left = sym (one_less texts k line more left);
       count = omega (arith, within);
       room = omega (arith, before.room, c.in-Ok.ensures.shorter);

@@ -1,6 +1,6 @@
 use Rattle.std.proofs.Common.{◌∙◌, sym}
-use Rattle.assembler.proofs.PlainWords.{word_at, word_whole}
-use Rattle.assembler.proofs.plain_line.first_piece.Goals as goal
+use Rattle.assembler.proofs.Pieces.{word_at, word_whole}
+use Rattle.assembler.proofs.word_place.first_piece.Goals as goal
 
 pub returns-in-Some-clause-words : goal.returns-in-Some-clause-words
 returns-in-Some-clause-words c = word_at c.args.text.now c.in-Some.place (sym c.in-Some.is ∙ c.place_of_blank.ensures)

@@ -1,22 +1,13 @@
 -- The words of a text, one piece after the other.
-use Rattle.std.proofs.Common.{◌≡◌, ◌∙◌, ℕ, ◌+◌, ◌-◌, ◌==◌, false, cond, not, List, [], ◌∷◌, ◌++◌, length, take, drop, Some, None, refl, sym, ap, arith}
+use Rattle.std.proofs.Common.{◌≡◌, ◌∙◌, ℕ, ◌+◌, ◌-◌, ◌==◌, not, List, [], ◌++◌, length, take, drop, Some, None, sym, ap, arith}
 use Rattle.std.specs.List.{filter, position, slice_split, before_first, after_first}
-use Rattle.std.proofs.lemmas.Bool.Decides.{nat_tests}
 use Rattle.std.proofs.lemmas.List.{drop_all}
 use Rattle.std.proofs.lemmas.List.Splits.{slice_split_first, slice_split_none}
 use Rattle.std.proofs.lemmas.List.Sums.{fails_before_first}
 use Rattle.line_reader.specs.Words.{is_blank, words_in}
 use Rattle.line_reader.proofs.Places.{position_some, position_within, position_none}
-use Rattle.assembler.specs.PlainLine.{word_alone}
-use Rattle.assembler.proofs.FirstLines.{to_end}
-
-pub kept_piece : (piece : List ℕ) (pieces : List (List ℕ)) →
-    filter (λ one. not (length one == 0)) (piece ∷ pieces) ≡ word_alone piece ++ filter (λ one. not (length one == 0)) pieces
-kept_piece [] pieces = refl
-kept_piece (byte ∷ bytes) pieces =
-    let rest = filter (λ one. not (length one == 0)) pieces in
-    let some : (length (byte ∷ bytes) == 0) ≡ false = grind (arith, nat_tests) in
-    ap (λ b. cond (not b) ((byte ∷ bytes) ∷ rest) rest) some
+use Rattle.line_reader.specs.FirstLine.{word_alone}
+use Rattle.line_reader.proofs.FirstLines.{kept_piece, to_end}
 
 pub word_at : (text : List ℕ) (place : ℕ) → Some place ≡ position is_blank text →
     words_in text ≡ word_alone (take place text) ++ words_in (take (length text - (place + 1)) (drop (place + 1) text))

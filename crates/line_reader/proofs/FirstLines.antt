@@ -1,0 +1,324 @@
+-- The first line of a text, read up to a rest.
+use Rattle.std.proofs.Common.{◌≡◌, ◌∙◌, ℕ, suc, ◌+◌, ◌-◌, ◌<◌, ◌≤◌, ◌==◌, Bool, true, false, cond, not, nat_lt, ◌&&◌, ◌||◌, List, [], ◌∷◌, ◌++◌, length, take, drop, get_or, refl, sym, ap, subst, arith, append-nil, take-append-drop}
+use Rattle.std.specs.List.{filter, position_or_len, slice_split, before_first, after_first, list_all}
+use Rattle.std.proofs.Math.Seq.{drop-append-add, take-append-add}
+use Rattle.std.proofs.lemmas.Bool.Decides.{nat_tests}
+use Rattle.std.proofs.lemmas.Bool.{eqb-true}
+use Rattle.std.proofs.lemmas.List.{append_assoc, drop_all, length-append, length-drop, length-take-le, take_all}
+use Rattle.std.proofs.lemmas.List.Folds.{list_all-append}
+use Rattle.std.proofs.lemmas.List.Splits.{length-slice_split, slice_split_at, slice_split_first, slice_split_none}
+use Rattle.std.proofs.lemmas.List.Sums.{fails_before_first, list_all-from_AllPass, AllPass-from_list_all, position_or_len_is, prefix_len-le-length}
+use Rattle.line_reader.specs.Words.{begins_comment, is_allowed, is_blank, is_line_end, lines_of, without_empty_last, words_in, words_of}
+use Rattle.line_reader.specs.FirstLine.{IsLeft, after_line, first_line, is_letter, word_alone}
+use Rattle.line_reader.proofs.Steps.{both_true, never, not_false, or_right}
+
+-- ---- bytes
+
+both : (a b : Bool) → a ≡ true → b ≡ true → (a && b) ≡ true
+both a b e h = ap (λ x. x && b) e ∙ h
+
+allowed_by : (byte : ℕ) (end : Bool) → is_line_end byte ≡ end → is_allowed byte ≡ true → is_line_end byte ≡ false
+allowed_by byte true e a = let same = ap is_allowed (eqb-true byte 10 e) in absurd (cc)
+allowed_by byte false e a = e
+
+allowed_no_end : (byte : ℕ) → is_allowed byte ≡ true → is_line_end byte ≡ false
+allowed_no_end byte a = allowed_by byte (is_line_end byte) refl a
+
+-- what stands in a line and begins no comment, as letters and blanks
+abbrev is_calm : ℕ → Bool
+is_calm byte = is_allowed byte && not (begins_comment byte)
+
+letter_no_blank : (byte : ℕ) → is_letter byte ≡ true → is_blank byte ≡ false
+letter_no_blank byte h = let above : nat_lt 32 byte ≡ true = (both_true _ _ h).0 in grind (arith, nat_tests, above)
+
+letter_calm : (byte : ℕ) → is_letter byte ≡ true → is_calm byte ≡ true
+letter_calm byte h =
+    let above : nat_lt 32 byte ≡ true = (both_true _ _ h).0 in
+    let low : nat_lt 31 byte ≡ true = grind (arith, nat_tests, above) in
+    let rest = both_true _ _ (both_true _ _ h).1 in
+    both (is_allowed byte) (not (begins_comment byte))
+    (or_right ((byte == 9) || (byte == 13)) (nat_lt 31 byte && nat_lt byte 127) (both (nat_lt 31 byte) (nat_lt byte 127) low rest.0)) rest.1
+
+-- what is allowed and no letter is a blank, where it begins no comment
+other_by : (tab return low high letter blank : Bool) → (tab || return || (low && high)) ≡ true →
+    (letter && (high && true)) ≡ false → (low ≡ true → letter ≡ false → blank ≡ true) → (blank || tab || return) ≡ true
+other_by tab return low high letter true a l is = refl
+other_by true return low high letter false a l is = refl
+other_by false true low high letter false a l is = refl
+other_by false false true true false false a l is = is refl refl
+other_by false false true true true false a l is = absurd (cc)
+other_by false false true false letter false a l is = absurd (cc)
+other_by false false false high letter false a l is = absurd (cc)
+
+other_is_blank : (byte : ℕ) → is_allowed byte ≡ true → is_letter byte ≡ false → begins_comment byte ≡ false → is_blank byte ≡ true
+other_is_blank byte a l c =
+    other_by (byte == 9) (byte == 13) (nat_lt 31 byte) (nat_lt byte 127) (nat_lt 32 byte) (byte == 32) a
+    (subst (λ b. (nat_lt 32 byte && (nat_lt byte 127 && not b)) ≡ false) c l)
+    (λ low high. grind (arith, nat_tests, low, high))
+
+blank_by : (byte : ℕ) (a b c : Bool) → (byte == 32) ≡ a → (byte == 9) ≡ b → (byte == 13) ≡ c → (a || b || c) ≡ true →
+    is_calm byte ≡ true
+blank_by byte true b c e f g h = ap is_calm (eqb-true byte 32 e)
+blank_by byte false true c e f g h = ap is_calm (eqb-true byte 9 f)
+blank_by byte false false true e f g h = ap is_calm (eqb-true byte 13 g)
+blank_by byte false false false e f g h = absurd (cc)
+
+blank_calm : (byte : ℕ) → is_blank byte ≡ true → is_calm byte ≡ true
+blank_calm byte h = blank_by byte (byte == 32) (byte == 9) (byte == 13) refl refl refl h
+
+-- ---- the first byte of a kind, in a text of one byte more
+
+one_more : (b : Bool) (n : ℕ) → b ≡ false → cond (not b) (1 + n) 0 ≡ suc n
+one_more true n h = absurd (cc)
+one_more false n h = omega arith
+
+later : (p : ℕ → Bool) (byte : ℕ) (bytes : List ℕ) → p byte ≡ false →
+    position_or_len p (byte ∷ bytes) ≡ suc (position_or_len p bytes)
+later p byte bytes h = one_more (p byte) (position_or_len p bytes) h
+
+here : (p : ℕ → Bool) (byte : ℕ) (bytes : List ℕ) → p byte ≡ true → position_or_len p (byte ∷ bytes) ≡ 0
+here p byte bytes h = ap (λ b. cond (not b) (1 + position_or_len p bytes) 0) h
+
+before_later : (p : ℕ → Bool) (byte : ℕ) (bytes : List ℕ) → p byte ≡ false →
+    before_first p (byte ∷ bytes) ≡ byte ∷ before_first p bytes
+before_later p byte bytes h = ap (λ n. take n (byte ∷ bytes)) (later p byte bytes h)
+
+before_here : (p : ℕ → Bool) (byte : ℕ) (bytes : List ℕ) → p byte ≡ true → before_first p (byte ∷ bytes) ≡ []
+before_here p byte bytes h = ap (λ n. take n (byte ∷ bytes)) (here p byte bytes h)
+
+-- ---- what a piece without a byte of a kind moves on
+
+further : (b c : Bool) (m n : ℕ) → (b && c) ≡ true → (c ≡ true → m ≡ n) → cond b (1 + m) 0 ≡ 1 + n
+further true c m n h next = ap (λ k. 1 + k) (next h)
+further false c m n h next = absurd (cc)
+
+beyond : (p : ℕ → Bool) (piece rest : List ℕ) → list_all (λ b. not (p b)) piece ≡ true →
+    position_or_len p (piece ++ rest) ≡ length piece + position_or_len p rest
+beyond p [] rest h = omega arith
+beyond p (byte ∷ bytes) rest h =
+    further (not (p byte)) (list_all (λ b. not (p b)) bytes) _ _ h (beyond p bytes rest)
+    ∙ (let n = position_or_len p rest in omega arith)
+
+before_beyond : (p : ℕ → Bool) (piece rest : List ℕ) → list_all (λ b. not (p b)) piece ≡ true →
+    before_first p (piece ++ rest) ≡ piece ++ before_first p rest
+before_beyond p piece rest h =
+    ap (λ n. take n (piece ++ rest)) (beyond p piece rest h) ∙ take-append-add piece rest (position_or_len p rest)
+
+after_beyond : (p : ℕ → Bool) (piece rest : List ℕ) → list_all (λ b. not (p b)) piece ≡ true →
+    after_first p (piece ++ rest) ≡ after_first p rest
+after_beyond p piece rest h =
+    let n = position_or_len p rest in
+    let more : length piece + n + 1 ≡ length piece + (n + 1) = omega arith in
+    ap (λ k. drop (k + 1) (piece ++ rest)) (beyond p piece rest h) ∙ ap (λ k. drop k (piece ++ rest)) more
+    ∙ drop-append-add piece rest (n + 1)
+
+-- ---- a calm piece, and what is left behind it
+
+all_are : (p q : ℕ → Bool) → ((byte : ℕ) → p byte ≡ true → q byte ≡ true) → (piece : List ℕ) →
+    list_all p piece ≡ true → list_all q piece ≡ true
+all_are p q each piece h =
+    list_all-from_AllPass q piece (λ k d there. each (get_or piece k d) (AllPass-from_list_all p piece h k d there))
+
+calm_no_end : (piece : List ℕ) → list_all is_calm piece ≡ true → list_all (λ b. not (is_line_end b)) piece ≡ true
+calm_no_end piece h = all_are is_calm _ (λ byte calm. ap not (allowed_no_end byte (both_true _ _ calm).0)) piece h
+
+pub moved : (text rest piece tail : List ℕ) → IsLeft text rest → piece ++ tail ≡ rest → list_all is_calm piece ≡ true → IsLeft text tail
+moved text rest piece tail left whole calm =
+    let within = calm_no_end piece calm in
+    let long = ap (position_or_len is_line_end) (sym whole) ∙ beyond is_line_end piece tail within in
+    let all = ap length (sym whole) ∙ length-append piece tail in
+    record {
+      after = left.after ∙ ap after_line (sym whole) ∙ after_beyond is_line_end piece tail within;
+      allowed = left.allowed ∙ ap (λ t. list_all is_allowed (first_line t)) (sym whole)
+          ∙ ap (list_all is_allowed) (before_beyond is_line_end piece tail within) ∙ list_all-append is_allowed piece (first_line tail)
+          ∙ ap (λ b. b && list_all is_allowed (first_line tail)) (all_are is_calm is_allowed (λ byte h. (both_true _ _ h).0) piece calm);
+      within = omega (arith, left.within, all);
+      long = omega (arith, left.long, long, all);
+    }
+
+-- what stands before the comment of the first line
+abbrev spoken : List ℕ → List ℕ
+spoken text = before_first begins_comment (first_line text)
+
+spoken_beyond : (piece tail : List ℕ) → list_all is_calm piece ≡ true → spoken (piece ++ tail) ≡ piece ++ spoken tail
+spoken_beyond piece tail calm =
+    ap (before_first begins_comment) (before_beyond is_line_end piece tail (calm_no_end piece calm))
+    ∙ before_beyond begins_comment piece (first_line tail) (all_are is_calm _ (λ byte h. (both_true _ _ h).1) piece calm)
+
+-- where neither a letter nor a blank comes next, nothing does
+silent : (byte : ℕ) (tail : List ℕ) (end comment : Bool) → is_line_end byte ≡ end → begins_comment byte ≡ comment →
+    is_letter byte ≡ false → is_blank byte ≡ false → list_all is_allowed (first_line (byte ∷ tail)) ≡ true → spoken (byte ∷ tail) ≡ []
+silent byte tail true comment e c l b a = ap (before_first begins_comment) (before_here is_line_end byte tail e)
+silent byte tail false true e c l b a =
+    ap (before_first begins_comment) (before_later is_line_end byte tail e) ∙ before_here begins_comment byte (first_line tail) c
+silent byte tail false false e c l b a =
+    let allowed : list_all is_allowed (byte ∷ first_line tail) ≡ true = ap (list_all is_allowed) (sym (before_later is_line_end byte tail e)) ∙ a in
+    absurd (never (sym b ∙ other_is_blank byte (both_true (is_allowed byte) (list_all is_allowed (first_line tail)) allowed).0 l c))
+
+spoken_none : (tail : List ℕ) → is_letter (get_or tail 0 10) ≡ false → is_blank (get_or tail 0 10) ≡ false →
+    list_all is_allowed (first_line tail) ≡ true → spoken tail ≡ []
+spoken_none [] l b a = refl
+spoken_none (byte ∷ tail) l b a = silent byte tail (is_line_end byte) (begins_comment byte) refl refl l b a
+
+-- ---- words
+
+abbrev kept : List (List ℕ) → List (List ℕ)
+kept pieces = filter (λ one. not (length one == 0)) pieces
+
+pub kept_piece : (piece : List ℕ) (pieces : List (List ℕ)) → kept (piece ∷ pieces) ≡ word_alone piece ++ kept pieces
+kept_piece [] pieces = refl
+kept_piece (byte ∷ bytes) pieces =
+    let some : (length (byte ∷ bytes) == 0) ≡ false = grind (arith, nat_tests) in
+    ap (λ b. cond (not b) ((byte ∷ bytes) ∷ kept pieces) (kept pieces)) some
+
+no_blanks : (piece : List ℕ) → list_all is_letter piece ≡ true → (k d : ℕ) → k < length piece → is_blank (get_or piece k d) ≡ false
+no_blanks piece letters k d there =
+    letter_no_blank (get_or piece k d) (AllPass-from_list_all is_letter piece letters k d there)
+
+-- ---- one step of the reading
+
+-- a slice to its end
+pub to_end : (text : List ℕ) (n : ℕ) → take (length text - n) (drop n text) ≡ drop n text
+to_end text n =
+    let all = length-drop n text in
+    take_all (length text - n) (drop n text) (omega (arith, all))
+
+abbrev is_end : ℕ → Bool
+is_end byte = not (is_letter byte)
+
+-- the letters that a text begins with, and what follows them
+pub record IsPiece (text piece tail : List ℕ) : Type 0 where
+  pub whole : piece ++ tail ≡ text
+  pub letters : list_all is_letter piece ≡ true
+  pub next : is_letter (get_or tail 0 10) ≡ false
+
+abbrev Parted : List ℕ → ℕ → Type 0
+Parted text k = (list_all is_letter (take k text) ≡ true) × (is_letter (get_or (drop k text) 0 10) ≡ false)
+
+parted_by : (b : Bool) (byte : ℕ) (bytes : List ℕ) → is_letter byte ≡ b → Parted bytes (position_or_len is_end bytes) →
+    Parted (byte ∷ bytes) (position_or_len is_end (byte ∷ bytes))
+parted_by true byte bytes is h =
+    subst (Parted (byte ∷ bytes)) (sym (later is_end byte bytes (ap not is)))
+    (both (is_letter byte) (list_all is_letter (before_first is_end bytes)) is h.0, h.1)
+parted_by false byte bytes is h = subst (Parted (byte ∷ bytes)) (sym (here is_end byte bytes (ap not is))) (refl, is)
+
+parted : (text : List ℕ) → Parted text (position_or_len is_end text)
+parted [] = (refl, refl)
+parted (byte ∷ bytes) = parted_by (is_letter byte) byte bytes refl (parted bytes)
+
+pub piece_at : (text : List ℕ) (n : ℕ) → n ≡ position_or_len is_end text →
+    IsPiece text (take n text) (take (length text - n) (drop n text))
+piece_at text n is =
+    let at : Parted text n = subst (Parted text) (sym is) (parted text) in
+    subst (IsPiece text (take n text)) (sym (to_end text n))
+    (record { whole = take-append-drop n text; letters = at.0; next = at.1 })
+
+-- behind the piece, and behind a blank that follows it
+pub left_behind : (text rest piece tail : List ℕ) → IsLeft text rest → IsPiece rest piece tail → IsLeft text tail
+left_behind text rest piece tail left is =
+    moved text rest piece tail left is.whole (all_are is_letter is_calm letter_calm piece is.letters)
+
+pub left_behind_blank : (text tail : List ℕ) → IsLeft text tail → is_blank (get_or tail 0 10) ≡ true →
+    IsLeft text (take (length tail - 1) (drop 1 tail))
+left_behind_blank text [] left blank = absurd (cc)
+left_behind_blank text (byte ∷ tail) left blank =
+    subst (IsLeft text) (sym (to_end (byte ∷ tail) 1))
+    (moved text (byte ∷ tail) (byte ∷ []) tail left refl (both (is_calm byte) true (blank_calm byte blank) refl))
+
+pub words_behind : (words all : List (List ℕ)) (rest piece tail : List ℕ) → all ≡ words ++ word_alone piece →
+    IsPiece rest piece tail → is_blank (get_or tail 0 10) ≡ true →
+    words ++ words_of (first_line rest) ≡ all ++ words_of (first_line (take (length tail - 1) (drop 1 tail)))
+words_behind words all rest piece [] more is blank = absurd (cc)
+words_behind words all rest piece (byte ∷ tail) more is blank =
+    ap (λ x. words ++ x) (ap (λ t. words_of (first_line t)) (sym is.whole)
+    ∙ ap words_in (spoken_beyond piece (byte ∷ tail) (all_are is_letter is_calm letter_calm piece is.letters)
+    ∙ ap (λ t. piece ++ t) (spoken_beyond (byte ∷ []) tail (both (is_calm byte) true (blank_calm byte blank) refl)))
+    ∙ ap kept (slice_split_at is_blank piece byte (spoken tail) (no_blanks piece is.letters) blank)
+    ∙ kept_piece piece (slice_split is_blank (spoken tail)))
+    ∙ sym (append_assoc words (word_alone piece) (words_in (spoken tail))) ∙ ap (λ x. x ++ words_in (spoken tail)) (sym more)
+    ∙ ap (λ t. all ++ words_of (first_line t)) (sym (to_end (byte ∷ tail) 1))
+
+-- the last word
+pub words_end : (rest piece tail : List ℕ) → IsPiece rest piece tail → is_blank (get_or tail 0 10) ≡ false →
+    list_all is_allowed (first_line tail) ≡ true → words_of (first_line rest) ≡ word_alone piece
+words_end rest piece tail is blank a =
+    ap (λ t. words_of (first_line t)) (sym is.whole)
+    ∙ ap words_in (spoken_beyond piece tail (all_are is_letter is_calm letter_calm piece is.letters)
+    ∙ ap (λ t. piece ++ t) (spoken_none tail is.next blank a) ∙ append-nil piece)
+    ∙ ap kept (slice_split_none is_blank piece (no_blanks piece is.letters)) ∙ kept_piece piece [] ∙ append-nil (word_alone piece)
+
+-- ---- the end of a line
+
+abbrev is_forbidden : ℕ → Bool
+is_forbidden byte = not (is_allowed byte)
+
+further_allowed : (byte : ℕ) (bytes : List ℕ) → is_line_end byte ≡ false →
+    list_all is_allowed (first_line (byte ∷ bytes)) ≡ (is_allowed byte && list_all is_allowed (first_line bytes))
+further_allowed byte bytes e = ap (list_all is_allowed) (before_later is_line_end byte bytes e)
+
+end_here : (byte : ℕ) (bytes : List ℕ) (end : Bool) → is_line_end byte ≡ end → is_allowed byte ≡ false →
+    is_line_end byte ≡ list_all is_allowed (first_line (byte ∷ bytes))
+end_here byte bytes true e a = e ∙ sym (ap (list_all is_allowed) (before_here is_line_end byte bytes e))
+end_here byte bytes false e a =
+    e ∙ sym (further_allowed byte bytes e ∙ ap (λ b. b && list_all is_allowed (first_line bytes)) a)
+
+end_by : (byte : ℕ) (bytes : List ℕ) (allowed : Bool) → is_allowed byte ≡ allowed →
+    is_line_end (get_or bytes (position_or_len is_forbidden bytes) 10) ≡ list_all is_allowed (first_line bytes) →
+    is_line_end (get_or (byte ∷ bytes) (position_or_len is_forbidden (byte ∷ bytes)) 10) ≡ list_all is_allowed (first_line (byte ∷ bytes))
+end_by byte bytes true a h =
+    ap (λ n. is_line_end (get_or (byte ∷ bytes) n 10)) (later is_forbidden byte bytes (ap not a)) ∙ h
+    ∙ sym (further_allowed byte bytes (allowed_no_end byte a) ∙ ap (λ b. b && list_all is_allowed (first_line bytes)) a)
+end_by byte bytes false a h =
+    ap (λ n. is_line_end (get_or (byte ∷ bytes) n 10)) (here is_forbidden byte bytes (ap not a))
+    ∙ end_here byte bytes (is_line_end byte) refl a
+
+-- the first byte that is not allowed ends the line, where each byte of it is allowed
+pub end_of : (text : List ℕ) → is_line_end (get_or text (position_or_len is_forbidden text) 10) ≡ list_all is_allowed (first_line text)
+end_of [] = refl
+end_of (byte ∷ bytes) = end_by byte bytes (is_allowed byte) refl (end_of bytes)
+
+pub end_at : (text : List ℕ) → list_all is_allowed (first_line text) ≡ true → position_or_len is_line_end text ≡ position_or_len is_forbidden text
+end_at text a =
+    position_or_len_is is_line_end text (position_or_len is_forbidden text) 10 (prefix_len-le-length (λ b. not (is_forbidden b)) text)
+    (λ k there. allowed_no_end (get_or text k 10) (not_false _ (fails_before_first is_forbidden text k 10 there)))
+    (λ there. end_of text ∙ a)
+
+pub first_long : (text : List ℕ) → length (first_line text) ≡ position_or_len is_line_end text
+first_long text =
+    length-take-le (position_or_len is_line_end text) text (prefix_len-le-length (λ b. not (is_line_end b)) text)
+
+-- ---- the first line among all
+
+-- a piece with more behind it is a line, also an empty one
+piece_first : (piece : List ℕ) (pieces : List (List ℕ)) → 0 < length pieces →
+    without_empty_last (piece ∷ pieces) ≡ piece ∷ without_empty_last pieces
+piece_first piece [] some = absurd (omega (arith, some))
+piece_first [] (next ∷ pieces) some = refl
+piece_first (byte ∷ bytes) (next ∷ pieces) some = refl
+
+-- the only piece
+piece_only : (piece : List ℕ) → 0 < length piece → without_empty_last (piece ∷ []) ≡ piece ∷ []
+piece_only [] some = absurd (omega (arith, some))
+piece_only (byte ∷ bytes) some = refl
+
+-- the lines of a text are its first one, and those behind it
+lines_by : (text : List ℕ) → 0 < length text → (ends : Bool) → nat_lt (position_or_len is_line_end text) (length text) ≡ ends →
+    lines_of text ≡ first_line text ∷ lines_of (after_line text)
+lines_by text some true ends =
+    let within : position_or_len is_line_end text < length text = grind (arith, nat_tests, ends) in
+    let more : 0 < length (slice_split is_line_end (after_line text)) = omega (arith, length-slice_split is_line_end (after_line text)) in
+    ap without_empty_last (slice_split_first is_line_end text 0 within)
+    ∙ piece_first (first_line text) (slice_split is_line_end (after_line text)) more
+lines_by text some false ends =
+    let all : length text ≤ position_or_len is_line_end text = grind (arith, nat_tests, ends) in
+    ap without_empty_last (slice_split_none is_line_end text
+    (λ k d there. fails_before_first is_line_end text k d (omega (arith, there, all))))
+    ∙ piece_only text some
+    ∙ ap (λ line. line ∷ []) (sym (take_all (position_or_len is_line_end text) text all))
+    ∙ ap (λ rest. first_line text ∷ lines_of rest) (sym (drop_all (position_or_len is_line_end text + 1) text (omega (arith, all))))
+
+pub lines_first : (text : List ℕ) → 0 < length text → lines_of text ≡ first_line text ∷ lines_of (after_line text)
+lines_first text some = lines_by text some (nat_lt (position_or_len is_line_end text) (length text)) refl
+
+pub shorter_after : (text : List ℕ) → 0 < length text → length (after_line text) < length text
+shorter_after text some = let long = length-drop (position_or_len is_line_end text + 1) text in omega (arith, some, long)

@@ -1,0 +1,149 @@
+//! The first line of a text: where it ends, and the words in it.
+ghost use Rattle.std.specs.Prelude.{◌≡◌, ◌+◌, ◌<◌, ◌≤◌, ◌⊎◌, ◌++◌, ◌∷◌, Err, IfErr, IfOk, Ok, drop, length, map, not, slice_index_or, true};
+ghost use Rattle.std.specs.List.{list_all, position, position_or_len};
+ghost use Rattle.line_reader.specs.declared.asm_fault.AsmFaultKind.TheVariants as fault;
+ghost use Rattle.line_reader.specs.FirstLine.{IsLeft, first_line, is_letter, word_alone};
+ghost use Rattle.line_reader.specs.Reading.{line_words};
+ghost use Rattle.line_reader.specs.Seen.{name_seen};
+ghost use Rattle.line_reader.specs.Words.{is_allowed, is_blank, is_line_end, lines_of, words_of};
+
+use crate::asm_fault::AsmFaultKind;
+use crate::byte_kind::is_letter;
+use crate::words::{is_blank, is_line_end, length_before, place_of_forbidden};
+use std::alloc::AllocError;
+
+/// The most bytes that a line holds.
+const LONGEST_LINE: usize = 256;
+
+/// Where a byte first stands that is of no word.
+fn place_of_end(bytes: &[u8]) -> Option<usize>
+    ensures { result ≡ position (λ byte. not (is_letter byte)) bytes.now }
+{
+    bytes.iter().position(|byte| !is_letter(*byte))
+}
+
+/// How many bytes of a word a text begins with.
+#[inline(always)]
+#[tactic(auto, using(crate::proofs::Places::position_some, crate::proofs::Places::position_none))]
+fn length_of_word(text: &[u8]) -> usize
+    ensures length { result ≡ position_or_len (λ byte. not (is_letter byte)) text.now }
+    ensures within { result ≤ length text.now }
+{
+    match place_of_end(text) {
+        Some(place) => place,
+        None => text.len(),
+    }
+}
+
+/// Adds a piece to the list, where it isn't empty.
+#[inline(always)]
+fn push_piece<'a>(words: &mut Vec<&'a [u8]>, piece: &'a [u8]) -> Result<(), AllocError>
+    ensures { IfOk result (λ _. map name_seen words.new.items
+        ≡ map name_seen words.old.items ++ word_alone piece.now) }
+{
+    if !piece.is_empty() {
+        words.push(piece)?;
+    }
+    Ok(())
+}
+
+/// Whether a blank comes next.
+#[inline(always)]
+fn begins_blank(text: &[u8]) -> bool
+    ensures { result ≡ is_blank (slice_index_or text.now 0 10) }
+{
+    match text {
+        [byte, ..] => is_blank(*byte),
+        [] => false,
+    }
+}
+
+/// Puts the words that a text begins with in the place of what the list held, up to the first byte that is neither of a word
+/// nor a blank: answers what stands from there on.
+#[inline(always)]
+fn put_words<'a>(words: &mut Vec<&'a [u8]>, text: &'a [u8]) -> Result<&'a [u8], AllocError>
+    ensures left { IfOk result (λ rest. IsLeft text.now rest.now) }
+    ensures words { IfOk result (λ rest. list_all is_allowed (first_line rest.now) ≡ true
+        → words_of (first_line text.now) ≡ map name_seen words.new.items) }
+{
+    words.clear();
+    let mut rest = text;
+    loop {
+        let length = length_of_word(rest);
+        push_piece(words, &rest[..length])?;
+        rest = &rest[length..];
+        if !begins_blank(rest) {
+            return Ok(rest);
+        }
+        rest = &rest[1..];
+    }
+}
+
+/// How many bytes a text begins with that a line may hold.
+#[inline(always)]
+#[tactic(auto, using(crate::proofs::Places::position_some, crate::proofs::Places::position_none))]
+fn length_allowed(text: &[u8]) -> usize
+    ensures length { result ≡ position_or_len (λ byte. not (is_allowed byte)) text.now }
+    ensures within { result ≤ length text.now }
+{
+    match place_of_forbidden(text) {
+        Some(place) => place,
+        None => text.len(),
+    }
+}
+
+/// Whether a line ends at this place: there is LF, or nothing.
+#[inline(always)]
+fn ends_line(text: &[u8], place: usize) -> bool
+    ensures { result ≡ is_line_end (slice_index_or text.now place 10) }
+{
+    match text.get(place) {
+        Some(byte) => is_line_end(*byte),
+        None => true,
+    }
+}
+
+/// What follows the byte that ends a line at this place, if one does.
+#[inline(always)]
+fn behind_end(text: &[u8], end: usize) -> &[u8]
+    requires { end ≤ length text.now }
+    ensures { result.now ≡ drop (end + 1) text.now }
+{
+    match &text[end..] {
+        [] => &[],
+        [_, after @ ..] => after,
+    }
+}
+
+/// The first line of a text, whatever it holds, and what follows its end.
+#[tactic(auto, using(crate::proofs::FirstLines::lines_first, crate::proofs::FirstLines::shorter_after))]
+pub fn first_line(text: &[u8]) -> (&[u8], &[u8])
+    requires { 0 < length text.now }
+    ensures lines { lines_of text.now ≡ result.0.now ∷ lines_of result.1.now }
+    ensures shorter { length result.1.now < length text.now }
+{
+    let length = length_before(b'\n', text);
+    (&text[..length], behind_end(text, length))
+}
+
+/// Puts the words of a text's first line in the place of what the list held, and answers what follows the line's end. Bytes are
+/// looked at up to the line's end, or to the first one that can't stand there.
+#[inline(always)]
+#[tactic(auto, unfolding(crate::specs::Reading::line_words), using(crate::proofs::FirstLines::end_of, crate::proofs::FirstLines::end_at, crate::proofs::FirstLines::first_long, crate::proofs::FirstLines::lines_first, crate::proofs::FirstLines::shorter_after))]
+pub fn put_line<'a>(words: &mut Vec<&'a [u8]>, text: &'a [u8]) -> Result<&'a [u8], AsmFaultKind>
+    ensures words { IfOk result (λ _. line_words (first_line text.now) ≡ Ok (map name_seen words.new.items)) }
+    ensures lines { 0 < length text.now
+        → IfOk result (λ after. lines_of text.now ≡ first_line text.now ∷ lines_of after.now) }
+    ensures shorter { 0 < length text.now → IfOk result (λ after. length after.now < length text.now) }
+    ensures fault { IfErr result (λ kind. (kind ≡ fault.Memory) ⊎ (line_words (first_line text.now) ≡ Err kind)) }
+{
+    let rest = put_words(words, text)?;
+    let left = length_allowed(rest);
+    if !ends_line(rest, left) {
+        return Err(AsmFaultKind::BadByte);
+    }
+    if text.len() - rest.len() + left > LONGEST_LINE {
+        return Err(AsmFaultKind::LongLine);
+    }
+    Ok(behind_end(rest, left))
+}
