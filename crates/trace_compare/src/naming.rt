@@ -62,7 +62,7 @@ fn next_by(named: LineNames, ended: LineEnded) -> NextName
 }
 
 /// Reads the next line and answers what it names.
-pub(crate) fn next_name<S: Source>(
+pub fn next_name<S: Source>(
     lines: &mut SourceLines,
     trace: &mut S,
 ) -> Result<NextName, Failed>
