@@ -1,6 +1,6 @@
 -- Choices that are played one list after another, up to a break or a refusal.
 use Rattle.std.proofs.Common.{◌≡◌, ◌∙◌, ◌↔◌, ◌+◌, ◌-◌, ◌≤◌, ℕ, Bool, true, false, List, [], ◌∷◌, ◌++◌, Option, Some, None, Result, Err, length, refl, ap, sym, subst, arith, append_assoc, append-nil}
-use Rattle.std.specs.Prelude.{◌&&◌, if◌then◌else◌, is_some, nat_le}
+use Rattle.std.specs.Prelude.{◌≢◌, ◌&&◌, if◌then◌else◌, is_some, nat_le}
 use Rattle.std.proofs.lemmas.List.{length-append}
 use Rattle.machine_scene.specs.Scene.{Outcome, scene_of, thread_at}
 use Rattle.thread_machine.specs.World.{World, world_of}
@@ -10,6 +10,7 @@ use Rattle.thread_machine.specs.declared.fault.StepFault.{StepFault}
 use Rattle.thread_machine.specs.declared.fault.StepFault.TheVariants.{NoSuchThread, StepLimit, Memory}
 use Rattle.thread_machine.specs.Ready.{outcome_of_choice, is_choice_ready}
 use Rattle.thread_machine.specs.Step.{Played, played, played_by, is_used_up, refusal_of, puts_out}
+use Rattle.debugger.specs.declared.stop.Stop.{Stop}
 use Rattle.debugger.specs.declared.stop.Stop.TheVariants as stop
 use Rattle.debugger.specs.declared.session.go.Went.{Went}
 use Rattle.debugger.specs.declared.session.go.Went.TheVariants as went
@@ -261,6 +262,81 @@ pub stops_fault : (why : StepFault) (session after : Session) (choices : List Ch
     → Stops session choices (stop.Fault n why) after
 stops_fault why session after choices n is at =
     (at, omega (arith, is, steps-choices at.first session after at.steps))
+
+-- ---- one choice more behind choices that have stopped so
+
+-- nothing stands before the only choice
+before_one : (first rest : List Choice) (one choice : Choice) → choice ∷ [] ≡ first ++ one ∷ rest → length first ≡ 0
+before_one first rest one choice is =
+    let same : 1 ≡ length (first ++ one ∷ rest) = ap (λ (l : List Choice). length l) is in
+    omega (arith, same, length-append first (one ∷ rest))
+
+all_of : (session now : Session) (choices : List Choice) (choice : Choice) → Ends session choices now
+    → Continues session now (choices ++ choice ∷ []) (choice ∷ [])
+all_of session now choices choice ends = record { done = choices; all = refl; plays = ends.plays; steps = ends.steps }
+
+pub one_more_ends : (session now after : Session) (choices : List Choice) (choice : Choice) (n : ℕ)
+    → Stops session choices (stop.End n) now → Ends now (choice ∷ []) after
+    → Stops session (choices ++ choice ∷ []) (stop.End (n + 1)) after
+one_more_ends session now after choices choice n on ends = (
+  record {
+    plays = more_plays session now choices (choice ∷ []) on.0.plays on.0.steps ends.plays;
+    steps = steps-append choices (choice ∷ []) session now after on.0.steps ends.steps;
+  },
+  omega (arith, on.1, length-append choices (choice ∷ [])),
+)
+
+pub one_more_breaks : (session now after : Session) (choices : List Choice) (choice : Choice) (n : ℕ)
+    → Stops session choices (stop.End n) now → Breaks now (choice ∷ []) after
+    → Stops session (choices ++ choice ∷ []) (stop.Break (n + 1)) after
+unfolding continues_break all_of
+one_more_breaks session now after choices choice n on at =
+    let whole : Breaks session (choices ++ choice ∷ []) after =
+    continues_break session now after (choices ++ choice ∷ []) (choice ∷ []) (choice ∷ []) [] refl
+    (all_of session now choices choice on.0) at in
+    let first : length whole.first ≡ length choices + length at.first = length-append choices at.first in
+    (whole, omega (arith, on.1, first, before_one at.first at.rest at.last choice at.all))
+
+pub one_more_faults : (why : StepFault) (session now after : Session) (choices : List Choice) (choice : Choice) (n : ℕ)
+    → Stops session choices (stop.End n) now → Faults now (choice ∷ []) why after
+    → Stops session (choices ++ choice ∷ []) (stop.Fault n why) after
+unfolding continues_fault all_of
+one_more_faults why session now after choices choice n on at =
+    let whole : Faults session (choices ++ choice ∷ []) why after =
+    continues_fault why session now after (choices ++ choice ∷ []) (choice ∷ []) (choice ∷ []) [] refl
+    (all_of session now choices choice on.0) at in
+    let first : length whole.first ≡ length choices + length at.first = length-append choices at.first in
+    (whole, omega (arith, on.1, first, before_one at.first at.rest at.refused choice at.all))
+
+-- what has stopped before the end stays there
+pub one_more_stays : (how : Stop) (session now : Session) (choices : List Choice) (choice : Choice)
+    → ((n : ℕ) → how ≢ stop.End n) → Stops session choices how now → Stops session (choices ++ choice ∷ []) how now
+one_more_stays (stop.End n) session now choices choice other stops = absurd (other n refl)
+one_more_stays (stop.Break n) session now choices choice other (at, is) = (
+  record {
+    first = at.first;
+    last = at.last;
+    rest = at.rest ++ choice ∷ [];
+    all = ap (λ l. l ++ choice ∷ []) at.all ∙ append_assoc at.first (at.last ∷ at.rest) (choice ∷ []);
+    plays = at.plays;
+    accepted = at.accepted;
+    breaks = at.breaks;
+    steps = at.steps;
+  },
+  is,
+)
+one_more_stays (stop.Fault n why) session now choices choice other (at, is) = (
+  record {
+    first = at.first;
+    refused = at.refused;
+    rest = at.rest ++ choice ∷ [];
+    all = ap (λ l. l ++ choice ∷ []) at.all ∙ append_assoc at.first (at.refused ∷ at.rest) (choice ∷ []);
+    plays = at.plays;
+    refuses = at.refuses;
+    steps = at.steps;
+  },
+  is,
+)
 
 -- no choice is taken back
 pub goes_counts : (result : Went) (session after : Session) (choices : List Choice) → Goes session choices result after

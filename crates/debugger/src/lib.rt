@@ -15,5 +15,5 @@ pub use law::{
     choices_in_a_row_extend_the_history, steps_and_as_many_back_are_nothing,
     what_is_not_taken_back_was_played,
 };
-pub use session::{CommandFault, Debugger};
+pub use session::{CommandFault, Debugger, say_stop};
 pub use stop::{NoHistory, Stop};

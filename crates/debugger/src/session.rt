@@ -13,7 +13,7 @@ use thread_machine::{Choice, Event, Machine, StepFault, Undo};
 mod go;
 mod reply;
 
-pub use reply::CommandFault;
+pub use reply::{CommandFault, say_stop};
 
 /// A machine that can be stepped back, with a breakpoint or none at each row.
 #[derive(Drop)]

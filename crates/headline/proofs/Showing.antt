@@ -19,13 +19,15 @@ use Rattle.trace_text.specs.Start.{Begins}
 use Rattle.trace_text.specs.Trace.{trace_of}
 use Rattle.trace_compare.proofs.OneTrace.{trace-first}
 use Rattle.workbench.specs.declared.fault.Fault.{Fault}
-use Rattle.workbench.specs.Debug.{Debugs}
+use Rattle.workbench.specs.declared.done.Done.{Done}
+use Rattle.workbench.specs.declared.done.Done.TheVariants as done
+use Rattle.workbench.specs.Debug.{Debugs, DebugsAt}
 use Rattle.workbench.specs.Live.{Lives}
 use Rattle.workbench.specs.Outcome.{PlaysFile, PlaysText}
 use Rattle.workbench.specs.ProgramFile.{IsProgramFile}
 use Rattle.workbench.specs.RunLine.{program_part, schedule_part}
 use Rattle.headline.specs.Headline.{start}
-use Rattle.headline.specs.EndToEnd.{HasDebuggedFile, HasShownFile, HasShownLive, HasShownText, ShowsTheRows}
+use Rattle.headline.specs.EndToEnd.{HasDebuggedFile, HasDebuggedFileAt, HasShownFile, HasShownLive, HasShownText, ShowsTheRows}
 
 -- what a text stands for is within the limits of an image
 text_image : (text : List ℕ) (image : Image) → StandsFor text image → IsImage image
@@ -101,6 +103,16 @@ file-debugged (Ok done) runs file commands_before commands_after commands_failed
     (image, (world, (now, (output_then, (is, (loads, first), begun, held))))) =
     (image, (world, (now, (output_then, ((is, (file_image file image is, loads)), first, begun, held)))))
 file-debugged (Err f) runs file commands_before commands_after commands_failed before after failed debugs = tt
+
+pub file-debugged-at : (result : Result Done Fault) (file : List ℕ) (trace_before trace_after : Option (List ℕ)) (trace_failed : Bool)
+    (commands_before commands_after : Option (List ℕ)) (commands_failed : Bool) (before after : Option (List ℕ)) (failed : Bool)
+    → DebugsAt file result trace_before trace_after trace_failed commands_before commands_after commands_failed before after failed
+    → result ≡ Ok done.AsAsked → HasDebuggedFileAt file trace_before trace_after commands_before commands_after before after
+file-debugged-at result file trace_before trace_after trace_failed commands_before commands_after commands_failed before after failed debugs is =
+    let (runs, (named, held)) = subst
+    (λ r. DebugsAt file r trace_before trace_after trace_failed commands_before commands_after commands_failed before after failed)
+    is debugs in
+    (runs, (named, file-debugged (Ok tt) (Some runs) file commands_before commands_after commands_failed before after failed held))
 
 pub live-shown : (result : Result RunEnd Fault) (limit : ℕ) (file : List ℕ) (before after : Option (List ℕ)) (failed : Bool)
     → Lives limit file result before after failed → OnOk result (HasShownLive limit file before after)

@@ -27,7 +27,7 @@ use Rattle.thread_runner.specs.Endings.{ending_of}
 use Rattle.thread_runner.specs.Replay.{IsReplay}
 use Rattle.headline.specs.Headline.{Accepted, start}
 use Rattle.debugger.specs.Session.{Session}
-use Rattle.workbench.specs.Debug.{Finished, HasConversed, IsBegun, first_session}
+use Rattle.workbench.specs.Debug.{Finished, HasConversed, IsBegun, IsBehindTrace, first_session}
 use Rattle.workbench.specs.ProgramFile.{IsProgramFile}
 use Rattle.workbench.specs.RunLine.{program_part, schedule_part}
 
@@ -60,14 +60,21 @@ HasShownFile file schedule_before schedule_after output_before output_after =
     × (AcceptedFile file image × Consumes schedule_before schedule_after schedule × IsAtEnd schedule_after
     × ShowsTheRows image schedule shown × Appends output_before output_after shown)))
 
--- `debug`: a session that keeps 4096 steps was held on a file's program, from its first world on, or behind the choices of a
--- trace: each line of commands was answered as it asks, up to `q` or the end.
+-- `debug`: a session that keeps 4096 steps was held on a file's program, from its first world on, or behind runs of
+-- choices: each line of commands was answered as it asks, up to `q` or the end.
 abbrev pub HasDebuggedFile : Option (List Run) → (file : List ℕ) (commands_before commands_after output_before output_after : Option (List ℕ)) → Type 0
 HasDebuggedFile runs file commands_before commands_after output_before output_after =
     (image : Image) × ((world : StoredWorld) × ((now : Session) × ((output_then : Option (List ℕ))
     × (AcceptedFile file image × IsFirstOf image 1000000000 (world_of world)
     × IsBegun runs (first_session world) now output_before output_then
     × HasConversed Finished now commands_before commands_after output_then output_after))))
+
+-- `debug --at`: the same behind the choices that a trace's lines name, up to the line of its state. A plan's choices, and a
+-- person's at a terminal, are runs as above.
+abbrev pub HasDebuggedFileAt : (file : List ℕ) (trace_before trace_after commands_before commands_after output_before output_after : Option (List ℕ)) → Type 0
+HasDebuggedFileAt file trace_before trace_after commands_before commands_after output_before output_after =
+    IsBehindTrace (λ runs. HasDebuggedFile (Some runs) file commands_before commands_after output_before output_after)
+    trace_before trace_after
 
 -- A run on real threads: from the program's first world these choices, of which none was refused and each did something, led
 -- to an end (`ending_of`): all threads have ended or died, none can go on, or so many steps were taken. Where steps may be

@@ -1,14 +1,15 @@
 //! The commands that play a program: under a schedule, by commands, or on real threads. Each is the one of `workbench`, which says
 //! what has come about whatever it answers; here it also says, in the words of one page, what is shown where all went well.
-ghost use Rattle.std.specs.Prelude.{◌≡◌, ◌≢◌, ◌<◌, ◌≤◌, ℕ, List, [], None, OnOk, Option, Some};
+ghost use Rattle.std.specs.Prelude.{◌≡◌, ◌≢◌, ◌<◌, ◌≤◌, ℕ, List, [], None, Ok, OnOk, Option, Some};
 ghost use Rattle.assembler.specs.Meaning.{StandsFor};
 ghost use Rattle.loader.specs.Fault.{first_fault};
 ghost use Rattle.loader.specs.declared.load_fault.LoadFault.{LoadFault};
 ghost use Rattle.row_code.specs.declared.image.Image.{Image};
 ghost use Rattle.thread_machine.specs.declared.choice.Choice.{Choice};
-ghost use Rattle.headline.specs.EndToEnd.{HasDebuggedFile, HasShownFile, HasShownLive, HasShownText, IsLiveRun};
+ghost use Rattle.headline.specs.EndToEnd.{HasDebuggedFile, HasDebuggedFileAt, HasShownFile, HasShownLive, HasShownText, IsLiveRun};
 ghost use Rattle.headline.specs.Headline.{Accepted};
-ghost use Rattle.workbench.specs.Debug.{Debugs, GivesFew};
+ghost use Rattle.workbench.specs.Debug.{Debugs, DebugsAt, GivesFew};
+ghost use Rattle.workbench.specs.declared.done.Done.TheVariants as done;
 ghost use Rattle.workbench.specs.Live.{Lives};
 ghost use Rattle.workbench.specs.Outcome.{PlaysFile, PlaysText};
 ghost use Rattle.workbench.specs.RunLine.{program_part};
@@ -20,6 +21,7 @@ use std::sync::Wait;
 use std::thread::Threads;
 use thread_runner::Gate;
 use trace_text::RunEnd;
+use workbench::done::Done;
 use workbench::fault::Fault;
 
 /// Plays the program of a text under the schedule that stands behind its line `.run`, writes the trace, and answers how the
@@ -78,6 +80,24 @@ pub fn debug_behind<S: Source, K: Sink>(
     ensures few { GivesFew (S.left commands.old) (S.left commands.new) }
 {
     workbench::debug::debug_behind(alloc, program, runs, commands, output)
+}
+
+/// `debug` behind the choices of a trace, which are played as they are read. Where it is none, no command is read.
+pub fn debug_at<T: Source, S: Source, K: Sink>(
+    alloc: Global,
+    program: &[u8],
+    trace: &mut T,
+    commands: &mut S,
+    output: &mut K,
+) -> Result<Done, Fault>
+    ensures outcome { DebugsAt program.now result (T.left trace.old) (T.left trace.new) (T.has_failed trace.new)
+        (S.left commands.old) (S.left commands.new) (S.has_failed commands.new)
+        (K.written output.old) (K.written output.new) (K.has_failed output.new) }
+    ensures shown { result ≡ Ok done.AsAsked → HasDebuggedFileAt program.now (T.left trace.old) (T.left trace.new)
+        (S.left commands.old) (S.left commands.new) (K.written output.old) (K.written output.new) }
+    ensures few { GivesFew (S.left commands.old) (S.left commands.new) }
+{
+    workbench::debug::debug_at(alloc, program, trace, commands, output)
 }
 
 /// Plays the program that a file's bytes are on real threads, writes the trace of the choices that they made, and answers how the

@@ -1,5 +1,5 @@
 -- The run's own line at the beginning of bytes of a trace, and another line there that names the same choice.
-use Rattle.std.proofs.Common.{◌≡◌, ◌≢◌, ◌∙◌, ◌+◌, ◌<◌, ◌≤◌, ◌==◌, ◌-◌, ◌&&◌, ℕ, Bool, true, false, zero, suc, List, [], ◌∷◌, ◌++◌, length, drop, take, cond, Option, Some, None, is_none, nat_le, not, refl, ap, sym, subst, arith, append_assoc, append-nil, length-append, take-append-drop, inl, inr, decimal, codes, get_or}
+use Rattle.std.proofs.Common.{◌≡◌, ◌≢◌, ◌∙◌, ◌+◌, ◌<◌, ◌≤◌, ◌==◌, ◌&&◌, ℕ, Bool, true, false, zero, suc, List, [], ◌∷◌, ◌++◌, length, drop, take, cond, Option, Some, None, is_none, nat_le, not, refl, ap, sym, subst, arith, append_assoc, append-nil, length-append, take-append-drop, inl, inr, decimal, codes, get_or}
 use Rattle.std.specs.Prelude.{Err, IfOk, Ok, Result, if◌then◌else◌}
 use Rattle.std.specs.Fmt.{digits}
 use Rattle.std.specs.List.{position_or_len, slice_split}

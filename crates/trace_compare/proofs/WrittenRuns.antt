@@ -1,5 +1,5 @@
 -- A schedule that is written as its choices come.
-use Rattle.std.proofs.Common.{◌≡◌, ◌∙◌, ◌+◌, ◌<◌, ◌≤◌, ℕ, Bool, true, false, List, [], ◌∷◌, ◌++◌, Some, None, refl, ap, sym, subst, append_assoc, append-nil, arith, All}
+use Rattle.std.proofs.Common.{◌≡◌, ◌∙◌, ◌+◌, ◌<◌, ◌≤◌, ℕ, Bool, List, [], ◌∷◌, ◌++◌, Some, None, refl, ap, sym, subst, append_assoc, append-nil, arith}
 use Rattle.std.specs.Prelude.{Option, Result, Ok, Err, OnOk, IfOk, is_none, replicate}
 use Rattle.std.specs.List.{slice_split}
 use Rattle.line_reader.specs.Words.{is_line_end}
@@ -11,7 +11,7 @@ use Rattle.byte_ports.specs.SourceLines.{Lines}
 use Rattle.schedule_reader.specs.declared.run.Run.{Run}
 use Rattle.schedule_reader.specs.Joined.{AreJoined}
 use Rattle.schedule_reader.specs.Schedule.{IsRun, choices_of, run_of}
-use Rattle.schedule_reader.specs.Text.{schedule_text, spaced_tokens, token_of}
+use Rattle.schedule_reader.specs.Text.{schedule_text, token_of}
 use Rattle.schedule_reader.proofs.Runs.{spelled}
 use Rattle.thread_machine.specs.declared.choice.Choice.{Choice}
 use Rattle.trace_compare.specs.declared.naming.NextName.{NextName}

@@ -9,6 +9,12 @@ ghost use Rattle.trace_compare.specs.Compare.{HasCompared, IsReadNoFurther, choi
 ghost use Rattle.trace_text.specs.Reading.{HasNoLongLine, choice_in, is_state_line};
 ghost use Rattle.trace_compare.specs.Comparing.{HasCounted, HasLeft, IsOpen, IsReading, StandsFrom, bytes_left, decided, line_ends, lines_left};
 
+use byte_ports::Source;
+use line_reader::words::length_before;
+use loader::LoadFault;
+use row_code::Image;
+use std::alloc::{AllocError, Global};
+use thread_machine::{Choice, Machine};
 use trace_text::digits::Digits;
 use trace_text::kept_line::{KeptLine, are_same};
 use trace_text::line_end::LineEnd;
@@ -17,12 +23,6 @@ use trace_text::play::{line_of_choice, own_line_of_choice};
 use trace_text::start::{StartFault, first_machine};
 use trace_text::state::state_text;
 use trace_text::trace_line::{choice_in, is_state_line};
-use byte_ports::Source;
-use line_reader::words::length_before;
-use loader::LoadFault;
-use row_code::Image;
-use std::alloc::{AllocError, Global};
-use thread_machine::{Choice, Machine};
 
 /// How many bytes of a trace are read at a time.
 const PIECE: usize = 16_384;

@@ -62,10 +62,7 @@ fn next_by(named: LineNames, ended: LineEnded) -> NextName
 }
 
 /// Reads the next line and answers what it names.
-pub(crate) fn next_name<S: Source>(
-    lines: &mut SourceLines,
-    trace: &mut S,
-) -> Result<NextName, Failed>
+pub fn next_name<S: Source>(lines: &mut SourceLines, trace: &mut S) -> Result<NextName, Failed>
     ensures thread { (choice : Choice) → (result ≡ Ok (NextName.Made choice)) ⊎ (result ≡ Ok (NextName.CutOff choice))
         → choice.thread ≤ 63 }
     ensures made { (choice : Choice) → result ≡ Ok (NextName.Made choice) → (n : ℕ)

@@ -16,8 +16,8 @@ use workbench::done::{Done, as_asked};
 use workbench::fault::{Fault, push_counted_line};
 use workbench::input::read_all;
 
-/// Answers commands that are about a program, behind the choices of a trace if there is one. Nothing is kept back: standard output
-/// is flushed at each line's end.
+/// Answers commands that are about a program, behind runs of choices if there are some. Nothing is kept back: standard output is
+/// flushed at each line's end.
 fn session<'a, S: Source>(
     rt: &HostRuntime,
     program: &[u8],
@@ -36,6 +36,15 @@ fn session<'a, S: Source>(
 fn session_of_input<'a>(rt: &HostRuntime, program: &[u8], runs: Option<&[Run]>) -> Answer<'a> {
     let mut commands = BlockSource::new(rt.alloc(), ReadPort::new(rt.stdin()))?;
     session(rt, program, runs, &mut commands)
+}
+
+/// The same behind the choices of a trace, which are played as they are read.
+fn session_at<'a>(rt: &HostRuntime, program: &[u8], trace: File) -> Answer<'a> {
+    let mut trace = ReadPort::new(trace);
+    let mut commands = BlockSource::new(rt.alloc(), ReadPort::new(rt.stdin()))?;
+    let mut output = WritePort::new(rt.stdout());
+    let answer = shown::debug_at(rt.alloc(), program, &mut trace, &mut commands, &mut output);
+    Ok(flushed(answer, &mut output)?)
 }
 
 /// The commands are those of a person, who is told beside the answers who may go on.
@@ -61,6 +70,16 @@ fn not_a_trace<'a>(rt: &HostRuntime, line: u64) -> Answer<'a> {
     Ok(flushed(answer, &mut output)?)
 }
 
+/// The same of a person behind the choices of a trace, which are kept for `w`.
+fn session_of_person_at<'a>(rt: &HostRuntime, program: &[u8], trace: File) -> Answer<'a> {
+    match choices_in(rt.alloc(), &mut ReadPort::new(trace)) {
+        Ok(Named::Choices(runs)) => session_of_person(rt, program, Some(runs.as_slice())),
+        Ok(Named::NotATrace { line }) => not_a_trace(rt, line),
+        Err(NamingFault::Memory) => Err(Trouble::Fault(Fault::Memory)),
+        Err(NamingFault::Read) => Err(Trouble::Fault(Fault::Read)),
+    }
+}
+
 /// What a session begins behind.
 #[derive(Drop)]
 enum Before<'a> {
@@ -73,7 +92,7 @@ enum Before<'a> {
 }
 
 /// What the words name.
-fn before<'a>(rt: &HostRuntime, steps: Steps<'a>) -> Result<Before<'a>, Trouble<'a>> {
+fn named_before<'a>(rt: &HostRuntime, steps: Steps<'a>) -> Result<Before<'a>, Trouble<'a>> {
     Ok(match steps {
         Steps::Beside => Before::Nothing,
         Steps::Named(trace) => Before::Trace(files::read(rt, trace)?),
@@ -82,29 +101,28 @@ fn before<'a>(rt: &HostRuntime, steps: Steps<'a>) -> Result<Before<'a>, Trouble<
     })
 }
 
-/// What a trace names.
-fn named_in<'a>(rt: &HostRuntime, trace: File) -> Result<Named, Trouble<'a>> {
-    match choices_in(rt.alloc(), &mut ReadPort::new(trace)) {
-        Ok(named) => Ok(named),
-        Err(NamingFault::Memory) => Err(Trouble::Fault(Fault::Memory)),
-        Err(NamingFault::Read) => Err(Trouble::Fault(Fault::Read)),
-    }
+/// What a session begins behind, once a plan is played.
+#[derive(Drop)]
+enum Start {
+    Nothing,
+    Trace(File),
+    Choices(Vec<Run>),
 }
 
-/// The choices that a session begins behind, if there are some.
-fn named_before<'a>(
+/// The choices of a plan, if there is one.
+fn start_behind<'a>(
     rt: &HostRuntime,
     program: &[u8],
     before: Before<'a>,
-) -> Result<Option<Named>, Trouble<'a>> {
+) -> Result<Start, Trouble<'a>> {
     let (program, _) = parts_of(program);
     Ok(match before {
-        Before::Nothing => None,
-        Before::Trace(trace) => Some(named_in(rt, trace)?),
-        Before::Plan(plan) => Some(Named::Choices(runs_of_plan(rt, program, plan.as_bytes())?)),
+        Before::Nothing => Start::Nothing,
+        Before::Trace(trace) => Start::Trace(trace),
+        Before::Plan(plan) => Start::Choices(runs_of_plan(rt, program, plan.as_bytes())?),
         Before::PlanIn(plan) => {
             let plan = read_all(rt.alloc(), &mut ReadPort::new(plan))?;
-            Some(Named::Choices(runs_of_plan(rt, program, plan.as_slice())?))
+            Start::Choices(runs_of_plan(rt, program, plan.as_slice())?)
         }
     })
 }
@@ -115,10 +133,10 @@ fn begin<'a>(rt: &HostRuntime, program: &[u8], before: Before<'a>) -> Answer<'a>
         rt,
         b"reading commands from the terminal (debug --help lists them)\n",
     );
-    match named_before(rt, program, before)? {
-        Some(Named::Choices(runs)) => session_of_input(rt, program, Some(runs.as_slice())),
-        Some(Named::NotATrace { line }) => not_a_trace(rt, line),
-        None => session_of_input(rt, program, None),
+    match start_behind(rt, program, before)? {
+        Start::Nothing => session_of_input(rt, program, None),
+        Start::Choices(runs) => session_of_input(rt, program, Some(runs.as_slice())),
+        Start::Trace(trace) => session_at(rt, program, trace),
     }
 }
 
@@ -130,17 +148,17 @@ fn begin_with_rows<'a>(rt: &HostRuntime, program: &[u8], before: Before<'a>) -> 
         rt,
         b"reading commands from the terminal (`help` lists them)\n",
     );
-    match named_before(rt, program, before)? {
-        Some(Named::Choices(runs)) => session_of_person(rt, program, Some(runs.as_slice())),
-        Some(Named::NotATrace { line }) => not_a_trace(rt, line),
-        None => session_of_person(rt, program, None),
+    match start_behind(rt, program, before)? {
+        Start::Nothing => session_of_person(rt, program, None),
+        Start::Choices(runs) => session_of_person(rt, program, Some(runs.as_slice())),
+        Start::Trace(trace) => session_of_person_at(rt, program, trace),
     }
 }
 
 /// Answers the commands on standard input, which are about the program in a file.
 pub fn debug<'a>(rt: &HostRuntime, file: &'a str, steps: Steps<'a>) -> Answer<'a> {
     let program = files::read(rt, file)?;
-    let before = before(rt, steps)?;
+    let before = named_before(rt, steps)?;
     let program = read_all(rt.alloc(), &mut ReadPort::new(program))?;
     if rt.stdin().is_terminal() && rt.stderr().is_terminal() {
         begin_with_rows(rt, program.as_slice(), before)

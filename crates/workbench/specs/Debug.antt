@@ -9,10 +9,19 @@ use Rattle.debugger.specs.Session.{Session}
 use Rattle.schedule_reader.specs.declared.run.Run.{Run}
 use Rattle.debugger.specs.Command.{Go, Quit, line_order}
 use Rattle.debugger.specs.Reply.{Replies}
+use Rattle.debugger.specs.Go.{Stops}
+use Rattle.debugger.specs.declared.stop.Stop.{Stop}
+use Rattle.schedule_reader.specs.Schedule.{choices_of}
+use Rattle.thread_machine.specs.declared.choice.Choice.{Choice}
+use Rattle.trace_compare.specs.Naming.{HasNamed}
+use Rattle.trace_compare.specs.declared.comparison.Verdict.TheVariants as verdict
 use Rattle.trace_text.specs.Outcome.{IsUntouched}
 use Rattle.trace_text.specs.RunText.{GivesOnAndOn}
 use Rattle.workbench.specs.declared.fault.Fault.{Fault}
 use Rattle.workbench.specs.declared.fault.Fault.TheVariants as fault
+use Rattle.workbench.specs.declared.done.Done.{Done}
+use Rattle.workbench.specs.declared.done.Done.TheVariants as done
+use Rattle.workbench.specs.Compare.{verdict_line}
 use Rattle.workbench.specs.ProgramFile.{IsNoProgramFor, IsProgramFile, IsUnloadedFor}
 
 -- the session of a machine that nothing was done with: it has no breakpoints, and keeps 4096 choices at most
@@ -120,3 +129,54 @@ Debugs runs file (Ok done) commands_before commands_after commands_failed output
     HasDebugged Finished runs file commands_before commands_after output_before output_after
 Debugs runs file (Err f) commands_before commands_after commands_failed output_before output_after output_failed =
     StopsDebugging f runs file commands_before commands_after commands_failed output_before output_after output_failed
+
+-- a file's program is loaded
+abbrev pub IsLoaded : (file : List ℕ) → Type 0
+IsLoaded file = (image : Image) × ((world : StoredWorld) × (IsProgramFile file image × Begins image (world_of world)))
+
+-- choices were played up to where they stopped: all that a trace names, which was read up to its state
+abbrev pub IsPlayedTo : Stop → (session now : Session) (trace_before trace_after : Option (List ℕ)) → Type 0
+IsPlayedTo stop session now trace_before trace_after =
+    (choices : List Choice) × (HasNamed trace_before trace_after (Ok choices) × Stops session choices stop now)
+
+-- this holds of a session behind runs whose choices are those that a trace names
+abbrev pub IsBehindTrace : (List Run → Type 0) → (trace_before trace_after : Option (List ℕ)) → Type 0
+IsBehindTrace Holds trace_before trace_after =
+    (runs : List Run) × (HasNamed trace_before trace_after (Ok (choices_of runs)) × Holds runs)
+
+-- why a session behind a trace wasn't held to its end: as one behind runs of its choices; or the line that tells that it is none
+-- couldn't be written; or it couldn't be read; or there was no memory for it; or there is no program: then it wasn't looked at
+abbrev pub StopsDebuggingAt : Fault → (file : List ℕ) (trace_before trace_after : Option (List ℕ)) (trace_failed : Bool)
+    (commands_before commands_after : Option (List ℕ)) (commands_failed : Bool)
+    (output_before output_after : Option (List ℕ)) (output_failed : Bool) → Type 0
+StopsDebuggingAt fault.Write file trace_before trace_after trace_failed commands_before commands_after commands_failed output_before output_after output_failed =
+    (IsLoaded file × IsTrue output_failed × (commands_after ≡ commands_before)
+    × ((line : ℕ) × HasNamed trace_before trace_after (Err line)))
+    ⊎ IsBehindTrace (λ runs. IsLoaded file
+    × StopsDebugging fault.Write (Some runs) file commands_before commands_after commands_failed output_before output_after output_failed)
+    trace_before trace_after
+StopsDebuggingAt fault.Read file trace_before trace_after trace_failed commands_before commands_after commands_failed output_before output_after output_failed =
+    (IsLoaded file × (IsTrue trace_failed ⊎ GivesOnAndOn trace_before trace_after)
+    × IsUntouched commands_before commands_after output_before output_after)
+    ⊎ IsBehindTrace (λ runs. StopsDebugging fault.Read (Some runs) file commands_before commands_after commands_failed output_before output_after output_failed)
+    trace_before trace_after
+StopsDebuggingAt fault.Memory file trace_before trace_after trace_failed commands_before commands_after commands_failed output_before output_after output_failed =
+    IsUntouched commands_before commands_after output_before output_after
+    ⊎ IsBehindTrace (λ runs. StopsDebugging fault.Memory (Some runs) file commands_before commands_after commands_failed output_before output_after output_failed)
+    trace_before trace_after
+StopsDebuggingAt f file trace_before trace_after trace_failed commands_before commands_after commands_failed output_before output_after output_failed =
+    StopsDebugging f None file commands_before commands_after commands_failed output_before output_after output_failed
+    × (trace_after ≡ trace_before)
+
+-- a session was held to its end behind a trace; or it is none, and its line was told and no command read; or why not
+abbrev pub DebugsAt : (file : List ℕ) → Result Done Fault → (trace_before trace_after : Option (List ℕ)) (trace_failed : Bool)
+    (commands_before commands_after : Option (List ℕ)) (commands_failed : Bool)
+    (output_before output_after : Option (List ℕ)) (output_failed : Bool) → Type 0
+DebugsAt file (Ok done.AsAsked) trace_before trace_after trace_failed commands_before commands_after commands_failed output_before output_after output_failed =
+    IsBehindTrace (λ runs. HasDebugged Finished (Some runs) file commands_before commands_after output_before output_after)
+    trace_before trace_after
+DebugsAt file (Ok done.Unlike) trace_before trace_after trace_failed commands_before commands_after commands_failed output_before output_after output_failed =
+    (line : ℕ) × (HasNamed trace_before trace_after (Err line) × IsLoaded file × (commands_after ≡ commands_before)
+    × Appends output_before output_after (verdict_line (verdict.NotATrace line)))
+DebugsAt file (Err f) trace_before trace_after trace_failed commands_before commands_after commands_failed output_before output_after output_failed =
+    StopsDebuggingAt f file trace_before trace_after trace_failed commands_before commands_after commands_failed output_before output_after output_failed

@@ -2,27 +2,35 @@ ghost use Rattle.std.specs.Prelude.{◌≡◌, ◌⊎◌, ◌+◌, ◌∷◌, []
 ghost use Rattle.std.specs.Io.KnownBytes.{Appends, Consumes};
 ghost use Rattle.loader.specs.declared.load_fault.LoadFault.{LoadFault};
 ghost use Rattle.thread_machine.specs.World.{StoredWorld, world_of};
+ghost use Rattle.trace_compare.specs.Naming.{HasNamed};
 ghost use Rattle.trace_text.specs.Outcome.{IsUntouched};
 ghost use Rattle.trace_text.specs.RunText.{GivesOnAndOn};
 ghost use Rattle.trace_text.specs.Start.{Begins, IsRefused};
 ghost use Rattle.debugger.specs.Command.{goes_on, line_order};
 ghost use Rattle.debugger.specs.Reply.{Replies};
+ghost use Rattle.debugger.specs.declared.stop.Stop.{Stop};
+ghost use Rattle.workbench.specs.declared.debug.PlayedTrace.TheVariants as played;
 ghost use Rattle.workbench.specs.declared.fault.Fault.{Fault};
-ghost use Rattle.workbench.specs.Debug.{Cut, Debugs, Exchange, Finished, GivesFew, HasConversed, HasReadLines, IsDialogue, Unanswered, bytes_of, first_session};
+ghost use Rattle.workbench.specs.Debug.{Cut, Debugs, DebugsAt, Exchange, Finished, GivesFew, HasConversed, HasReadLines, IsDialogue, IsPlayedTo, Unanswered, bytes_of, first_session};
+ghost use Rattle.workbench.specs.Compare.{verdict_line};
+ghost use Rattle.trace_compare.specs.declared.comparison.Verdict.TheVariants as verdict;
 ghost use Rattle.workbench.specs.Done.{IsSettledBy, as_asked};
 ghost use Rattle.workbench.specs.Input.{GivesInEach, IsCounted};
 ghost use Rattle.workbench.specs.Outcome.{ComesOf};
 
-use crate::done::{settled, settled_as_asked};
+use crate::compare::push_verdict;
+use crate::done::{Done, as_asked, settled, settled_as_asked};
 use crate::fault::Fault;
 use crate::input::read_all;
 use crate::input_line::read_line;
 use crate::program_file::program_in;
-use byte_ports::{Sink, Source};
-use debugger::{CommandFault, Debugger};
+use byte_ports::{Sink, Source, SourceLines};
+use debugger::{CommandFault, Debugger, Stop, say_stop};
 use row_code::Image;
 use schedule_reader::Run;
 use std::alloc::Global;
+use trace_compare::Verdict;
+use trace_compare::naming::{MOST_LINES, NextName, next_name};
 use trace_text::start::{StartFault, first_machine};
 
 /// How many choices can be taken back.
@@ -105,6 +113,91 @@ pub fn debug_behind<S: Source, K: Sink>(
     };
     match debugger.go_command(runs, output) {
         Ok(()) => converse(alloc, &mut debugger, commands, output),
+        Err(_) => Err(Fault::Write),
+    }
+}
+
+/// `debug` behind the choices of a trace, which are played as they are read, so that none is kept, and told as the command `g`
+/// tells them. Where it is no trace, its first line that is no line of one is told as `compare` tells it, and no command is
+/// read. The program is loaded before the trace is looked at.
+pub fn debug_at<T: Source, S: Source, K: Sink>(
+    alloc: Global,
+    program: &[u8],
+    trace: &mut T,
+    commands: &mut S,
+    output: &mut K,
+) -> Result<Done, Fault>
+    ensures outcome { DebugsAt program.now result (T.left trace.old) (T.left trace.new) (T.has_failed trace.new)
+        (S.left commands.old) (S.left commands.new) (S.has_failed commands.new)
+        (K.written output.old) (K.written output.new) (K.has_failed output.new) }
+    ensures few { GivesFew (S.left commands.old) (S.left commands.new) }
+{
+    let image = match program_in(alloc, program) {
+        Ok(image) => image,
+        Err(fault) => return Err(fault),
+    };
+    let mut debugger = match first_debugger(alloc, image) {
+        Ok(debugger) => debugger,
+        Err(fault) => return Err(fault),
+    };
+    let stop = match play_trace(alloc, &mut debugger, trace) {
+        Ok(PlayedTrace::To(stop)) => stop,
+        Ok(PlayedTrace::NotATrace { line }) => return not_a_trace(output, line),
+        Err(fault) => return Err(fault),
+    };
+    match say_stop(output, stop) {
+        Ok(()) => as_asked(converse(alloc, &mut debugger, commands, output)),
+        Err(_) => Err(Fault::Write),
+    }
+}
+
+/// What a trace comes to whose choices are played as it is read.
+enum PlayedTrace {
+    /// They went so far.
+    To(Stop),
+    /// It is none: this line, counted from 1, is the first that is no line of a trace.
+    NotATrace { line: u64 },
+}
+
+/// Plays the choices that a trace's lines name, up to where they stop, and reads on to the line of its state.
+fn play_trace<T: Source>(
+    alloc: Global,
+    debugger: &mut Debugger,
+    trace: &mut T,
+) -> Result<PlayedTrace, Fault>
+    ensures stopped { (stop : Stop) → result ≡ Ok (played.To stop)
+        → IsPlayedTo stop debugger.old debugger.new (T.left trace.old) (T.left trace.new) }
+    ensures none { (line : ℕ) → result ≡ Ok (played.NotATrace line)
+        → HasNamed (T.left trace.old) (T.left trace.new) (Err line) }
+    ensures read { result ≡ Err Fault.Read → IsTrue (T.has_failed trace.new)
+        ⊎ GivesOnAndOn (T.left trace.old) (T.left trace.new) }
+    ensures fault { IfErr result (λ fault. (fault ≡ Fault.Memory) ⊎ (fault ≡ Fault.Read)) }
+{
+    let Ok(mut lines) = SourceLines::new(alloc) else {
+        return Err(Fault::Memory);
+    };
+    let mut stop = Stop::End(0);
+    for before in 0..MOST_LINES {
+        match next_name(&mut lines, trace) {
+            Ok(NextName::Made(choice)) => stop = debugger.go_on(stop, choice),
+            Ok(NextName::State) => return Ok(PlayedTrace::To(stop)),
+            Ok(NextName::NotATrace) => return Ok(PlayedTrace::NotATrace { line: before + 1 }),
+            Ok(NextName::CutOff(_)) => return Ok(PlayedTrace::NotATrace { line: before + 2 }),
+            Err(_) => return Err(Fault::Read),
+        }
+    }
+    Err(Fault::Read)
+}
+
+/// Tells which line is the first that is no line of a trace.
+fn not_a_trace<K: Sink>(output: &mut K, line: u64) -> Result<Done, Fault>
+    ensures told { OnOk result (Appends (K.written output.old) (K.written output.new)
+        (verdict_line (verdict.NotATrace line))) }
+    ensures unlike { IfOk result (λ done. done ≡ Done.Unlike) }
+    ensures fault { IfErr result (λ fault. (fault ≡ Fault.Write) × IsTrue (K.has_failed output.new)) }
+{
+    match push_verdict(output, Verdict::NotATrace { line }) {
+        Ok(()) => Ok(Done::Unlike),
         Err(_) => Err(Fault::Write),
     }
 }

@@ -1,8 +1,10 @@
-ghost use Rattle.std.specs.Prelude.{◌≡◌, ◌∷◌, [], replicate, slice_index_or, false};
+ghost use Rattle.std.specs.Prelude.{◌≡◌, ◌≤◌, ◌∷◌, [], ◌++◌, ℕ, List, replicate, slice_index_or, false};
 ghost use Rattle.machine_scene.specs.Scene.{scene_of, thread_at};
 ghost use Rattle.schedule_reader.specs.Schedule.{choices_of};
+ghost use Rattle.thread_machine.specs.declared.choice.Choice.{Choice};
 ghost use Rattle.debugger.specs.Go.{is_at_break, Stops};
 ghost use Rattle.debugger.specs.Goes.{Goes};
+ghost use Rattle.debugger.specs.Session.{Session};
 
 use crate::session::Debugger;
 use crate::stop::Stop;
@@ -31,6 +33,23 @@ impl Debugger {
         match went {
             Went::On => Stop::End(played),
             Went::Break => Stop::Break(played),
+            Went::Fault(fault) => Stop::Fault(played, fault),
+        }
+    }
+
+    /// Goes on behind choices that have stopped so: plays one more where all of them were played, else it stays there. So the
+    /// choices of a stream are played one after another as `go` plays them all.
+    pub fn go_on(&mut self, stop: Stop, choice: Choice) -> Stop
+        requires few { (played : ℕ) → stop ≡ Stop.End played → played ≤ 1000000000000 }
+        ensures { (before : Session) (choices : List Choice) → Stops before choices stop self.old
+            → Stops before (choices ++ choice ∷ []) result self.new }
+    {
+        let Stop::End(played) = stop else {
+            return stop;
+        };
+        match self.pass(choice) {
+            Went::On => Stop::End(played + 1),
+            Went::Break => Stop::Break(played + 1),
             Went::Fault(fault) => Stop::Fault(played, fault),
         }
     }

@@ -78,8 +78,8 @@ fn say_fault<W: Sink>(output: &mut W, number: u64, fault: StepFault) -> Result<(
     }
 }
 
-/// Writes how far `go` went.
-fn say_stop<W: Sink>(output: &mut W, stop: Stop) -> Result<(), Failed>
+/// Writes how far `go` went: the reply of the command `g`.
+pub fn say_stop<W: Sink>(output: &mut W, stop: Stop) -> Result<(), Failed>
     ensures line { OnOk result (Appends (W.written output.old) (W.written output.new) (stop_text stop)) }
     ensures failed { OnErr result (IsTrue (W.has_failed output.new)) }
 {

@@ -1,5 +1,4 @@
-use Rattle.std.proofs.Common.{◌≡◌, ◌∙◌, Ok, ap, sym, subst}
-use Rattle.byte_ports.specs.SourceLines.{taken}
+use Rattle.std.proofs.Common.{◌≡◌, ◌∙◌, ap, sym, subst}
 use Rattle.trace_compare.specs.declared.naming.NextName.TheVariants as NextName
 use Rattle.trace_compare.specs.NamedLines.{HasEnded, last_naming, next_by}
 use Rattle.trace_compare.specs.Naming.{line_names}
