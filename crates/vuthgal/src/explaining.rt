@@ -24,7 +24,7 @@ enum When {
 }
 
 /// What a word says.
-fn when(word: &[u8]) -> Option<When> {
+fn said_in(word: &[u8]) -> Option<When> {
     match word {
         b"always" => Some(When::Always),
         b"auto" => Some(When::Auto),
@@ -37,7 +37,7 @@ fn when(word: &[u8]) -> Option<When> {
 fn when_at(rt: &HostRuntime, number: usize) -> Option<When> {
     let mut room = [0u8; ROOM];
     match rt.arg(number, &mut room) {
-        Ok(length) => when(&room[..length]),
+        Ok(length) => said_in(&room[..length]),
         Err(_) => None,
     }
 }
@@ -49,7 +49,7 @@ fn option_at(rt: &HostRuntime, number: usize, word: &[u8]) -> Option<(When, usiz
         let said = when_at(rt, number.saturating_add(1))?;
         return Some((said, 2));
     }
-    let said = when(behind.strip_prefix(b"=".as_slice())?)?;
+    let said = said_in(behind.strip_prefix(b"=".as_slice())?)?;
     Some((said, 1))
 }
 
@@ -81,7 +81,7 @@ fn said(rt: &HostRuntime) -> Option<When> {
 fn set(rt: &HostRuntime) -> Option<When> {
     let mut room = [0u8; ROOM];
     match rt.var(VARIABLE, &mut room) {
-        Ok(length) => when(&room[..length]),
+        Ok(length) => said_in(&room[..length]),
         Err(_) => None,
     }
 }

@@ -7,4 +7,4 @@ use Rattle.commands.proofs.seeds.outcomes_of.Given as goal
 abbrev pub invariant-loop-number : goal.invariant-loop-number
 invariant-loop-number l =
     (runs : List Ended) × ((length runs ≡ l.number)
-    × AreEndsBy l.fn.program.now l.fn.plan.now l.fn.seeds.first runs × AreOutcomes runs l.outcomes.entries)
+    × AreEndsBy l.fn.program l.fn.plan l.fn.seeds.first runs × AreOutcomes runs l.outcomes.entries)

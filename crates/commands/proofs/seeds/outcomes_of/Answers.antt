@@ -1,0 +1,36 @@
+use Rattle.std.proofs.Common.{◌∷◌, [], ◌+◌, ◌++◌, arith, refl, subst, sym}
+use Rattle.std.proofs.lemmas.List.{length-append}
+use Rattle.commands.specs.Outcomes.{AreOutcomes, is_state}
+use Rattle.commands.specs.Seeds.{IsEndBy}
+use Rattle.indexmap.specs.IndexMap.{get}
+use Rattle.commands.proofs.Counting.{few, nothing}
+use Rattle.commands.proofs.Seeded.{one_more}
+use Rattle.commands.proofs.seeds.outcomes_of.Goals as goal
+
+pub loop-number-init : goal.loop-number-init
+loop-number-init c = ([], (refl, tt, subst (AreOutcomes []) (sym c.new-outcomes.ensures.empty) nothing))
+
+pub add_order-requires : goal.add_order-requires
+add_order-requires c = λ other.
+    let so = c.loop-number.invariant in
+    few so.0 (get is_state c.loop-number.outcomes other) other.text.items (so.1.2.1 other)
+    (omega (arith, so.1.0, c.loop-number-test.true, c.requires))
+
+pub loop-number-preserved : goal.loop-number-preserved
+loop-number-preserved c =
+    let so = c.loop-number.invariant in
+    let more = c.in-Ok.ensures.added so.0 so.1.2 in
+    let count = length-append so.0 (more.0 ∷ []) in (
+      so.0 ++ more.0 ∷ [],
+      (
+        omega (arith, count, so.1.0),
+        one_more c.args.program.now c.args.plan.now c.args.seeds.first so.0 more.0 so.1.1
+            (subst (λ n. IsEndBy c.args.program.now c.args.plan.now n more.0) (omega (arith, so.1.0, c.from.ensures, c.from-in-loop-number.ensures)) more.1.0),
+        more.1.1,
+      ),
+    )
+
+pub returns-in-Ok-sort-clause-outcomes : goal.returns-in-Ok-sort-clause-outcomes
+returns-in-Ok-sort-clause-outcomes c =
+    let so = c.loop-number.invariant in
+    (so.0, (omega (arith, so.1.0, c.loop-number.far-number, c.loop-number-test.false), so.1.1, c.in-Ok-sort.ensures.same so.0 so.1.2))
