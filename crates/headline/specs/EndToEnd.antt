@@ -1,9 +1,10 @@
 -- FROM END TO END. What a command shows of an accepted program is the headline's machine (headline/specs/Headline.antt), from
--- the bytes that it reads to the bytes that it writes: without arguments, and in `run`, `debug` and `live` without `--runs`, wherever
--- its answer is Ok. Behind each name of a `use` line stands the file that defines it. The bytes of a text or a file are all that it
--- holds, at most 16,777,216: the program reads them first (`read_all`, workbench/src/input.rt). That it hands on just these is only
--- tested, as is that `run FILE` alone hands on the text's two parts. At a terminal the commands of `debug` are the lines that
--- `GuidedCommands` hands on, and what that answers itself isn't among these bytes.
+-- the bytes that it reads to the bytes that it writes: without arguments, and in `run`, `debug` and `live` without `--runs`,
+-- wherever its answer is Ok, behind `--at` wherever it is `AsAsked`. Behind each name of a `use` line stands the file that
+-- defines it. The bytes of a text or a file are all that it holds, at most 16,777,216: the program reads them first
+-- (`read_all`, workbench/src/input.rt). That it hands on just these is only tested, as is that `run FILE` alone hands on the
+-- text's two parts. At a terminal the commands of `debug` are the lines that `GuidedCommands` hands on, and what that answers
+-- itself isn't among these bytes.
 --
 -- A schedule, commands or an output is the bytes that a port still gives or has got. Ports over memory tell them. Ports over files, pipes
 -- and terminals tell none (`None`): of these the lines below say only that there are bytes for which they hold. That these are

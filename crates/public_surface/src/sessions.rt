@@ -1,8 +1,8 @@
 //! The calls of `debugger`.
 ghost use Rattle.std.specs.Prelude.{◌≤◌, ◌<◌};
 
-use byte_ports::Sink;
-use debugger::{CommandFault, Debugger, NoHistory, Stop};
+use byte_ports::{Failed, Sink};
+use debugger::{CommandFault, Debugger, NoHistory, Stop, say_stop};
 use schedule_reader::Run;
 use std::alloc::{AllocError, Global};
 use thread_machine::{Choice, Event, Machine, StepFault};
@@ -50,6 +50,8 @@ pub fn session<K: Sink>(
     let _: bool = debugger.set_break(0u16);
     let _: bool = debugger.clear_break(0u16);
     let _: Stop = debugger.go(runs);
+    let stop: Stop = debugger.go_on(Stop::End(0), choice);
+    let _: Result<(), Failed> = say_stop(output, stop);
     let goes_on: Result<bool, CommandFault> = debugger.command(line, output);
     goes_on
 }
