@@ -7,7 +7,8 @@ ghost use Rattle.command_line.specs.Commands.{choices_shape, draw_shape, explain
 
 use crate::names::{
     ASM, AT, CHOICES, COMPARE, DEBUG, DRAW, EXPECT, EXPLAIN, FILE, LIMIT, LIST, LIVE, OUT, PARTIES,
-    PLAN, RACE, ROUNDS, ROWS, RUN, RUNS, SCHEDULE, SEEDS, SHOW, SRC, STEPS, STIR, TRACE, WIDTH, WORD,
+    PLAN, RACE, ROUNDS, ROWS, RUN, RUNS, SCHEDULE, SEEDS, SHOW, SRC, STEPS, STIR, TRACE, WIDTH,
+    WORD,
 };
 use crate::texts;
 use clap::{Arg, ArgAction, Command};

@@ -14,16 +14,17 @@ ghost use Rattle.command_line.specs.Request.{IsSeeds, Spells, SpellsNone, Spells
 ghost use Rattle.command_line.specs.declared.refusal.Refusal.TheVariants as refusal;
 ghost use Rattle.command_line.specs.declared.refusal.WrongOption.TheVariants as option;
 
-use crate::refusal::{Refusal, WrongOption};
-use clap::error::ErrorKind;
-use clap::{ArgMatches, Command, Error};
 use crate::commands::program;
 use crate::names::{
     ASM, AT, CHOICES, COMPARE, DEBUG, DRAW, EXPECT, EXPLAIN, FILE, LIMIT, LIST, LIVE, OUT, PARTIES,
-    PLAN, RACE, ROUNDS, ROWS, RUN, RUNS, SCHEDULE, SEEDS, SHOW, SRC, STEPS, STIR, TRACE, WIDTH, WORD,
+    PLAN, RACE, ROUNDS, ROWS, RUN, RUNS, SCHEDULE, SEEDS, SHOW, SRC, STEPS, STIR, TRACE, WIDTH,
+    WORD,
 };
-use trace_text::form::is_expectation;
+use crate::refusal::{Refusal, WrongOption};
+use clap::error::ErrorKind;
+use clap::{ArgMatches, Command, Error};
 use std::alloc::{AllocError, Global};
+use trace_text::form::is_expectation;
 
 /// What a command line asks for. A file is named as it was written.
 #[derive(PartialEq, Eq, Drop)]

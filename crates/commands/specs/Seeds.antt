@@ -1,5 +1,5 @@
 -- What the orders of several seeds come to.
-use Rattle.std.specs.Prelude.{◌≡◌, ℕ, ◌+◌, All, IsTrue, List, [], ◌∷◌, ◌++◌, codes, decimal, length, Option, Result, Ok, Err}
+use Rattle.std.specs.Prelude.{◌≡◌, ℕ, ◌+◌, List, [], ◌∷◌, ◌++◌, codes, decimal, length, Option}
 use Rattle.std.specs.Io.KnownBytes.{Appends}
 use Rattle.plans.specs.Planned.{AreRuns}
 use Rattle.plans.specs.Progress.{Progress}
@@ -8,15 +8,12 @@ use Rattle.schedule_reader.specs.Text.{schedule_text}
 use Rattle.schedule_reader.specs.declared.run.Run.{Run}
 use Rattle.thread_machine.specs.Standing.{standing_of}
 use Rattle.thread_runner.specs.Endings.{standing_at}
-use Rattle.workbench.specs.declared.fault.Fault.TheVariants as fault
 use Rattle.commands.specs.Ends.{end_text}
 use Rattle.commands.specs.Outcomes.{AreOutcomes, Ended, IsMostFrequentFirst, report}
-use Rattle.commands.specs.Planning.{HasNoSchedule, Plays}
+use Rattle.commands.specs.Planning.{Plays}
 use Rattle.commands.specs.declared.end_state.EndState.{EndState}
 use Rattle.commands.specs.declared.outcomes.Outcome.{Outcome}
 use Rattle.commands.specs.declared.seeds.Seeds.{Seeds}
-use Rattle.commands.specs.declared.unplanned.Unplanned.{Unplanned}
-use Rattle.commands.specs.declared.unplanned.Unplanned.TheVariants as why
 
 -- the plan of a seed: this plan, and then anybody who can go on, in the order of the seed
 abbrev pub plan_by : List ℕ → ℕ → List ℕ

@@ -19,10 +19,10 @@ pub mod unplanned;
 
 // Pictures of a run.
 pub mod drawing;
+pub mod making;
 pub mod page;
 pub mod picture;
 pub mod picture_fault;
-pub mod making;
 mod shown;
 
 // The debugger for a person.
@@ -36,6 +36,7 @@ mod spoken;
 // Many live runs, and the orders of many seeds.
 pub mod command;
 pub mod end_state;
+mod law;
 pub mod outcomes;
 pub mod pause;
 pub mod pauses;
@@ -43,8 +44,6 @@ mod report;
 mod runs;
 pub mod seeds;
 pub mod stirred;
-
-mod law;
 
 pub use command::{Asked, report_runs};
 pub use difference::show_comparison;

@@ -2,11 +2,11 @@
 
 use crate::drawing::named_program;
 use crate::may_go::push_may_go;
-use crate::reply::Reply;
-use crate::spoken::in_numbers;
 use crate::picture_fault::start_fault;
 use crate::plan::thread_names;
 use crate::played::Played;
+use crate::reply::Reply;
+use crate::spoken::in_numbers;
 use assembler::Symbols;
 use byte_ports::{Failed, Sink};
 use debugger::Debugger;

@@ -8,8 +8,8 @@ ghost use Rattle.workbench.specs.Input.{most_bytes};
 
 use crate::picture::Picture;
 use crate::picture_fault::fault_of;
-use row_code::is_image_file;
 use pictures::page::page;
+use row_code::is_image_file;
 use std::alloc::Global;
 use workbench::fault::{Fault, PictureKind};
 use workbench::program_file::program_in;

@@ -15,9 +15,7 @@ pub struct Reply {
 impl Reply {
     /// Nothing yet.
     pub fn new() -> Reply {
-        Reply {
-            is_question: false,
-        }
+        Reply { is_question: false }
     }
 
     /// Whether the last line is `?`.

@@ -5,10 +5,10 @@ ghost use Rattle.commands.specs.Outcomes.{are_as_expected, died_mark, outcome_li
 
 use crate::end_state::{EndState, word_of};
 use crate::outcomes::{Outcome, Outcomes};
-use trace_text::meeting::are_met;
-use trace_text::state_line::has_died;
 use itoa::Buffer;
 use std::alloc::{AllocError, Global};
+use trace_text::meeting::are_met;
+use trace_text::state_line::has_died;
 use workbench::done::Done;
 
 /// What stands behind the word of a state in which a thread has died.

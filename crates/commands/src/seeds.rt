@@ -7,8 +7,7 @@ ghost use Rattle.thread_machine.specs.World.{world_of};
 ghost use Rattle.thread_runner.specs.Endings.{standing_at};
 ghost use Rattle.workbench.specs.declared.fault.Fault.{Fault};
 ghost use Rattle.commands.specs.Outcomes.{AreOutcomes, Ended, IsMostFrequentFirst, is_state};
-ghost use Rattle.commands.specs.Planning.{HasNoSchedule};
-ghost use Rattle.commands.specs.Seeds.{AreEndsBy, AreOutcomesBy, HasReportedSeeds, IsEndBy, plan_by};
+ghost use Rattle.commands.specs.Seeds.{AreOutcomesBy, HasReportedSeeds, IsEndBy, plan_by};
 ghost use Rattle.commands.specs.declared.unplanned.Unplanned.TheVariants as why;
 
 use crate::end_state::EndState;

@@ -28,11 +28,7 @@ fn choice_called(symbols: &Symbols<'_>, word: &[u8]) -> Option<(u8, u16)> {
 }
 
 /// Adds a token, in which a name may stand before `*`.
-fn push_token(
-    line: &mut Vec<u8>,
-    symbols: &Symbols<'_>,
-    token: &[u8],
-) -> Result<(), AllocError> {
+fn push_token(line: &mut Vec<u8>, symbols: &Symbols<'_>, token: &[u8]) -> Result<(), AllocError> {
     let end = token
         .iter()
         .position(|byte| *byte == b'*')

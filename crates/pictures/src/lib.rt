@@ -20,11 +20,10 @@ mod block;
 pub mod caption;
 mod closing;
 mod fitting;
+mod law;
 pub mod line;
 pub mod picture;
 mod sheet;
 mod turn;
-
-mod law;
 
 pub use law::{an_escaped_text_ends_no_element, no_line_is_longer_than_the_width};

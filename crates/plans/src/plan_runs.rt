@@ -4,8 +4,8 @@ ghost use Rattle.thread_machine.specs.World.{world_of};
 
 use crate::planned::Planned;
 use crate::player::Player;
-use loader::Loaded;
 use crate::words::WordsFrom;
+use loader::Loaded;
 use std::alloc::{AllocError, Global};
 use thread_machine::Machine;
 

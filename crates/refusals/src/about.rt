@@ -1,8 +1,8 @@
 //! What a fault is about, in the words of the table of refusals.
 
-use loader::{LoadFault, Place};
 use crate::question::Question;
 use crate::subject::{Line, Subject};
+use loader::{LoadFault, Place};
 use row_code::ImageFault;
 use schedule_reader::ScheduleFault;
 use workbench::fault::{Fault, PictureKind};

@@ -1,11 +1,11 @@
 //! The names that a text gives.
 
 use crate::java::row_of;
+use crate::table::directive::DIRECTIVES;
+use crate::table::row::row_entry;
 use line_reader::directive::is_directive;
 use line_reader::label::{before_last, is_label};
 use line_reader::words::{before_comment, is_blank};
-use crate::table::directive::DIRECTIVES;
-use crate::table::row::row_entry;
 use std::alloc::{AllocError, Global};
 use strsim::levenshtein;
 

@@ -1,13 +1,17 @@
 //! The place of a refusal, and its words.
 
 use crate::about::question_about;
+use crate::entry::Entry;
 use crate::kinds::called;
 use crate::meant::helps_at;
 use crate::mistaken::{is_plan, is_trace};
 use crate::names::{first_line, nearest_name, nearest_option, nearest_word};
+use crate::question::Question;
 use crate::shown::{push_file, push_line, push_marked, push_shown};
-use assembler::made::line_that_makes;
+use crate::subject::Subject;
+use crate::word::{WordEntry, word_entry};
 use assembler::assemble;
+use assembler::made::line_that_makes;
 use assembler::placed::{PlacedFault, UnknownName, assemble_placed};
 use assembler::word_place::{WordPlace, line_at, place_of_word};
 use byte_ports::{Failed, Sink};
@@ -17,10 +21,6 @@ use line_reader::asm_fault::AsmFaultKind;
 use line_reader::label::{before_last, is_label};
 use line_reader::words::{before_comment, is_blank};
 use loader::{LoadFault, Place};
-use crate::entry::Entry;
-use crate::question::Question;
-use crate::subject::Subject;
-use crate::word::{WordEntry, word_entry};
 use std::alloc::{AllocError, Global};
 use workbench::fault::Fault;
 

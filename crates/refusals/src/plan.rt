@@ -4,13 +4,13 @@ ghost use Rattle.std.specs.Prelude.{◌≤◌, length};
 use crate::names::distance;
 use crate::place::{Named, ProgramFile, Unshown};
 use crate::shown::{push_file, push_line, push_marked, push_shown};
+use crate::subject::Subject;
 use assembler::word_place::{WordPlace, line_at};
 use byte_ports::Sink;
 use commands::plan::loaded_program;
 use line_reader::words::{before_comment, is_blank, length_before};
 use plans::fault::{PlanFault, PlanFaultKind};
 use plans::read_plan;
-use crate::subject::Subject;
 use std::alloc::{AllocError, Global};
 
 /// Whether a word can't go on with this byte.

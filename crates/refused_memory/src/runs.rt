@@ -5,9 +5,9 @@ use crate::trial::{Answer, Trial, Tried};
 use byte_ports::{MemorySink, MemorySource};
 use std::alloc::{AllocError, Global};
 use thread_machine::{Event, Mark, What};
+use trace_compare::{CompareFault, RunFault, Verdict, compare, run_text};
 use trace_text::line::{event_line, refusal_line};
 use trace_text::state::state_text;
-use trace_compare::{CompareFault, RunFault, Verdict, compare, run_text};
 
 const EVENT: Event = Event {
     what: What::Value(-5),

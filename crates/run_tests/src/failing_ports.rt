@@ -2,8 +2,8 @@
 use byte_ports::{MemorySink, MemorySource, Source};
 use commands::drawing::Drawing;
 use commands::list_rows;
-use commands::page::Page;
 use commands::making::make;
+use commands::page::Page;
 use std::alloc::Global;
 use std::sync::Wait;
 use std::test::Fail;

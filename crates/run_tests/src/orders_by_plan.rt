@@ -1,7 +1,7 @@
 use assembler::assemble;
 use loader::load;
-use plans::read_plan;
 use plans::plan_runs::plan_runs;
+use plans::read_plan;
 use schedule_reader::write_schedule;
 use std::alloc::Global;
 use std::test::Fail;

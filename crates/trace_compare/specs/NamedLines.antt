@@ -1,4 +1,5 @@
--- A trace's lines, one after another. Nobody has to believe this: it is what proofs go by, from line to line.
+-- A trace's lines, one after another, as `next_name` reads them. It is what proofs go by, from line to line: what is promised of
+-- a whole trace (`HasNamed`) rests on none of it.
 use Rattle.std.specs.Prelude.{◌≡◌, ◌+◌, ◌≤◌, ℕ, List, [], ◌∷◌, ◌++◌, length, Option, Some, None}
 use Rattle.std.specs.Io.KnownBytes.{Consumes, prepend_known}
 use Rattle.std.specs.List.{slice_split}

@@ -2,7 +2,8 @@
 //!
 //! `compare` plays the choices that a trace's lines name, and answers the first line that isn't the run's. `choices_in` answers
 //! the runs of a trace's choices, or the first line that is no line of a trace, and `write_choices` writes each run when the
-//! next one begins: both play nothing. `trace_text` has how a trace is written; its names are handed out here too.
+//! next one begins: both play nothing. `next_name` reads one line, for who plays the choices as they come. `trace_text` has how
+//! a trace is written; its names are handed out here too.
 #![tactic(auto)]
 
 // A trace beside the run that it names.

@@ -10,16 +10,16 @@ use crate::printable;
 use crate::standings::all_allow;
 use assembler::{Symbols, assemble_named};
 use byte_ports::{Failed, Sink, WritePort};
-use trace_text::form::{end_words, subject_of, words_of};
-use trace_text::meeting::{are_met, is_met};
-use trace_text::state_line::{has_died, line_of};
 use instruction_table::OperandKind;
 use itoa::Buffer;
-use refusals::nearest_name;
 use line_reader::asm_fault::{AsmFault, AsmFaultKind};
+use refusals::nearest_name;
 use row_code::is_image_file;
 use std::alloc::{AllocError, Global};
 use trace_text::RunEnd;
+use trace_text::form::{end_words, subject_of, words_of};
+use trace_text::meeting::{are_met, is_met};
+use trace_text::state_line::{has_died, line_of};
 use workbench::done::Done;
 
 /// The letter with which the lines of such things begin, if they have lines.

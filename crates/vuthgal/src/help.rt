@@ -121,7 +121,10 @@ fn push_unreadable(rt: &HostRuntime, path: &str) {
     if metadata.is_dir() {
         push_text(rt, format!(in rt.alloc(); "{path}: it is a folder\n"));
     } else if metadata.is_file() && length > LONGEST {
-        push_text(rt, format!(in rt.alloc(); "{path}: it has {length} bytes\n"));
+        push_text(
+            rt,
+            format!(in rt.alloc(); "{path}: it has {length} bytes\n"),
+        );
     }
 }
 
@@ -227,7 +230,12 @@ pub fn push_reason<R: Display>(rt: &HostRuntime, fault: Fault, path: &str, reaso
     if is_explained(rt) {
         push_text(rt, format!(in rt.alloc(); "{path}: {reason}\n"));
         if path == "-" {
-            push_text(rt, format!(in rt.alloc(); "`-` is standard input where SCHEDULE, TRACE or PLAN stands; FILE is a file\n"));
+            push_text(
+                rt,
+                format!(in rt.alloc();
+                    "`-` is standard input where SCHEDULE, TRACE or PLAN stands; FILE is a file\n"
+                ),
+            );
         }
         let nothing = program_file(path, &[]);
         let mut errors = WritePort::new(printable::errors(rt));

@@ -36,7 +36,9 @@ impl<S: Drop> KeptSource<S> {
         ensures { self.new.source ≡ self.old.source }
     {
         let room = MOST_KEPT.saturating_sub(self.kept.len());
-        let _ = self.kept.extend_from_slice(bytes.get(..room).unwrap_or(bytes));
+        let _ = self
+            .kept
+            .extend_from_slice(bytes.get(..room).unwrap_or(bytes));
     }
 }
 

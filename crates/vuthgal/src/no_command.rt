@@ -95,8 +95,11 @@ fn push_tip(rt: &HostRuntime, kind: ErrorKind, words: &[String]) {
             push_near_command(rt, word.as_str());
             push_file_hint(rt, words);
         }
-        (ErrorKind::UnknownArgument, [_, command, rest @ ..]) =>
-            push_other_way(rt, command.as_str(), rest),
+        (ErrorKind::UnknownArgument, [_, command, rest @ ..]) => push_other_way(
+            rt,
+            command.as_str(),
+            rest,
+        ),
         _ => {}
     }
 }

@@ -91,7 +91,9 @@ fn play_plan<'a>(rt: &HostRuntime, file: &[u8], plan: &[u8], expected: &[&str]) 
 /// An answer, with what was read of a schedule that is refused, where that was standard input.
 pub fn with_input<'a>(answer: Answer<'a>, word: &str, kept: Vec<u8>) -> Answer<'a> {
     match answer {
-        Err(Trouble::Fault(fault @ Fault::Schedule(_))) if word == "-" => Err(Trouble::OfInput(fault, kept)),
+        Err(Trouble::Fault(fault @ Fault::Schedule(_))) if word == "-" => Err(Trouble::OfInput(
+            fault, kept,
+        )),
         answer => answer,
     }
 }

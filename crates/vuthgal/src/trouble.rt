@@ -76,7 +76,11 @@ impl<'a> Trouble<'a> {
         match self {
             Trouble::NoCommand(no_command) => no_command.tell(rt, words),
             Trouble::Fault(fault) => tell_fault(rt, *fault, files),
-            Trouble::OfInput(fault, input) => tell_fault(rt, *fault, files.with_input(input.as_slice())),
+            Trouble::OfInput(fault, input) => tell_fault(
+                rt,
+                *fault,
+                files.with_input(input.as_slice()),
+            ),
             Trouble::Plan(fault) => tell_plan(rt, *fault, files),
             Trouble::Unexplained(Unexplained::Write) => tell_fault(rt, Fault::Write, files),
             Trouble::Unexplained(why) => {

@@ -1,4 +1,4 @@
-use Rattle.std.proofs.Common.{◌≡◌, ◌∙◌, ap, subst}
+use Rattle.std.proofs.Common.{◌∙◌, ap, subst}
 use Rattle.std.specs.String.{string_bytes}
 use Rattle.schedule_reader.specs.Text.{schedule_text}
 use Rattle.thread_machine.specs.Standing.{standing_of}
