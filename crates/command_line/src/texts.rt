@@ -143,7 +143,7 @@ Draws a run as text: a column for each thread, a line for each choice.
 FILE is an image where its first four bytes are `PBW1` or `PBW2`, else a program
 text. SCHEDULE is a file, or `-` for standard input. Without it FILE is a text
 with its schedule behind a line `.run`. A plan may stand in place of a schedule:
-`--plan 'ann. bob.'`, or a file named `NAME.plan`. No line has more than N bytes.
+`--plan 'ann. bob.'`, or a file `NAME.plan`. No line has more than N bytes.
 
 It may tell `refused asm`, `refused image`, `refused load`, `refused schedule`,
 `refused plan`, `refused draw`, `memory`, `read` or `write`.

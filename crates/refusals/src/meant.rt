@@ -55,8 +55,10 @@ fn is_schedule(alloc: Global, text: &[u8]) -> bool {
 
 /// Whether the word is a number.
 fn is_number(word: &[u8]) -> bool {
-    word.iter()
-        .all(|byte| byte.is_ascii_digit() || *byte == b'-')
+    !word.is_empty()
+        && word
+            .iter()
+            .all(|byte| byte.is_ascii_digit() || *byte == b'-')
 }
 
 /// Whether a word behind this one begins an instruction, or is a colon.

@@ -243,13 +243,10 @@ pub fn push_reason<R: Display>(rt: &HostRuntime, fault: Fault, path: &str, reaso
     }
 }
 
-/// What to write where the first word is a file and no command.
-pub fn push_file_hint(rt: &HostRuntime, words: &[String]) {
-    let Some(word) = words.get(1) else {
-        return;
-    };
-    let path = word.as_str();
-    if fs::metadata(rt, path).is_ok() {
+/// What to write where the first word is a file and no command. Whether it is one.
+pub fn push_file_hint(rt: &HostRuntime, path: &str) -> bool {
+    let is_file = fs::metadata(rt, path).is_ok();
+    if is_file {
         push_text(
             rt,
             format!(in rt.alloc();
@@ -258,4 +255,5 @@ pub fn push_file_hint(rt: &HostRuntime, words: &[String]) {
             ),
         );
     }
+    is_file
 }

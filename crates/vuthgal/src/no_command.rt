@@ -79,11 +79,21 @@ fn tell_words(rt: &HostRuntime, error: &WordsError, words: &[String]) -> u8 {
     if !error.use_stderr() {
         return print_help(rt, error);
     }
-    let status = push_wrong(rt, usage::told(rt, error));
-    if status == WRONG_WORDS {
+    let told = usage::told(rt, error);
+    let has_tip = has_tip(&told);
+    let status = push_wrong(rt, told);
+    if status == WRONG_WORDS && !has_tip {
         push_tip(rt, error.kind(), words);
     }
     status
+}
+
+/// Whether what is told names what may have been meant.
+fn has_tip(told: &Result<String, AllocError>) -> bool {
+    match told {
+        Ok(text) => text.as_str().find("tip: a similar").is_some(),
+        Err(_) => false,
+    }
 }
 
 /// Tells what may have been meant by words that ask for nothing.
@@ -92,8 +102,9 @@ fn push_tip(rt: &HostRuntime, kind: ErrorKind, words: &[String]) {
         (ErrorKind::InvalidSubcommand, [_, help, word, ..]) if help.as_str() == "help" =>
             push_near_command(rt, word.as_str()),
         (ErrorKind::InvalidSubcommand, [_, word, ..]) => {
-            push_near_command(rt, word.as_str());
-            push_file_hint(rt, words);
+            if !push_file_hint(rt, word.as_str()) {
+                push_near_command(rt, word.as_str());
+            }
         }
         (ErrorKind::UnknownArgument, [_, command, rest @ ..]) => push_other_way(
             rt,
@@ -107,7 +118,10 @@ fn push_tip(rt: &HostRuntime, kind: ErrorKind, words: &[String]) {
 /// Tells which command is called nearly so.
 fn push_near_command(rt: &HostRuntime, word: &str) {
     if let Ok(Some(command)) = usage::nearest_command(rt, word) {
-        push_text(rt, format!(in rt.alloc(); "similar: {command}\n"));
+        push_text(
+            rt,
+            format!(in rt.alloc(); "tip: a similar subcommand exists: '{command}'\n"),
+        );
     }
 }
 

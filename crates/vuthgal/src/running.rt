@@ -100,26 +100,26 @@ pub fn with_input<'a>(answer: Answer<'a>, word: &str, kept: Vec<u8>) -> Answer<'
 
 /// Plays the program in a file.
 pub fn run<'a>(rt: &HostRuntime, file: &'a str, steps: Steps<'a>, expected: &[&str]) -> Answer<'a> {
-    let mut program = ReadPort::new(files::read(rt, file)?);
+    let program = files::read(rt, file)?;
     match steps {
         Steps::Beside => {
-            let file = read_all(rt.alloc(), &mut program)?;
+            let file = read_all(rt.alloc(), &mut ReadPort::new(program))?;
             play_parts(rt, file.as_slice(), expected)
         }
         Steps::Named(word) => {
             let schedule = ReadPort::new(Input::named(rt, word)?);
             let mut schedule = KeptSource::new(rt.alloc(), schedule);
-            let program = read_all(rt.alloc(), &mut program)?;
+            let program = read_all(rt.alloc(), &mut ReadPort::new(program))?;
             let answer = play(rt, program.as_slice(), &mut schedule, expected);
             with_input(answer, word, schedule.into_kept())
         }
         Steps::Plan(plan) => {
-            let file = read_all(rt.alloc(), &mut program)?;
+            let file = read_all(rt.alloc(), &mut ReadPort::new(program))?;
             play_plan(rt, file.as_slice(), plan.as_bytes(), expected)
         }
         Steps::PlanIn(word) => {
             let plan = files::contents(rt, word)?;
-            let file = read_all(rt.alloc(), &mut program)?;
+            let file = read_all(rt.alloc(), &mut ReadPort::new(program))?;
             play_plan(rt, file.as_slice(), plan.as_slice(), expected)
         }
     }

@@ -7,7 +7,7 @@ use command_line::commands::program;
 use command_line::names::EXPECT;
 use std::alloc::AllocError;
 use std::env::{Env, FillError};
-use strsim::levenshtein;
+use strsim::osa_distance;
 
 /// How long a word may be that is looked at; no command has a longer name.
 const LONGEST_WORD: usize = 64;
@@ -45,14 +45,14 @@ fn meant(rt: &HostRuntime) -> Result<Option<&'static str>, AllocError> {
     Ok(None)
 }
 
-/// The command whose name is nearest to a word, where it is near at all: at most half of its letters are wrong.
+/// The command whose name is nearest to a word, where it is near at all: less than half of its letters are wrong or turned round.
 pub fn nearest_command(rt: &HostRuntime, word: &str) -> Result<Option<&'static str>, AllocError> {
     let program = program(rt.alloc(), VERSION)?;
     let mut nearest = None;
     let mut far = word.len().div_ceil(2).min(3);
     for command in program.get_subcommands() {
         let name = command.get_name();
-        let distance = levenshtein(rt.alloc(), name, word)?;
+        let distance = osa_distance(rt.alloc(), name, word)?;
         if distance < far {
             nearest = Some(name);
             far = distance;
