@@ -15,9 +15,10 @@ REFUSED = rb"""(?x)refused[ ](
     | plan[ ]\d+[ ][1-8]
     | (show|draw)[ ]2000
     )\n"""
-# of `explain` what it can be asked stands in place of the usage; where a file stands in place of a command more is told
+# of `explain` what it can be asked stands in place of the usage; where a file stands in place of a command, where one is called
+# nearly so, or where another way does it more is told
 WRONG_WORDS = rb"""(?xs)error:[ ](
-    .*\n\nUsage:[ ]vuthgal[^\n]*(\n\nFor[ ]more[ ]information,[ ]try[ ]'--help'\.)?(\n.*[ ]is[ ]a[ ]file:[ ].*)?
+    .*\n\nUsage:[ ]vuthgal[^\n]*(\n\nFor[ ]more[ ]information,[ ]try[ ]'--help'\.)?(\n(.*[ ]is[ ]a[ ]file:[ ].*|tip:[ ][^\n]*|`[^\n]*))?
     | no[ ]line[ ]on[ ]standard[ ]error[ ]has[ ]these[ ]words.*
     )\n"""
 # a run that ended otherwise, or a plan that wanted more choices than there are

@@ -80,18 +80,21 @@ fn tell_words(rt: &HostRuntime, error: &WordsError, words: &[String]) -> u8 {
         return print_help(rt, error);
     }
     let told = usage::told(rt, error);
-    let has_tip = has_tip(&told);
+    let is_enough = is_enough(&told);
     let status = push_wrong(rt, told);
-    if status == WRONG_WORDS && !has_tip {
+    if status == WRONG_WORDS && !is_enough {
         push_tip(rt, error.kind(), words);
     }
     status
 }
 
-/// Whether what is told names what may have been meant.
-fn has_tip(told: &Result<String, AllocError>) -> bool {
+/// Whether what is told is enough: what may have been meant, or which option there isn't.
+fn is_enough(told: &Result<String, AllocError>) -> bool {
     match told {
-        Ok(text) => text.as_str().find("tip: a similar").is_some(),
+        Ok(text) => {
+            let text = text.as_str();
+            text.find("tip: a similar").is_some() || text.find("unexpected argument '--").is_some()
+        }
         Err(_) => false,
     }
 }
