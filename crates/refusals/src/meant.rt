@@ -2,7 +2,7 @@
 
 use crate::names::is_word_of_the_language;
 use line_reader::asm_fault::AsmFaultKind;
-use line_reader::words::is_blank;
+use line_reader::words::{before_comment, is_blank};
 use schedule_reader::read_schedule;
 use std::alloc::Global;
 
@@ -51,6 +51,23 @@ fn is_schedule(alloc: Global, text: &[u8]) -> bool {
         Ok(runs) => !runs.is_empty(),
         Err(_) => false,
     }
+}
+
+/// Whether a word begins a comment as in other languages.
+fn begins_other_comment(word: &[u8]) -> bool {
+    match word {
+        [b'/', b'/', ..] => true,
+        [b'#', behind, ..] => !behind.is_ascii_digit(),
+        [b'#'] => true,
+        _ => false,
+    }
+}
+
+/// Whether a line has such a comment.
+fn has_other_comment(line: &[u8]) -> bool {
+    before_comment(line)
+        .split(|byte| is_blank(*byte))
+        .any(|word| begins_other_comment(word))
 }
 
 /// Whether the word is a number.
@@ -127,7 +144,8 @@ pub fn helps_at(
         AsmFaultKind::BadOption if word.starts_with(b"#") || word.starts_with(b"//") => Some(
             AT_COMMENT,
         ),
-        AsmFaultKind::OperandCount if word.starts_with(b"//") => Some(AT_COMMENT),
+        AsmFaultKind::OperandCount if has_other_comment(line) => Some(AT_COMMENT),
+        AsmFaultKind::OperandCount if before_comment(line).contains(&b',') => Some(AT_COMMA),
         AsmFaultKind::BadRegister if is_number(word) => Some(AT_NUMBER),
         AsmFaultKind::BadName if is_number(word) => Some(AT_REFERENCE),
         _ => None,

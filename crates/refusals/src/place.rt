@@ -270,7 +270,8 @@ fn push_text_place<E: Sink>(
         _ => {}
     }
     let helps = helps_at(alloc, program.text, kind, number, line, word);
-    if helps.is_none() && stands_first(alloc, program, other) {
+    let is_plan = program.file.name.ends_with(".plan") || stands_first(alloc, program, other);
+    if helps.is_none() && is_plan {
         return Ok(Some(AT_PLAN_FIRST));
     }
     Ok(helps)

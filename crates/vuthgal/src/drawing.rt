@@ -39,6 +39,7 @@ fn draw_under<'a, P: Picture, F: Source, K: Sink>(
     word: &'a str,
     output: &mut K,
 ) -> Answer<'a> {
+    notes::push_schedule_waited_for(rt, word);
     let schedule = KeptSource::new(rt.alloc(), ReadPort::new(Input::named(rt, word)?));
     let mut schedule = ShortSchedule::new(rt.alloc(), schedule)?;
     let answer = match make(rt.alloc(), picture, file, &mut schedule, output) {

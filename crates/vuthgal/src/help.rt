@@ -172,6 +172,14 @@ pub fn push_plan_help(rt: &HostRuntime, fault: PlanFault, files: Files<'_>) {
     let mut errors = WritePort::new(printable::errors(rt));
     let _ = match files.plan {
         Some(plan) => {
+            if fs::metadata(rt, plan).is_ok() {
+                push_text(
+                    rt,
+                    format!(in rt.alloc();
+                        "{plan} is a file: a file of a plan is named NAME.plan, and stands where SCHEDULE or TRACE does\n"
+                    ),
+                );
+            }
             let plan = Named {
                 name: "--plan",
                 bytes: plan.as_bytes(),
@@ -213,6 +221,18 @@ pub fn push_missing(rt: &HostRuntime, file: &str, steps: Steps<'_>) {
             rt,
             format!(in rt.alloc();
                 "{step} {letter}{thread} - none: there is no such thread, and what follows wasn't played\n"
+            ),
+        );
+    }
+}
+
+/// Tells how a trace is made, where one is explained.
+pub fn push_no_trace(rt: &HostRuntime) {
+    if is_explained(rt) {
+        push_text(
+            rt,
+            format!(in rt.alloc();
+                "that is no line of a trace: `vuthgal run FILE SCHEDULE > TRACE` writes one\n"
             ),
         );
     }

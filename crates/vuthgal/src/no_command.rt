@@ -82,8 +82,18 @@ fn tell_words(rt: &HostRuntime, error: &WordsError, words: &[String]) -> u8 {
     let told = usage::told(rt, error);
     let is_enough = is_enough(&told);
     let status = push_wrong(rt, told);
-    if status == WRONG_WORDS && !is_enough {
-        push_tip(rt, error.kind(), words);
+    if status == WRONG_WORDS {
+        if words
+            .iter()
+            .any(|word| word.as_str().starts_with("--explain"))
+        {
+            push_text(
+                rt,
+                format!(in rt.alloc(); "`--explain WHEN`: WHEN is always, auto or never\n"),
+            );
+        } else if !is_enough {
+            push_tip(rt, error.kind(), words);
+        }
     }
     status
 }
@@ -93,7 +103,9 @@ fn is_enough(told: &Result<String, AllocError>) -> bool {
     match told {
         Ok(text) => {
             let text = text.as_str();
-            text.find("tip: a similar").is_some() || text.find("unexpected argument '--").is_some()
+            let is_of_output = text.find("unexpected argument '--out").is_some();
+            let is_option = text.find("unexpected argument '--").is_some();
+            text.find("tip: a similar").is_some() || is_option && !is_of_output
         }
         Err(_) => false,
     }
@@ -128,14 +140,19 @@ fn push_near_command(rt: &HostRuntime, word: &str) {
     }
 }
 
+/// Whether a word names a file to write to, as other programs have it.
+fn is_for_output(word: &str) -> bool {
+    word.starts_with("-o") || word.starts_with("--out")
+}
+
 /// Tells how what a command doesn't take is asked for.
 fn push_other_way(rt: &HostRuntime, command: &str, words: &[String]) {
-    let way = if words.iter().any(|word| word.as_str().starts_with("-o")) {
+    let way = if words.iter().any(|word| is_for_output(word.as_str())) {
         "`> FILE` writes it to a file"
     } else if command == LIVE {
         "`run FILE SCHEDULE` plays a schedule; `live` lets the threads choose"
     } else if command == DEBUG {
-        "`--at TRACE` begins behind a trace, `--plan PLAN` behind a plan; a schedule is a command, `g t0 t1`"
+        "`--at TRACE` begins behind a trace, `--at NAME.plan` behind a plan; a schedule is a command, `g t0 t1`"
     } else {
         return;
     };

@@ -34,6 +34,16 @@ pub fn push_no_schedule(rt: &HostRuntime) {
     );
 }
 
+/// A schedule is waited for, where this word names standard input.
+pub fn push_schedule_waited_for(rt: &HostRuntime, word: &str) {
+    if word == "-" {
+        push_waiting(
+            rt,
+            b"reading a schedule from the terminal: its end is Ctrl-D\n",
+        );
+    }
+}
+
 /// A plan is waited for.
 pub fn push_plan_waited_for(rt: &HostRuntime, steps: &Input) {
     if let Input::Standard(input) = steps {

@@ -107,6 +107,7 @@ pub fn run<'a>(rt: &HostRuntime, file: &'a str, steps: Steps<'a>, expected: &[&s
             play_parts(rt, file.as_slice(), expected)
         }
         Steps::Named(word) => {
+            notes::push_schedule_waited_for(rt, word);
             let schedule = ReadPort::new(Input::named(rt, word)?);
             let mut schedule = KeptSource::new(rt.alloc(), schedule);
             let program = read_all(rt.alloc(), &mut ReadPort::new(program))?;

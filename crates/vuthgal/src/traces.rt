@@ -4,10 +4,11 @@ use crate::ending::{flushed, handed_on};
 use crate::input::Input;
 use crate::progress::ShownSource;
 use crate::trouble::Answer;
-use crate::{files, printable};
+use crate::{files, help, printable};
 use byte_ports::{BlockPort, ReadPort, WritePort};
 use commands::choices::choices;
 use commands::{LinesSeen, show_comparison};
+use trace_compare::Verdict;
 use workbench::compare::{compared, done_by};
 use workbench::done::Done;
 use workbench::input::read_all;
@@ -27,7 +28,11 @@ pub fn compare<'a>(rt: &HostRuntime, file: &'a str, trace: &'a str, is_shown: bo
     } else {
         compared(rt.alloc(), program, &mut trace, &mut output)
     };
-    Ok(done_by(flushed(verdict, &mut output)?))
+    let verdict = flushed(verdict, &mut output)?;
+    if matches!(verdict, Verdict::NotATrace { .. }) {
+        help::push_no_trace(rt);
+    }
+    Ok(done_by(verdict))
 }
 
 /// Writes the schedule of a trace.
@@ -36,8 +41,8 @@ pub fn write_choices<'a>(rt: &HostRuntime, trace: &'a str) -> Answer<'a> {
     let mut output = BlockPort::new(rt.alloc(), WritePort::new(rt.stdout()))?;
     let answer = choices(rt.alloc(), &mut trace, &mut output);
     if handed_on(answer, output)? {
-        Ok(Done::AsAsked)
-    } else {
-        Ok(Done::Unlike)
+        return Ok(Done::AsAsked);
     }
+    help::push_no_trace(rt);
+    Ok(Done::Unlike)
 }
