@@ -2,4 +2,4 @@
 
 /// The version, the kit whose logic proves it, and the sum of the sources but for this file.
 pub const VERSION: &str =
-    "1.1.0\nkit rattle-kit-13b logic dac8208d650f15bf\nsources 297e5d1e1c5d520f4d3e5ee88a281143f646c003cd511964a7e7df0a133fb42c";
+    "1.1.0\nkit rattle-kit-13b logic dac8208d650f15bf\nsources 69afdde56e558eefd48aa6bdd555e2229a846a9310ef228b97e91e28314e9304";
