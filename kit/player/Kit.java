@@ -18,6 +18,9 @@ import java.util.concurrent.ConcurrentHashMap;
  */
 public final class Kit {
     private static final int SCENARIOS = 300;
+
+    /** Random scenarios are played beside all other parts: a thread that gets no processor for a while isn't one that is never released. */
+    private static final Patience[] PATIENCE_BESIDE_ALL = Patience.times(8, Patience.OF_JVM);
     private static final String KEPT = "transcripts";
     /** How often a case is played whose transcript isn't the one that is kept. */
     private static final int PLAYS = 5;
@@ -332,7 +335,7 @@ public final class Kit {
         Tally tally = new Tally(SCENARIOS, true, part.to);
         List<Judge> judges = new ArrayList<>();
         for (int job = 0; job < JOBS; job++) {
-            judges.add(new Judge(new JvmStage(new JdkFactory()), KnownDifferences.ALL));
+            judges.add(new Judge(new JvmStage(new JdkFactory()), KnownDifferences.ALL, PATIENCE_BESIDE_ALL));
         }
         new RandomCases(vuthgal, tally, null, part.to).play(judges, 1, SCENARIOS);
         part.take(tally.same(), tally.failing());
