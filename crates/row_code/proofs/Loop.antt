@@ -1,5 +1,5 @@
 -- Reading entries one after the other, as a loop does.
-use Rattle.std.proofs.Common.{◌≡◌, Bool, true, false, ℕ, suc, ◌-◌, ◌+◌, ◌≤◌, ◌<◌, List, [], ◌∷◌, ◌++◌, take, drop, Result, Ok, Err, refl, sym, ap, ◌∙◌, append_assoc, arith}
+use Rattle.std.proofs.Common.{◌≡◌, Bool, true, false, ℕ, suc, ◌-◌, ◌+◌, ◌*◌, ◌≤◌, ◌<◌, List, [], ◌∷◌, ◌++◌, take, drop, Result, Ok, Err, refl, sym, ap, ◌∙◌, append_assoc, arith}
 use Rattle.std.proofs.lemmas.List.{append-nil}
 use Rattle.row_code.specs.declared.image_fault.ImageFault.{ImageFault}
 use Rattle.row_code.specs.Answers.{◌>>=◌, FailsUnless, FailsAs}
@@ -44,6 +44,14 @@ is_done size read front count i bytes total le so_far =
     let k : count - i ≡ 0 = omega arith in
     let one : with_front front (entries size read i (count - i) bytes) ≡ Ok front = rw k (ap (λ (all : List _). Ok all) (append-nil front)) in
     sym so_far ∙ one
+
+-- the bytes behind an entry suffice for the others
+pub fewer_left : (size count i long behind : ℕ) → i < count → behind + size ≡ long → size * (count - i) ≤ long → size * (count - (i + 1)) ≤ behind
+fewer_left size count i long behind lt split fits =
+    let k : count - i ≡ suc (count - (i + 1)) = omega arith in
+    let more : size * suc (count - (i + 1)) ≡ size + size * (count - (i + 1)) = omega arith in
+    let so : size * suc (count - (i + 1)) ≤ long = rw k at fits in
+    omega (arith, more, so, split)
 
 -- what is read fails as the fault that was found
 pub fails : {Y E : Type 0} (is_memory : E → Bool) (f : E) (read : Result Y E) → read ≡ Err f → FailsAs is_memory f read

@@ -16,18 +16,19 @@ pub mod phasers;
 pub mod rows;
 pub mod threads;
 
-// From an image to bytes.
+// An entry of each of its lists, from bytes and to bytes.
+mod barrier_entry;
+mod entry;
+mod phaser_entry;
+mod read_fields;
+mod row_entry;
+mod thread_entry;
+
+// From an image to bytes, and back.
+pub mod image_fault;
+pub mod reading;
 pub mod write_fault;
 pub mod writing;
-
-// From bytes to an image.
-pub mod image_fault;
-mod read_barriers;
-mod read_fields;
-mod read_phasers;
-mod read_rows;
-mod read_threads;
-pub mod reading;
 
 // What was written is read again.
 pub mod round_trip;

@@ -1,16 +1,18 @@
-ghost use Rattle.std.specs.Prelude.{◌≡◌, ◌≤◌, ◌<◌, ◌^◌, length, drop, Ok, IfOk, take};
+ghost use Rattle.std.specs.Prelude.{◌≡◌, ◌≤◌, ◌*◌, length, drop, Ok, IfOk, take};
 ghost use Rattle.row_code.specs.declared.image.Image.{Image};
 ghost use Rattle.row_code.specs.Image.{IsImage, image_bytes};
+ghost use Rattle.row_code.specs.Rows.{AreRows};
 ghost use Rattle.row_code.specs.Answers.{Answers};
-ghost use Rattle.row_code.specs.Reading.{is_memory, is_magic, says_timed, counts_in, counts_at, is_too_many, barriers_start, threads_start, rows_start, file_end, lists_at, image_of};
+ghost use Rattle.row_code.specs.Reading.{is_memory, is_magic, says_timed, counts_in, counts_at, is_too_many, barriers_start, threads_start, rows_start, file_end, lists_at, image_of, rows_at};
 
+use crate::barriers::Barriers;
+use crate::entry::read_entries;
 use crate::image::{Counts, Image, MAGIC, TIMED_MAGIC};
 use crate::image_fault::ImageFault;
-use crate::read_barriers::read_barriers;
+use crate::phasers::Phasers;
 use crate::read_fields::u16_at;
-use crate::read_phasers::read_phasers;
-use crate::read_rows::read_rows;
-use crate::read_threads::read_threads;
+use crate::rows::Rows;
+use crate::threads::Threads;
 use std::alloc::Global;
 
 fn counts_in(bytes: &[u8]) -> Counts
@@ -110,6 +112,20 @@ fn bytes_from(bytes: &[u8], start: usize) -> &[u8]
     &bytes[start..]
 }
 
+/// The rows in the bytes, of an image whose magic says whether one of them has a timeout.
+#[tactic(auto, unfolding(crate::specs::Reading::rows_at))]
+fn read_rows(alloc: Global, timed: bool, count: u16, bytes: &[u8]) -> Result<Rows, ImageFault>
+    requires { 8 * count ≤ length bytes.now }
+    ensures read { Answers is_memory (λ r. r) result (rows_at timed count bytes.now) }
+    ensures fits { IfOk result (λ r. AreRows r) }
+{
+    let rows = Rows::new(read_entries(alloc, timed, count, 0, bytes)?).unwrap();
+    if timed && !rows.has_timed() {
+        return Err(ImageFault::Version);
+    }
+    Ok(rows)
+}
+
 #[tactic(auto, unfolding(crate::specs::Reading::lists_at))]
 fn lists_at(alloc: Global, counts: Counts, bytes: &[u8]) -> Result<Image, ImageFault>
     requires size { length bytes.now ≡ file_end counts }
@@ -119,18 +135,34 @@ fn lists_at(alloc: Global, counts: Counts, bytes: &[u8]) -> Result<Image, ImageF
     ensures read { Answers is_memory (λ i. i) result (lists_at counts bytes.now) }
     ensures fits { IfOk result (λ i. IsImage i) }
 {
-    let phasers = read_phasers(alloc, counts.phasers, 12, bytes_from(bytes, 12))?;
-    let start = barriers_start(counts);
-    let barriers = read_barriers(alloc, counts.barriers, start, bytes_from(bytes, start))?;
-    let start = threads_start(counts);
-    let threads = read_threads(alloc, counts.threads, start, bytes_from(bytes, start))?;
-    let start = rows_start(counts);
     let timed = says_timed(bytes);
-    let rows = read_rows(alloc, timed, counts.rows, bytes_from(bytes, start))?;
+    let phasers = read_entries(alloc, timed, counts.phasers, 12, bytes_from(bytes, 12))?;
+    let start = barriers_start(counts);
+    let barriers = read_entries(
+        alloc,
+        timed,
+        counts.barriers,
+        start,
+        bytes_from(bytes, start),
+    )?;
+    let start = threads_start(counts);
+    let threads = read_entries(
+        alloc,
+        timed,
+        counts.threads,
+        start,
+        bytes_from(bytes, start),
+    )?;
+    let rows = read_rows(
+        alloc,
+        timed,
+        counts.rows,
+        bytes_from(bytes, rows_start(counts)),
+    )?;
     Ok(Image {
-        phasers,
-        barriers,
-        threads,
+        phasers: Phasers::new(phasers).unwrap(),
+        barriers: Barriers::new(barriers).unwrap(),
+        threads: Threads::new(threads).unwrap(),
         rows,
     })
 }

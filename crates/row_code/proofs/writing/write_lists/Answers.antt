@@ -13,13 +13,13 @@ use Rattle.row_code.proofs.writing.write_lists.Goals as goal
 pub returns-clause-bytes : goal.returns-clause-bytes
 returns-clause-bytes g c =
     let written = g.W.Sink.written in
-    let ended = c.write_rows.result in
-    let phasers = subst (Appends (written c.args.sink.now) (written c.write_phasers.new.sink))
-    (ap (flat_map phaser_bytes) c.as_slice.ensures.phasers) c.in_ok-write_phasers.ensures.bytes in
-    let barriers = subst (Appends (written c.write_phasers.new.sink) (written c.write_barriers.new.sink))
-    (ap (flat_map barrier_bytes) c.as_slice-2.ensures.barriers) c.in_ok-write_barriers.ensures.bytes in
-    let threads = subst (Appends (written c.write_barriers.new.sink) (written c.write_threads.new.sink))
-    (ap (flat_map thread_bytes) c.as_slice-3.ensures.threads) c.in_ok-write_threads.ensures.bytes in
-    let rows = subst (λ bytes. OnOk ended (Appends (written c.write_threads.new.sink) (written c.write_rows.new.sink) bytes))
-    (ap (flat_map bytes_of) c.as_slice-4.ensures.rows) c.write_rows.ensures.bytes in
+    let ended = c.write_entries-4.result in
+    let phasers = subst (Appends (written c.args.sink.now) (written c.write_entries.new.sink))
+    (ap (flat_map phaser_bytes) c.as_slice.ensures.phasers) c.in_ok-write_entries.ensures.bytes in
+    let barriers = subst (Appends (written c.write_entries.new.sink) (written c.write_entries-2.new.sink))
+    (ap (flat_map barrier_bytes) c.as_slice-2.ensures.barriers) c.in_ok-write_entries-2.ensures.bytes in
+    let threads = subst (Appends (written c.write_entries-2.new.sink) (written c.write_entries-3.new.sink))
+    (ap (flat_map thread_bytes) c.as_slice-3.ensures.threads) c.in_ok-write_entries-3.ensures.bytes in
+    let rows = subst (λ bytes. OnOk ended (Appends (written c.write_entries-3.new.sink) (written c.write_entries-4.new.sink) bytes))
+    (ap (flat_map bytes_of) c.as_slice-4.ensures.rows) c.write_entries-4.ensures.bytes in
     appends_behind ended _ _ _ _ _ phasers (appends_behind ended _ _ _ _ _ barriers (appends_behind ended _ _ _ _ _ threads rows))

@@ -2,7 +2,7 @@ use Rattle.std.proofs.Common.{ap, sym, ◌∙◌}
 use Rattle.row_code.specs.Reading.{row_at, row_or}
 use Rattle.row_code.specs.RowOperands.{row_in}
 use Rattle.row_code.proofs.Cells.{of_eight}
-use Rattle.row_code.proofs.read_rows.row_at.Goals as goal
+use Rattle.row_code.proofs.row_entry.row_at.Goals as goal
 
 pub returns-clause-read : goal.returns-clause-read
 unfolding row_at

@@ -1,0 +1,77 @@
+ghost use Rattle.std.specs.Prelude.{◌≡◌, ◌↔◌, ◌+◌, ◌*◌, ◌^◌, ◌<◌, ◌≤◌, ℕ, Bool, false, List, Result, length, All, IfOk, IsErr, IsTrue, OnOk};
+ghost use Rattle.std.specs.List.{flat_map};
+ghost use Rattle.std.specs.Io.KnownBytes.{Appends};
+ghost use Rattle.row_code.specs.declared.image_fault.ImageFault.{ImageFault};
+ghost use Rattle.row_code.specs.Answers.{Answers};
+ghost use Rattle.row_code.specs.Reading.{is_memory, entries};
+
+use crate::image_fault::ImageFault;
+use crate::write_fault::WriteFault;
+use byte_ports::Sink;
+use std::alloc::Global;
+
+/// What an image has a list of. Each has so many bytes, and one spelling.
+pub(crate) trait Entry: Copy {
+    // How many bytes it has.
+    ghost SIZE: { ℕ };
+
+    // The entry of a number in bytes, in a list that begins at a place of the file, or what is wrong. The first says
+    // whether the image may have rows with a timeout.
+    ghost reading: { Bool → ℕ → ℕ → List ℕ → Result Self ImageFault };
+
+    // Whether its fields are in their ranges, and its bytes.
+    ghost fits: { Self → Type 0 };
+
+    ghost spelling: { Self → List ℕ };
+
+    const SIZE: usize;
+
+    fn read(timed: bool, start: usize, n: u16, bytes: &[u8]) -> Result<Self, ImageFault>
+        requires size { length bytes.now ≡ SIZE }
+        requires place { start + 12 * n + 12 < 2 ^ 64 }
+        ensures read { result ≡ reading timed start n bytes.now }
+        ensures fits { IfOk result fits };
+
+    fn push<W: Sink>(self, sink: &mut W) -> Result<(), WriteFault>
+        requires { W.has_failed sink.old ≡ false }
+        ensures bytes { OnOk result (Appends (W.written sink.old) (W.written sink.new) (spelling self)) }
+        ensures failed { IsErr result ↔ IsTrue (W.has_failed sink.new) };
+}
+
+/// So many entries in the bytes, which begin at a place of the file.
+pub(crate) fn read_entries<E: Entry>(
+    alloc: Global,
+    timed: bool,
+    count: u16,
+    start: usize,
+    bytes: &[u8],
+) -> Result<Vec<E>, ImageFault>
+    requires size { E.SIZE * count ≤ length bytes.now }
+    requires place { start + 12 * count < 2 ^ 64 }
+    ensures read { Answers is_memory (λ v. v.items) result
+        (entries E.SIZE (E.reading timed start) 0 count bytes.now) }
+    ensures count { IfOk result (λ v. length v.items ≡ count) }
+    ensures fits { IfOk result (λ v. All E.fits v.items) }
+{
+    let mut list = Vec::with_capacity(alloc, usize::from(count))?;
+    let mut rest = bytes;
+    for n in 0..count {
+        let (first, after) = rest.split_at(E::SIZE);
+        list.push(E::read(timed, start, n, first)?)?;
+        rest = after;
+    }
+    Ok(list)
+}
+
+/// Writes one entry after the other.
+pub(crate) fn write_entries<E: Entry, W: Sink>(sink: &mut W, list: &[E]) -> Result<(), WriteFault>
+    requires { W.has_failed sink.old ≡ false }
+    ensures bytes { OnOk result
+        (Appends (W.written sink.old) (W.written sink.new) (flat_map E.spelling list.now)) }
+    ensures failed { IsErr result ↔ IsTrue (W.has_failed sink.new) }
+{
+    for entry in list {
+        entry.push(sink)?;
+    }
+    Ok(())
+}

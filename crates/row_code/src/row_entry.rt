@@ -1,0 +1,57 @@
+ghost use Rattle.std.specs.Prelude.{◌≡◌, length, IfOk, IfSome};
+ghost use Rattle.row_code.specs.RowFields.{IsRow};
+ghost use Rattle.row_code.specs.Reading.{row_or, row_at};
+
+use crate::entry::Entry;
+use crate::image_fault::ImageFault;
+use crate::row_bytes::{decode, encode};
+use crate::write_fault::WriteFault;
+use byte_ports::Sink;
+use instruction_table::{Row, is_timed};
+
+fn row_or(timed: bool, n: u16, found: Option<Row>) -> Result<Row, ImageFault>
+    requires { IfSome found (λ row. IsRow row) }
+    ensures read { result ≡ row_or timed n found }
+    ensures fits { IfOk result (λ row. IsRow row) }
+{
+    match found {
+        Some(row) if timed || !is_timed(row) => Ok(row),
+        _ => Err(ImageFault::Row(n)),
+    }
+}
+
+fn row_at(timed: bool, n: u16, bytes: &[u8]) -> Result<Row, ImageFault>
+    requires { length bytes.now ≡ 8 }
+    ensures read { result ≡ row_at timed n bytes.now }
+    ensures fits { IfOk result (λ row. IsRow row) }
+{
+    let bytes = [
+        bytes[0], bytes[1], bytes[2], bytes[3], bytes[4], bytes[5], bytes[6], bytes[7],
+    ];
+    row_or(timed, n, decode(bytes))
+}
+
+impl Entry for Row {
+    ghost use Rattle.row_code.specs.RowFields.{IsRow};
+    ghost use Rattle.row_code.specs.RowBytes.{bytes_of};
+    ghost use Rattle.row_code.specs.Reading.{row_at};
+
+    ghost SIZE = { 8 };
+
+    ghost reading = { λ timed start. row_at timed };
+
+    ghost fits = { IsRow };
+
+    ghost spelling = { bytes_of };
+
+    const SIZE: usize = 8;
+
+    fn read(timed: bool, _start: usize, n: u16, bytes: &[u8]) -> Result<Row, ImageFault> {
+        row_at(timed, n, bytes)
+    }
+
+    fn push<W: Sink>(self, sink: &mut W) -> Result<(), WriteFault> {
+        sink.push(&encode(self))?;
+        Ok(())
+    }
+}

@@ -1,0 +1,55 @@
+ghost use Rattle.std.specs.Prelude.{◌≡◌, length, IfOk};
+ghost use Rattle.row_code.specs.Threads.{IsThread, thread_bytes};
+ghost use Rattle.row_code.specs.Reading.{thread_at};
+
+use crate::entry::Entry;
+use crate::image_fault::ImageFault;
+use crate::read_fields::{i32_at, target_at};
+use crate::threads::DeclaredThread;
+use crate::write_fault::WriteFault;
+use byte_ports::Sink;
+
+#[tactic(auto, unfolding(crate::specs::Reading::thread_at))]
+fn thread_at(at: usize, bytes: &[u8]) -> Result<DeclaredThread, ImageFault>
+    requires { length bytes.now ≡ 4 }
+    ensures read { result ≡ thread_at at bytes.now }
+    ensures fits { IfOk result (λ thread. IsThread thread) }
+{
+    let first_row = target_at(at, i32_at(bytes, 0))?;
+    Ok(DeclaredThread { first_row })
+}
+
+fn thread_bytes(thread: DeclaredThread) -> [u8; 4]
+    ensures { result ≡ thread_bytes thread }
+{
+    i32::from(thread.first_row).to_le_bytes()
+}
+
+impl Entry for DeclaredThread {
+    ghost use Rattle.row_code.specs.Threads.{IsThread, thread_bytes};
+    ghost use Rattle.row_code.specs.Reading.{thread_entry};
+
+    ghost SIZE = { 4 };
+
+    ghost reading = { λ timed. thread_entry };
+
+    ghost fits = { IsThread };
+
+    ghost spelling = { thread_bytes };
+
+    const SIZE: usize = 4;
+
+    fn read(
+        _timed: bool,
+        start: usize,
+        n: u16,
+        bytes: &[u8],
+    ) -> Result<DeclaredThread, ImageFault> {
+        thread_at(start + 4 * usize::from(n), bytes)
+    }
+
+    fn push<W: Sink>(self, sink: &mut W) -> Result<(), WriteFault> {
+        sink.push(&thread_bytes(self))?;
+        Ok(())
+    }
+}
