@@ -20,7 +20,7 @@ IsPlaceOf fault.BadByte line place =
     (place.at < length line) × (is_allowed (slice_index line place.at) ≡ false) × (place.length ≡ 1)
 IsPlaceOf _ line place = (number : ℕ) × IsWordAt (before_first begins_comment line) number place
 
--- the same in the text's line that the fault names
+-- the place in the text's line that the fault names
 abbrev pub IsPlacedIn : List ℕ → AsmFault → WordPlace → Type 0
 IsPlacedIn text f place =
     (line : List ℕ) × (slice_get (lines_of text) (f.line - 1) ≡ Some line) × IsPlaceOf f.kind line place

@@ -38,7 +38,7 @@ pub fn assemble(alloc: Global, text: &[u8]) -> Result<Image, AsmFault>
     image_of(alloc, &draft, lines.max(1))
 }
 
-/// The same, with the text's names: what they name, and the line of each row.
+/// The image of a text, and the text's names: what they name, and the line of each row.
 #[tactic(auto, unfolding(crate::specs::Passes::assembled, crate::specs::Symbols::symbols_in))]
 pub fn assemble_named(alloc: Global, text: &[u8]) -> Result<(Image, Symbols<'_>), AsmFault>
     // The image is the one that the text stands for.

@@ -109,7 +109,7 @@ fn unknown_in_directive(draft: &Draft<'_>, words: &[&[u8]]) -> Option<(usize, Op
     }
 }
 
-/// The same of a row's name.
+/// The number of the word of a row that names what isn't known, and what it should name.
 fn unknown_in_row(words: &[&[u8]]) -> Option<(usize, OperandKind)> {
     let [word, operands @ ..] = words else {
         return None;
@@ -123,7 +123,7 @@ fn unknown_in_row(words: &[&[u8]]) -> Option<(usize, OperandKind)> {
     }
 }
 
-/// The same of a line.
+/// The number of the word of a line that names what isn't known, and what it should name.
 fn unknown_in_line(draft: &Draft<'_>, words: &[&[u8]]) -> Option<(usize, OperandKind)> {
     let [first, rest @ ..] = words else {
         return None;

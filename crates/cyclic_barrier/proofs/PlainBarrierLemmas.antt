@@ -28,7 +28,7 @@ state_after-append [] end (suc g) within = absurd (omega arith)
 state_after-append (x ∷ ends) end zero within = ended x end
 state_after-append (x ∷ ends) end (suc g) within = state_after-append ends end g (omega arith)
 
--- the same of a thread's wait
+-- an end behind the others ends a thread's wait too
 pub state_of-end :
     (waits : List Wait) (ends : List End) (end : End) (thread : ℕ) → All (HasBegun ends) waits →
     option_map (state_of_wait (ends ++ end ∷ [])) (wait_of thread waits) ≡ option_map (ended_by end) (option_map (state_of_wait ends) (wait_of thread waits))

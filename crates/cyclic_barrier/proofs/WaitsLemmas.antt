@@ -161,7 +161,7 @@ none_waiting-shown k r = ap (count_by is_waiting) (shown-trip 0 k r k (λ t. rw 
 fewer-end : (waits : List (Option WaitState)) (thread : ℕ) → thread < length waits → count_by is_waiting (slice_set waits thread None) ≤ count_by is_waiting waits
 fewer-end waits thread there = omega (arith, sum_by-set (λ w. cond (is_waiting w) 1 0) waits thread None None there)
 
--- the same for the waits that three sets show
+-- and for the waits that three sets show
 pub fewer-shown :
     (w k r thread ws ks rs : ℕ) (waits : List (Option WaitState)) → shown w k r ≡ waits → thread < 64 →
     IsWithout thread w ws → IsWithout thread k ks → IsWithout thread r rs → count_by is_waiting (shown ws ks rs) ≤ count_by is_waiting waits

@@ -67,7 +67,7 @@ table =
 abbrev pub entry_of : Shape → Entry
 entry_of shape = entry shape.opcode shape.word.now shape.operands.now
 
--- the same, of a line of the code's table
+-- the entry that a line of the code's table stands for
 abbrev pub entry_listed : ℕ × Bor (List ℕ) × Bor (List OperandKind) → Entry
 entry_listed line = entry line.0 line.1.now line.2.now
 

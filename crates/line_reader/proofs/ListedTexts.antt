@@ -15,7 +15,7 @@ pub lines-drop : {A : Type 0} (words : A → List (List ℕ)) (xs : List A) (i :
     → flat_map line_text (map words (drop i xs)) ≡ line_text (words (get_or xs i d)) ++ flat_map line_text (map words (drop (i + 1) xs))
 lines-drop words xs i d there = ap (λ ys. flat_map line_text (map words ys)) (drop_more xs i d there)
 
--- the same where each line has its number
+-- and of lines that have their numbers
 pub numbered-drop : {A : Type 0} (words : ℕ → A → List (List ℕ)) (xs : List A) (i : ℕ) (d : A) → i < length xs
     → flat_map line_text (numbered words i (drop i xs))
     ≡ line_text (words i (get_or xs i d)) ++ flat_map line_text (numbered words (i + 1) (drop (i + 1) xs))

@@ -11,7 +11,7 @@ pub bind_ok : {A B : Type 0} (r : Result A AsmFaultKind) (f : A → Result B Asm
 bind_ok (Ok x) f y e = (x, refl, e)
 bind_ok (Err d) f y e = absurd (cc)
 
--- the same, for what follows from the value
+-- and what follows from the value
 pub bound : {A B C : Type 0} (r : Result A AsmFaultKind) (f : A → Result B AsmFaultKind) (y : B) → (r >>= f) ≡ Ok y →
     ((x : A) → r ≡ Ok x → f x ≡ Ok y → C) → C
 bound (Ok x) f y e then = then x refl e

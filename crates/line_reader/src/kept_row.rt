@@ -17,7 +17,7 @@ pub enum KeptOperand {
     Number,
     /// The object of this kind, or the row, whose number the row holds.
     Numbered(OperandKind),
-    /// The same by the name that the row holds.
+    /// The object of this kind, or the row, that has the name that the row holds.
     Named(OperandKind),
 }
 

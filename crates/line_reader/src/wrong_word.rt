@@ -49,7 +49,7 @@ fn wrong_in_phaser(words: &[&[u8]], options: &[&[u8]]) -> Option<usize>
     }
 }
 
-/// The same of a barrier's.
+/// The place of the word that is wrong in a barrier's options.
 fn wrong_in_barrier(words: &[&[u8]], options: &[&[u8]]) -> Option<usize>
     ensures { IfSome result (λ place. place < length words.now) }
 {

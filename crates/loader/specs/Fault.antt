@@ -49,7 +49,7 @@ phaser_fault rows forest n phaser =
     option_or (routine_fault rows n phaser.policy)
     (option_map (λ why. fault.Declare n why) (declare_fault forest phaser))
 
--- the same of each phaser of a list, behind those before it
+-- the fault of the phaser of this number in a list, behind those before it
 abbrev pub listed_phaser_fault : ℕ → List DeclaredPhaser → ℕ → DeclaredPhaser → Option LoadFault
 listed_phaser_fault rows phasers n phaser = phaser_fault rows (forest_of (take n phasers)) n phaser
 

@@ -97,7 +97,7 @@ impl Loaded {
         Ok((barriers, Vec::from_slice(alloc, self.actions.as_slice())?))
     }
 
-    /// The same program again.
+    /// A copy of the program.
     pub fn copy(&self, alloc: Global) -> Result<Loaded, AllocError>
         ensures { IfOk result (λ copy. copy ≡ self.now) }
     {

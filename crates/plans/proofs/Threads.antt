@@ -28,7 +28,7 @@ find_later test t n there fails =
 pub find_none : (test : ℕ → Bool) (t n : ℕ) → n ≤ t → find test (range_with_len t (n - t)) ≡ None
 find_none test t n done = ap (find test) (range_done t n done)
 
--- the same of a list of what is made of them
+-- what is made of them begins with what is made of the first
 filter_map_here : (made : ℕ → Option Choice) (t n : ℕ) → t < n
     → filter_map made (range_with_len t (n - t)) ≡ cons_option (made t) (filter_map made (range_with_len (t + 1) (n - (t + 1))))
 filter_map_here made t n there = ap (filter_map made) (range_here t n there)

@@ -27,6 +27,6 @@ pub record Shows (planned : Planned) (progress : Progress) : Type 0 where
 abbrev pub IsPlanAt : World → List Word → Planned → Type 0
 IsPlanAt world words planned = (plan : Plan) → words_of_plan plan ≡ words → Shows planned (plays plan (begun_at world))
 
--- the same from a program's first world on
+-- what is planned from a program's first world on
 abbrev pub IsPlanOf : Program → List Word → Planned → Type 0
 IsPlanOf program words planned = (plan : Plan) → words_of_plan plan ≡ words → Shows planned (plays plan (begun program))

@@ -9,7 +9,7 @@ use Rattle.plans.specs.Tree.{Plan, Done, Then, Group}
 use Rattle.plans.specs.Progress.{Progress, chosen}
 use Rattle.plans.specs.Rules.{next_choice}
 
--- the same so many times
+-- a progress that is played on so many times
 unfoldable pub repeated : ℕ → (Progress → Progress) → Progress → Progress
 repeated zero play progress = progress
 repeated (suc times) play progress = repeated times play (play progress)

@@ -80,7 +80,7 @@ impl Reading {
         }
     }
 
-    /// The same, with the line in its fault.
+    /// Adds the word that the bytes say, or says what is wrong with it and on which line.
     fn add_word(&mut self, names: &[&[u8]], line: u64, bytes: &[u8]) -> Result<(), PlanFault>
         requires { length names.now ≤ 64 }
         ensures { AnswersPlan (λ _. draft_of self.new) result

@@ -159,7 +159,7 @@ fn parts_left(parts: &[Part]) -> &[Part]
 }
 
 impl<'a> WordsFrom<'a> {
-    /// The same once more.
+    /// These words from here on, once more.
     pub fn again(&self) -> WordsFrom<'a>
         ensures { result ≡ self.now }
     {

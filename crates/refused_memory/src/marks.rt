@@ -6,7 +6,7 @@ use std::alloc::Global;
 /// The request of so many bytes and as many as the number of the request that is to be refused, counted from 1.
 const REFUSE_ONE: usize = 7_000_000;
 
-/// The same for that request and all that follow.
+/// The request of so many bytes and as many as the number of the first that is to be refused, with all that follow.
 const REFUSE_ALL: usize = 7_100_000;
 
 /// Ends it: refused where one was refused since it began.

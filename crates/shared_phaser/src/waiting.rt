@@ -123,7 +123,7 @@ impl SharedPhaser {
         unreachable!()
     }
 
-    /// The same of a call that waits for nobody.
+    /// Tries of a call that waits for nobody, until it has an answer.
     #[inline(always)]
     fn insist_promptly<C: Asked, R: Wait>(&self, rt: &R, party: &mut Party, call: Call) -> Reply
         requires call { C.call ≡ call }

@@ -71,7 +71,7 @@ impl<O: Origin> Live<O> {
         !self.journaled.may_choose(thread) && !self.leaves(thread)
     }
 
-    /// The same, and it is noted who waits.
+    /// Whether the worker of a thread waits, which is noted.
     pub fn falls_asleep(&mut self, thread: u8) -> bool
         requires { thread < length O.first.scene.threads }
         ensures waits { result ≡ waits self.old.broken (world_after self.old.journaled) thread }

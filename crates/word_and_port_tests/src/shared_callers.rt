@@ -99,7 +99,7 @@ fn tried(phaser: &SharedPhaser, party: &mut Party, call: Call) -> Option<Reply>
     made.ok()
 }
 
-/// The same call under `Wait`.
+/// The call under `Wait`, which tries until it has an answer.
 fn called<R: Wait>(rt: &R, phaser: &SharedPhaser, party: &mut Party, call: Call) -> Option<Reply>
     requires { phaser_of party.old ≡ phaser.now }
     ensures { phaser_of party.new ≡ phaser.now }

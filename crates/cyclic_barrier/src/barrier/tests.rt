@@ -133,7 +133,7 @@ fn agrees(barrier: &mut Barrier, call: &Call) -> bool {
     }
 }
 
-/// The same, and undoes the call: a copy from before it is put back.
+/// Makes the call, says whether it answers so, and undoes it: a copy from before it is put back.
 fn agrees_and_goes_back(barrier: &mut Barrier, call: &Call) -> bool
     ensures { barrier.new ≡ barrier.old }
 {
