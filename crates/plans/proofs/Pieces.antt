@@ -67,10 +67,6 @@ cut : (text : List ℕ) → IsCut text
 cut [] = record { others = []; pieces = refl; words = refl }
 cut (byte ∷ rest) = cut_by (is_parenthesis byte) (is_blank byte) byte rest refl refl (cut rest)
 
--- a parenthesis is no blank
-no_blank : (byte : ℕ) → is_parenthesis byte ≡ true → is_blank byte ≡ false
-no_blank byte is = grind (arith, nat_tests, is)
-
 -- what stands before the first byte that parts words is a word, if it is anything
 pub piece_cut : (text : List ℕ)
     → words_in (spread text) ≡ word_alone (take (position_or_len parts_words text) text) ++ words_in (spread (drop (position_or_len parts_words text) text))
@@ -96,39 +92,3 @@ count_cut (first ∷ rest) byte some is counts =
     ∙ ap (λ ws. (41 ∷ take n rest) ∷ ws) front.words
     ∙ ap (λ b. (b ∷ take n rest) ∷ words_in (spread (drop n rest))) (sym is)
     ∙ ap (λ k. word_alone (take k (first ∷ rest)) ++ words_in (spread (drop k (first ∷ rest)))) (sym next)
-
-alone_by : (closes counts : Bool) (byte : ℕ) (rest : List ℕ) → (byte == 41) ≡ closes → begins_count rest ≡ counts → (closes && counts) ≡ false
-    → is_parenthesis byte ≡ true → words_in (spread (byte ∷ rest)) ≡ (byte ∷ []) ∷ words_in (spread rest)
-alone_by closes counts byte rest is does both one =
-    let after = slice_split is_blank (spread rest) in
-    let other : is_blank byte ≡ false = no_blank byte one in
-    ap (λ b. words_in ((if b then 32 ∷ byte ∷ blank_behind byte rest else byte ∷ []) ++ spread rest)) one
-    ∙ ap (λ b. words_in (32 ∷ byte ∷ ((if b && begins_count rest then [] else 32 ∷ []) ++ spread rest))) is
-    ∙ ap (λ b. words_in (32 ∷ byte ∷ ((if closes && b then [] else 32 ∷ []) ++ spread rest))) does
-    ∙ ap (λ b. words_in (32 ∷ byte ∷ ((if b then [] else 32 ∷ []) ++ spread rest))) both
-    ∙ ap (λ b. kept (cond b ([] ∷ [] ∷ after) (onto_first byte ([] ∷ after)))) other
-    ∙ kept_piece (byte ∷ []) after
-
-pub alone_cut : (line : List ℕ) (byte : ℕ) → 0 < length line → is_parenthesis (slice_index_or line 0 byte) ≡ true
-    → ((slice_index_or line 0 byte == 41) && begins_count (drop 1 line)) ≡ false
-    → words_in (spread line) ≡ word_alone (take 1 line) ++ words_in (spread (drop 1 line))
-alone_cut [] byte some is both = absurd (omega (arith, some))
-alone_cut (first ∷ rest) byte some is both = alone_by (first == 41) (begins_count rest) first rest refl refl both is
-
--- a line that begins with a blank
-blank_by : (blank : Bool) (byte : ℕ) (rest : List ℕ) → is_parenthesis byte ≡ false → is_blank byte ≡ blank
-    → position_or_len parts_words (byte ∷ rest) ≡ 0 → words_in (spread (byte ∷ rest)) ≡ words_in (spread rest)
-blank_by true byte rest is other none =
-    let after = slice_split is_blank (spread rest) in
-    ap (λ b. words_in ((if b then 32 ∷ byte ∷ blank_behind byte rest else byte ∷ []) ++ spread rest)) is
-    ∙ ap (λ b. kept (cond b ([] ∷ after) (onto_first byte after))) other
-blank_by false byte rest is other none =
-    let n = position_or_len parts_words rest in
-    let here : position_or_len parts_words (byte ∷ rest) ≡ 1 + n =
-    ap (λ b. cond (not (b || is_blank byte)) (1 + n) 0) is ∙ ap (λ b. cond (not b) (1 + n) 0) other in
-    absurd (omega (arith, here, none))
-
-pub blank_cut : (line : List ℕ) (byte : ℕ) → 0 < length line → is_parenthesis (slice_index_or line 0 byte) ≡ false
-    → position_or_len parts_words line ≡ 0 → words_in (spread line) ≡ words_in (spread (drop 1 line))
-blank_cut [] byte some is none = absurd (omega (arith, some))
-blank_cut (first ∷ rest) byte some is none = blank_by (is_blank first) first rest is refl none

@@ -120,9 +120,6 @@ met_once (Ok view) k l (inr (phase, m, arrived, passed)) refused = by_two_calls 
 met_once (Err e) k l made refused = by_one_call k l NotThere (λ phase is. absurd (cc is)) refused
 
 -- no meeting yet, and one more
-pub met_never : (phaser : Identity) (caller : Caller) → IsFresh phaser caller → HasMet caller 0 caller
-met_never phaser caller fresh = (refl, (refl, (fresh.1.1, ([], (refl, (All-nil (IsMeeting caller.known.number), fresh.1.0))))))
-
 pub met_more : (before now after : Caller) (rounds : ℕ) → HasMet before rounds now → phaser_of after ≡ phaser_of now
     → MeetsOnce now.known after.known → HasMet before (rounds + 1) after
 met_more before now after rounds (phaser, (number, (joined, (meetings, (many, (each, calls)))))) same once =
