@@ -7,7 +7,6 @@ use Rattle.packed_phaser.specs.Flat.{Flat}
 use Rattle.packed_phaser.specs.Word.{record_of, fields_of}
 use Rattle.tier_tree.specs.declared.registered.Registered.{Registered}
 use Rattle.tier_tree.specs.declared.arrived.Arrived.{Arrived}
-use Rattle.tier_tree.specs.declared.arrived.Arrived.TheVariants as arrived_answer
 use Rattle.tier_tree.specs.Forest.{PhaserState, phaser_at, flat_at, root_at}
 use Rattle.std.specs.Prelude.{ℤ}
 use Rattle.tier_tree.specs.declared.registered.Registered.TheVariants as registered_answer
@@ -20,7 +19,7 @@ use Rattle.tier_tree.specs.Answer.{IfTurning, MakesPending, KeepsPlaces, KeepsEn
 use Rattle.tier_tree.specs.Origin.{Origin, AreTallied, Carries, origin_after_registration, origin_after_arrival, origin_after_phase_end}
 use Rattle.tier_tree.specs.declared.id.PhaserId.{PhaserId}
 use Rattle.packed_phaser.specs.declared.policy.Policy.{Policy}
-use Rattle.std.specs.Prelude.{Option, Some, None, IfSome}
+use Rattle.std.specs.Prelude.{Option}
 use Rattle.std.proofs.lemmas.List.{get_or_append_left, length-set}
 use Rattle.std.proofs.Common.{get_or}
 use Rattle.tier_tree.specs.Forest.{no_phaser}
@@ -85,27 +84,6 @@ arrived items given now written id leave answer value view stored there is = rec
   origin = λ origin stands. stands_after_arrival (phasers_of given) origin id leave (record { phasers = phasers_of written; answer = answer })
       (subst IsStored (sym value) stored).places (there_given given now id (value ∙ view) there) is stands;
 }
-
--- an arrival that was counted early, or that changed nothing
-pub record KeepsEarly (id : ℕ) (found : Option ℤ) (before after : List PhaserState) : Type 0 where
-  pub places : KeepsPlaces before after
-  pub ends : KeepsEnds before after
-  pub origin : IfSome found (λ phase. Carries (origin_after_arrival (arrived_answer.At phase) id (root_at before id) false) before after)
-
-pub arrived_early : (items given now written : List Stored) (id : ℕ) (found : Option ℤ) → given ≡ items → items ≡ now → IsStored items
-    → id < length now → (found ≡ None → written ≡ given)
-    → IfSome found (λ phase. record { phasers = phasers_of written; answer = arrived_answer.At phase } ≡ arrival id false (phasers_of given))
-    → KeepsEarly id found (phasers_of given) (phasers_of written)
-arrived_early items given now written id None value view stored there none some =
-    let same : places_of (phasers_of written) ≡ places_of (phasers_of given) = ap (λ (ss : List Stored). places_of (phasers_of ss)) (none refl) in
-    record {
-      places = keeps_places (phasers_of given) (phasers_of written) same;
-      ends = λ n. ap (λ (ss : List Stored). (phaser_at (phasers_of ss) n).ends) (none refl);
-      origin = tt;
-    }
-arrived_early items given now written id (Some phase) value view stored there none some =
-    let keeps = arrived items given now written id false (arrived_answer.At phase) value view stored there some in
-    record { places = keeps.places; ends = keeps.ends; origin = keeps.origin }
 
 pub forced : (items given now written : List Stored) (id : ℕ) → given ≡ items → items ≡ now → IsStored items
     → id < length now → phasers_of written ≡ after_force id (phasers_of given)

@@ -1,5 +1,5 @@
 -- A climb changes no phase and terminates nobody.
-use Rattle.std.proofs.Common.{◌≡◌, ◌∙◌, ℕ, zero, suc, ◌==◌, ◌-◌, ◌+◌, Bool, true, false, List, [], ◌∷◌, refl, sym, subst, if◌then◌else◌}
+use Rattle.std.proofs.Common.{◌≡◌, ℕ, zero, suc, ◌==◌, ◌-◌, ◌+◌, Bool, true, false, List, [], ◌∷◌, refl, sym, subst, if◌then◌else◌}
 use Rattle.packed_phaser.specs.Flat.{Flat, Arrival, Counts, Turns, ComesLate, IsUnregistered, arrive, settled, view_of}
 use Rattle.tier_tree.specs.Forest.{PhaserState, flat_at, with_flat}
 use Rattle.tier_tree.specs.Arrival.{passed_on}
@@ -7,9 +7,6 @@ use Rattle.tier_tree.specs.Arrival.{passed_on}
 -- the phase, and whether it is terminated
 abbrev pub IsAsLate : Flat → Flat → Type 0
 IsAsLate f g = (f.phase ≡ g.phase) × (f.ended ≡ g.ended)
-
-late-then : (f g h : Flat) → IsAsLate f g → IsAsLate g h → IsAsLate f h
-late-then f g h one two = (one.0 ∙ two.0, one.1 ∙ two.1)
 
 -- an arrival that is counted finds a phaser that isn't terminated, and leaves its phase; one that comes late finds one that is
 abbrev pub IsArrival : Flat → Arrival → Type 0

@@ -16,7 +16,6 @@ use Rattle.tier_tree.specs.Registration.{Join, joins, joined, flat_by, registrat
 use Rattle.tier_tree.specs.Arrival.{Arrives, Climbed, is_top, passed_on, with_child, climbed_by, climbed, arrival_by, arrival}
 use Rattle.tier_tree.specs.PhaseEnd.{most_ends, after_phase_end, after_force, follow, in_step}
 use Rattle.tier_tree.specs.Sound.{Place, place_of, places_of}
-use Rattle.tier_tree.specs.Stored.{Stored, phasers_of, IsStored}
 use Rattle.tier_tree.specs.Answer.{IfTurning, KeepsPlaces}
 use Rattle.tier_tree.specs.Answer.{MakesPending}
 use Rattle.tier_tree.specs.Origin.{Origin, AreTallied, origin_after_registration, origin_after_arrival, origin_after_phase_end}
@@ -379,9 +378,3 @@ trees_turned_at_once most id leave ends phasers root phase parties trees few the
         | inr apart ↦ second.pending other apart (first.places.roots other ∙ top) (first.pending other top was)
       ];
     }
-
--- a forest in which no phase has ended
-pub trees_begin : (forest : List Stored) (origin : Origin) → IsStored forest → AreTallied (phasers_of forest) origin
-    → ((id : ℕ) → (phaser_at (phasers_of forest) id).ends ≡ 0) → AreTrees 0 (phasers_of forest)
-trees_begin forest origin stored stands none =
-    record { forest = stored.places; stands = (origin, stands); ends = λ id. (let e = none id in omega (arith, e)) }

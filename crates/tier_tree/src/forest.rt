@@ -210,6 +210,7 @@ impl Forest {
     }
 
     /// Each phaser shows the phase of its root, and is terminated with it.
+    #[tactic(auto, using(crate::proofs::Calls::one_phase))]
     pub fn each_tree_has_one_phase(&self)
         ensures { HaveOnePhase (phasers_of self.now) }
     {
@@ -217,6 +218,7 @@ impl Forest {
     }
 
     /// While the root of a tree without strays is turned, nobody registers or arrives in the tree.
+    #[tactic(auto, using(crate::proofs::Between::between))]
     pub fn nobody_comes_between(&self)
         ensures { NobodyComesBetween (phasers_of self.now) }
     {

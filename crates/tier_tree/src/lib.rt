@@ -7,7 +7,6 @@
 #![tactic(auto)]
 
 mod arrived;
-mod callers;
 mod climb;
 mod fault;
 mod forest;

@@ -46,6 +46,7 @@ fn brought_up(root: Word, own: Word) -> Word
 }
 
 /// The line of one phaser.
+#[tactic(auto, using(crate::proofs::Changed::line_read, crate::proofs::Ascent::tree_read, crate::proofs::Ascent::own_read))]
 pub fn line_at(nodes: &[Node], i: usize) -> Line
     requires stored { IsStored nodes.now }
     requires there { i < length nodes.now }
@@ -72,6 +73,7 @@ pub fn root_of(nodes: &[Node], i: usize) -> u8
 
 /// The word of one phaser's root.
 #[inline(always)]
+#[tactic(auto, using(crate::proofs::Shown::top_read, crate::proofs::Shown::top_word_read))]
 pub fn top_at(nodes: &[Node], i: usize) -> Word
     requires stored { IsStored nodes.now }
     requires there { i < length nodes.now }
@@ -104,6 +106,7 @@ pub fn root_word_at(nodes: &[Node], root: usize) -> Word
 
 /// What one phaser shows as its phase at present: that of its root, whatever its own word says.
 #[inline(always)]
+#[tactic(auto, using(crate::proofs::Shown::view_read))]
 pub fn view_at(nodes: &[Node], i: usize) -> i32
     requires stored { IsStored nodes.now }
     requires there { i < length nodes.now }

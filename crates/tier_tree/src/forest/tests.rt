@@ -1,13 +1,10 @@
-ghost use Rattle.std.specs.Prelude.{◌≡◌, ◌<◌, length, IfOk, IfSome};
+ghost use Rattle.std.specs.Prelude.{◌≡◌, ◌<◌, length, true, false, IfOk, IfSome};
 ghost use Rattle.tier_tree.specs.Declaration.{AreAllFresh};
-ghost use Rattle.tier_tree.specs.Forest.{phaser_at, flat_at, root_at};
-ghost use Rattle.tier_tree.specs.PhaseEnd.{most_ends};
+ghost use Rattle.tier_tree.specs.PhaseEnd.{after_phase_end};
 ghost use Rattle.tier_tree.specs.Stored.{phasers_of};
 
 use super::*;
-use crate::callers::{arrive_through, end_turned_phase, undo_two};
 use crate::fault::DeclareFault;
-use crate::present::word_at;
 use packed_phaser::Policy;
 use phase_number::Phase;
 use std::test::Fail;
@@ -106,6 +103,23 @@ fn arrives(forest: &mut Forest, id: u8, answer: Arrived) -> bool {
         Some(id) => forest.arrive(id, false) == answer,
         None => false,
     }
+}
+
+/// The phase of a root ends where it can: whatever `finish_turn` asks for is told by getters.
+fn end_turned_phase(forest: &mut Forest, root: PhaserId, ends: bool) -> bool
+    requires { root.0 < length forest.old }
+    ensures ended { result ≡ true
+        → phasers_of forest.new ≡ after_phase_end root.0 ends (phasers_of forest.old) }
+    ensures refused { result ≡ false → forest.new ≡ forest.old }
+{
+    if forest.root(root).0 != root.0 || !forest.is_turned(root) {
+        return false;
+    }
+    if forest.is_terminated(root) || forest.ended_phases(root) >= 2147483647 {
+        return false;
+    }
+    forest.finish_turn(root, ends);
+    true
 }
 
 /// Whether as many arrivals as there are parties end the phase.
@@ -459,146 +473,6 @@ fn a_full_forest(rt: HostRuntime) -> Result<(), Fail> {
     let all = eight_arrive(&mut forest);
     let wrong = first_wrong(&mut forest, &THE_NINTH);
     assert!(rt; all && wrong.is_none(), "{wrong:?}");
-    Ok(())
-}
-
-/// Undoes an arrival with the end of its phase, and a registration that is refused after it; what
-/// both answered.
-fn undone(forest: &mut Forest, id: u8, other: u8) -> Option<(Arrived, Registered)> {
-    let id = known(forest, id)?;
-    let other = known(forest, other)?;
-    if forest.ended_phases(forest.root(id)) < 2147483647 {
-        Some(undo_two(forest, id, other, 65535))
-    } else {
-        None
-    }
-}
-
-static ONE_OF_TWO: [Step; 3] = [
-    Step::Arrives(1, Arrived::At(0)),
-    Step::Arrives(0, Arrived::At(0)),
-    Step::Shows(1, 0, 2, 1),
-];
-
-/// A refused registration brings no word up: what was counted before a phase end is there again
-/// once the phase end is undone.
-#[test]
-fn a_phase_end_is_undone(rt: HostRuntime) -> Result<(), Fail> {
-    let mut forest = planted(rt.alloc(), &[Plan::Root(1), Plan::Child(0, 2)])?;
-    let wrong = first_wrong(&mut forest, &ONE_OF_TWO);
-    let answers = undone(&mut forest, 0, 1);
-    let after = first_wrong(
-        &mut forest,
-        &[Step::Shows(1, 0, 2, 1), Step::Shows(0, 0, 2, 1)],
-    );
-    assert!(rt; wrong.is_none() && after.is_none());
-    assert!(rt; answers == Some((turns(0, 2), Registered::TooMany)));
-    Ok(())
-}
-
-/// Whether each phaser's word has these bits, lagging or not.
-fn has_words(forest: &Forest, words: &[(u8, u64)]) -> bool {
-    for (id, bits) in words {
-        let Some(id) = known(forest, *id) else {
-            return false;
-        };
-        if forest.nodes[id.0 as usize].word().raw() != *bits {
-            return false;
-        }
-    }
-    true
-}
-
-/// What an arrival with the end of its phase answers, and whether the words were these after it;
-/// all undone.
-#[tactic(auto, using(crate::proofs::Changed::restored_line))]
-fn undo_phase_end(forest: &mut Forest, id: PhaserId, words: &[(u8, u64)]) -> (Arrived, bool)
-    requires there { id.0 < length forest.old }
-    requires few { (phaser_at (phasers_of forest.old) (root_at (phasers_of forest.old) id.0)).ends
-        < most_ends }
-    ensures { forest.new ≡ forest.old }
-{
-    forest.is_forest();
-    let saved = forest.save(id);
-    let answer = arrive_through(forest, id, false);
-    let are_these = has_words(forest, words);
-    forest.restore(saved);
-    (answer, are_these)
-}
-
-/// `undo_phase_end` at the phaser of this number, and how many phases have ended once it is undone.
-fn phase_end_undone(
-    forest: &mut Forest,
-    id: u8,
-    words: &[(u8, u64)],
-) -> Option<(Arrived, bool, u32)> {
-    let id = known(forest, id)?;
-    let root = forest.root(id);
-    if forest.ended_phases(root) < 2147483647 {
-        let (answer, are_these) = undo_phase_end(forest, id, words);
-        Some((answer, are_these, forest.ended_phases(root)))
-    } else {
-        None
-    }
-}
-
-/// Up to phase 15, in which one party is still to arrive, at phaser 3.
-static UP_TO_THE_LAST: [Step; 6] = [
-    Step::Arrives(1, Arrived::At(0)),
-    Step::EndsEach(0, 4, 0, 15),
-    Step::Arrives(3, Arrived::At(15)),
-    Step::Arrives(0, Arrived::At(15)),
-    Step::Arrives(0, Arrived::At(15)),
-    Step::Arrives(0, Arrived::At(15)),
-];
-
-/// Phaser 1 was used in phase 0, phaser 2 never, and phaser 3 just now.
-static BEFORE: [(u8, u64); 4] = [
-    (0, 0x0000_000f_0004_0001),
-    (1, 0x0000_0000_0002_0001),
-    (2, 0x0000_0000_0001_0001),
-    (3, 0x0000_000f_0002_0001),
-];
-
-static AFTER: [(u8, u64); 4] = [
-    (0, 0x0000_0010_0004_0004),
-    (1, 0x0000_0000_0002_0001),
-    (2, 0x0000_0000_0001_0001),
-    (3, 0x0000_000f_0002_0000),
-];
-
-#[test]
-fn a_phase_end_over_three_lags_is_undone(rt: HostRuntime) -> Result<(), Fail> {
-    let plans = [
-        Plan::Root(1),
-        Plan::Child(0, 2),
-        Plan::Child(0, 1),
-        Plan::Child(0, 2),
-    ];
-    let mut forest = planted(rt.alloc(), &plans)?;
-    let wrong = first_wrong(&mut forest, &UP_TO_THE_LAST);
-    let before = has_words(&forest, &BEFORE);
-    let answers = phase_end_undone(&mut forest, 3, &AFTER);
-    let after = has_words(&forest, &BEFORE);
-    assert!(rt; wrong.is_none() && before && after);
-    assert!(rt; answers == Some((turns(15, 4), true, 15)));
-    Ok(())
-}
-
-#[test]
-fn the_numbers_of_the_faults(rt: HostRuntime) -> Result<(), Fail> {
-    let numbers = [
-        (DeclareFault::BadParties, 1),
-        (DeclareFault::TooMany, 2),
-        (DeclareFault::TooDeep, 3),
-        (DeclareFault::TooManyPhasers, 4),
-        (DeclareFault::PhaseOnChild, 5),
-        (DeclareFault::NoParent, 6),
-        (DeclareFault::Memory, 7),
-    ];
-    for (fault, number) in &numbers {
-        assert!(rt; fault.number() == *number, "{number}");
-    }
     Ok(())
 }
 
