@@ -60,10 +60,7 @@ sound_endtry : (top : Option Frame) (program : Program) (steps t : ℕ) (scene :
 sound_endtry (Some (frame.Handler row)) program steps t scene stands is =
     let free = free_in program steps t scene status.Runs Endtry stands RunsOn in
     sound_pop program steps t (frame.Handler row) scene _ stands.sound stands.there is refl (stands.next refl) free free
-sound_endtry None program steps t scene stands is = sound_throw program steps t scene Endtry (pos 7) stands
-sound_endtry (Some (frame.Call row)) program steps t scene stands is = sound_throw program steps t scene Endtry (pos 7) stands
-sound_endtry (Some (frame.Advance root registers row)) program steps t scene stands is = sound_throw program steps t scene Endtry (pos 7) stands
-sound_endtry (Some (frame.Action b registers row)) program steps t scene stands is = sound_throw program steps t scene Endtry (pos 7) stands
+sound_endtry _ program steps t scene stands is = sound_throw program steps t scene Endtry (pos 7) stands
 
 -- a thread that is written twice
 set_twice : (xs : List ThreadState) (t : ℕ) (a b : ThreadState) → slice_set (slice_set xs t a) t b ≡ slice_set xs t b

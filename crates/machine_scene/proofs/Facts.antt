@@ -111,18 +111,11 @@ pub data IsFree : Status → Type 0 where
 
 pub free_awaits : (b : ℕ) (s : Status) (row : Row) → IsFree s → awaits b s row ≡ false
 free_awaits b _ row RunsOn = refl
-free_awaits b _ row (ThrowsOn code) = refl
-free_awaits b _ row (AwaitsOn phase) = refl
-free_awaits b _ row EndsOn = refl
-free_awaits b _ row (DiesOn code) = refl
+free_awaits b _ row _ = refl
 
 not_awaiting : (b : ℕ) (s : Status) (row : Row) → ((index : ℤ) → s ≢ status.AwaitsBarrier index) → awaits b s row ≡ false
-not_awaiting b status.Runs row free = refl
-not_awaiting b (status.Throws code) row free = refl
-not_awaiting b (status.AwaitsPhase phase) row free = refl
 not_awaiting b (status.AwaitsBarrier index) row free = absurd (free index refl)
-not_awaiting b status.Ended row free = refl
-not_awaiting b (status.Died code) row free = refl
+not_awaiting b _ row free = refl
 
 none_if : (wait : Option WaitState) → is_some wait ≡ false → wait ≡ None
 none_if None is = refl

@@ -60,12 +60,9 @@ sound_in (status.Died code) program steps t scene row stands = tt
 
 timeout_sound_in : (state : Status) (program : Program) (steps t : ℕ) (scene : Scene) (row : Row) → StandsAt program steps t scene state row
     → KeepsSound program (steps + 1) (timeout_in state row t scene)
-timeout_sound_in status.Runs program steps t scene row stands = tt
-timeout_sound_in (status.Throws code) program steps t scene row stands = tt
 timeout_sound_in (status.AwaitsPhase phase) program steps t scene row stands = sound_phase_timeout row phase program steps t scene stands
 timeout_sound_in (status.AwaitsBarrier index) program steps t scene row stands = sound_barrier_timeout row index program steps t scene stands
-timeout_sound_in status.Ended program steps t scene row stands = tt
-timeout_sound_in (status.Died code) program steps t scene row stands = tt
+timeout_sound_in _ program steps t scene row stands = tt
 
 -- where the turn of thread t has an outcome
 pub sound_outcome : (program : Program) (steps t : ℕ) (scene : Scene) (outcome : Outcome) → IsSound program steps scene

@@ -26,15 +26,11 @@ none_if (Some state) is = absurd (cc (is))
 -- by the thread's status
 its_wait : (s : Status) (row : Row) (t : ℕ) (scene : Scene) → ((b : ℕ) → has_wait t (barrier_at scene b) ≡ awaits b s row)
     → HasItsWait s row t scene
-its_wait status.Runs row t scene known = λ b. none_if (wait_at (barrier_at scene b).waits t) (known b)
-its_wait (status.Throws code) row t scene known = λ b. none_if (wait_at (barrier_at scene b).waits t) (known b)
-its_wait (status.AwaitsPhase phase) row t scene known = λ b. none_if (wait_at (barrier_at scene b).waits t) (known b)
 its_wait (status.AwaitsBarrier index) row t scene known = λ b at none.
     let some : is_some (wait_at (barrier_at scene b).waits t) ≡ true = known b ∙ at in
     let empty : is_some (wait_at (barrier_at scene b).waits t) ≡ false = ap (λ (w : Option WaitState). is_some w) none in
     cc (some, empty)
-its_wait status.Ended row t scene known = λ b. none_if (wait_at (barrier_at scene b).waits t) (known b)
-its_wait (status.Died code) row t scene known = λ b. none_if (wait_at (barrier_at scene b).waits t) (known b)
+its_wait _ row t scene known = λ b. none_if (wait_at (barrier_at scene b).waits t) (known b)
 
 -- a program has fewer than 65536 rows
 of_few : (thing : Named) (rows threads phasers barriers : ℕ) → rows < 65536
@@ -42,10 +38,7 @@ of_few : (thing : Named) (rows threads phasers barriers : ℕ) → rows < 65536
     → IsThere (record { rows = 65536; threads = threads; phasers = phasers; barriers = barriers }) thing
 of_few named.Nothing rows threads phasers barriers few there = tt
 of_few (named.Target row) rows threads phasers barriers few there = omega (arith, few, there)
-of_few (named.Cell cell) rows threads phasers barriers few there = there
-of_few (named.Thread thread) rows threads phasers barriers few there = there
-of_few (named.Phaser phaser) rows threads phasers barriers few there = there
-of_few (named.Barrier barrier) rows threads phasers barriers few there = there
+of_few _ rows threads phasers barriers few there = there
 
 -- what the row at this place names is there
 pub named_in : (program : Program) (steps pc : ℕ) (stored : StoredScene) → IsSound program steps (scene_of stored)

@@ -20,11 +20,8 @@ use Rattle.machine_scene.specs.Undo.{IsThere, PhasersWithin, reach_of_entry, rea
 
 entry_there : (top : Option Frame) (program : Program) (stored : StoredScene) → IsTop program stored top
     → IsThere (reach_of_entry top) stored
-entry_there None program stored is = tt
-entry_there (Some (frame.Call row)) program stored is = tt
-entry_there (Some (frame.Handler row)) program stored is = tt
-entry_there (Some (frame.Advance root registers row)) program stored is = tt
 entry_there (Some (frame.Action b registers row)) program stored is = is.0.1
+entry_there _ program stored is = tt
 
 ret_there : (top : Option Frame) (program : Program) (stored : StoredScene) → IsTop program stored top → IsThere (reach_of_ret top) stored
 ret_there None program stored is = tt
@@ -81,8 +78,5 @@ local_reach status.Runs row top is = row_reach row top is
 local_reach _ row top is = absurd (cc is)
 
 pub within_same : (reach : Reach) (before after : List Stored) → after ≡ before → PhasersWithin reach before after
-within_same reach.Nothing before after same = same
-within_same (reach.Cell cell) before after same = same
-within_same (reach.Thread other) before after same = same
 within_same (reach.Tree p) before after same = changed_nothing p before after same
-within_same (reach.Barrier b) before after same = same
+within_same _ before after same = same

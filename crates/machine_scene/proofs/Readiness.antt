@@ -31,9 +31,7 @@ either false one other first second = second
 registered_is_ready : (answer : Registered) (into : Reg) (t : ℕ) (scene : Scene)
     → is_some (outcome_of_registered answer into t scene) ≡ not (is_held answer)
 registered_is_ready (registered.At phase) into t scene = refl
-registered_is_ready (registered.Dead view) into t scene = refl
-registered_is_ready registered.Held into t scene = refl
-registered_is_ready registered.TooMany into t scene = refl
+registered_is_ready _ into t scene = refl
 
 -- by whether the tree is the thread's own, and whether the count is below 0
 held_by : (own below held : Bool) (one two three : Option Outcome) → is_some one ≡ true → is_some two ≡ true → is_some three ≡ not held
@@ -120,26 +118,6 @@ own_is_ready p t scene outcome = either (is_own_tree p (thread_at scene t) scene
 -- a row of a running thread has an outcome exactly where it needn't wait
 pub row_is_ready : (row : Row) (t : ℕ) (program : Program) (scene : Scene)
     → is_some (outcome_of_row row t program scene) ≡ not (is_blocked row t scene)
-row_is_ready Halt t program scene = refl
-row_is_ready (Ldi into value) t program scene = refl
-row_is_ready (Mov into from) t program scene = refl
-row_is_ready (Add into left right) t program scene = refl
-row_is_ready (Sub into left right) t program scene = refl
-row_is_ready (Jmp target) t program scene = refl
-row_is_ready (Beq left right target) t program scene = refl
-row_is_ready (Bne left right target) t program scene = refl
-row_is_ready (Blt left right target) t program scene = refl
-row_is_ready (Call target) t program scene = refl
-row_is_ready Ret t program scene = refl
-row_is_ready (Try handler) t program scene = refl
-row_is_ready Endtry t program scene = refl
-row_is_ready (Throw code) t program scene = refl
-row_is_ready (Out value) t program scene = refl
-row_is_ready (Lds into cell) t program scene = refl
-row_is_ready (Sts from cell) t program scene = refl
-row_is_ready (SelfNumber into) t program scene = refl
-row_is_ready (Intr other) t program scene = refl
-row_is_ready (Intrd into) t program scene = refl
 row_is_ready (Preg into p) t program scene = register_is_ready into p t scene
 row_is_ready (Pbulk into p count) t program scene =
     bulk_is_ready into p (value_in (thread_at scene t).registers count) t scene
@@ -149,20 +127,12 @@ row_is_ready (Paaa into p) t program scene = own_is_ready p t scene _
 row_is_ready (Pawait into p phase) t program scene = own_is_ready p t scene _
 row_is_ready (Pawaiti into p phase) t program scene = own_is_ready p t scene _
 row_is_ready (Pawaitt into p phase time) t program scene = own_is_ready p t scene _
-row_is_ready (Pforce p) t program scene = refl
-row_is_ready (Pphase into p) t program scene = refl
-row_is_ready (Pparties into p) t program scene = refl
-row_is_ready (Parrived into p) t program scene = refl
-row_is_ready (Punarr into p) t program scene = refl
-row_is_ready (Pterm into p) t program scene = refl
-row_is_ready (Pparent into p) t program scene = refl
-row_is_ready (Proot into p) t program scene = refl
 row_is_ready (Cawait into b) t program scene = await_is_ready false into b t program scene
 row_is_ready (Cawaitt into b time) t program scene = await_is_ready _ into b t program scene
 row_is_ready (Creset b) t program scene = runner_is_ready b t scene _
 row_is_ready (Cbroken into b) t program scene = busy_is_ready b t scene _
 row_is_ready (Cwaiting into b) t program scene = runner_is_ready b t scene _
-row_is_ready (Cparties into b) t program scene = refl
+row_is_ready _ t program scene = refl
 
 -- where no thread has to wait
 pub seldom_blocked : (row : Row) (t : ℕ) (scene : Scene) → may_be_blocked row ≡ false → is_blocked row t scene ≡ false

@@ -88,12 +88,9 @@ barrier_timeout_some (row.Cawaitt into b time) t index scene = none_where (is_so
 barrier_timeout_some _ t index scene = refl
 
 timeout_some : (s : Status) (r : Row) (t : ℕ) (scene : Scene) → is_some (timeout_in s r t scene) ≡ can_run_out s r scene
-timeout_some status.Runs r t scene = refl
-timeout_some (status.Throws code) r t scene = refl
 timeout_some (status.AwaitsPhase phase) r t scene = phase_timeout_some r t phase scene
 timeout_some (status.AwaitsBarrier index) r t scene = barrier_timeout_some r t index scene
-timeout_some status.Ended r t scene = refl
-timeout_some (status.Died code) r t scene = refl
+timeout_some _ r t scene = refl
 
 -- an expiry has an outcome exactly where the turn has none, the wait has a time, and no thread runs the barrier's action
 pub expiry_as_listed : (t : ℕ) (program : Program) (scene : Scene)

@@ -385,13 +385,10 @@ calm_entered : (answer : Entered) (into : Reg) (b t : ℕ) (row : Row) (program 
     → KeepsIf answer t (barrier_at scene b) gate
     → CalmIf t row scene (outcome_of_entered answer into b t program (with_barrier gate b scene))
 calm_entered (entered.Wait index) into b t row program scene gate keeps = λ calm. at_gate b t row scene gate _ keeps
-calm_entered entered.Run into b t row program scene gate keeps = λ calm. absurd (cc calm)
-calm_entered entered.Tripped into b t row program scene gate keeps = λ calm. absurd (cc calm)
 calm_entered entered.Broken into b t row program scene gate keeps = λ calm. at_gate b t row scene gate _ keeps
-calm_entered entered.Interrupted into b t row program scene gate keeps = λ calm. absurd (cc calm)
-calm_entered entered.TimedOut into b t row program scene gate keeps = λ calm. absurd (cc calm)
 calm_entered entered.Own into b t row program scene gate keeps = λ calm. at_gate b t row scene gate _ keeps
 calm_entered entered.Busy into b t row program scene gate keeps = tt
+calm_entered _ into b t row program scene gate keeps = λ calm. absurd (cc calm)
 
 calm_await : (no_wait : Bool) (into : Reg) (b t : ℕ) (row : Row) (program : Program) (scene : Scene)
     → CalmIf t row scene (outcome_of_await_at no_wait into b t program scene)
@@ -435,11 +432,8 @@ quiet_barrier_row _ t program scene = tt
 -- turns of threads that don't run
 
 calm_popped : (top : Option Frame) (code : ℤ) (t : ℕ) (row : Row) (scene : Scene) → CalmIf t row scene (Some (outcome_of_popped top code t scene))
-calm_popped None code t row scene = λ calm. still t row scene _
-calm_popped (Some (frame.Call back)) code t row scene = λ calm. still t row scene _
-calm_popped (Some (frame.Handler first)) code t row scene = λ calm. still t row scene _
-calm_popped (Some (frame.Advance root registers back)) code t row scene = λ calm. still t row scene _
 calm_popped (Some (frame.Action b registers back)) code t row scene = λ calm. absurd (cc calm)
+calm_popped _ code t row scene = λ calm. still t row scene _
 
 calm_awaited : (looks : Bool) (into : Reg) (p : ℕ) (phase : ℤ) (t : ℕ) (row : Row) (scene : Scene)
     → CalmIf t row scene (outcome_of_awaited looks into p phase t scene)
@@ -502,20 +496,14 @@ quiet_in status.Ended row t program scene = tt
 quiet_in (status.Died code) row t program scene = tt
 
 quiet_timeout : (of : Status) (row : Row) (t : ℕ) (scene : Scene) → QuietIf t row scene (timeout_in of row t scene)
-quiet_timeout status.Runs row t scene = tt
-quiet_timeout (status.Throws code) row t scene = tt
 quiet_timeout (status.AwaitsPhase phase) row t scene = quiet_if t row scene (outcome_of_phase_timeout row t scene) (calm_phase_timeout row t scene)
 quiet_timeout (status.AwaitsBarrier index) row t scene = quiet_if t row scene (outcome_of_barrier_timeout row t scene) (calm_barrier_timeout row t scene)
-quiet_timeout status.Ended row t scene = tt
-quiet_timeout (status.Died code) row t scene = tt
+quiet_timeout _ row t scene = tt
 
 -- a row that changes no tree
 same_entry : (top : Option Frame) (before after : List Stored) → PhasersWithin (reach_of_entry top) before after → after ≡ before
-same_entry None before after within = within
-same_entry (Some (frame.Call back)) before after within = within
-same_entry (Some (frame.Handler first)) before after within = within
-same_entry (Some (frame.Advance root registers back)) before after within = within
-same_entry (Some (frame.Action b registers back)) before after within = within
+same_entry (Some (frame.Call row)) before after within = within
+same_entry _ before after within = within
 
 same_row : (row : Row) (top : Option Frame) (before after : List Stored) → changes_tree row ≡ false
     → PhasersWithin (reach_of_row row top) before after → after ≡ before

@@ -66,12 +66,9 @@ many_back t before after =
 
 many_threads : (reach : Reach) (t : ℕ) (before after : List ThreadState) → threads_back reach t before after ≡ before
     → length after ≡ length before
-many_threads reach.Nothing t before after back = sym (many_back t before after) ∙ ap length back
-many_threads (reach.Cell cell) t before after back = sym (many_back t before after) ∙ ap length back
 many_threads (reach.Thread other) t before after back =
     sym (many_back other before after) ∙ sym (many_back t before (thread_back other before after)) ∙ ap length back
-many_threads (reach.Tree p) t before after back = sym (many_back t before after) ∙ ap length back
-many_threads (reach.Barrier b) t before after back = sym (many_back t before after) ∙ ap length back
+many_threads _ t before after back = sym (many_back t before after) ∙ ap length back
 
 can_put_back : (reach : Reach) (t : ℕ) (old new : StoredScene) → IsThere reach old → IsStored old.phasers
     → GivesBack reach t (scene_of old) (scene_of new) → PhasersWithin reach old.phasers new.phasers
@@ -162,10 +159,7 @@ expiry_played program t old new event sound there stored is within =
 touched_still : (of : Touched) (stored : StoredScene) (set : ReadySet)
     → with_touched of (record stored { ready = set }) ≡ record (with_touched of stored) { ready = set }
 touched_still touched.Nothing stored set = refl
-touched_still (touched.Cell cell number) stored set = refl
-touched_still (touched.Thread other before) stored set = refl
-touched_still (touched.Tree saved) stored set = refl
-touched_still (touched.Barrier b before) stored set = refl
+touched_still _ stored set = refl
 
 undone_still : (note : Note) (stored : StoredScene) (set : ReadySet) → undone note (record stored { ready = set }) ≡ undone note stored
 undone_still note stored set =
@@ -173,10 +167,7 @@ undone_still note stored set =
 
 put_back_still : (of : Touched) (stored : StoredScene) (set : ReadySet) → CanPutBack of stored → CanPutBack of (record stored { ready = set })
 put_back_still touched.Nothing stored set can = tt
-put_back_still (touched.Cell cell number) stored set can = can
-put_back_still (touched.Thread other before) stored set can = can
-put_back_still (touched.Tree saved) stored set can = can
-put_back_still (touched.Barrier b before) stored set can = can
+put_back_still _ stored set can = can
 
 can_still : (note : Note) (stored : StoredScene) (set : ReadySet) → CanUndo note stored → CanUndo note (record stored { ready = set })
 can_still note stored set can = record { there = can.there; touched = put_back_still note.touched stored set can.touched }

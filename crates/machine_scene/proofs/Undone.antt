@@ -69,18 +69,12 @@ back_out before after value stack output =
 
 -- the cells, with what this reach kept of them
 abbrev pub cells_back : Reach → List ℤ → List ℤ → List ℤ
-cells_back reach.Nothing before after = after
 cells_back (reach.Cell cell) before after = slice_set after cell (slice_index_or before cell (pos 0))
-cells_back (reach.Thread other) before after = after
-cells_back (reach.Tree p) before after = after
-cells_back (reach.Barrier b) before after = after
+cells_back _ before after = after
 
 abbrev pub barriers_back : Reach → List BarrierState → List BarrierState → List BarrierState
-barriers_back reach.Nothing before after = after
-barriers_back (reach.Cell cell) before after = after
-barriers_back (reach.Thread other) before after = after
-barriers_back (reach.Tree p) before after = after
 barriers_back (reach.Barrier b) before after = slice_set after b (slice_index_or before b (fresh 1 false))
+barriers_back _ before after = after
 
 -- the threads with one of them as it was
 abbrev pub thread_back : ℕ → List ThreadState → List ThreadState → List ThreadState
@@ -88,11 +82,8 @@ thread_back t before after =
     slice_set after t (own.undone (own.note_of (slice_index_or before t no_thread)) (slice_index_or after t no_thread))
 
 abbrev pub threads_back : Reach → ℕ → List ThreadState → List ThreadState → List ThreadState
-threads_back reach.Nothing t before after = thread_back t before after
-threads_back (reach.Cell cell) t before after = thread_back t before after
 threads_back (reach.Thread other) t before after = thread_back t before (thread_back other before after)
-threads_back (reach.Tree p) t before after = thread_back t before after
-threads_back (reach.Barrier b) t before after = thread_back t before after
+threads_back _ t before after = thread_back t before after
 
 -- what was kept before the turn of thread t gives back all but the phasers
 pub record GivesBack (reach : Reach) (t : ℕ) (before after : Scene) : Type 0 where
@@ -110,18 +101,12 @@ abbrev pub IsOwn : Reach → ℕ → Type 0
 IsOwn reach t = (before after : List ThreadState) → threads_back reach t before after ≡ thread_back t before after
 
 same_cells : (reach : Reach) (cells : List ℤ) → cells_back reach cells cells ≡ cells
-same_cells reach.Nothing cells = refl
 same_cells (reach.Cell cell) cells = set-get_or cells cell (pos 0)
-same_cells (reach.Thread other) cells = refl
-same_cells (reach.Tree p) cells = refl
-same_cells (reach.Barrier b) cells = refl
+same_cells _ cells = refl
 
 same_barriers : (reach : Reach) (barriers : List BarrierState) → barriers_back reach barriers barriers ≡ barriers
-same_barriers reach.Nothing barriers = refl
-same_barriers (reach.Cell cell) barriers = refl
-same_barriers (reach.Thread other) barriers = refl
-same_barriers (reach.Tree p) barriers = refl
 same_barriers (reach.Barrier b) barriers = set-get_or barriers b (fresh 1 false)
+same_barriers _ barriers = refl
 
 -- a thread that is set, and then as it was
 pub thread_set : (t : ℕ) (threads : List ThreadState) (thread : ThreadState) → t < length threads

@@ -127,11 +127,8 @@ pops : (before : ThreadState) (turn : Turn) → turn.thread.stack ≡ (popped be
 pops before turn stack output = back_pop before turn.thread stack output
 
 ended_try : (top : Option Frame) (before : ThreadState) → Undoes before (turn_of_endtry top before)
-ended_try None before = thrown before (pos 7)
-ended_try (Some (frame.Call row)) before = thrown before (pos 7)
 ended_try (Some (frame.Handler row)) before = pops before (turn_of_done (popped before)) refl refl
-ended_try (Some (frame.Advance root registers row)) before = thrown before (pos 7)
-ended_try (Some (frame.Action b registers row)) before = thrown before (pos 7)
+ended_try _ before = thrown before (pos 7)
 
 unwound : (top : Option Frame) (code : ℤ) (before : ThreadState) → Undoes before (turn_of_popped top code before)
 unwound None code before = same before (turn_of_popped None code before) refl refl
@@ -512,9 +509,6 @@ back_in (status.Died code) row t program scene named there = tt
 -- the expiry of its wait
 pub back_timeout : (of : Status) (row : Row) (t : ℕ) (scene : Scene) → t < length scene.threads
     → BackIf (reach_in of row (top_of (thread_at scene t).stack)) t scene (timeout_in of row t scene)
-back_timeout status.Runs row t scene there = tt
-back_timeout (status.Throws code) row t scene there = tt
 back_timeout (status.AwaitsPhase phase) row t scene there = back_phase_timeout row t scene there
 back_timeout (status.AwaitsBarrier index) row t scene there = back_barrier_timeout row t scene there
-back_timeout status.Ended row t scene there = tt
-back_timeout (status.Died code) row t scene there = tt
+back_timeout _ row t scene there = tt

@@ -6,7 +6,6 @@
 //! and calls the function of its group. Most turns are `common_turns`, played where they are asked for.
 #![tactic(auto)]
 
-mod callers;
 mod group;
 mod law;
 mod manner;

@@ -262,27 +262,6 @@ impl Stage {
             (thread_at (scene_of self.old) t) ≡ true }
         ensures err { OnErr result (self.new ≡ self.old) }
     {
-        match self.common_turn(program, t) {
-            Some(event) => Ok(event),
-            None => self.seldom_turn(program, t),
-        }
-    }
-
-    /// `turn`, where it isn't of a common kind: one function when it runs, so that the common ones don't pay for it.
-    #[inline(never)]
-    fn seldom_turn(&mut self, program: &Loaded, t: usize) -> Result<Event, AllocError>
-        requires sound { IsSound program.now most_before (scene_of self.old) }
-        requires known { KnowsReady program.now self.old }
-        requires thread { t < length self.old.threads }
-        requires ready { is_ready t program.now (scene_of self.old) ≡ true }
-        ensures ok { IfOk result (λ event.
-            IsPlayed (outcome_of t program.now (scene_of self.old)) t program.now self.old self.new event) }
-        ensures known { OnOk result (KnowsReady program.now self.new) }
-        ensures memory { IsErr result → may_grow
-            (row_at program.now.rows (thread_at (scene_of self.old) t).pc)
-            (thread_at (scene_of self.old) t) ≡ true }
-        ensures err { OnErr result (self.new ≡ self.old) }
-    {
         let row = self.row_of(program, t);
         let before = self.ready;
         match self.play(program, row, t) {

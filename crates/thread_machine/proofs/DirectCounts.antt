@@ -80,45 +80,20 @@ aside_fares outcome scene origin aside stands =
 -- rows that touch no phaser
 own_aside : (row : Row) (t : ℕ) (scene : Scene) → IsAside scene (outcome_of_own_row row t scene)
 own_aside Halt t scene = refl
-own_aside (Ldi into value) t scene = refl
-own_aside (Mov into from) t scene = refl
-own_aside (Add into left right) t scene = refl
-own_aside (Sub into left right) t scene = refl
-own_aside (Jmp target) t scene = refl
-own_aside (Beq left right target) t scene = refl
-own_aside (Bne left right target) t scene = refl
-own_aside (Blt left right target) t scene = refl
 own_aside _ t scene = refl
 
 data_aside : (row : Row) (t : ℕ) (scene : Scene) → IsAside scene (outcome_of_data_row row t scene)
 data_aside (Out value) t scene = refl
-data_aside (Lds into cell) t scene = refl
-data_aside (Sts from cell) t scene = refl
-data_aside (SelfNumber into) t scene = refl
-data_aside (Intr other) t scene = refl
-data_aside (Intrd into) t scene = refl
 data_aside _ t scene = refl
 
 getter_aside : (row : Row) (t : ℕ) (scene : Scene) → IsAside scene (outcome_of_getter_row row t scene)
 getter_aside (Pphase into p) t scene = refl
-getter_aside (Pparties into p) t scene = refl
-getter_aside (Parrived into p) t scene = refl
-getter_aside (Punarr into p) t scene = refl
-getter_aside (Pterm into p) t scene = refl
-getter_aside (Pparent into p) t scene = refl
-getter_aside (Proot into p) t scene = refl
 getter_aside _ t scene = refl
 
 entered_aside : (answer : Entered) (into : Reg) (b t : ℕ) (program : Program) (gate : BarrierState) (scene : Scene)
     → IsAside scene (outcome_of_entered answer into b t program (with_barrier gate b scene))
 entered_aside (entered.Wait index) into b t program gate scene = refl
-entered_aside entered.Run into b t program gate scene = refl
-entered_aside entered.Tripped into b t program gate scene = refl
-entered_aside entered.Broken into b t program gate scene = refl
-entered_aside entered.Interrupted into b t program gate scene = refl
-entered_aside entered.TimedOut into b t program gate scene = refl
-entered_aside entered.Own into b t program gate scene = refl
-entered_aside entered.Busy into b t program gate scene = refl
+entered_aside _ into b t program gate scene = refl
 
 await_aside : (no_wait : Bool) (into : Reg) (b t : ℕ) (program : Program) (scene : Scene)
     → IsAside scene (outcome_of_await_at no_wait into b t program scene)
@@ -144,11 +119,8 @@ barrier_aside (Cwaiting into b) t program scene = busy_aside b t scene _ (runner
 barrier_aside _ t program scene = refl
 
 popped_aside : (top : Option Frame) (code : ℤ) (t : ℕ) (scene : Scene) → IsAside scene (Some (outcome_of_popped top code t scene))
-popped_aside None code t scene = refl
 popped_aside (Some (frame.Call row)) code t scene = refl
-popped_aside (Some (frame.Handler row)) code t scene = refl
-popped_aside (Some (frame.Advance root registers row)) code t scene = refl
-popped_aside (Some (frame.Action b registers row)) code t scene = refl
+popped_aside _ code t scene = refl
 
 awaited_aside : (past looks : Bool) (scene : Scene) (a b : Outcome) → IsAside scene (Some a) → IsAside scene (Some b)
     → IsAside scene (if past then Some a else (if looks then Some b else None))
@@ -198,10 +170,7 @@ barrier_timeout_aside _ t scene = refl
 pub timeout_aside : (waits : Status) (row : Row) (t : ℕ) (scene : Scene) → IsAside scene (timeout_in waits row t scene)
 timeout_aside (status.AwaitsPhase phase) row t scene = phase_timeout_aside row t scene
 timeout_aside (status.AwaitsBarrier index) row t scene = barrier_timeout_aside row t scene
-timeout_aside status.Runs row t scene = refl
-timeout_aside (status.Throws code) row t scene = refl
-timeout_aside status.Ended row t scene = refl
-timeout_aside (status.Died code) row t scene = refl
+timeout_aside _ row t scene = refl
 
 -- a registration, by its answer
 registered_fares : (answer : Registered) (p count t : ℕ) (scene : Scene) (into : Reg) (origin : Origin) (phasers : List PhaserState)
@@ -356,24 +325,17 @@ routine_end_fares false program steps t root row registers manner ends scene aft
 ret_fares : (top : Option Frame) (program : Program) (steps t : ℕ) (scene : Scene) (origin : Origin)
     → StandsAt program steps t scene status.Runs Ret → top_of (thread_at scene t).stack ≡ top → AreTallied scene.phasers origin
     → FaresTo scene origin (Some (outcome_of_ret top t program scene))
-ret_fares None program steps t scene origin stands is counts = fares_same scene.phasers origin counts
-ret_fares (Some (frame.Call row)) program steps t scene origin stands is counts = fares_same scene.phasers origin counts
-ret_fares (Some (frame.Handler row)) program steps t scene origin stands is counts = fares_same scene.phasers origin counts
 ret_fares (Some (frame.Advance root registers row)) program steps t scene origin stands is counts =
     routine_end_fares (flat_at scene.phasers root).ended program steps t root row registers (manner_of (row_at program.rows row))
     (not (int_eq (value_in (thread_at scene t).registers R0) (pos 0))) scene
     (with_thread (left_routine registers row (thread_at scene t)) t scene) origin refl refl stands is counts
-ret_fares (Some (frame.Action b registers row)) program steps t scene origin stands is counts = fares_same scene.phasers origin counts
+ret_fares _ program steps t scene origin stands is counts = fares_same scene.phasers origin counts
 
 call_row_fares : (row : Row) (program : Program) (steps t : ℕ) (scene : Scene) (origin : Origin)
     → StandsAt program steps t scene status.Runs row → AreTallied scene.phasers origin
     → FaresTo scene origin (outcome_of_call_row row t program scene)
-call_row_fares (Call target) program steps t scene origin stands counts = fares_same scene.phasers origin counts
 call_row_fares Ret program steps t scene origin stands counts =
     ret_fares (top_of (thread_at scene t).stack) program steps t scene origin stands refl counts
-call_row_fares (Try handler) program steps t scene origin stands counts = fares_same scene.phasers origin counts
-call_row_fares Endtry program steps t scene origin stands counts = fares_same scene.phasers origin counts
-call_row_fares (Throw code) program steps t scene origin stands counts = fares_same scene.phasers origin counts
 call_row_fares _ program steps t scene origin stands counts = fares_same scene.phasers origin counts
 
 -- rows of other groups count nothing

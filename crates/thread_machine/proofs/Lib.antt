@@ -9,4 +9,3 @@ pub mod PhaseEnds
 pub mod DirectCounts
 pub mod SafeEnds
 pub mod Firsts
-mod WorkedCounts

@@ -1,32 +1,30 @@
 -- What follows of a choice that was played: what undoes it, and how the direct counts go on.
-use Rattle.std.proofs.Common.{inl, inr, ◌≡◌, ◌≢◌, ◌∙◌, ℕ, ◌+◌, ◌-◌, ◌==◌, Bool, ap, sym, subst, arith, if◌then◌else◌}
-use Rattle.std.specs.Prelude.{Option, Some, None, Result, Ok, Err, OnOk}
-use Rattle.std.proofs.lemmas.Bool.{cases_eq}
-use Rattle.tier_tree.proofs.Stands.{same-is, other-is}
+use Rattle.std.proofs.Common.{◌≡◌, ◌≢◌, ◌∙◌, ℕ, ◌+◌, ◌-◌, ◌<◌, Bool, true, false, length, refl, ap, sym, subst, arith, if◌then◌else◌}
+use Rattle.std.specs.Prelude.{Option, Some, None, is_some, Result, Ok, Err}
 use Rattle.thread_state.specs.declared.event.Event.{Event}
+use Rattle.machine_scene.specs.Scene.{Outcome, scene_of}
 use Rattle.machine_scene.specs.Undo as scene
 use Rattle.thread_machine.specs.declared.choice.Choice.{Choice}
 use Rattle.thread_machine.specs.declared.fault.StepFault.{StepFault}
-use Rattle.thread_machine.specs.World.{StoredWorld}
+use Rattle.thread_machine.specs.World.{World, StoredWorld, world_of}
+use Rattle.thread_machine.specs.Ready.{outcome_of_choice, is_choice_ready}
+use Rattle.thread_machine.specs.Step.{Played, played_by}
 use Rattle.thread_machine.specs.Sound.{IsMachine}
 use Rattle.thread_machine.specs.Undo.{undone, CanUndo}
 use Rattle.thread_machine.specs.Stepped.{IsStep, HasPlayed, kept_of}
 use Rattle.thread_machine.proofs.Sound.{idle_undone}
 use Rattle.thread_machine.proofs.SafeEnds.{step_keeps, result_numbers}
 
--- of a choice that took no step nothing is kept
-pub kept_none : (choice : Choice) (old new : StoredWorld) → new.steps ≡ old.steps → kept_of choice old new ≡ None
-kept_none choice old new same =
-    let note : scene.Note = scene.note_of choice.thread old.program old.scene in
-    ap (λ (n : ℕ). if n == old.steps then None else Some note) same
-    ∙ ap (λ (x : Bool). if x then None else Some note) (same-is old.steps)
+-- a choice takes a step just where it is ready
+took : (outcome : Option Outcome) (world : World) → (played_by outcome world).world.steps ≡ (if is_some outcome then world.steps + 1 else world.steps)
+took (Some outcome) world = refl
+took None world = refl
 
--- of one that took a step the scene before it is
-pub kept_some : (choice : Choice) (old new : StoredWorld) → new.steps ≢ old.steps
-    → kept_of choice old new ≡ Some (scene.note_of choice.thread old.program old.scene)
-kept_some choice old new apart =
-    let note : scene.Note = scene.note_of choice.thread old.program old.scene in
-    ap (λ (x : Bool). if x then None else Some note) (other-is new.steps old.steps apart)
+steps_after : (old new : StoredWorld) (choice : Choice) (event : Event) (ready : Bool) → is_choice_ready old.program choice (scene_of old.scene) ≡ ready
+    → HasPlayed old choice (Ok event) new → new.steps ≡ (if ready then old.steps + 1 else old.steps)
+steps_after old new choice event ready is has =
+    ap (λ (p : Played). p.world.steps) has.played ∙ took (outcome_of_choice old.program choice (scene_of old.scene)) (world_of old)
+    ∙ ap (λ (x : Bool). if x then old.steps + 1 else old.steps) is
 
 -- it undoes the choice
 record IsUndone (old : StoredWorld) (kept : Option scene.Note) (new : StoredWorld) : Type 0 where
@@ -38,23 +36,26 @@ idle_back old new is =
     let more : (old.choices + 1) - 1 ≡ old.choices = omega arith in
     ap (λ (w : StoredWorld). undone None w) is ∙ ap (λ (n : ℕ). record old { choices = n }) more
 
-undone_by : (old new : StoredWorld) (choice : Choice) (event : Event) → IsMachine old → HasPlayed old choice (Ok event) new
-    → IsUndone old (kept_of choice old new) new
-undone_by old new choice event machine has = elim (cases_eq new.steps old.steps) as (λ _. IsUndone old (kept_of choice old new) new) [
-  | inl same ↦ subst (λ (kept : Option scene.Note). IsUndone old kept new) (sym (kept_none choice old new same))
-      (record { undo = idle_back old new (has.idle same); can = idle_undone old new machine (has.idle same) })
-  | inr apart ↦ subst (λ (kept : Option scene.Note). IsUndone old kept new) (sym (kept_some choice old new apart))
-      (record {
-        undo = has.undo apart;
-        can = record { counted = has.counted; scene = has.can apart; machine = subst IsMachine (sym (has.undo apart)) machine };
-      })
-]
+undone_by : (ready : Bool) (old new : StoredWorld) (choice : Choice) (event : Event)
+    → is_choice_ready old.program choice (scene_of old.scene) ≡ ready → IsMachine old → HasPlayed old choice (Ok event) new
+    → IsUndone old (if ready then Some (scene.note_of choice.thread old.program old.scene) else None) new
+undone_by true old new choice event is machine has =
+    let steps : new.steps ≡ old.steps + 1 = steps_after old new choice event true is has in
+    let apart : new.steps ≢ old.steps = omega (arith, steps) in
+    record {
+      undo = has.undo apart;
+      can = record { counted = has.counted; scene = has.can apart; machine = subst IsMachine (sym (has.undo apart)) machine };
+    }
+undone_by false old new choice event is machine has =
+    let same = has.idle (steps_after old new choice event false is has) in
+    record { undo = idle_back old new same; can = idle_undone old new machine same }
 
--- a choice that was played is a step
-pub step_is : (result : Result Event StepFault) (old new : StoredWorld) (choice : Choice) → IsMachine old → HasPlayed old choice result new
-    → IsStep old choice result (kept_of choice old new) new
-step_is (Ok event) old new choice machine has =
-    let back = undone_by old new choice event machine has in
+-- a choice that was played is a step, whatever is kept of one that was refused
+pub step_is : (result : Result Event StepFault) (old new : StoredWorld) (choice : Choice) (kept : Option scene.Note) → IsMachine old
+    → HasPlayed old choice result new → (choice.thread < length old.scene.threads → kept ≡ kept_of choice old) → IsStep old choice result kept new
+step_is (Ok event) old new choice kept machine has is =
+    subst (λ (note : Option scene.Note). IsStep old choice (Ok event) note new) (sym (is has.there))
+    (let back = undone_by (is_choice_ready old.program choice (scene_of old.scene)) old new choice event refl machine has in
     record {
       played = has.played;
       undo = back.undo;
@@ -68,8 +69,8 @@ step_is (Ok event) old new choice machine has =
       safe = λ counts stands. (step_keeps old new event choice counts machine has.there has.played stands).safe;
       numbers = result_numbers (Ok event) old new choice machine has.there has.played;
       err = tt;
-    }
-step_is (Err fault) old new choice machine has = record {
+    })
+step_is (Err fault) old new choice kept machine has is = record {
   played = tt;
   undo = tt;
   can = tt;
@@ -82,23 +83,4 @@ step_is (Err fault) old new choice machine has = record {
   safe = tt;
   numbers = tt;
   err = has.err;
-}
-
--- a step, whatever is kept of one that was refused
-pub step_keeping : (result : Result Event StepFault) (old new : StoredWorld) (choice : Choice) (kept other : Option scene.Note)
-    → OnOk result (other ≡ kept) → IsStep old choice result kept new → IsStep old choice result other new
-step_keeping (Ok event) old new choice kept other same is = subst (λ (note : Option scene.Note). IsStep old choice (Ok event) note new) (sym same) is
-step_keeping (Err fault) old new choice kept other same is = record {
-  played = tt;
-  undo = tt;
-  can = tt;
-  no_thread = is.no_thread;
-  limit = is.limit;
-  accepted = tt;
-  memory = is.memory;
-  threads = is.threads;
-  counts = tt;
-  safe = tt;
-  numbers = tt;
-  err = is.err;
 }

@@ -1,13 +1,15 @@
 -- What a step makes of a machine.
-use Rattle.std.specs.Prelude.{◌≡◌, ◌≢◌, ◌↔◌, ◌+◌, ◌<◌, ◌==◌, length, true, Option, Some, None, Result, Err, IfOk, OnOk, OnErr, if◌then◌else◌}
+use Rattle.std.specs.Prelude.{◌≡◌, ◌≢◌, ◌↔◌, ◌+◌, ◌<◌, length, true, Option, Some, None, Result, Err, IfOk, OnOk, OnErr, if◌then◌else◌}
 use Rattle.tier_tree.specs.Origin.{Origin, AreTallied}
 use Rattle.tier_tree.specs.Stored.{phasers_of}
 use Rattle.thread_state.specs.declared.event.Event.{Event}
+use Rattle.machine_scene.specs.Scene.{scene_of}
 use Rattle.machine_scene.specs.Undo as scene
 use Rattle.thread_machine.specs.declared.choice.Choice.{Choice}
 use Rattle.thread_machine.specs.declared.fault.StepFault.{StepFault}
 use Rattle.thread_machine.specs.declared.fault.StepFault.TheVariants as fault
 use Rattle.thread_machine.specs.World.{StoredWorld, world_of}
+use Rattle.thread_machine.specs.Ready.{is_choice_ready}
 use Rattle.thread_machine.specs.Step.{played, refusal_of, puts_out}
 use Rattle.thread_machine.specs.DirectCounts.{counts_after, EndsNoPhaseEarly, NumbersStay}
 use Rattle.thread_machine.specs.Undo.{undone, CanUndo}
@@ -31,9 +33,11 @@ pub record IsStep (old : StoredWorld) (choice : Choice) (result : Result Event S
   pub numbers : OnOk result (NumbersStay (phasers_of old.scene.phasers) (phasers_of new.scene.phasers))
   pub err : OnErr result (new ≡ old)
 
--- what is to be kept of the world before a choice: nothing of one that took no step
-abbrev pub kept_of : Choice → StoredWorld → StoredWorld → Option scene.Note
-kept_of choice old new = if new.steps == old.steps then None else Some (scene.note_of choice.thread old.program old.scene)
+-- what is to be kept of the world before a choice: nothing of one that is idle
+abbrev pub kept_of : Choice → StoredWorld → Option scene.Note
+kept_of choice old =
+    if is_choice_ready old.program choice (scene_of old.scene) then Some (scene.note_of choice.thread old.program old.scene)
+    else None
 
 -- as the machine's own functions say it to one another: nobody else has to read it
 pub record HasPlayed (old : StoredWorld) (choice : Choice) (result : Result Event StepFault) (new : StoredWorld) : Type 0 where

@@ -132,9 +132,8 @@ impl Machine {
     /// Plays one choice. An idle choice, a turn of a thread that isn't ready or an expiry of none, only counts as a
     /// choice. `Memory` comes only at the row `out`.
     #[inline(always)]
-    #[tactic(auto, using(crate::proofs::Steps::step_is))]
     pub fn step(&mut self, choice: Choice) -> Result<Event, StepFault>
-        ensures { IsStep self.old choice result (kept_of choice self.old self.new) self.new }
+        ensures { IsStep self.old choice result (kept_of choice self.old) self.new }
     {
         self.is_sound();
         self.play(choice)
@@ -149,32 +148,26 @@ impl Machine {
         if t >= self.stage.thread_count() {
             return Err(StepFault::NoSuchThread);
         }
-        if choice.expiry
-            || self.choices == MOST_CHOICES
-            || self.steps == self.limit
-            || !self.stage.is_ready(&self.program, t)
+        if !choice.expiry
+            && self.choices != MOST_CHOICES
+            && self.steps != self.limit
+            && self.stage.is_ready(&self.program, t)
         {
-            let mut told = Ok(IDLE);
-            self.seldom_step(choice, &mut told);
-            return told;
-        }
-        match self.stage.turn(&self.program, t) {
-            Ok(event) => {
+            if let Some(event) = self.stage.common_turn(&self.program, t) {
                 self.choices += 1;
                 self.steps += 1;
-                Ok(event)
+                return Ok(event);
             }
-            Err(_) => Err(StepFault::Memory),
         }
+        let mut told = Ok(IDLE);
+        self.seldom_step(choice, &mut told);
+        told
     }
 
-    /// An expiry, an idle choice of a thread that is there, or one for which nothing is left. What comes of it is written where
-    /// its caller wants it, in place of an idle choice.
+    /// A choice of a thread that is there. What comes of it is written where its caller wants it, in place of an idle choice.
     #[inline(never)]
     fn seldom_step(&mut self, choice: Choice, told: &mut Result<Event, StepFault>)
         requires there { choice.thread < length self.old.scene.threads }
-        requires seldom { choice.expiry ≡ false → self.old.choices < 1000000000000 → self.old.steps < self.old.limit
-            → is_ready choice.thread self.old.program (scene_of self.old.scene) ≡ false }
         requires told { told.old ≡ Ok idle_event }
         ensures { HasPlayed self.old choice told.new self.new }
     {
@@ -184,8 +177,29 @@ impl Machine {
             self.stay(choice);
         } else if self.steps == self.limit {
             *told = Err(StepFault::StepLimit);
-        } else {
+        } else if choice.expiry {
             self.expire(choice, told);
+        } else {
+            self.turn(choice, told);
+        }
+    }
+
+    /// A turn.
+    fn turn(&mut self, choice: Choice, told: &mut Result<Event, StepFault>)
+        requires there { choice.thread < length self.old.scene.threads }
+        requires choices { self.old.choices < 1000000000000 }
+        requires steps { self.old.steps < self.old.limit }
+        requires turn { choice.expiry ≡ false }
+        requires ready { is_ready choice.thread self.old.program (scene_of self.old.scene) ≡ true }
+        ensures { HasPlayed self.old choice told.new self.new }
+    {
+        match self.stage.turn(&self.program, choice.thread as usize) {
+            Ok(event) => {
+                self.choices += 1;
+                self.steps += 1;
+                *told = Ok(event);
+            }
+            Err(_) => *told = Err(StepFault::Memory),
         }
     }
 
@@ -210,15 +224,21 @@ impl Machine {
     pub fn step_into(&mut self, choice: Choice, undo: &mut Undo) -> Result<Event, StepFault>
         ensures { IsStep self.old choice result undo.new self.new }
     {
+        self.is_sound();
+        self.keep(choice, undo);
+        self.play(choice)
+    }
+
+    /// What is to be kept of the machine before a choice, where there is such a thread.
+    #[inline(always)]
+    fn keep(&self, choice: Choice, undo: &mut Undo)
+        ensures { choice.thread < length self.now.scene.threads → undo.new ≡ kept_of choice self.now }
+    {
         let thread = choice.thread as usize;
-        if thread >= self.stage.thread_count() {
-            return self.step(choice);
+        if thread < self.stage.thread_count() {
+            self.stage.note(&self.program, thread, &mut undo.note);
+            undo.is_turn = self.is_choice_ready(choice);
         }
-        let before = self.steps;
-        self.stage.note(&self.program, thread, &mut undo.note);
-        let result = self.step(choice);
-        undo.is_turn = self.steps != before;
-        result
     }
 
     /// `step_into` a new undo.

@@ -18,10 +18,10 @@ use thread_state::{Event, Status};
 /// Turns of the kinds that most turns of most programs are of: rows on registers alone, arrivals of parties that stay, and the
 /// ends of waits for phases.
 impl Stage {
-    /// `turn`, where it is of such a kind, with the sets of ready threads. `None` where `seldom_turn` has to look, and nothing
-    /// has changed.
+    /// `turn`, where it is of such a kind: it is played where it is asked for. `None` where `turn` has to look, and nothing has
+    /// changed.
     #[inline(always)]
-    pub(super) fn common_turn(&mut self, program: &Loaded, t: usize) -> Option<Event>
+    pub fn common_turn(&mut self, program: &Loaded, t: usize) -> Option<Event>
         requires sound { IsSound program.now most_before (scene_of self.old) }
         requires known { KnowsReady program.now self.old }
         requires thread { t < length self.old.threads }

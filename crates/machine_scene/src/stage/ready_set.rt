@@ -25,6 +25,7 @@ pub(super) fn is_in(set: u64, thread: usize) -> bool
 
 /// The first thread in the set.
 #[inline(always)]
+#[tactic(auto, using(crate::proofs::ThreadSets::lowest))]
 fn first_in(set: u64) -> Option<usize>
     ensures some { IfSome result (λ t. has set t ≡ true) }
     ensures none { result ≡ None → set ≡ 0 }
@@ -200,16 +201,6 @@ impl Stage {
         self.ready = self.looked(program, self.ready, t);
     }
 
-    /// All threads are looked at anew.
-    #[inline(never)]
-    fn refresh_all(&mut self, program: &Loaded)
-        requires sound { IsSound program.now most_after (scene_of self.old) }
-        ensures stored { self.new ≡ record self.old { ready = self.new.ready } }
-        ensures known { AreReady program.now self.new.ready (scene_of self.old) }
-    {
-        self.ready = self.all_looked(program);
-    }
-
     /// Whether a thread runs, and its row is none that it may have to wait at.
     #[inline(always)]
     fn runs_on(&self, program: &Loaded, t: usize) -> bool
@@ -242,12 +233,23 @@ impl Stage {
         if is_local(row) {
             self.look_ahead(program, t);
         } else if is_loud(event) {
-            self.refresh_all(program);
+            self.ready = self.all_looked(program);
         } else if matches!(event.what, What::Waits) {
-            self.ready.turns = set_at(self.ready.turns, t, false);
+            self.leave_out(t);
         } else {
             self.look_ahead(program, t);
         }
+    }
+
+    /// A thread's turn isn't ready any more.
+    #[inline(never)]
+    fn leave_out(&mut self, t: usize)
+        requires { t < length self.old.threads }
+        ensures stored { self.new ≡ record self.old { ready = self.new.ready } }
+        ensures turns { IsSetAt t false self.old.ready.turns self.new.ready.turns }
+        ensures registering { self.new.ready.registering ≡ self.old.ready.registering }
+    {
+        self.ready.turns = set_at(self.ready.turns, t, false);
     }
 
     /// A thread is looked at anew unless it runs, and its row is none that it may have to wait at.

@@ -1,14 +1,13 @@
 ghost use Rattle.std.specs.Prelude.{◌≡◌, ◌<◌, length};
 ghost use Rattle.thread_state.specs.Thread.{top_of};
 ghost use Rattle.machine_scene.specs.Scene.{scene_of, thread_at};
-ghost use Rattle.machine_scene.specs.Sound.{IsSound, StandsAt, most_before};
-ghost use Rattle.machine_scene.specs.Undo.{IsThere, CanPutBack, CanUndo, reach_in};
+ghost use Rattle.machine_scene.specs.Sound.{IsSound, most_before};
+ghost use Rattle.machine_scene.specs.Undo.{IsThere, CanPutBack, CanUndo, reach_of};
 ghost use Rattle.machine_scene.specs.Undo.{touched_by, with_touched, note_of, undone};
 
 use super::Stage;
 use crate::note::{SceneNote, Touched};
 use crate::reach::{Reach, reach_in};
-use instruction_table::Row;
 use loader::Loaded;
 use thread_state::ThreadNote;
 
@@ -28,21 +27,20 @@ impl Stage {
         if self.is_local_turn(row, t) {
             note.beside.clear();
         } else {
-            self.note_beside(program, row, t, &mut note.beside);
+            self.note_beside(program, t, &mut note.beside);
         }
         note.ready = self.ready;
     }
 
-    /// What is kept of what the turn of a thread at this row may change beside it.
+    /// What is kept of what the turn of a thread may change beside it.
     #[inline(never)]
     #[tactic(auto, using(crate::proofs::Reaches::reach_there))]
-    fn note_beside(&self, program: &Loaded, row: Row, t: usize, touched: &mut Touched)
+    fn note_beside(&self, program: &Loaded, t: usize, touched: &mut Touched)
         requires sound { IsSound program.now most_before (scene_of self.now) }
         requires thread { t < length self.now.threads }
-        requires at { StandsAt program.now row t self.now }
-        ensures { touched.new ≡ touched_by (reach_in (thread_at (scene_of self.now) t).status row
-            (top_of (thread_at (scene_of self.now) t).stack)) self.now }
+        ensures { touched.new ≡ touched_by (reach_of t program.now (scene_of self.now)) self.now }
     {
+        let row = self.row_of(program, t);
         let top = self.threads[t].top();
         self.top_is_placed(program, &top, t);
         self.touched(reach_in(self.threads[t].status(), row, &top), touched);

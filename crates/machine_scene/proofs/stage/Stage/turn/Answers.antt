@@ -5,7 +5,7 @@ use Rattle.machine_scene.specs.Outcomes.{outcome_of}
 use Rattle.machine_scene.specs.Played.{IsPlayed}
 use Rattle.machine_scene.proofs.Placed.{named_still}
 use Rattle.machine_scene.proofs.Undoing.{played_still}
-use Rattle.machine_scene.proofs.stage.Stage.seldom_turn.Goals as goal
+use Rattle.machine_scene.proofs.stage.Stage.turn.Goals as goal
 
 pub ready_after-self-inside-requires-clause-sound : goal.ready_after-self-inside-requires-clause-sound
 ready_after-self-inside-requires-clause-sound c = c.in-Ok.ensures.ok.sound 2147483646 (omega arith) c.requires.sound
