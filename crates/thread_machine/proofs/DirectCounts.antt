@@ -3,7 +3,7 @@ use Rattle.std.proofs.Common.{◌≡◌, ◌≢◌, ℕ, ℤ, pos, ◌<◌, Bool
 use Rattle.std.specs.Prelude.{◌||◌, ◌&&◌, not, nat_abs, int_lt, is_some, Option, Some, None}
 use Rattle.std.specs.Ordering.{int_eq}
 use Rattle.instruction_table.specs.declared.row.Row.{Row}
-use Rattle.instruction_table.specs.declared.row.Row.TheVariants.{Halt, Ldi, Mov, Add, Sub, Jmp, Beq, Bne, Blt, Call, Ret, Try, Endtry, Throw, Out, Lds, Sts, SelfNumber, Intr, Intrd, Preg, Pbulk, Parr, Pdereg, Paaa, Pawait, Pawaiti, Pawaitt, Pforce, Pphase, Pparties, Parrived, Punarr, Pterm, Pparent, Proot, Cawait, Cawaitt, Creset, Cbroken, Cwaiting}
+use Rattle.instruction_table.specs.declared.row.Row.TheVariants.{Halt, Ret, Out, Preg, Pbulk, Parr, Pdereg, Paaa, Pawait, Pawaiti, Pawaitt, Pforce, Pphase, Cawait, Cawaitt, Creset, Cbroken, Cwaiting}
 use Rattle.instruction_table.specs.declared.register.Reg.{Reg}
 use Rattle.instruction_table.specs.declared.register.Reg.TheVariants.{R0}
 use Rattle.instruction_table.specs.Registers.{value_in}
