@@ -300,6 +300,28 @@ impl Comparison {
         self.machine.steps() == self.steps && are_same(choice, self.last)
     }
 
+    /// `take_idle_line`, where the last choice was made twice, and idle the first time.
+    #[inline(always)]
+    fn take_line_again(&mut self, bytes: &[u8]) -> usize
+        requires room { 120 ≤ length bytes.now }
+        requires number { self.old.number < 9223372036854775807 }
+        requires reading { (self.old.is_state ≡ false) × (self.old.accepted ≡ true) }
+        ensures verdict { (more : List ℕ) → bytes_left self.old [] (bytes.now ++ more)
+            ≡ bytes_left self.new [] (drop result bytes.now ++ more) }
+        ensures text { (self.new.text ≡ self.old.text) × (self.new.at ≡ self.old.at) }
+        ensures reading { (self.new.is_state ≡ false) × (self.new.accepted ≡ true) }
+        ensures within { result ≤ length bytes.now }
+        ensures number { self.new.number ≤ self.old.number + result }
+        ensures counted { self.old.number + line_ends (take result bytes.now) ≤ self.new.number }
+    {
+        if !self.again || self.machine.steps() != self.steps {
+            return 0;
+        }
+        let count = self.take_idle_line(bytes);
+        self.again = count > 0;
+        count
+    }
+
     /// Goes on over one line by the shortest way there is.
     #[inline(always)]
     fn take_next_line(&mut self, bytes: &[u8]) -> Result<usize, AllocError>
@@ -316,14 +338,10 @@ impl Comparison {
         if self.is_state || !self.accepted {
             return Ok(0);
         }
-        if !self.again || self.machine.steps() != self.steps {
-            return self.take_own_line(bytes);
-        }
-        let count = self.take_idle_line(bytes);
+        let count = self.take_line_again(bytes);
         if count > 0 {
             return Ok(count);
         }
-        self.again = false;
         self.take_own_line(bytes)
     }
 

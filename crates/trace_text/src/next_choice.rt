@@ -21,15 +21,24 @@ pub fn first_bytes(text: &[u8], count: usize) -> &[u8]
     &text[..count]
 }
 
-/// Whether both begin with the same eight bytes: one test, where the compiler inlines this. It does so by itself, and knows
-/// then how many bytes they are; where it is told to, it does so before it knows.
+/// The first eight of these bytes.
+#[inline(always)]
+fn first_eight(bytes: &[u8]) -> &[u8; 8]
+    requires { 8 ≤ length bytes.now }
+    ensures { result.now ≡ take 8 bytes.now }
+{
+    &bytes.as_chunks::<8>().0[0]
+}
+
+/// Whether both begin with the same eight bytes. As arrays of a known size they are one word each, wherever this is inlined.
+#[inline(always)]
 fn begin_alike(one: &[u8], other: &[u8]) -> bool
     requires one { 8 ≤ length one.now }
     requires other { 8 ≤ length other.now }
     ensures same { result ≡ true → take 8 one.now ≡ take 8 other.now }
     ensures other { take 8 one.now ≡ take 8 other.now → result ≡ true }
 {
-    one.starts_with(first_bytes(other, 8))
+    first_eight(one) == first_eight(other)
 }
 
 /// Whether bytes begin with a line. One of 8 to 24 bytes, as most are, is held against them as three words of eight bytes,
