@@ -46,8 +46,8 @@ pub fn make<P: Picture, F: Source, S: Source, K: Sink>(
     )
 }
 
-/// The same of a file that holds both: a text with its schedule behind a line `.run`. An image has none, and is shown as it
-/// stands before its first choice.
+/// Writes the picture of a file that holds program and schedule: a text with its schedule behind a line `.run`. An image has
+/// none, and is shown as it stands before its first choice.
 pub fn make_of_both<P: Picture, F: Source, K: Sink>(
     alloc: Global,
     picture: &P,

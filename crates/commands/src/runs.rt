@@ -45,7 +45,7 @@ fn run_once<R: Threads + Wait + Sync, G: Gate + Sync>(
     }
 }
 
-/// The same schedule with a token for choices that repeat, as it is shown.
+/// A schedule with a token for choices that repeat, as it is shown.
 fn shown(alloc: Global, schedule: &[u8]) -> Result<String, Fault>
     requires { length schedule.now ≤ 4000000000 }
     ensures fault { OnOk result ((finished_schedule schedule.now).fault ≡ None) }

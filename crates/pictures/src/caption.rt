@@ -37,7 +37,7 @@ pub fn push_called(
     }
 }
 
-/// The same with a space before it.
+/// Adds a space, and what a thing of this kind and number is called.
 fn push_operand(
     text: &mut Vec<u8>,
     symbols: &Symbols,

@@ -27,7 +27,7 @@ fn push_arrived(text: &mut Vec<u8>, arrived: u16, parties: u16) -> Result<(), Al
     text.extend_from_slice(b" arrived)")
 }
 
-/// The same behind the name of a phaser further up.
+/// Adds how many have arrived, of how many, behind the name of a phaser further up.
 fn push_arrived_above(text: &mut Vec<u8>, arrived: u16, parties: u16) -> Result<(), AllocError>
     ensures { OnOk result (text.new.items ≡ text.old.items ++ above_text arrived parties) }
 {
@@ -136,7 +136,7 @@ fn push_phaser(
     )
 }
 
-/// The same of a barrier.
+/// Adds how many have arrived at a barrier, of how many.
 fn push_barrier_arrived(
     text: &mut Vec<u8>,
     machine: &Machine,

@@ -73,7 +73,7 @@ fn add_choice(
     Ok(accepted)
 }
 
-/// The same of all choices, up to the first that is refused.
+/// Plays all choices, up to the first that is refused, and adds their lines and what is shown after each.
 fn add_choices(
     alloc: Global,
     page: &mut Vec<u8>,

@@ -29,7 +29,7 @@ fn draw_other(
     push_line(text, sheet.width, b"")
 }
 
-/// The same of so many blocks, from the first on.
+/// Draws so many blocks, from the first on, an empty line behind each.
 #[tactic(auto, using(crate::proofs::Cells::closing_steps))]
 fn draw_others(
     alloc: Global,

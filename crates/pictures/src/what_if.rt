@@ -63,7 +63,7 @@ fn add_what_if(
     add_line(text, machine, choice, undo)
 }
 
-/// The same of both choices of a thread.
+/// Adds what each of a thread's two choices would do.
 fn add_what_if_of(
     text: &mut Vec<u8>,
     machine: &mut Machine,
@@ -87,7 +87,7 @@ fn add_what_if_of(
     add_what_if(text, machine, expiry, undo)
 }
 
-/// The same of all threads. After it the machine is as before, word for word.
+/// Adds what each choice of each thread would do. After it the machine is as before, word for word.
 #[tactic(auto, using(trace_text::proofs::Traces::text_steps))]
 pub fn add_what_ifs(text: &mut Vec<u8>, machine: &mut Machine) -> Result<(), AllocError>
     ensures text { OnOk result (text.new.items ≡ text.old.items
