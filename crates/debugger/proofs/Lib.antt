@@ -4,4 +4,5 @@ pub mod Histories
 pub mod Moves
 pub mod Goes
 pub mod Places
+pub mod Unmarked
 pub mod Runs

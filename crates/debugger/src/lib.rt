@@ -6,6 +6,7 @@
 
 mod command;
 mod law;
+mod marks;
 mod number_line;
 mod session;
 mod stop;

@@ -3,6 +3,7 @@ ghost use Rattle.thread_machine.specs.World.{World, world_of};
 ghost use Rattle.thread_machine.specs.Step.{played, refusal_of, puts_out};
 ghost use Rattle.debugger.specs.Session.{IsHistory, went_on, went_back};
 
+use crate::marks::Marks;
 use crate::stop::NoHistory;
 use crate::undos::Undos;
 use schedule_reader::Run;
@@ -22,7 +23,7 @@ pub struct Debugger {
     undos: Undos,
     /// What undoes the next choice is written here.
     spare: Box<Undo>,
-    marks: Vec<bool>,
+    marks: Marks,
     /// Room for the runs of a line, so that one `g` after another takes no memory.
     room: Vec<Run>,
     alloc: Global,
@@ -37,20 +38,10 @@ impl Model for Debugger {
       machine = debugger.played;
       past = past_of debugger.played debugger.undos.notes;
       kept = debugger.undos.most;
-      breaks = debugger.marks.items;
+      breaks = debugger.marks;
     } };
 
     ghost invariant = { λ debugger. IsTrail debugger.played debugger.undos.notes };
-}
-
-/// No record of a choice, with room for so many, and no breakpoint at any of the rows.
-fn nothing_yet(alloc: Global, kept: u16, rows: usize) -> Result<(Undos, Vec<bool>), AllocError>
-    requires { 0 < kept }
-    ensures kept { IfOk result (λ both. both.0 ≡ record { notes = []; most = kept }) }
-    ensures marks { IfOk result (λ both. both.1.items ≡ replicate rows false) }
-{
-    let undos = Undos::new(alloc, kept)?;
-    Ok((undos, Vec::from_elem(alloc, false, rows)?))
 }
 
 impl Debugger {
@@ -66,10 +57,10 @@ impl Debugger {
           breaks = replicate (length machine.program.rows) false;
         }) }
     {
-        let (undos, marks) = nothing_yet(alloc, kept, machine.loaded().rows().len())?;
+        let marks = Marks::new(alloc, machine.loaded().rows().len())?;
         Ok(Debugger {
             played: machine,
-            undos,
+            undos: Undos::new(alloc, kept)?,
             spare: Box::new(alloc, Undo::new())?,
             marks,
             room: Vec::new(alloc),
@@ -129,7 +120,7 @@ impl Debugger {
         ensures row { result ≡ nat_lt row (length self.old.breaks) }
         ensures session { self.new ≡ record self.old { breaks = slice_set self.old.breaks row true } }
     {
-        self.mark(row as usize, true)
+        self.marks.put(row as usize, true)
     }
 
     /// Clears the breakpoint at a row, if there is one; false where the program has no such row.
@@ -137,20 +128,6 @@ impl Debugger {
         ensures row { result ≡ nat_lt row (length self.old.breaks) }
         ensures session { self.new ≡ record self.old { breaks = slice_set self.old.breaks row false } }
     {
-        self.mark(row as usize, false)
-    }
-
-    /// Marks a row, where there is such a row.
-    fn mark(&mut self, row: usize, is_break: bool) -> bool
-        ensures row { result ≡ nat_lt row (length self.old.breaks) }
-        ensures session { self.new ≡ record self.old { breaks = slice_set self.old.breaks row is_break } }
-    {
-        match self.marks.get_mut(row) {
-            Some(mark) => {
-                *mark = is_break;
-                true
-            }
-            None => false,
-        }
+        self.marks.put(row as usize, false)
     }
 }

@@ -1,4 +1,4 @@
-ghost use Rattle.std.specs.Prelude.{◌≡◌, ◌≤◌, ◌∷◌, [], ◌++◌, ℕ, List, replicate, slice_index_or, false};
+ghost use Rattle.std.specs.Prelude.{◌≡◌, ◌≤◌, ◌∷◌, [], ◌++◌, ℕ, List, replicate};
 ghost use Rattle.machine_scene.specs.Scene.{scene_of, thread_at};
 ghost use Rattle.schedule_reader.specs.Schedule.{choices_of};
 ghost use Rattle.thread_machine.specs.declared.choice.Choice.{Choice};
@@ -100,21 +100,17 @@ impl Debugger {
     }
 
     /// Whether a thread runs and stands at a breakpoint; false where there is no such thread.
+    #[tactic(auto, using(crate::proofs::Unmarked::none_there))]
     fn stands_at_break(&self, thread: u8) -> bool
         ensures { result ≡ is_at_break self.now.breaks (thread_at (scene_of self.now.machine.scene) thread) }
     {
+        if !self.marks.are_there() {
+            return false;
+        }
         if thread as usize >= self.machine().thread_count() {
             return false;
         }
         matches!(self.machine().status(thread), Status::Runs)
-            && self.has_break(self.machine().pc(thread))
-    }
-
-    /// Whether a row has a breakpoint; false where there is no such row.
-    fn has_break(&self, row: u16) -> bool
-        ensures { result ≡ slice_index_or self.now.breaks row false }
-    {
-        let row = row as usize;
-        row < self.marks.len() && self.marks[row]
+            && self.marks.has(self.machine().pc(thread))
     }
 }

@@ -189,7 +189,7 @@ impl Debugger {
         ensures write { OnErr result (IsTrue (W.has_failed output.new)) }
         ensures fault { result ≢ Err CommandFault.Memory }
     {
-        let is_there = self.mark(row, true);
+        let is_there = self.marks.put(row, true);
         say_row(output, is_there, b"break ", row)?;
         Ok(())
     }
@@ -200,7 +200,7 @@ impl Debugger {
         ensures write { OnErr result (IsTrue (W.has_failed output.new)) }
         ensures fault { result ≢ Err CommandFault.Memory }
     {
-        let is_there = self.mark(row, false);
+        let is_there = self.marks.put(row, false);
         say_row(output, is_there, b"clear ", row)?;
         Ok(())
     }

@@ -14,7 +14,7 @@ invariant_of-self-2 c =
 pub returns-clause-session : goal.returns-clause-session
 returns-clause-session c =
     session_on c.self.inside.played c.step_into.new.self c.step_into.new.undo c.self.inside.undos c.push.new.self
-    c.self.inside.marks.items c.args.self.now c.push.ensures c.in-Ok.ensures.undo c.self.view_is
+    c.self.inside.marks c.args.self.now c.push.ensures c.in-Ok.ensures.undo c.self.view_is
 
 pub returns-clause-history : goal.returns-clause-history
 returns-clause-history c = λ first choices history.

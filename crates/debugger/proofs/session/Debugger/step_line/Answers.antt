@@ -20,5 +20,5 @@ returns-in-Ok-event_line-clause-session c =
       world = ap (λ (play : Played). play.world) c.in-Ok.ensures.played
           ∙ ap (λ (w : StoredWorld). (played (world_of w) c.args.choice).world) seen;
       session = session_on c.self.inside.played c.step_into.new.self c.step_into.new.undo c.self.inside.undos c.push.new.self
-          c.self.inside.marks.items c.args.self.now c.push.ensures c.in-Ok.ensures.undo c.self.view_is;
+          c.self.inside.marks c.args.self.now c.push.ensures c.in-Ok.ensures.undo c.self.view_is;
     })

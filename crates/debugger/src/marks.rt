@@ -1,0 +1,67 @@
+ghost use Rattle.std.specs.Prelude.{◌≡◌, IfOk, false, length, nat_lt, replicate, slice_index_or, slice_set};
+
+use std::alloc::{AllocError, Global};
+use std::marker::Model;
+
+/// For each row of a program whether it has a breakpoint. Where none was ever set, that is known at one look.
+#[derive(Drop)]
+pub struct Marks {
+    rows: Vec<bool>,
+    are_there: bool,
+}
+
+impl Model for Marks {
+    ghost use Rattle.std.specs.Prelude.{◌≡◌, Bool, List, false, length, replicate};
+
+    ghost Value = { List Bool };
+
+    ghost view = { λ marks. marks.rows.items };
+
+    ghost invariant = { λ marks. marks.are_there ≡ false
+        → marks.rows.items ≡ replicate (length marks.rows.items) false };
+}
+
+impl Marks {
+    /// None at any of so many rows.
+    pub fn new(alloc: Global, rows: usize) -> Result<Marks, AllocError>
+        ensures { IfOk result (λ marks. marks ≡ replicate rows false) }
+    {
+        Ok(Marks {
+            rows: Vec::from_elem(alloc, false, rows)?,
+            are_there: false,
+        })
+    }
+
+    /// Sets or clears one, where there is such a row.
+    #[tactic(auto, using(crate::proofs::Unmarked::none_cleared))]
+    pub fn put(&mut self, row: usize, is_break: bool) -> bool
+        ensures row { result ≡ nat_lt row (length self.old) }
+        ensures marks { self.new ≡ slice_set self.old row is_break }
+    {
+        match self.rows.get_mut(row) {
+            Some(mark) => {
+                *mark = is_break;
+                if is_break {
+                    self.are_there = true;
+                }
+                true
+            }
+            None => false,
+        }
+    }
+
+    /// Whether there may be any.
+    pub fn are_there(&self) -> bool
+        ensures { result ≡ false → self.now ≡ replicate (length self.now) false }
+    {
+        self.are_there
+    }
+
+    /// Whether a row has one; false where there is no such row.
+    pub fn has(&self, row: u16) -> bool
+        ensures { result ≡ slice_index_or self.now row false }
+    {
+        let row = row as usize;
+        row < self.rows.len() && self.rows[row]
+    }
+}
