@@ -5,4 +5,5 @@ pub mod Moves
 pub mod Goes
 pub mod Places
 pub mod Unmarked
+pub mod PlayedRuns
 pub mod Runs

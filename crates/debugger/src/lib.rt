@@ -8,13 +8,16 @@ mod command;
 mod law;
 mod marks;
 mod number_line;
+mod played;
 mod session;
 mod stop;
 mod undos;
 
+pub use command::{Command, command_of};
 pub use law::{
     choices_in_a_row_extend_the_history, steps_and_as_many_back_are_nothing,
     what_is_not_taken_back_was_played,
 };
+pub use played::Played;
 pub use session::{CommandFault, Debugger, say_stop};
 pub use stop::{NoHistory, Stop};

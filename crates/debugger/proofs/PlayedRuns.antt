@@ -1,0 +1,85 @@
+-- Choices that are played, and taken back one by one.
+use Rattle.std.proofs.Common.{◌≡◌, ◌∙◌, ◌+◌, ◌-◌, ◌<◌, ℕ, zero, suc, List, [], ◌∷◌, ◌++◌, length, take, drop, refl, ap, sym, subst, arith, append-nil, append_assoc, length-append}
+use Rattle.std.specs.Prelude.{All, min, replicate, slice_index_or}
+use native.Mathlib.Numerals.{unary_clauses}
+use Rattle.std.proofs.Math.Seq.{take-append_seam}
+use Rattle.std.proofs.lemmas.List.Elements.{All-append, All-cons, All-nil, All-take}
+use Rattle.std.proofs.lemmas.Grind.{flat_map-append}
+use Rattle.std.proofs.lemmas.List.{replicate-append-replicate}
+use Rattle.thread_machine.specs.declared.choice.Choice.{Choice}
+use Rattle.schedule_reader.specs.declared.run.Run.{Run}
+use Rattle.schedule_reader.specs.Schedule.{IsRun, choices_of}
+
+-- a run more
+pub choices-push : (runs : List Run) (run : Run) → choices_of (runs ++ run ∷ []) ≡ choices_of runs ++ replicate run.times run.choice
+choices-push runs run =
+    flat_map-append (λ (r : Run). replicate r.times r.choice) runs (run ∷ [])
+    ∙ ap (λ cs. choices_of runs ++ cs) (append-nil (replicate run.times run.choice))
+
+-- the last run as often as two say
+pub choices-joined : (runs : List Run) (last run both : Run) → both.choice ≡ run.choice → last.choice ≡ run.choice
+    → both.times ≡ last.times + run.times
+    → choices_of (runs ++ both ∷ []) ≡ choices_of (runs ++ last ∷ []) ++ replicate run.times run.choice
+choices-joined runs last run both own old sum =
+    let start = choices_of runs in
+    let more = replicate run.times run.choice in
+    choices-push runs both
+    ∙ ap (λ c. start ++ replicate both.times c) own
+    ∙ ap (λ n. start ++ replicate n run.choice) sum
+    ∙ ap (λ cs. start ++ cs) (sym (replicate-append-replicate last.times run.times run.choice))
+    ∙ sym (append_assoc start (replicate last.times run.choice) more)
+    ∙ ap (λ c. (start ++ replicate last.times c) ++ more) (sym old)
+    ∙ ap (λ cs. cs ++ more) (sym (choices-push runs last))
+
+-- some of the choices of a run, and of those behind it as many as are left
+pub take-run : (left times : ℕ) (choice : Choice) (rest : List Choice)
+    → take left (replicate times choice ++ rest) ≡ replicate (min left times) choice ++ take (left - min left times) rest
+take-run zero times choice rest = simp unary_clauses refl
+take-run (suc left) zero choice rest = simp unary_clauses refl
+take-run (suc left) (suc times) choice rest = simp unary_clauses (ap (λ cs. choice ∷ cs) (take-run left times choice rest))
+
+all_but_last : (choices : List Choice) (last : Choice)
+    → choices ≡ take (length (choices ++ last ∷ []) - 1) (choices ++ last ∷ [])
+all_but_last choices last =
+    let less : length (choices ++ last ∷ []) - 1 ≡ length choices = omega (arith, length-append choices (last ∷ [])) in
+    sym (ap (λ n. take n (choices ++ last ∷ [])) less ∙ take-append_seam choices (last ∷ []))
+
+-- a run once less
+pub choices-less : (runs : List Run) (last : Run) (n : ℕ) → last.times ≡ n + 1
+    → choices_of runs ++ replicate n last.choice
+    ≡ take (length (choices_of (runs ++ last ∷ [])) - 1) (choices_of (runs ++ last ∷ []))
+choices-less runs last n more =
+    let start = choices_of runs in
+    let all : choices_of (runs ++ last ∷ []) ≡ (start ++ replicate n last.choice) ++ last.choice ∷ [] =
+    choices-push runs last
+    ∙ ap (λ m. start ++ replicate m last.choice) more
+    ∙ ap (λ cs. start ++ cs) (sym (replicate-append-replicate n 1 last.choice))
+    ∙ sym (append_assoc start (replicate n last.choice) (last.choice ∷ [])) in
+    all_but_last (start ++ replicate n last.choice) last.choice
+    ∙ ap (λ cs. take (length cs - 1) cs) (sym all)
+
+-- what can be spelled, with another run in place of the last
+pub all_last : (runs : List Run) (last : Run) → All IsRun (runs ++ last ∷ []) → IsRun last
+all_last [] last all = all 0 last (omega arith)
+all_last (run ∷ runs) last all = all_last runs last (λ k d there. all (suc k) d (omega (arith, there)))
+
+pub all_but : (runs : List Run) (last : Run) → All IsRun (runs ++ last ∷ []) → All IsRun runs
+all_but runs last all =
+    subst (All IsRun) (take-append_seam runs (last ∷ [])) (All-take IsRun (length runs) (runs ++ last ∷ []) all)
+
+pub all_with : (runs : List Run) (run : Run) → All IsRun runs → IsRun run → All IsRun (runs ++ run ∷ [])
+all_with runs run all is = All-append IsRun runs (run ∷ []) all (All-cons IsRun run [] is (All-nil IsRun))
+
+-- of runs of which some are left, one more is pushed
+pub pushed_on : (now next : List Run) (run : Run) (left times : ℕ) (here rest all : List Choice)
+    → times ≡ min left run.times → here ≡ replicate run.times run.choice ++ rest
+    → choices_of now ++ take left here ≡ all
+    → choices_of next ≡ choices_of now ++ replicate times run.choice
+    → choices_of next ++ take (left - times) rest ≡ all
+pushed_on now next run left times here rest all is first so_far pushed =
+    ap (λ cs. cs ++ take (left - times) rest) pushed
+    ∙ append_assoc (choices_of now) (replicate times run.choice) (take (left - times) rest)
+    ∙ ap (λ n. choices_of now ++ (replicate n run.choice ++ take (left - n) rest)) is
+    ∙ ap (λ cs. choices_of now ++ cs) (sym (take-run left run.times run.choice rest))
+    ∙ ap (λ cs. choices_of now ++ take left cs) (sym first)
+    ∙ so_far
