@@ -18,4 +18,4 @@ told_of option.Stir = ranged (codes "--stir SEED: SEED") (codes "0") (codes "429
 told_of option.Runs = ranged (codes "--runs N: N") (codes "1") (codes "100000")
 told_of option.Early = codes "--expect STATE stands behind the command's name"
 told_of option.Plan = codes "--plan PLAN stands in place of a SCHEDULE or of --at TRACE"
-told_of option.Seeds = codes "--seeds FROM..TO: up to 100000 numbers from 0 to 4294967295, in digits alone, as 1..1000"
+told_of option.Seeds = codes "--seeds FROM..TO: up to 100000 numbers from 0 to 4294967295, in digits alone, FROM no more than TO, as 1..1000"

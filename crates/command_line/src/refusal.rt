@@ -64,7 +64,7 @@ impl WrongOption {
             WrongOption::Early => "--expect STATE stands behind the command's name",
             WrongOption::Plan => "--plan PLAN stands in place of a SCHEDULE or of --at TRACE",
             WrongOption::Seeds =>
-                "--seeds FROM..TO: up to 100000 numbers from 0 to 4294967295, in digits alone, as 1..1000",
+                "--seeds FROM..TO: up to 100000 numbers from 0 to 4294967295, in digits alone, FROM no more than TO, as 1..1000",
         }
     }
 }

@@ -226,14 +226,35 @@ pub fn push_missing(rt: &HostRuntime, file: &str, steps: Steps<'_>) {
     }
 }
 
-/// Tells how a trace is made, where one is explained.
+/// Writes a line, where what is told is explained.
+fn push_explained(rt: &HostRuntime, line: &str) {
+    if is_explained(rt) {
+        push_text(rt, format!(in rt.alloc(); "{line}\n"));
+    }
+}
+
+/// Tells how a trace is made.
 pub fn push_no_trace(rt: &HostRuntime) {
+    push_explained(
+        rt,
+        "that is no line of a trace: `vuthgal run FILE SCHEDULE > TRACE` writes one",
+    );
+}
+
+/// Tells how a line differs that looks like the run's.
+pub fn push_carriage_return(rt: &HostRuntime) {
+    push_explained(
+        rt,
+        "the trace's line ends with CR LF, a run's with LF alone",
+    );
+}
+
+/// Tells what it means that a run ends `live`.
+pub fn push_live(rt: &HostRuntime, what_ended: &str) {
     if is_explained(rt) {
         push_text(
             rt,
-            format!(in rt.alloc();
-                "that is no line of a trace: `vuthgal run FILE SCHEDULE > TRACE` writes one\n"
-            ),
+            format!(in rt.alloc(); "live: some threads could still go on, but {what_ended}\n"),
         );
     }
 }
@@ -253,7 +274,8 @@ pub fn push_reason<R: Display>(rt: &HostRuntime, fault: Fault, path: &str, reaso
             push_text(
                 rt,
                 format!(in rt.alloc();
-                    "`-` is standard input where SCHEDULE, TRACE or PLAN stands; FILE is a file\n"
+                    "`-` is standard input where SCHEDULE, TRACE or PLAN stands, FILE is a file; \
+                    `vuthgal < FILE` plays a text with its schedule\n"
                 ),
             );
         }

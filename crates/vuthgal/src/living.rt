@@ -33,7 +33,14 @@ fn live<'a, R: Threads + Wait + Sync>(
     let gate = pauses.of_run(0, &shown);
     let answer = shown::live(threads, rt.alloc(), limit, &gate, program, &mut output);
     shown.end();
-    ended(rt, answer, output, program, expected)
+    ended(
+        rt,
+        answer,
+        output,
+        program,
+        expected,
+        "as many steps were taken as may be",
+    )
 }
 
 /// Plays it so often, and writes what the runs came to.

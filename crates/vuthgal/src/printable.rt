@@ -9,7 +9,7 @@ use std::io::{IsTerminal, Stderr, Stdout, Write};
 const PIECE: usize = 512;
 
 /// A writer to which any byte may be given. Where it is a terminal, a byte that isn't printable ASCII is shown as `?`, a tab as
-/// a blank; LF stays, and so does CR before it. Into a file or a pipe all bytes go as they are.
+/// a blank; LF stays. Into a file or a pipe all bytes go as they are.
 #[derive(Drop)]
 pub struct Printable<W> {
     writer: W,
@@ -32,11 +32,10 @@ pub fn errors(rt: &HostRuntime) -> Printable<Stderr> {
     }
 }
 
-/// The byte that a terminal is shown in place of one, by the byte behind it.
-fn shown(byte: u8, next: Option<&u8>) -> u8 {
+/// The byte that a terminal is shown in place of one.
+fn shown(byte: u8) -> u8 {
     match byte {
         b'\n' | b' '..=b'~' => byte,
-        b'\r' if next == Some(&b'\n') => byte,
         b'\t' => b' ',
         _ => b'?',
     }
@@ -52,7 +51,7 @@ impl<W: Write> Write for Printable<W> {
         let mut piece = [b'?'; PIECE];
         let count = bytes.len().min(PIECE);
         for (at, byte) in bytes[..count].iter().enumerate() {
-            piece[at] = shown(*byte, bytes.get(at + 1));
+            piece[at] = shown(*byte);
         }
         self.writer.write(&piece[..count])
     }

@@ -7,11 +7,12 @@ use crate::kept_source::KeptSource;
 use crate::planning::{Steps, schedule_of_plan};
 use crate::progress::{ShownWriter, trace_port};
 use crate::trouble::{Answer, Trouble};
-use crate::{files, notes};
+use crate::{files, help, notes};
 use byte_ports::{BlockPort, ReadPort, Source, WritePort};
 use commands::making::parts_of;
 use headline::shown;
 use std::io::Stdout;
+use thread_machine::Standing;
 use trace_text::RunEnd;
 use workbench::fault::Fault;
 use workbench::input::read_all;
@@ -21,18 +22,25 @@ use workbench::slice_source::SliceSource;
 /// Where the trace of a run goes.
 pub type TracePort<'a> = BlockPort<WritePort<ShownWriter<'a, Stdout>>>;
 
+/// How a run ends that stays live where its schedule does.
+const SCHEDULE_ENDS: &str = "the schedule is at its end";
+
 /// What a run comes to whose trace was handed on: whether it ended as it was expected to. What didn't is told, and on a terminal
-/// also a choice of a thread that isn't there.
+/// also a choice of a thread that isn't there, and what `live` means, by what ended the run.
 pub fn ended<'a>(
     rt: &HostRuntime,
     answer: Result<RunEnd, Fault>,
     output: TracePort<'_>,
     program: &[u8],
     expected: &[Vec<u8>],
+    what_ended: &str,
 ) -> Answer<'a> {
     let end = handed_on(answer, output)?;
     notes::push_refused(rt, &end);
     tell_unmet(rt, program, expected, &end);
+    if end.refused.is_none() && end.standing == Standing::Live {
+        help::push_live(rt, what_ended);
+    }
     Ok(as_expected(expected, &end))
 }
 
@@ -51,7 +59,7 @@ pub fn play_both<'a>(rt: &HostRuntime, expected: &[&str]) -> Answer<'a> {
     if answer.is_ok() && program.len() == text.len() {
         notes::push_no_schedule(rt);
     }
-    ended(rt, answer, output, program, expected.as_slice())
+    ended(rt, answer, output, program, expected.as_slice(), SCHEDULE_ENDS)
 }
 
 /// Plays a program under a schedule.
@@ -64,7 +72,7 @@ fn play<'a, S: Source>(
     let expected = expectations(rt.alloc(), program, expected)?;
     let mut output = trace_port(rt)?;
     let answer = shown::run(rt.alloc(), program, schedule, &mut output);
-    ended(rt, answer, output, program, expected.as_slice())
+    ended(rt, answer, output, program, expected.as_slice(), SCHEDULE_ENDS)
 }
 
 /// Plays a file that holds a program and its schedule.

@@ -13,6 +13,14 @@ use workbench::compare::{compared, done_by};
 use workbench::done::Done;
 use workbench::input::read_all;
 
+/// What a verdict comes to. On a terminal it is told how a trace is made, where there is none.
+fn ended(rt: &HostRuntime, verdict: Verdict) -> Done {
+    if matches!(verdict, Verdict::NotATrace { .. }) {
+        help::push_no_trace(rt);
+    }
+    done_by(verdict)
+}
+
 /// Compares a trace with the run of the program in a file, and shows the lines that differ where that is asked for.
 pub fn compare<'a>(rt: &HostRuntime, file: &'a str, trace: &'a str, is_shown: bool) -> Answer<'a> {
     let program = files::read(rt, file)?;
@@ -22,17 +30,19 @@ pub fn compare<'a>(rt: &HostRuntime, file: &'a str, trace: &'a str, is_shown: bo
     let program = read_all(rt.alloc(), &mut ReadPort::new(program))?;
     let program = program.as_slice();
     let mut output = WritePort::new(printable::output(rt));
-    let verdict = if is_shown {
-        let mut trace = LinesSeen::new(rt.alloc(), trace)?;
-        show_comparison(rt.alloc(), program, &mut trace, &mut output)
-    } else {
-        compared(rt.alloc(), program, &mut trace, &mut output)
-    };
-    let verdict = flushed(verdict, &mut output)?;
-    if matches!(verdict, Verdict::NotATrace { .. }) {
-        help::push_no_trace(rt);
+    if !is_shown {
+        let verdict = compared(rt.alloc(), program, &mut trace, &mut output);
+        return Ok(ended(rt, flushed(verdict, &mut output)?));
     }
-    Ok(done_by(verdict))
+    let mut trace = LinesSeen::new(rt.alloc(), trace)?;
+    let verdict = show_comparison(rt.alloc(), program, &mut trace, &mut output);
+    let verdict = flushed(verdict, &mut output)?;
+    if let Verdict::Differs { line } = verdict {
+        if trace.line(line).unwrap_or(&[]).ends_with(b"\r") {
+            help::push_carriage_return(rt);
+        }
+    }
+    Ok(ended(rt, verdict))
 }
 
 /// Writes the schedule of a trace.
