@@ -61,6 +61,14 @@ fn push_place<W: Sink>(output: &mut W, word: &str, place: Option<u64>) -> Result
 }
 
 impl Entry {
+    /// The same where something else helps.
+    pub fn with_help(self, helps: Option<&'static str>) -> Entry {
+        match helps {
+            Some(helps) => Entry { helps, ..self },
+            None => self,
+        }
+    }
+
     /// Writes what the told line means, with the place that was told.
     pub fn push_words<W: Sink>(
         self,

@@ -25,13 +25,17 @@ const AT_SCHEDULE: &str = "this looks like a schedule: the program comes first";
 const AT_COMMA: &str = "no commas: blanks part operands, as in `paaa r0 p`";
 
 /// What helps where a comment begins as in other languages.
-const AT_COMMENT: &str = "a comment begins with `;`";
+pub const AT_COMMENT: &str = "a comment begins with `;`";
 
 /// What helps where a label has no colon, or one apart.
 const AT_LABEL: &str = "a label ends with its colon, as in `main: paaa r0 p`";
 
+/// What helps where a name stands alone that is a label's elsewhere.
+const AT_NAME: &str = "a label is written with its colon, as `main:`";
+
 /// What helps where a line is written as Java's.
-const AT_ASSIGNMENT: &str = "the instruction comes first: `parr r0 p` is `r0 = p.arrive()`";
+const AT_ASSIGNMENT: &str =
+    "the instruction comes first, and behind it where its result goes, as `ldi r0 5`";
 
 /// What helps where a number stands for a register.
 const AT_NUMBER: &str = "a number goes into a register first, as by `ldi r1 1`";
@@ -53,7 +57,12 @@ fn is_schedule(alloc: Global, text: &[u8]) -> bool {
     }
 }
 
-/// Whether a word begins a comment as in other languages.
+/// Whether a word begins with the sign of a comment in other languages.
+pub fn has_comment_sign(word: &[u8]) -> bool {
+    word.starts_with(b"#") || word.starts_with(b"//")
+}
+
+/// Whether a word begins such a comment where `#` and a number may stand, too.
 fn begins_other_comment(word: &[u8]) -> bool {
     match word {
         [b'/', b'/', ..] => true,
@@ -91,22 +100,41 @@ fn has_statement_behind(line: &[u8], word: &[u8]) -> bool {
     }
 }
 
-/// Whether the line has a word `=`.
-fn has_assignment(line: &[u8]) -> bool {
-    line.split(|byte| is_blank(*byte))
-        .any(|word| word == b"=".as_slice())
+/// The word behind the one that is `=`, if a line has one.
+pub fn word_assigned(line: &[u8]) -> Option<&[u8]> {
+    let mut words = before_comment(line)
+        .split(|byte| is_blank(*byte))
+        .filter(|word| !word.is_empty())
+        .skip_while(|word| *word != b"=".as_slice());
+    words.next()?;
+    Some(words.next().unwrap_or(&[]))
+}
+
+/// Whether a word is all that a line says, and an operand of another line.
+fn is_label_alone(text: &[u8], line: &[u8], word: &[u8]) -> bool {
+    before_comment(line).trim_ascii() == word
+        && text.split(|byte| *byte == b'\n').any(|other| {
+            before_comment(other)
+                .split(|byte| is_blank(*byte))
+                .filter(|word| !word.is_empty())
+                .skip(1)
+                .any(|operand| operand == word)
+        })
 }
 
 /// What helps where no word of the language begins what a line says.
-fn helps_at_word(line: &[u8], word: &[u8]) -> Option<&'static str> {
+fn helps_at_word(text: &[u8], line: &[u8], word: &[u8]) -> Option<&'static str> {
     if word == b".run".as_slice() {
         return Some(AT_RUN);
     }
-    if word.starts_with(b"#") || word.starts_with(b"//") {
+    if has_comment_sign(word) {
         return Some(AT_COMMENT);
     }
-    if has_assignment(line) {
+    if word_assigned(line).is_some() {
         return Some(AT_ASSIGNMENT);
+    }
+    if is_label_alone(text, line, word) {
+        return Some(AT_NAME);
     }
     if has_statement_behind(line, word) {
         return Some(AT_LABEL);
@@ -114,14 +142,13 @@ fn helps_at_word(line: &[u8], word: &[u8]) -> Option<&'static str> {
     None
 }
 
-/// What helps where a text holds a byte that no line may hold.
-fn helps_at_byte(text: &[u8]) -> Option<&'static str> {
-    if text.starts_with(&[0xef, 0xbb, 0xbf]) {
-        Some(AT_MARK)
-    } else if text.starts_with(&[0xff, 0xfe]) || text.starts_with(&[0xfe, 0xff]) {
-        Some(AT_UTF16)
-    } else {
-        None
+/// What helps where a file isn't saved as ASCII, by how it begins: with a mark, or with letters of two bytes.
+pub fn helps_at_encoding(bytes: &[u8]) -> Option<&'static str> {
+    match bytes {
+        [0xef, 0xbb, 0xbf, ..] => Some(AT_MARK),
+        [0xff, 0xfe, ..] | [0xfe, 0xff, ..] => Some(AT_UTF16),
+        [1..=126, 0, 1..=126, 0, ..] | [0, 1..=126, 0, 1..=126, ..] => Some(AT_UTF16),
+        _ => None,
     }
 }
 
@@ -138,12 +165,10 @@ pub fn helps_at(
         AsmFaultKind::UnknownWord | AsmFaultKind::LongLine if is_schedule(alloc, text) => Some(
             AT_SCHEDULE,
         ),
-        AsmFaultKind::UnknownWord => helps_at_word(line, word),
-        AsmFaultKind::BadByte if number == 1 => helps_at_byte(text),
+        AsmFaultKind::UnknownWord => helps_at_word(text, line, word),
+        AsmFaultKind::BadByte if number == 1 => helps_at_encoding(text),
         _ if word.ends_with(b",") => Some(AT_COMMA),
-        AsmFaultKind::BadOption if word.starts_with(b"#") || word.starts_with(b"//") => Some(
-            AT_COMMENT,
-        ),
+        AsmFaultKind::BadOption if has_comment_sign(word) => Some(AT_COMMENT),
         AsmFaultKind::OperandCount if has_other_comment(line) => Some(AT_COMMENT),
         AsmFaultKind::OperandCount if before_comment(line).contains(&b',') => Some(AT_COMMA),
         AsmFaultKind::BadRegister if is_number(word) => Some(AT_NUMBER),

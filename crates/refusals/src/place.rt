@@ -1,13 +1,13 @@
 //! The place of a refusal, and its words.
 
 use crate::about::question_about;
-use crate::entry::Entry;
+use crate::java::row_of;
 use crate::kinds::called;
-use crate::meant::helps_at;
+use crate::meant::{helps_at, helps_at_encoding, word_assigned};
 use crate::mistaken::{is_plan, is_trace};
 use crate::names::{first_line, nearest_name, nearest_option, nearest_word};
 use crate::question::Question;
-use crate::shown::{push_file, push_line, push_marked, push_shown};
+use crate::shown::{push_file, push_line, push_marked, push_shown, word_at};
 use crate::subject::Subject;
 use crate::word::{WordEntry, word_entry};
 use assembler::assemble;
@@ -152,17 +152,8 @@ fn push_operands<E: Sink>(errors: &mut E, form: &[u8]) -> Result<(), Unshown> {
     Ok(errors.push(b"`")?)
 }
 
-/// The operands of what the line says, where the wrong word is one of them or there are too few.
-fn push_form<E: Sink>(errors: &mut E, line: &[u8], wrong: WordPlace) -> Result<(), Unshown> {
-    let Some(first) = place_of_first(line) else {
-        return Ok(());
-    };
-    let word = line
-        .get(first.at..first.at.saturating_add(first.length))
-        .unwrap_or(&[]);
-    if wrong.at < first.at {
-        return Ok(());
-    }
+/// The operands of a word of the language, and where more is told of it.
+fn push_form_of<E: Sink>(errors: &mut E, word: &[u8]) -> Result<(), Unshown> {
     if let Some(entry) = word_of(word) {
         errors.push(b"  Form:    ")?;
         push_operands(errors, entry.form.as_bytes())?;
@@ -171,6 +162,33 @@ fn push_form<E: Sink>(errors: &mut E, line: &[u8], wrong: WordPlace) -> Result<(
         errors.push(b"`)\n")?;
     }
     Ok(())
+}
+
+/// The operands of what the line says, where the wrong word is one of them or there are too few.
+fn push_form<E: Sink>(errors: &mut E, line: &[u8], wrong: WordPlace) -> Result<(), Unshown> {
+    match place_of_first(line) {
+        Some(first) if wrong.at >= first.at => push_form_of(errors, word_at(line, first)),
+        _ => Ok(()),
+    }
+}
+
+/// The word of the language that may have been meant where none stands, with its operands: on a line as Java's the row of the
+/// method that is called behind `=`.
+fn push_near_word<E: Sink>(
+    alloc: Global,
+    errors: &mut E,
+    line: &[u8],
+    word: &[u8],
+) -> Result<(), Unshown> {
+    let near = match word_assigned(line) {
+        Some(assigned) => row_of(alloc, assigned)?,
+        None => nearest_word(alloc, word)?,
+    };
+    push_near(errors, near)?;
+    match near {
+        Some(near) => push_form_of(errors, near.as_bytes()),
+        None => Ok(()),
+    }
 }
 
 /// What is told of a word of the language.
@@ -251,13 +269,11 @@ fn push_text_place<E: Sink>(
         return Ok(helps_at(alloc, program.text, kind, number, line, &[]));
     };
     push_marked(errors, line, at)?;
-    let word = line
-        .get(at.at..at.at.saturating_add(at.length))
-        .unwrap_or(&[]);
+    let word = word_at(line, at);
     match kind {
         AsmFaultKind::UnknownName => push_name(alloc, errors, file.bytes, unknown, word)?,
         AsmFaultKind::NameTwice => push_given(errors, file.bytes, word)?,
-        AsmFaultKind::UnknownWord => push_near(errors, nearest_word(alloc, word)?)?,
+        AsmFaultKind::UnknownWord => push_near_word(alloc, errors, line, word)?,
         AsmFaultKind::BadOption => {
             push_near(errors, nearest_option(alloc, word)?)?;
             push_form(errors, line, at)?;
@@ -281,10 +297,7 @@ fn push_text_place<E: Sink>(
 fn place_of_first(line: &[u8]) -> Option<WordPlace> {
     let text = before_comment(line);
     let first = place_of_word(text, 0)?;
-    let word = text
-        .get(first.at..first.at.saturating_add(first.length))
-        .unwrap_or(&[]);
-    if is_label(word) {
+    if is_label(word_at(text, first)) {
         place_of_word(text, 1)
     } else {
         Some(first)
@@ -409,7 +422,10 @@ fn helps_at_schedule(
         Some(schedule) => schedule.bytes,
         None => program.file.bytes.get(program.schedule_at..).unwrap_or(&[]),
     };
-    if is_trace(bytes) {
+    let helps = helps_at_encoding(bytes);
+    if helps.is_some() {
+        helps
+    } else if is_trace(bytes) {
         Some(AT_TRACE)
     } else if bytes.trim_ascii_start().starts_with(b";") {
         Some(AT_COMMENT)
@@ -471,11 +487,7 @@ pub fn push_place<E: Sink>(
     let question = question_about(fault);
     let helps = push_found(alloc, errors, question, program, schedule)?;
     let subject = question.subject;
-    let entry = subject.entry();
-    let entry = match helps {
-        Some(helps) => Entry { helps, ..entry },
-        None => entry,
-    };
+    let entry = subject.entry().with_help(helps);
     entry.push_words(errors, subject.place_word(), question.place)?;
     Ok(())
 }

@@ -1,9 +1,10 @@
 //! The place of a plan's fault, and its words.
 ghost use Rattle.std.specs.Prelude.{◌≤◌, length};
 
+use crate::meant::{AT_COMMENT, has_comment_sign, helps_at_encoding};
 use crate::names::distance;
 use crate::place::{Named, ProgramFile, Unshown};
-use crate::shown::{push_file, push_line, push_marked, push_shown};
+use crate::shown::{push_file, push_line, push_marked, push_shown, word_at};
 use crate::subject::Subject;
 use assembler::word_place::{WordPlace, line_at};
 use byte_ports::Sink;
@@ -47,12 +48,6 @@ fn word_places(alloc: Global, line: &[u8]) -> Result<Vec<WordPlace>, AllocError>
         }
     }
     Ok(places)
-}
-
-/// The bytes of a word in its line.
-fn word_at(line: &[u8], place: WordPlace) -> &[u8] {
-    line.get(place.at..place.at.saturating_add(place.length))
-        .unwrap_or(&[])
 }
 
 /// The parenthesis that is never closed: the last that is opened where none is open.
@@ -214,29 +209,33 @@ fn push_near<E: Sink>(
     Ok(())
 }
 
-/// Shows the line of a plan's fault, with a mark below the word that is wrong.
+/// Shows the line of a plan's fault, with a mark below the word that is wrong. Answers what helps there, where that is more than
+/// its entry says.
 fn push_shown_place<E: Sink>(
     alloc: Global,
     errors: &mut E,
     fault: PlanFault,
     names: &[&[u8]],
     plan: Named<'_>,
-) -> Result<(), Unshown>
+) -> Result<Option<&'static str>, Unshown>
     requires { length names.now ≤ 64 }
 {
     let Some(line) = line_at(plan.bytes, fault.line) else {
-        return Ok(());
+        return Ok(None);
     };
     push_file(errors, plan.name, fault.line)?;
     let Some(place) = place_in(alloc, plan.bytes, names, fault, line)? else {
         push_line(errors, line)?;
-        return Ok(());
+        return Ok(None);
     };
     push_marked(errors, line, place)?;
-    if fault.kind == PlanFaultKind::NotNamed {
-        push_near(alloc, errors, names, word_at(line, place))?;
+    let word = word_at(line, place);
+    match fault.kind {
+        PlanFaultKind::NotNamed => push_near(alloc, errors, names, word)?,
+        PlanFaultKind::BadWord if has_comment_sign(word) => return Ok(Some(AT_COMMENT)),
+        _ => {}
     }
-    Ok(())
+    Ok(helps_at_encoding(plan.bytes))
 }
 
 /// Writes where a plan's fault is, where the plan can be read again, and then the words of its entry.
@@ -247,14 +246,14 @@ pub fn push_plan_place<E: Sink>(
     plan: Named<'_>,
     errors: &mut E,
 ) -> Result<(), Unshown> {
+    let mut helps = None;
     if !plan.bytes.is_empty() {
         if let Ok((_, names)) = loaded_program(alloc, program.text) {
-            push_shown_place(alloc, errors, fault, names.as_slice(), plan)?;
+            helps = push_shown_place(alloc, errors, fault, names.as_slice(), plan)?;
         }
     }
     let subject = Subject::Plan(fault.kind);
-    subject
-        .entry()
-        .push_words(errors, subject.place_word(), Some(fault.line))?;
+    let entry = subject.entry().with_help(helps);
+    entry.push_words(errors, subject.place_word(), Some(fault.line))?;
     Ok(())
 }

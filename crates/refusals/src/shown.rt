@@ -10,6 +10,12 @@ const WIDTH: usize = 72;
 /// What stands for the beginning of a line that isn't shown.
 const DOTS: &[u8] = b"... ";
 
+/// The bytes of a word in its line.
+pub fn word_at(line: &[u8], place: WordPlace) -> &[u8] {
+    line.get(place.at..place.at.saturating_add(place.length))
+        .unwrap_or(&[])
+}
+
 /// Writes bytes of a file, each that is none of printable ASCII as `?`, and a tab as a blank.
 pub fn push_shown<E: Sink>(errors: &mut E, bytes: &[u8]) -> Result<(), Failed> {
     for byte in bytes.iter() {
