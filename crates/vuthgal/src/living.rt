@@ -5,7 +5,7 @@ ghost use Rattle.std.specs.Prelude.{◌≤◌, IfSome};
 use crate::ending::flushed;
 use crate::expectation::expectations;
 use crate::explaining::is_explained;
-use crate::progress::{BehindProgress, ShownGate, ShownPace, trace_port};
+use crate::progress::{BehindProgress, Meter, trace_port};
 use crate::running::ended;
 use crate::trouble::Answer;
 use crate::{files, notes};
@@ -29,7 +29,7 @@ fn live<'a, R: Threads + Wait + Sync>(
     requires { limit ≤ 1000000000 }
 {
     let mut output = trace_port(rt)?;
-    let shown = ShownGate::of_trace(rt);
+    let shown = Meter::of_live(rt);
     let gate = pauses.of_run(0, &shown);
     let answer = shown::live(threads, rt.alloc(), limit, &gate, program, &mut output);
     shown.end();
@@ -53,7 +53,7 @@ fn live_often<'a, R: Threads + Wait + Sync>(
     requires limit { asked.now.limit ≤ 1000000000 }
     requires count { asked.now.runs ≤ 100000 }
 {
-    let shown = ShownGate::of_runs(rt);
+    let shown = Meter::of_runs(rt);
     let mut output = WritePort::new(BehindProgress::new(rt.stdout(), &shown));
     let answer = report_runs(threads, rt.alloc(), asked, &shown, program, &mut output);
     shown.end();
@@ -100,7 +100,7 @@ pub fn meet<'a, R: Threads + Wait + Sync>(
     rounds: u32,
 ) -> Answer<'a> {
     let mut output = WritePort::new(rt.stdout());
-    let pace = ShownPace::new(rt);
+    let pace = Meter::of_race(rt);
     let answer = racing::race(threads, rt.alloc(), parties, rounds, &pace, &mut output);
     pace.end();
     Ok(as_asked(flushed(answer, &mut output))?)

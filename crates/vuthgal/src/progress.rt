@@ -36,58 +36,117 @@ fn began_beside_output(rt: &HostRuntime) -> Option<Instant> {
     began(rt)
 }
 
-/// A line on standard error that says how many choices were played, and how many a second.
+/// How much several threads do before the clock is looked at.
+const DONE_BETWEEN: u64 = 4096;
+
+/// A line on standard error that says how much was done, and how much a second. Several threads may count what they do.
 #[derive(Drop)]
 pub struct Meter<'a> {
     rt: &'a HostRuntime,
-    began: Instant,
+    /// Where somebody looks.
+    began: Option<Instant>,
+    /// What stands before the count, and behind it.
+    words: (&'static str, &'static str),
+    done: AtomicU64,
     /// How many seconds had gone by when it was shown last, 0 where it wasn't.
-    shown: u64,
+    shown: AtomicU64,
 }
 
 impl<'a> Meter<'a> {
-    /// None where nobody would see it, or where it would stand among the output.
-    pub fn of(rt: &'a HostRuntime) -> Option<Meter<'a>> {
-        let began = began_beside_output(rt)?;
-        Some(Meter {
+    fn new(
+        rt: &'a HostRuntime,
+        began: Option<Instant>,
+        words: (&'static str, &'static str),
+    ) -> Meter<'a> {
+        Meter {
             rt,
             began,
-            shown: 0,
-        })
+            words,
+            done: AtomicU64::new(0),
+            shown: AtomicU64::new(0),
+        }
     }
 
-    /// Shows so many choices, and how much of a file was read where that is known, unless it did in this second.
-    fn show(&mut self, choices: u64, percent: Option<u64>) {
-        let Ok(time) = self.began.elapsed(self.rt) else {
+    /// Of the choices of a trace that is written or read.
+    fn of_trace(rt: &'a HostRuntime) -> Meter<'a> {
+        Meter::new(rt, began_beside_output(rt), ("", "choices"))
+    }
+
+    /// Of the times that the workers of a live run pass its gate, which are a little more than the choices that they make.
+    pub fn of_live(rt: &'a HostRuntime) -> Meter<'a> {
+        Meter::new(rt, began_beside_output(rt), ("about ", "choices"))
+    }
+
+    /// The same of many runs, behind which alone something goes to standard output.
+    pub fn of_runs(rt: &'a HostRuntime) -> Meter<'a> {
+        Meter::new(rt, began(rt), ("about ", "choices"))
+    }
+
+    /// Of the times that the threads of a race meet, each counted by itself.
+    pub fn of_race(rt: &'a HostRuntime) -> Meter<'a> {
+        Meter::new(rt, began_beside_output(rt), ("about ", "arrivals"))
+    }
+
+    /// Shows so many, and how much of a file was read where that is known, unless somebody did in this second.
+    fn show(&self, done: u64, percent: Option<u64>) {
+        let Some(began) = self.began else {
+            return;
+        };
+        let Ok(time) = began.elapsed(self.rt) else {
             return;
         };
         let seconds = time.as_secs();
-        if seconds <= self.shown {
+        if seconds == 0 || self.shown.swap(seconds, Ordering::SeqCst) >= seconds {
             return;
         }
-        self.shown = seconds;
-        let rate = choices / seconds;
+        let rate = done / seconds;
+        let (about, unit) = self.words;
         let _ = match percent {
-            None => eprint!(self.rt; "\r{choices} choices, {rate} a second  "),
+            None => eprint!(self.rt; "\r{about}{done} {unit}, {rate} a second  "),
             Some(percent) => eprint!(self.rt;
-                "\r{choices} choices, {rate} a second, {percent}% of the file  "
+                "\r{about}{done} {unit}, {rate} a second, {percent}% of the file  "
             ),
         };
     }
 
     /// Shows the last whole line of a block of a trace, which begins with the number of its choice.
-    fn show_block(&mut self, block: &[u8], percent: Option<u64>) {
+    fn show_block(&self, block: &[u8], percent: Option<u64>) {
+        if self.began.is_none() {
+            return;
+        }
         if let Some(choices) = last_number(block) {
             self.show(choices, percent);
         }
     }
 
+    /// Counts one more.
+    fn count(&self) {
+        if self.began.is_none() {
+            return;
+        }
+        let before = self.done.fetch_add(1, Ordering::SeqCst);
+        if before % DONE_BETWEEN == DONE_BETWEEN - 1 {
+            self.show(before.saturating_add(1), None);
+        }
+    }
+
     /// Ends the line, if there is one.
-    fn end(&mut self) {
-        if self.shown > 0 {
-            self.shown = 0;
+    pub fn end(&self) {
+        if self.shown.swap(0, Ordering::SeqCst) > 0 {
             let _ = eprintln!(self.rt; "");
         }
+    }
+}
+
+impl<'a> Gate for Meter<'a> {
+    fn pass(&self, _thread: u8, _step: u32) {
+        self.count();
+    }
+}
+
+impl<'a> Pace for Meter<'a> {
+    fn met(&self) {
+        self.count();
     }
 }
 
@@ -107,14 +166,14 @@ fn last_number(block: &[u8]) -> Option<u64> {
 #[derive(Drop)]
 pub struct ShownWriter<'a, W> {
     writer: W,
-    meter: Option<Meter<'a>>,
+    meter: Meter<'a>,
 }
 
 impl<'a, W> ShownWriter<'a, W> {
     pub fn new(rt: &'a HostRuntime, writer: W) -> ShownWriter<'a, W> {
         ShownWriter {
             writer,
-            meter: Meter::of(rt),
+            meter: Meter::of_trace(rt),
         }
     }
 }
@@ -126,16 +185,12 @@ impl<'a, W: Write> Write for ShownWriter<'a, W> {
         ensures bound { WritesAtMost result bytes.now }
         ensures bytes { WriteAppends (W.contents self.old.writer) (W.contents self.new.writer) result bytes.now }
     {
-        if let Some(meter) = &mut self.meter {
-            meter.show_block(bytes, None);
-        }
+        self.meter.show_block(bytes, None);
         self.writer.write(bytes)
     }
 
     fn flush(&mut self) -> io::Result<()> {
-        if let Some(meter) = &mut self.meter {
-            meter.end();
-        }
+        self.meter.end();
         self.writer.flush()
     }
 }
@@ -154,7 +209,7 @@ pub fn trace_port<'a>(
 #[derive(Drop)]
 pub struct ShownSource<'a, S> {
     source: S,
-    meter: Option<Meter<'a>>,
+    meter: Meter<'a>,
     read: u64,
     /// How many bytes there are, 0 where that isn't known.
     size: u64,
@@ -165,7 +220,7 @@ impl<'a, S> ShownSource<'a, S> {
     pub fn new(rt: &'a HostRuntime, source: S, size: u64) -> ShownSource<'a, S> {
         ShownSource {
             source,
-            meter: Meter::of(rt),
+            meter: Meter::of_trace(rt),
             read: 0,
             size,
         }
@@ -181,13 +236,10 @@ impl<'a, S> ShownSource<'a, S> {
         ensures { self.new.source ≡ self.old.source }
     {
         self.read = self.read.saturating_add(bytes.len() as u64);
-        let percent = self.percent();
-        if let Some(meter) = &mut self.meter {
-            if bytes.is_empty() {
-                meter.end();
-            } else {
-                meter.show_block(bytes, percent);
-            }
+        if bytes.is_empty() {
+            self.meter.end();
+        } else {
+            self.meter.show_block(bytes, self.percent());
         }
     }
 }
@@ -211,109 +263,16 @@ impl<'a, S: Source> Source for ShownSource<'a, S> {
     }
 }
 
-/// How much several threads do before the clock is looked at.
-const DONE_BETWEEN: u64 = 4096;
-
-/// A line on standard error that says how much several threads have done, and how much a second.
-#[derive(Drop)]
-struct SharedMeter<'a> {
-    rt: &'a HostRuntime,
-    /// Where somebody looks.
-    began: Option<Instant>,
-    /// What is counted.
-    unit: &'static str,
-    done: AtomicU64,
-    /// How many seconds had gone by when it was shown last, 0 where it wasn't.
-    shown: AtomicU64,
-}
-
-impl<'a> SharedMeter<'a> {
-    fn new(rt: &'a HostRuntime, unit: &'static str, began: Option<Instant>) -> SharedMeter<'a> {
-        SharedMeter {
-            rt,
-            began,
-            unit,
-            done: AtomicU64::new(0),
-            shown: AtomicU64::new(0),
-        }
-    }
-
-    /// Counts one more.
-    fn count(&self) {
-        let Some(began) = self.began else {
-            return;
-        };
-        let before = self.done.fetch_add(1, Ordering::SeqCst);
-        if before % DONE_BETWEEN == DONE_BETWEEN - 1 {
-            self.show(began, before.saturating_add(1));
-        }
-    }
-
-    /// Shows so many, unless somebody did in this second.
-    fn show(&self, began: Instant, done: u64) {
-        let Ok(time) = began.elapsed(self.rt) else {
-            return;
-        };
-        let seconds = time.as_secs();
-        if seconds == 0 || self.shown.swap(seconds, Ordering::SeqCst) >= seconds {
-            return;
-        }
-        let rate = done / seconds;
-        let unit = self.unit;
-        let _ = eprint!(self.rt; "\rabout {done} {unit}, {rate} a second  ");
-    }
-
-    /// Ends the line, if there is one.
-    fn end(&self) {
-        if self.shown.swap(0, Ordering::SeqCst) > 0 {
-            let _ = eprintln!(self.rt; "");
-        }
-    }
-}
-
-/// A gate that shows how often the workers of a live run have passed it, which is a little more than the choices that they made.
-#[derive(Drop)]
-pub struct ShownGate<'a> {
-    meter: SharedMeter<'a>,
-}
-
-impl<'a> ShownGate<'a> {
-    /// Of a run whose trace goes to standard output.
-    pub fn of_trace(rt: &'a HostRuntime) -> ShownGate<'a> {
-        ShownGate {
-            meter: SharedMeter::new(rt, "choices", began_beside_output(rt)),
-        }
-    }
-
-    /// Of many runs, behind which alone something goes to standard output.
-    pub fn of_runs(rt: &'a HostRuntime) -> ShownGate<'a> {
-        ShownGate {
-            meter: SharedMeter::new(rt, "choices", began(rt)),
-        }
-    }
-
-    /// Ends the line, if there is one.
-    pub fn end(&self) {
-        self.meter.end();
-    }
-}
-
-impl<'a> Gate for ShownGate<'a> {
-    fn pass(&self, _thread: u8, _step: u32) {
-        self.meter.count();
-    }
-}
-
 /// A writer of what many runs came to, before which the line that shows how far they have come is ended.
 #[derive(Drop)]
 pub struct BehindProgress<'a, W> {
     writer: W,
-    shown: &'a ShownGate<'a>,
+    meter: &'a Meter<'a>,
 }
 
 impl<'a, W> BehindProgress<'a, W> {
-    pub fn new(writer: W, shown: &'a ShownGate<'a>) -> BehindProgress<'a, W> {
-        BehindProgress { writer, shown }
+    pub fn new(writer: W, meter: &'a Meter<'a>) -> BehindProgress<'a, W> {
+        BehindProgress { writer, meter }
     }
 }
 
@@ -324,36 +283,11 @@ impl<'a, W: Write> Write for BehindProgress<'a, W> {
         ensures bound { WritesAtMost result bytes.now }
         ensures bytes { WriteAppends (W.contents self.old.writer) (W.contents self.new.writer) result bytes.now }
     {
-        self.shown.end();
+        self.meter.end();
         self.writer.write(bytes)
     }
 
     fn flush(&mut self) -> io::Result<()> {
         self.writer.flush()
-    }
-}
-
-/// Shows how often the threads of a race have met, each counted by itself.
-#[derive(Drop)]
-pub struct ShownPace<'a> {
-    meter: SharedMeter<'a>,
-}
-
-impl<'a> ShownPace<'a> {
-    pub fn new(rt: &'a HostRuntime) -> ShownPace<'a> {
-        ShownPace {
-            meter: SharedMeter::new(rt, "arrivals", began_beside_output(rt)),
-        }
-    }
-
-    /// Ends the line, if there is one.
-    pub fn end(&self) {
-        self.meter.end();
-    }
-}
-
-impl<'a> Pace for ShownPace<'a> {
-    fn met(&self) {
-        self.meter.count();
     }
 }

@@ -14,6 +14,7 @@ use headline::shown;
 use std::io::Stdout;
 use thread_machine::Standing;
 use trace_text::RunEnd;
+use workbench::done::Done;
 use workbench::fault::Fault;
 use workbench::input::read_all;
 use workbench::run_line::split_at_run;
@@ -37,11 +38,14 @@ pub fn ended<'a>(
 ) -> Answer<'a> {
     let end = handed_on(answer, output)?;
     notes::push_refused(rt, &end);
-    tell_unmet(rt, program, expected, &end);
+    let done = as_expected(expected, &end);
+    if done == Done::Unlike {
+        tell_unmet(rt, program, expected, &end);
+    }
     if end.refused.is_none() && end.standing == Standing::Live {
         help::push_live(rt, what_ended);
     }
-    Ok(as_expected(expected, &end))
+    Ok(done)
 }
 
 /// Plays what standard input holds.
@@ -59,7 +63,14 @@ pub fn play_both<'a>(rt: &HostRuntime, expected: &[&str]) -> Answer<'a> {
     if answer.is_ok() && program.len() == text.len() {
         notes::push_no_schedule(rt);
     }
-    ended(rt, answer, output, program, expected.as_slice(), SCHEDULE_ENDS)
+    ended(
+        rt,
+        answer,
+        output,
+        program,
+        expected.as_slice(),
+        SCHEDULE_ENDS,
+    )
 }
 
 /// Plays a program under a schedule.
@@ -72,7 +83,14 @@ fn play<'a, S: Source>(
     let expected = expectations(rt.alloc(), program, expected)?;
     let mut output = trace_port(rt)?;
     let answer = shown::run(rt.alloc(), program, schedule, &mut output);
-    ended(rt, answer, output, program, expected.as_slice(), SCHEDULE_ENDS)
+    ended(
+        rt,
+        answer,
+        output,
+        program,
+        expected.as_slice(),
+        SCHEDULE_ENDS,
+    )
 }
 
 /// Plays a file that holds a program and its schedule.
