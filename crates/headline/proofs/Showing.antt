@@ -57,7 +57,7 @@ first_trace image world choices before after (loads, begins) appends =
 pub text-shown : (result : Result RunEnd Fault) (text : List ℕ) (before after : Option (List ℕ)) (failed : Bool)
     → PlaysText text result before after failed → OnOk result (HasShownText text before after)
 text-shown (Ok end) text before after failed
-    (rest, (image, (stands, (world, ((loads, first), (bytes, (runs, (consumed, at_end, is, (ends, appends))))))))) =
+    (rest, (image, (stands, (world, ((loads, first), sound, (bytes, (runs, (consumed, at_end, is, (ends, appends))))))))) =
     let all = whole (schedule_part text) bytes rest consumed at_end in (
       image,
       (
@@ -77,7 +77,7 @@ pub file-shown : (result : Result RunEnd Fault) (file : List ℕ) (schedule_befo
     → PlaysFile file result schedule_before schedule_after schedule_failed before after failed
     → OnOk result (HasShownFile file schedule_before schedule_after before after)
 file-shown (Ok end) file schedule_before schedule_after schedule_failed before after failed
-    (image, (is_file, (world, ((loads, first), (bytes, (runs, (consumed, at_end, is, (ends, appends)))))))) = (
+    (image, (is_file, (world, ((loads, first), sound, (bytes, (runs, (consumed, at_end, is, (ends, appends)))))))) = (
       image,
       (
         bytes,

@@ -1,5 +1,5 @@
 -- Runs that a reader adds to a list, and what is played with them.
-use Rattle.std.proofs.Common.{◌≡◌, ◌≢◌, ◌∙◌, ◌++◌, ◌⊎◌, ℕ, Bool, true, inl, inr, List, [], Ok, Err, None, Result, ap, sym, subst, refl, append-nil, append_assoc, Option, Some}
+use Rattle.std.proofs.Common.{◌≡◌, ◌≢◌, ◌∙◌, ◌++◌, ◌⊎◌, ◌≤◌, ℕ, Bool, true, false, inl, inr, List, [], Ok, Err, None, Result, ap, sym, subst, refl, append-nil, append_assoc, Option, Some, length, arith}
 use Rattle.std.specs.Prelude.{IfOk, IfErr, OnOk, replicate}
 use Rattle.std.proofs.lemmas.Grind.{flat_map-append}
 use Rattle.std.specs.Io.KnownBytes.{Appends, Consumes, IsAtEnd}
@@ -76,22 +76,35 @@ pub has_read : (told : Result (Unit {0}) ScheduleFault) (reader : Progress) (byt
 has_read told reader bytes enough (inl memory) = absurd (enough memory)
 has_read told reader bytes enough (inr read) = read
 
+-- an answer that is no fault
+no_fault : (fault : Option ScheduleFault)
+    → (let ok : Result (Unit {0}) ScheduleFault = Ok tt in ok ≡ answer_by fault) → fault ≡ None
+no_fault None is = refl
+no_fault (Some fault) is = let no : ⊥ = cc in absurd no
+
+end_without_fault : (told : Result (Unit {0}) ScheduleFault) (schedule : Schedule) → told ≡ Ok tt
+    → (told ≡ Err Memory) ⊎ (told ≡ answer_of schedule) → schedule.fault ≡ None
+end_without_fault told schedule is (inl memory) = let no : ⊥ = cc in absurd no
+end_without_fault told schedule is (inr answer) = no_fault schedule.fault (sym is ∙ answer)
+
 -- a piece's tokens are played
 pub piece-plays : {E : Type 0} (result : Result Bool E) (told : Result (Unit {0}) ScheduleFault) (bytes longer : List ℕ)
     (first before after : World) (was : Bool) (old known new : Option (List ℕ)) (start runs : List Run) (now next : Progress)
     → start ≡ [] → IsUpTo first before bytes now was old known → OnOk result (told ≡ Ok tt)
     → Adds told (open_schedule bytes) (open_schedule longer) start runs
+    → (told ≡ Err Memory) ⊎ (told ≡ answer_of (open_schedule longer))
     → (told ≡ Err Memory) ⊎ HasRead next longer
     → IfOk result (λ all. PlaysOn before after was all (choices_of runs) known new)
     → IfOk result (λ all. IsUpTo first after longer next all old new)
-piece-plays (Ok all) told bytes longer first before after was old known new start runs now next empty up is adds read on =
+piece-plays (Ok all) told bytes longer first before after was old known new start runs now next empty up is adds answer read on =
     let enough : told ≢ Err Memory = λ memory. let no : ◌≡◌ {A = Result (Unit {0}) ScheduleFault} (Ok tt) (Err Memory) = sym is ∙ memory in cc in
     record {
       reads = has_read told next longer enough read;
+      free = end_without_fault told (open_schedule longer) is answer;
       plays = added-plays told (open_schedule bytes) (open_schedule longer) first before after was all old known new start runs
           empty enough adds up.plays on;
     }
-piece-plays (Err e) told bytes longer first before after was old known new start runs now next empty up is adds read on = on
+piece-plays (Err e) told bytes longer first before after was old known new start runs now next empty up is adds answer read on = on
 
 -- behind a fault nothing makes a difference
 pub faulty_then : (reader : Progress) (bytes rest : List ℕ) (fault : ScheduleFault) → reader.fault ≡ Some fault → HasRead reader bytes
@@ -110,17 +123,6 @@ told_other told fault is other = λ memory. other (let same : fault ≡ Memory =
 pub fault_told : (told : Result (Unit {0}) ScheduleFault) (fault : ScheduleFault) (reader : Progress) → told ≡ Err fault
     → IfErr told (λ f. reader.fault ≡ Some f) → reader.fault ≡ Some fault
 fault_told told fault reader is err = subst (λ (t : Result (Unit {0}) ScheduleFault). IfErr t (λ f. reader.fault ≡ Some f)) is err
-
--- an answer that is no fault
-no_fault : (fault : Option ScheduleFault)
-    → (let ok : Result (Unit {0}) ScheduleFault = Ok tt in ok ≡ answer_by fault) → fault ≡ None
-no_fault None is = refl
-no_fault (Some fault) is = let no : ⊥ = cc in absurd no
-
-end_without_fault : (told : Result (Unit {0}) ScheduleFault) (schedule : Schedule) → told ≡ Ok tt
-    → (told ≡ Err Memory) ⊎ (told ≡ answer_of schedule) → schedule.fault ≡ None
-end_without_fault told schedule is (inl memory) = let no : ⊥ = cc in absurd no
-end_without_fault told schedule is (inr answer) = no_fault schedule.fault (sym is ∙ answer)
 
 -- a fault that was answered
 fault_by : (fault : Option ScheduleFault) (e : ScheduleFault)
@@ -160,100 +162,117 @@ schedule_by_fault schedule fault is =
     let make : Option ScheduleFault → Schedule = λ f. record { runs = schedule.runs; fault = f } in ap make is
 
 -- what stops a run behind a piece of its schedule
-pub piece-stops : (f : RunFault) (told : Result (Unit {0}) ScheduleFault) (bytes longer : List ℕ) (first before : World) (was : Bool)
+pub piece-stops : (f : RunFault) (told : Result (Unit {0}) ScheduleFault) (bytes piece : List ℕ) (first before : World) (was : Bool)
     (schedule_before schedule_after old known new : Option (List ℕ)) (failed other : Bool) (start runs : List Run) (now next : Progress)
-    → start ≡ [] → IsUpTo first before bytes now was old known → Consumes schedule_before schedule_after longer
-    → Adds told (open_schedule bytes) (open_schedule longer) start runs
-    → (told ≡ Err Memory) ⊎ HasRead next longer → IfErr told (λ e. next.fault ≡ Some e)
+    → start ≡ [] → IsUpTo first before bytes now was old known → Consumes schedule_before schedule_after (bytes ++ piece)
+    → length piece ≤ 4096 → failed ≡ false
+    → Adds told (open_schedule bytes) (open_schedule (bytes ++ piece)) start runs
+    → (told ≡ Err Memory) ⊎ HasRead next (bytes ++ piece) → IfErr told (λ e. next.fault ≡ Some e)
     → StopsAt f told before was (choices_of runs) known new other
     → StopsFrom first f schedule_before schedule_after failed old new other
-piece-stops (fault.Schedule f) told bytes longer first before was schedule_before schedule_after old known new failed other start runs now next
-    empty up consumed adds read err (is, is_other, writes) =
+piece-stops (fault.Schedule f) told bytes piece first before was schedule_before schedule_after old known new failed other start runs now next
+    empty up consumed few sound adds read err (is, is_other, writes) =
+    let longer = bytes ++ piece in
     let enough = told_other told f is is_other in
     let has = has_read told next longer enough read in (
-      longer,
+      sound,
       (
-        (open_schedule longer).runs,
+        longer,
         (
-          is_other,
-          consumed,
-          inr (λ rest. faulty_then next longer rest f (fault_told told f next is err) has),
-          added-writes told (open_schedule bytes) (open_schedule longer) first before was old known new start runs empty enough adds up.plays writes,
+          (open_schedule longer).runs,
+          (
+            is_other,
+            consumed,
+            (bytes, (piece, (refl, few, up.free))),
+            inr (λ rest. faulty_then next longer rest f (fault_told told f next is err) has),
+            added-writes told (open_schedule bytes) (open_schedule longer) first before was old known new start runs empty enough adds up.plays writes,
+          ),
         ),
       ),
     )
-piece-stops fault.Memory told bytes longer first before was schedule_before schedule_after old known new failed other start runs now next
-    empty up consumed adds read err writes = (
-      longer,
+piece-stops fault.Memory told bytes piece first before was schedule_before schedule_after old known new failed other start runs now next
+    empty up consumed few sound adds read err writes =
+    let longer = bytes ++ piece in (
+      sound,
       (
-        open_schedule longer,
+        longer,
         (
-          consumed,
-          inl refl,
-          added-writes_part told (open_schedule bytes) (open_schedule longer) first before was old known new start runs empty adds up.plays writes,
+          open_schedule longer,
+          (
+            consumed,
+            inl refl,
+            added-writes_part told (open_schedule bytes) (open_schedule longer) first before was old known new start runs empty adds up.plays writes,
+          ),
         ),
       ),
     )
-piece-stops fault.Write told bytes longer first before was schedule_before schedule_after old known new failed other start runs now next
-    empty up consumed adds read err writes = writes
-piece-stops fault.Read told bytes longer first before was schedule_before schedule_after old known new failed other start runs now next
-    empty up consumed adds read err never = absurd never
-piece-stops (fault.Load f) told bytes longer first before was schedule_before schedule_after old known new failed other start runs now next
-    empty up consumed adds read err never = absurd never
+piece-stops fault.Write told bytes piece first before was schedule_before schedule_after old known new failed other start runs now next
+    empty up consumed few sound adds read err writes = writes
+piece-stops fault.Read told bytes piece first before was schedule_before schedule_after old known new failed other start runs now next
+    empty up consumed few sound adds read err never = absurd never
+piece-stops (fault.Load f) told bytes piece first before was schedule_before schedule_after old known new failed other start runs now next
+    empty up consumed few sound adds read err never = absurd never
 
 -- and behind its last token
 pub end-stops : (f : RunFault) (told : Result (Unit {0}) ScheduleFault) (bytes : List ℕ) (first before : World) (was : Bool)
     (schedule_before schedule_after old known new : Option (List ℕ)) (failed other : Bool) (start runs : List Run) (now : Progress)
     → start ≡ [] → IsUpTo first before bytes now was old known → Consumes schedule_before schedule_after bytes → IsAtEnd schedule_after
-    → Adds told (open_schedule bytes) (finished_schedule bytes) start runs
+    → failed ≡ false → Adds told (open_schedule bytes) (finished_schedule bytes) start runs
     → (told ≡ Err Memory) ⊎ (told ≡ answer_of (finished_schedule bytes))
     → StopsAt f told before was (choices_of runs) known new other
     → StopsFrom first f schedule_before schedule_after failed old new other
 end-stops (fault.Schedule f) told bytes first before was schedule_before schedule_after old known new failed other start runs now
-    empty up consumed end adds answer (is, is_other, writes) =
+    empty up consumed end sound adds answer (is, is_other, writes) =
     let schedule = finished_schedule bytes in
     let enough = told_other told f is is_other in
     let by_fault : schedule ≡ faulty_after schedule.runs f = schedule_by_fault schedule (Some f) (end_with_fault told schedule f is enough answer) in (
-      bytes,
+      sound,
       (
-        schedule.runs,
+        bytes,
         (
-          is_other,
-          consumed,
-          inl (end, by_fault),
-          added-writes told (open_schedule bytes) schedule first before was old known new start runs empty enough adds up.plays writes,
+          schedule.runs,
+          (
+            is_other,
+            consumed,
+            (bytes, ([], (sym (append-nil bytes), omega arith, up.free))),
+            inl (end, by_fault),
+            added-writes told (open_schedule bytes) schedule first before was old known new start runs empty enough adds up.plays writes,
+          ),
         ),
       ),
     )
 end-stops fault.Memory told bytes first before was schedule_before schedule_after old known new failed other start runs now
-    empty up consumed end adds answer writes =
+    empty up consumed end sound adds answer writes =
     let schedule = finished_schedule bytes in (
-      bytes,
+      sound,
       (
-        schedule,
+        bytes,
         (
-          consumed,
-          inr (end, refl),
-          added-writes_part told (open_schedule bytes) schedule first before was old known new start runs empty adds up.plays writes,
+          schedule,
+          (
+            consumed,
+            inr (end, refl),
+            added-writes_part told (open_schedule bytes) schedule first before was old known new start runs empty adds up.plays writes,
+          ),
         ),
       ),
     )
 end-stops fault.Write told bytes first before was schedule_before schedule_after old known new failed other start runs now
-    empty up consumed end adds answer writes = writes
+    empty up consumed end sound adds answer writes = writes
 end-stops fault.Read told bytes first before was schedule_before schedule_after old known new failed other start runs now
-    empty up consumed end adds answer never = absurd never
+    empty up consumed end sound adds answer never = absurd never
 end-stops (fault.Load f) told bytes first before was schedule_before schedule_after old known new failed other start runs now
-    empty up consumed end adds answer never = absurd never
+    empty up consumed end sound adds answer never = absurd never
 
 pub end-stopped : {A : Type 0} (result : Result A RunFault) (told : Result (Unit {0}) ScheduleFault) (bytes : List ℕ) (first before : World) (was : Bool)
     (schedule_before schedule_after old known new : Option (List ℕ)) (failed other : Bool) (start runs : List Run) (now : Progress)
     → start ≡ [] → IsUpTo first before bytes now was old known → Consumes schedule_before schedule_after bytes → IsAtEnd schedule_after
-    → Adds told (open_schedule bytes) (finished_schedule bytes) start runs
+    → failed ≡ false → Adds told (open_schedule bytes) (finished_schedule bytes) start runs
     → (told ≡ Err Memory) ⊎ (told ≡ answer_of (finished_schedule bytes))
     → IfErr result (λ f. StopsAt f told before was (choices_of runs) known new other)
     → IfErr result (λ f. StopsFrom first f schedule_before schedule_after failed old new other)
 end-stopped (Ok x) told bytes first before was schedule_before schedule_after old known new failed other start runs now
-    empty up consumed end adds answer stops = stops
+    empty up consumed end sound adds answer stops = stops
 end-stopped (Err f) told bytes first before was schedule_before schedule_after old known new failed other start runs now
-    empty up consumed end adds answer stops =
-    end-stops f told bytes first before was schedule_before schedule_after old known new failed other start runs now empty up consumed end adds answer stops
+    empty up consumed end sound adds answer stops =
+    end-stops f told bytes first before was schedule_before schedule_after old known new failed other start runs now empty up consumed end sound adds answer stops

@@ -3,7 +3,8 @@ use Rattle.std.proofs.Common.{◌≡◌, ◌↔◌, inr, refl, ◌∙◌, ◌+�
 use Rattle.std.proofs.lemmas.List.{length-take}
 use Rattle.std.proofs.KnownBytes.{Appends-trans, Consumes-trans}
 use Rattle.std.specs.Io.KnownBytes.{Appends, Consumes, IsAtEnd}
-use Rattle.std.specs.Prelude.{Result, Ok, Err, IfOk, OnOk, None, is_some}
+use Rattle.std.specs.Prelude.{Result, Ok, Err, IfOk, OnOk, None, is_err, is_some}
+use Rattle.byte_ports.specs.Port.{FailsForGood}
 use Rattle.schedule_reader.specs.Schedule.{Schedule, finished_schedule, choices_of}
 use Rattle.thread_machine.specs.declared.fault.StepFault.{StepFault}
 use Rattle.thread_machine.specs.Standing.{standing_of}
@@ -47,6 +48,19 @@ pub played-all : {E : Type 0} (result : Result Bool E) (first last : World) (byt
 played-all (Ok all) first last bytes schedule_before schedule_after old new consumed end p =
     (bytes, ((finished_schedule bytes).runs, (consumed, end, schedule_by_fault (finished_schedule bytes) None p.0, p.1)))
 played-all (Err e) first last bytes schedule_before schedule_after old new consumed end p = p
+
+-- what holds whatever is answered holds where there is a value
+pub on_ok : {T E : Type 0} (result : Result T E) (P : Type 0) → P → OnOk result P
+on_ok (Ok x) P p = p
+on_ok (Err e) P p = tt
+
+-- a source that answers hasn't failed
+pub has_answered : {T E : Type 0} (x : T) (before after : Bool) (result : Result T E) → result ≡ Ok x → FailsForGood before after result
+    → after ≡ false
+has_answered x before false result is fails = refl
+has_answered x before true result is fails =
+    let failed : is_err result ≡ true = fails.answer.1 refl in
+    let no : false ≡ true = sym (ap is_err is) ∙ failed in absurd (cc no)
 
 -- a choice was refused, where not all were accepted
 refused_where : (all : Bool) (refusal : Option StepFault) → (IsTrue all ↔ (refusal ≡ None)) → not all ≡ is_some refusal
@@ -106,15 +120,18 @@ ended (Err e) first last all schedule_before schedule_after old between new play
 
 -- a part of the trace was written, where its state was not
 pub broken_off : (first last : World) (all : Bool) (schedule_before schedule_after old between new : Option (List ℕ)) (failed other : Bool)
-    → HasPlayedAll first last all schedule_before schedule_after old between → new ≡ between
+    → HasPlayedAll first last all schedule_before schedule_after old between → failed ≡ false → new ≡ between
     → StopsFrom first fault.Memory schedule_before schedule_after failed old new other
-broken_off first last all schedule_before schedule_after old between new failed other (bytes, (runs, (consumed, at_end, is, plays))) same =
+broken_off first last all schedule_before schedule_after old between new failed other (bytes, (runs, (consumed, at_end, is, plays))) sound same =
     let whole = subst (λ rs. Appends old between (lines_of first (choices_of rs))) (ap (λ (schedule : Schedule). schedule.runs) (sym is)) plays.lines in
     let lines = lines_of first (choices_of (finished_schedule bytes).runs) in (
-      bytes,
+      sound,
       (
-        finished_schedule bytes,
-        (consumed, inr (at_end, refl), subst (λ out. AppendsPartOf old out lines) (sym same) (Part-whole old between lines whole)),
+        bytes,
+        (
+          finished_schedule bytes,
+          (consumed, inr (at_end, refl), subst (λ out. AppendsPartOf old out lines) (sym same) (Part-whole old between lines whole)),
+        ),
       ),
     )
 
@@ -131,9 +148,9 @@ stops (fault.Load f) image world schedule_before schedule_after old new failed o
 -- a run stops whose state can't be written
 pub unfinished : (f : PlayFault) (image : Image) (first last : World) (all : Bool) (schedule_before schedule_after old between new : Option (List ℕ))
     (failed other : Bool) → Begins image first → HasPlayedAll first last all schedule_before schedule_after old between
-    → (f ≡ play.Memory → new ≡ between) → (f ≡ play.Write → IsTrue other)
+    → failed ≡ false → (f ≡ play.Memory → new ≡ between) → (f ≡ play.Write → IsTrue other)
     → Stops image (played_fault f) schedule_before schedule_after failed old new other
-unfinished play.Memory image first last all schedule_before schedule_after old between new failed other begins played same write =
-    inr (first, (begins, broken_off first last all schedule_before schedule_after old between new failed other played (same refl)))
-unfinished play.Write image first last all schedule_before schedule_after old between new failed other begins played same write =
+unfinished play.Memory image first last all schedule_before schedule_after old between new failed other begins played sound same write =
+    inr (first, (begins, broken_off first last all schedule_before schedule_after old between new failed other played sound (same refl)))
+unfinished play.Write image first last all schedule_before schedule_after old between new failed other begins played sound same write =
     (first, (begins, write refl))

@@ -13,7 +13,7 @@ use Rattle.thread_machine.specs.World.{World}
 use Rattle.trace_text.specs.declared.run.RunFault.{RunFault}
 use Rattle.trace_text.specs.declared.run.RunFault.TheVariants as fault
 use Rattle.trace_text.specs.declared.run_end.RunEnd.{RunEnd}
-use Rattle.trace_text.specs.RunText.{AreTraced, GivesOnAndOn, HasFault}
+use Rattle.trace_text.specs.RunText.{AreTraced, GivesOnAndOn, HasFault, HasNoEarlierFault}
 use Rattle.trace_text.specs.Start.{Begins, IsRefused, is_want_of_memory}
 use Rattle.trace_text.specs.Trace.{AppendsPartOf, lines_of}
 
@@ -29,18 +29,20 @@ EndsFrom first end schedule_before schedule_after output_before output_after =
     × (finished_schedule bytes ≡ record { runs = runs; fault = None })
     × AreTraced first (choices_of runs) end output_before output_after))
 
--- it stopped for this fault once the program was loaded. The first fault of the schedule: the lines of the choices before it were
--- written. Want of memory: a part of the lines of the choices that were read; of the last token too, where the schedule was read
--- to its end. The schedule can't be read: the lines of the choices that were read. The output can't be written.
+-- it stopped for this fault once the program was loaded. The first fault of the schedule, which was read no further than the piece
+-- with it: the lines of the choices before it were written. Want of memory, where the schedule hasn't failed: a part of the lines of
+-- the choices that were read; of the last token too, where the schedule was read to its end. The schedule can't be read: the lines
+-- of the choices that were read. The output can't be written.
 abbrev pub StopsFrom : World → RunFault → (schedule_before schedule_after : Option (List ℕ)) (schedule_failed : Bool)
     (output_before output_after : Option (List ℕ)) (output_failed : Bool) → Type 0
 StopsFrom first (fault.Schedule f) schedule_before schedule_after schedule_failed output_before output_after output_failed =
-    (bytes : List ℕ) × ((runs : List Run) × ((f ≢ schedule.Memory) × Consumes schedule_before schedule_after bytes
-    × HasFault bytes schedule_after runs f × Appends output_before output_after (lines_of first (choices_of runs))))
+    (schedule_failed ≡ false) × ((bytes : List ℕ) × ((runs : List Run) × ((f ≢ schedule.Memory)
+    × Consumes schedule_before schedule_after bytes × HasNoEarlierFault bytes × HasFault bytes schedule_after runs f
+    × Appends output_before output_after (lines_of first (choices_of runs)))))
 StopsFrom first fault.Memory schedule_before schedule_after schedule_failed output_before output_after output_failed =
-    (bytes : List ℕ) × ((schedule : Schedule) × (Consumes schedule_before schedule_after bytes
+    (schedule_failed ≡ false) × ((bytes : List ℕ) × ((schedule : Schedule) × (Consumes schedule_before schedule_after bytes
     × ((schedule ≡ open_schedule bytes) ⊎ (IsAtEnd schedule_after × (schedule ≡ finished_schedule bytes)))
-    × AppendsPartOf output_before output_after (lines_of first (choices_of schedule.runs))))
+    × AppendsPartOf output_before output_after (lines_of first (choices_of schedule.runs)))))
 StopsFrom first fault.Read schedule_before schedule_after schedule_failed output_before output_after output_failed =
     (IsTrue schedule_failed ⊎ GivesOnAndOn schedule_before schedule_after)
     × ((bytes : List ℕ) × (Consumes schedule_before schedule_after bytes
@@ -63,10 +65,10 @@ Stops image f schedule_before schedule_after schedule_failed output_before outpu
     (world : World) × (Begins image world
     × StopsFrom world f schedule_before schedule_after schedule_failed output_before output_after output_failed)
 
--- an image's run came to this
+-- an image's run came to this: an end, only where the schedule hasn't failed
 abbrev pub ComesTo : Image → Result RunEnd RunFault → (schedule_before schedule_after : Option (List ℕ)) (schedule_failed : Bool)
     (output_before output_after : Option (List ℕ)) (output_failed : Bool) → Type 0
 ComesTo image (Ok end) schedule_before schedule_after schedule_failed output_before output_after output_failed =
-    (world : World) × (Begins image world × EndsFrom world end schedule_before schedule_after output_before output_after)
+    (world : World) × (Begins image world × (schedule_failed ≡ false) × EndsFrom world end schedule_before schedule_after output_before output_after)
 ComesTo image (Err f) schedule_before schedule_after schedule_failed output_before output_after output_failed =
     Stops image f schedule_before schedule_after schedule_failed output_before output_after output_failed

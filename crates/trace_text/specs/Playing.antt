@@ -39,9 +39,10 @@ WritesPartOn before was choices known new =
     (first : World) (earlier : List Choice) (old : Option (List ℕ)) → Plays first before earlier was old known
     → AppendsPartOf old new (lines_of first (earlier ++ choices))
 
--- a reader stands behind these bytes of a schedule, and the choices of their whole tokens are played
+-- a reader stands behind these bytes of a schedule, which have no fault, and the choices of their whole tokens are played
 pub record IsUpTo (first now : World) (bytes : List ℕ) (reader : Progress) (accepted : Bool) (old new : Option (List ℕ)) : Type 0 where
   pub reads : HasRead reader bytes
+  pub free : (open_schedule bytes).fault ≡ None
   pub plays : Plays first now (choices_of (open_schedule bytes).runs) accepted old new
 
 -- a schedule was read to its end, and its choices were played

@@ -1,9 +1,9 @@
 -- What becomes of an image and a schedule that comes as a stream.
-use Rattle.std.specs.Prelude.{◌≡◌, ◌⊎◌, ◌≤◌, ℕ, List, ◌++◌, length, Option, Some, is_some}
+use Rattle.std.specs.Prelude.{◌≡◌, ◌⊎◌, ◌≤◌, ℕ, List, ◌++◌, length, Option, Some, None, is_some}
 use Rattle.std.specs.Io.KnownBytes.{Appends, Consumes, IsAtEnd}
 use Rattle.schedule_reader.specs.declared.fault.ScheduleFault.{ScheduleFault}
 use Rattle.schedule_reader.specs.declared.run.Run.{Run}
-use Rattle.schedule_reader.specs.Schedule.{Schedule, finished_schedule}
+use Rattle.schedule_reader.specs.Schedule.{Schedule, finished_schedule, open_schedule}
 use Rattle.thread_machine.specs.declared.choice.Choice.{Choice}
 use Rattle.thread_machine.specs.World.{World}
 use Rattle.thread_machine.specs.Standing.{standing_of}
@@ -33,6 +33,12 @@ abbrev pub HasFault : List ℕ → Option (List ℕ) → List Run → ScheduleFa
 HasFault bytes left runs fault =
     (IsAtEnd left × (finished_schedule bytes ≡ faulty_after runs fault))
     ⊎ ((rest : List ℕ) → finished_schedule (bytes ++ rest) ≡ faulty_after runs fault)
+
+-- before the last piece of a schedule that was read, of at most 4,096 bytes, no fault was there
+abbrev pub HasNoEarlierFault : List ℕ → Type 0
+HasNoEarlierFault bytes =
+    (front : List ℕ) × ((piece : List ℕ)
+    × ((bytes ≡ front ++ piece) × (length piece ≤ 4096) × ((open_schedule front).fault ≡ None)))
 
 -- a source gave 1,000,000,000 bytes at least: with fewer the bound of reads is never met
 abbrev pub GivesOnAndOn : Option (List ℕ) → Option (List ℕ) → Type 0

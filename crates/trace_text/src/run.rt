@@ -1,4 +1,4 @@
-ghost use Rattle.std.specs.Prelude.{◌≡◌, ◌+◌, ◌≤◌, [], Ok, Err, IfErr, IfOk, OnOk};
+ghost use Rattle.std.specs.Prelude.{◌≡◌, ◌+◌, ◌≤◌, [], Ok, Err, IfErr, IfOk, OnOk, false};
 ghost use Rattle.schedule_reader.specs.Schedule.{choices_of};
 ghost use Rattle.thread_machine.specs.World.{world_of};
 ghost use Rattle.trace_text.specs.declared.run_end.RunEnd.{RunEnd};
@@ -104,6 +104,7 @@ fn play_stream<S: Source, W: Sink>(
     requires { runs.old.items ≡ [] }
     ensures done { IfOk result (λ all. HasPlayedAll (world_of machine.old) (world_of machine.new) all
         (S.left schedule.old) (S.left schedule.new) (W.written output.old) (W.written output.new)) }
+    ensures sound { OnOk result (S.has_failed schedule.new ≡ false) }
     ensures stops { IfErr result (λ fault. StopsFrom (world_of machine.old) fault
         (S.left schedule.old) (S.left schedule.new) (S.has_failed schedule.new)
         (W.written output.old) (W.written output.new) (W.has_failed output.new)) }

@@ -1,4 +1,4 @@
-ghost use Rattle.std.specs.Prelude.{◌≡◌, IfOk, IsTrue, OnOk, is_some, not};
+ghost use Rattle.std.specs.Prelude.{◌≡◌, IfOk, IsTrue, OnOk, Some, false, is_some, not};
 ghost use Rattle.std.specs.Io.KnownBytes.{Appends};
 ghost use Rattle.thread_machine.specs.World.{world_of};
 ghost use Rattle.thread_machine.specs.Standing.{standing_of};
@@ -23,7 +23,8 @@ pub struct RunEnd {
 
 /// The last line, where a choice was refused.
 pub fn refused_in(accepted: bool, line: KeptLine) -> Option<KeptLine>
-    ensures { is_some result ≡ not accepted }
+    ensures is { is_some result ≡ not accepted }
+    ensures kept { accepted ≡ false → result ≡ Some line }
 {
     if accepted { None } else { Some(line) }
 }

@@ -11,7 +11,7 @@ returns-clause-traced g c =
     let last = world_of c.play_runs.new.machine in
     are_traced c.push_end.result (world_of c.args.machine.now) last (choices_of c.args.runs.now) c.in-Ok.accepted _ _ _
     c.in-Ok.ensures.plays
-    (tells_end c.push_end.result last c.in-Ok.accepted _ c.refused_in.ensures c.push_end.ensures.tells)
+    (tells_end c.push_end.result last c.in-Ok.accepted _ c.refused_in.ensures.is c.push_end.ensures.tells)
     c.push_end.ensures.state
 
 pub returns-clause-memory : goal.returns-clause-memory

@@ -18,8 +18,9 @@ returns-in-Ok-push_end-clause-outcome g c =
       world_of c.in-Ok.machine,
       (
         c.in-Ok.ensures.machine,
+        c.in-Ok-play_stream.ensures.sound,
         ended result (world_of c.in-Ok.machine) last all _ _ _ _ _ c.in-Ok-play_stream.ensures.done
-            (tells_end result last all _ c.refused_in.ensures c.in-Ok-push_end.ensures.tells) c.in-Ok-push_end.ensures.state,
+            (tells_end result last all _ c.refused_in.ensures.is c.in-Ok-push_end.ensures.tells) c.in-Ok-push_end.ensures.state,
       ),
     )
 
@@ -30,4 +31,4 @@ returns-clause-outcome g c =
     (g.W.Sink.has_failed c.push_end.new.output)) (sym c.of_play.ensures)
     (unfinished c.in-Err-push_end.fault c.args.image (world_of c.in-Ok.machine) (world_of c.play_stream.new.machine)
     c.in-Ok-play_stream.accepted _ _ _ _ _ _ _ c.in-Ok.ensures.machine c.in-Ok-play_stream.ensures.done
-    (λ is. c.in-Err-push_end.ensures.memory (ap Err is)) (λ is. c.in-Err-push_end.ensures.write (ap Err is)))
+    c.in-Ok-play_stream.ensures.sound (λ is. c.in-Err-push_end.ensures.memory (ap Err is)) (λ is. c.in-Err-push_end.ensures.write (ap Err is)))
