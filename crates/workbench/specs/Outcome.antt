@@ -14,10 +14,10 @@ use Rattle.workbench.specs.Input.{GivesAll, GivesTooMuch}
 use Rattle.workbench.specs.ProgramFile.{IsNoProgramFor, IsNoTextFor, IsProgramFile}
 use Rattle.workbench.specs.RunLine.{program_part, schedule_part}
 
--- why an input's bytes aren't known: no memory for them; or it failed, or has more than an input may have
+-- why an input's bytes aren't known: no memory for them, and it hasn't failed; or it failed, or has more than an input may have
 abbrev pub IsUnreadFor : Fault → (before after : Option (List ℕ)) (failed : Bool) → Type 0
 IsUnreadFor f before after failed =
-    (f ≡ fault.Memory) ⊎ ((f ≡ fault.Read) × (IsTrue failed ⊎ GivesTooMuch before after))
+    ((f ≡ fault.Memory) × (failed ≡ false)) ⊎ ((f ≡ fault.Read) × (IsTrue failed ⊎ GivesTooMuch before after))
 
 -- there is no answer of its bytes
 abbrev pub IsUnread : {A : Type 0} → Result A Fault → (before after : Option (List ℕ)) (failed : Bool) → Type 0

@@ -1,4 +1,4 @@
-ghost use Rattle.std.specs.Prelude.{◌≡◌, ◌⊎◌, ◌≤◌, ◌<◌, ◌++◌, Err, IsTrue, IfOk, IfErr, OnOk, length};
+ghost use Rattle.std.specs.Prelude.{◌≡◌, ◌⊎◌, ◌≤◌, ◌<◌, ◌++◌, Err, IsTrue, false, IfOk, IfErr, OnOk, length};
 ghost use Rattle.std.specs.Io.KnownBytes.{ReadConsumes, Consumes, IsAtEnd};
 ghost use Rattle.workbench.specs.Input.{GivesTooMuch, most_bytes};
 
@@ -17,6 +17,7 @@ pub fn pull<S: Source>(source: &mut S, piece: &mut [u8]) -> Result<usize, Fault>
     ensures bytes { ReadConsumes (S.left source.old) (S.left source.new) result piece.new }
     ensures bound { IfOk result (λ n. n ≤ length piece.new) }
     ensures read { IfErr result (λ fault. (fault ≡ Fault.Read) × IsTrue (S.has_failed source.new)) }
+    ensures sound { OnOk result (S.has_failed source.new ≡ false) }
 {
     match source.pull(piece) {
         Ok(count) => Ok(count),
@@ -45,7 +46,7 @@ pub fn read_all<S: Source>(alloc: Global, source: &mut S) -> Result<Vec<u8>, Fau
     ensures few { IfOk result (λ bytes. length bytes.items ≤ most_bytes) }
     ensures read { result ≡ Err Fault.Read → IsTrue (S.has_failed source.new)
         ⊎ GivesTooMuch (S.left source.old) (S.left source.new) }
-    ensures fault { IfErr result (λ fault. (fault ≡ Fault.Memory) ⊎ (fault ≡ Fault.Read)) }
+    ensures fault { IfErr result (λ fault. ((fault ≡ Fault.Memory) × (S.has_failed source.new ≡ false)) ⊎ (fault ≡ Fault.Read)) }
 {
     let mut bytes = Vec::new(alloc);
     let mut piece = [0u8; PIECE];
