@@ -1,26 +1,36 @@
 //! The commands of a person at a terminal.
 //!
-//! The session stays `debug`'s: `GuidedCommands` is the source from which it takes its lines. Before a line is waited for, `notes`
-//! is told who may go on and at which row, by the names of the program, which a line may have in place of numbers. A line may be words of
-//! a plan, too, and an empty one is the command before it once more. Two words are answered here and not handed on: `help`, and `w`, which writes the choices that were
-//! played as a schedule. So that it knows who may go on, the source plays what it hands on in a session of its own.
+//! Before a line is waited for, it is told who may go on and at which row, by the names of the program, which a line may have in
+//! place of numbers. A line may be words of a plan, too, and an empty one is the command before it once more. Two words are
+//! answered here and not handed on: `help`, and `w`, which writes the choices that were played as a schedule.
 
-ghost use Rattle.std.specs.Prelude.{◌≤◌, IfOk, None, length};
-ghost use Rattle.std.specs.Io.KnownBytes.{ReadConsumes};
-ghost use Rattle.byte_ports.specs.Port.{FailsForGood};
+ghost use Rattle.std.specs.Prelude.{◌≡◌, ◌⊎◌, IfErr, IfOk, IfSome, None};
+ghost use Rattle.plans.specs.Planned.{AreRuns};
+ghost use Rattle.workbench.specs.declared.fault.Fault.{Fault};
+ghost use Rattle.workbench.specs.Debug.{HasNoEnd};
 
-use crate::mirror::Mirror;
+use crate::drawing::named_program;
+use crate::may_go::push_may_go;
+use crate::plan::thread_names;
+use crate::spoken::in_numbers;
+use assembler::Symbols;
 use byte_ports::{Failed, Sink, Source};
-use line_reader::words::is_blank;
-use schedule_reader::Run;
+use debugger::{Command, Debugger, Played, command_of};
+use plans::plan_runs::plan_runs_at;
+use plans::read_plan;
+use schedule_reader::{Run, write_schedule};
 use std::alloc::{AllocError, Global};
+use std::mem::replace;
+use trace_compare::writing::push_token;
+use trace_text::LineEnd;
+use workbench::companion::Companion;
 use workbench::fault::Fault;
 
-/// How long a line is at most that is looked at; a terminal hands on no longer one.
-const LONGEST_LINE: usize = 4096;
+/// How many lines a person writes at most, and how many bytes.
+const MOST: u64 = 1_000_000_000;
 
-/// How many lines a person writes at most.
-const MOST_LINES: u64 = 1_000_000_000;
+/// How many threads a program has at most.
+const MOST_THREADS: usize = 64;
 
 /// What can be written.
 const HELP: &[u8] = b"  s tN      one choice: thread N's turn; `s xN` lets its timed wait run out
@@ -38,168 +48,162 @@ const HELP: &[u8] = b"  s tN      one choice: thread N's turn; `s xN` lets its t
 /// What is told of a line that was answered with `?`.
 const NO_COMMAND: &[u8] = b"  no command, or no thread or row of this program: `help` lists them\n";
 
-/// What a line asks for.
-#[derive(Clone, Copy)]
-enum Wanted {
-    Help,
-    Schedule,
-    Command,
-}
-
-/// What a line asks for.
-fn wanted_by(line: &[u8]) -> Wanted {
-    match line.trim_ascii() {
-        b"help" | b"?" => Wanted::Help,
-        b"w" => Wanted::Schedule,
-        _ => Wanted::Command,
-    }
-}
-
-/// Whether the first word of a line is one of a command.
-fn is_command(line: &[u8]) -> bool {
-    match line.trim_ascii() {
-        [b's' | b'g' | b'b' | b'k' | b'c' | b'p' | b'q' | b'w' | b'?'] | b"help" => true,
-        [b's' | b'g' | b'b' | b'k' | b'c' | b'p' | b'q', behind, ..] => is_blank(*behind),
-        _ => false,
-    }
-}
-
 /// Tells something beside the session. Where it can't be told the session goes on.
 fn note(told: Result<(), Failed>) {
     let _ = told;
 }
 
-/// The lines of a person, and what is known of them.
+/// Writes runs as a schedule, in a line.
+fn write_line<K: Sink>(output: &mut K, runs: &[Run]) -> Result<(), Failed> {
+    let mut left = runs.len();
+    if left == 0 {
+        return output.push(b"\n");
+    }
+    let mut line = LineEnd::new();
+    for run in runs {
+        left = left.saturating_sub(1);
+        let behind = if left == 0 { b'\n' } else { b' ' };
+        push_token(output, &mut line, *run, behind)?;
+    }
+    Ok(())
+}
+
+/// Whether a command is answered with `?`.
+fn is_unknown(command: &Command, debugger: &Debugger) -> bool {
+    match command {
+        Command::Break(row) | Command::Clear(row) => {
+            *row >= debugger.machine().loaded().rows().len()
+        }
+        Command::Unknown => true,
+        _ => false,
+    }
+}
+
+/// Puts a line in place of what the vector holds, without its LFs if there are any.
+#[tactic(auto, using(workbench::proofs::Conversations::one_more))]
+fn put_line(line: &mut Vec<u8>, text: &[u8]) -> Result<(), AllocError>
+    ensures { HasNoEnd line.new.items }
+{
+    line.clear();
+    for byte in text {
+        if *byte != b'\n' {
+            line.push(*byte)?;
+        }
+    }
+    Ok(())
+}
+
+/// A person, who gives a session its lines.
 #[derive(Drop)]
-struct Guide<'a, S, K, E> {
+struct Person<'a, S, K, E> {
     source: S,
     output: K,
     notes: E,
     alloc: Global,
-    mirror: Mirror<'a>,
-    /// The line that is handed on, with its LF, and how much of it was.
+    symbols: Symbols<'a>,
+    /// How many bytes may still be read.
+    reads: u64,
+    /// What was said.
+    said: Vec<u8>,
+    /// It, or the last that wasn't nothing, as the debugger reads it.
     line: Vec<u8>,
-    given: usize,
-    /// The command that was handed on last, without an LF.
-    last: Vec<u8>,
-    /// Whether it is answered with `?`.
-    is_unknown: bool,
-    /// Whether the session isn't followed any more: a line was too long, or there was no memory for it. All is handed on then.
-    is_lost: bool,
+    /// What it asks for, while it isn't known what that came to.
+    command: Command,
+    /// How many choices the machine had made before it.
+    choices: u64,
+    played: Played,
 }
 
-impl<'a, S: Source + Drop, K: Sink + Drop, E: Sink + Drop> Guide<'a, S, K, E> {
-    /// Takes a line in place of the one that was handed on, with its LF, if it has one: nothing at the end.
-    fn take_line(&mut self) -> Result<(), Failed> {
-        self.line.clear();
-        self.given = 0;
-        let mut byte = [0u8; 1];
-        for _ in 0..LONGEST_LINE {
-            if self.source.pull(&mut byte)? == 0 {
-                return Ok(());
-            }
-            if self.line.push(byte[0]).is_err() || byte[0] == b'\n' {
-                return Ok(());
-            }
+impl<'a, S: Source + Drop, K: Sink + Drop, E: Sink + Drop> Person<'a, S, K, E> {
+    /// Sees what the last command came to.
+    fn look(&mut self, debugger: &Debugger) -> Result<(), AllocError> {
+        let command = replace(&mut self.command, Command::Print);
+        if is_unknown(&command, debugger) {
+            note(self.notes.push(NO_COMMAND));
         }
-        self.is_lost = true;
+        let choices = debugger.machine().choices();
+        let more = choices.saturating_sub(self.choices);
+        match &command {
+            Command::Step(choice) => self.played.push_first(&[Run::once(*choice)], more)?,
+            Command::Go(runs) => self.played.push_first(runs.as_slice(), more)?,
+            _ if choices < self.choices => self.played.pop(),
+            _ => {}
+        }
+        self.choices = choices;
         Ok(())
     }
 
-    /// Puts the command in place of the line that asks for it: with numbers for names, and the last one for an empty line. What
-    /// ends it stays.
-    fn interpret(&mut self) -> Result<(), AllocError> {
-        let line = self.line.as_slice();
-        let said = line.strip_suffix(b"\n").unwrap_or(line);
-        let is_ended = said.len() < line.len();
-        if !said.trim_ascii().is_empty() {
-            self.last = self.mirror.in_numbers(self.alloc, said)?;
-            if !is_command(self.last.as_slice()) {
-                if let Some(planned) = self.mirror.planned(self.alloc, said)? {
-                    self.last = planned;
-                }
-            }
+    /// The choices that a plan makes from where the session stands, where the line is a plan.
+    fn planned(&self, debugger: &Debugger) -> Result<Option<Vec<Run>>, AllocError>
+        ensures { IfOk result (λ planned. IfSome planned (λ runs. AreRuns runs.items)) }
+    {
+        let machine = debugger.machine();
+        let names = thread_names(self.alloc, &self.symbols, machine.thread_count())?;
+        if names.len() > MOST_THREADS {
+            return Ok(None);
         }
-        self.line.clear();
-        self.line.extend_from_slice(self.last.as_slice())?;
-        if is_ended {
-            self.line.push(b'\n')?;
+        let Ok(words) = read_plan(self.alloc, self.said.as_slice(), names.as_slice()) else {
+            return Ok(None);
+        };
+        let planned = plan_runs_at(self.alloc, machine.copy(self.alloc)?, &words.all())?;
+        Ok(Some(planned.runs))
+    }
+
+    /// Reads what the line asks the debugger for: where it is no command, maybe the choices of a plan, as `g` has them.
+    fn understand(&mut self, debugger: &Debugger) -> Result<(), AllocError> {
+        self.command = command_of(Vec::new(self.alloc), self.line.as_slice())?;
+        let Command::Unknown = &self.command else {
+            return Ok(());
+        };
+        if self.said.trim_ascii().is_empty() {
+            return Ok(());
+        }
+        if let Some(runs) = self.planned(debugger)? {
+            self.line = Vec::from_slice(self.alloc, b"g ")?;
+            let tokens = write_schedule(self.alloc, runs.as_slice())?;
+            self.line.extend_from_slice(tokens.as_bytes())?;
+            self.command = Command::Go(runs);
         }
         Ok(())
     }
 
-    /// Answers the line, where that is asked for here; whether it is to be handed on.
-    fn is_handed_on(&mut self) -> bool {
-        match wanted_by(self.line.as_slice()) {
-            Wanted::Help => {
-                note(self.notes.push(HELP));
-                false
+    /// The next line that the debugger is to read. Those before it are answered.
+    fn next_line(&mut self, debugger: &Debugger) -> Result<bool, Fault>
+        ensures fault { IfErr result (λ fault. (fault ≡ Fault.Memory) ⊎ (fault ≡ Fault.Read)) }
+    {
+        self.look(debugger).map_err(|_| Fault::Memory)?;
+        for _ in 0..MOST {
+            let machine = debugger.machine();
+            note(push_may_go(self.alloc, &mut self.notes, &self.symbols, machine));
+            let is_ended = self
+                .source
+                .next_line(debugger, &mut self.reads, &mut self.said)?;
+            if !is_ended && self.said.is_empty() {
+                self.line.clear();
+                return Ok(false);
             }
-            Wanted::Schedule => {
-                note(self.mirror.write_played(&mut self.output));
-                false
+            if !self.said.trim_ascii().is_empty() {
+                self.line = in_numbers(self.alloc, &self.symbols, self.said.as_slice()).map_err(
+                    |_| Fault::Memory,
+                )?;
             }
-            Wanted::Command => {
-                let line = self.line.as_slice();
-                let line = line.strip_suffix(b"\n").unwrap_or(line);
-                match self.mirror.follow(self.alloc, line) {
-                    Ok(is_command) => self.is_unknown = !is_command,
-                    Err(_) => self.is_lost = true,
+            match self.line.as_slice().trim_ascii() {
+                b"help" | b"?" => note(self.notes.push(HELP)),
+                b"w" => note(write_line(&mut self.output, self.played.runs())),
+                _ => {
+                    self.understand(debugger).map_err(|_| Fault::Memory)?;
+                    return Ok(is_ended);
                 }
-                true
             }
         }
-    }
-
-    /// Takes the next line that is to be handed on, and answers those before it.
-    fn refill(&mut self) -> Result<(), Failed> {
-        for _ in 0..MOST_LINES {
-            if self.is_unknown {
-                note(self.notes.push(NO_COMMAND));
-                self.is_unknown = false;
-            }
-            note(self.mirror.tell_may_go(self.alloc, &mut self.notes));
-            self.take_line()?;
-            if self.line.is_empty() || self.is_lost {
-                return Ok(());
-            }
-            self.is_lost = self.interpret().is_err();
-            if self.is_lost || self.is_handed_on() {
-                return Ok(());
-            }
-        }
-        Err(Failed)
-    }
-
-    /// Hands on as much of the line as there is room for.
-    fn give(&mut self, buffer: &mut [u8]) -> usize
-        ensures { result ≤ length buffer.new }
-    {
-        let held = &self.line.as_slice()[self.given.min(self.line.len())..];
-        let count = buffer.len().min(held.len());
-        buffer[..count].copy_from_slice(&held[..count]);
-        self.given = self.given.saturating_add(count);
-        count
-    }
-
-    /// Hands on what comes next.
-    fn pull(&mut self, buffer: &mut [u8]) -> Result<usize, Failed>
-        ensures { IfOk result (λ n. n ≤ length buffer.new) }
-    {
-        if self.given >= self.line.len() {
-            if self.is_lost {
-                return self.source.pull(buffer);
-            }
-            self.refill()?;
-        }
-        Ok(self.give(buffer))
+        Err(Fault::Read)
     }
 }
 
 /// The lines of a person: the debugger's are handed on, and the others answered.
 #[derive(Drop)]
 pub struct GuidedCommands<'a, S, K, E> {
-    guide: Guide<'a, S, K, E>,
+    person: Person<'a, S, K, E>,
     failed: bool,
 }
 
@@ -214,55 +218,62 @@ impl<'a, S: Source + Drop, K: Sink + Drop, E: Sink + Drop> GuidedCommands<'a, S,
         output: K,
         notes: E,
     ) -> Result<GuidedCommands<'a, S, K, E>, Fault> {
-        let mut mirror = Mirror::of(alloc, program)?;
-        let is_lost = match runs {
-            Some(runs) => mirror.go(runs).is_err(),
-            None => false,
-        };
-        let Ok(line) = Vec::with_capacity(alloc, LONGEST_LINE) else {
+        let (_, symbols) = named_program(alloc, program)?;
+        let Ok(before) = Vec::from_slice(alloc, runs.unwrap_or(&[])) else {
             return Err(Fault::Memory);
         };
-        let guide = Guide {
+        let person = Person {
             source,
             output,
             notes,
             alloc,
-            mirror,
-            line,
-            given: 0,
-            last: Vec::new(alloc),
-            is_unknown: false,
-            is_lost,
+            symbols,
+            reads: MOST,
+            said: Vec::new(alloc),
+            line: Vec::new(alloc),
+            command: Command::Go(before),
+            choices: 0,
+            played: Played::new(alloc),
         };
         Ok(GuidedCommands {
-            guide,
+            person,
             failed: false,
         })
     }
 }
 
-impl<'a, S: Source + Drop, K: Sink + Drop, E: Sink + Drop> Source for GuidedCommands<'a, S, K, E> {
+impl<'a, S: Source + Drop, K: Sink + Drop, E: Sink + Drop> Companion
+    for GuidedCommands<'a, S, K, E> {
     ghost left = { λ _. None };
 
     ghost has_failed = { λ g. g.failed };
 
-    ghost reads = { λ _. 0 };
-
-    fn pull(&mut self, buffer: &mut [u8]) -> Result<usize, Failed>
-        ensures failed { FailsForGood self.old.failed self.new.failed result }
-        ensures bound { IfOk result (λ n. n ≤ length buffer.new) }
-        ensures bytes { ReadConsumes None None result buffer.new }
-        ensures reads { 0 ≤ 1 }
-    {
-        if self.failed {
-            return Err(Failed);
-        }
-        match self.guide.pull(buffer) {
-            Ok(count) => Ok(count),
-            Err(_) => {
+    fn next_line(
+        &mut self,
+        debugger: &Debugger,
+        reads: &mut u64,
+        line: &mut Vec<u8>,
+    ) -> Result<bool, Fault> {
+        line.clear();
+        let is_ended = match self.person.next_line(debugger) {
+            Ok(is_ended) => is_ended,
+            Err(fault) => {
                 self.failed = true;
-                Err(Failed)
+                return Err(fault);
             }
+        };
+        if put_line(line, self.person.line.as_slice()).is_err() {
+            return Err(Fault::Memory);
         }
+        if !is_ended {
+            return Ok(false);
+        }
+        let count = line.len() as u64 + 1;
+        if *reads < count {
+            self.failed = true;
+            return Err(Fault::Read);
+        }
+        *reads -= count;
+        Ok(true)
     }
 }

@@ -9,7 +9,8 @@
 -- A schedule, commands or an output is the bytes that a port still gives or has got. Ports over memory tell them. Ports over files, pipes
 -- and terminals tell none (`None`): of these the lines below say only that there are bytes for which they hold. That these are
 -- the bytes that came and went out, a reader concludes from the functions (src/shown.rt). They are generic in
--- their ports: one body for all of them, that meets a port in `Source::pull` and `Sink::push` alone (byte_ports). No body can
+-- their ports: one body for all of them, that meets a port in `Source::pull` and `Sink::push` alone (byte_ports). `debug` meets its
+-- commands in `Companion::next_line` (workbench/src/companion.rt), which has one body for all sources. No body can
 -- ask which port it has, since `left` and `written` are ghosts, which nothing that runs sees. So what it does can't rest on
 -- whether its ports tell their bytes; and of ports that tell them the lines hold, in whatever pieces the bytes come. Left to
 -- believe is what lies behind a port: that std's `read` gives what the file holds, in its order, and that its `write` hands on

@@ -21,6 +21,7 @@ use std::sync::Wait;
 use std::thread::Threads;
 use thread_runner::Gate;
 use trace_text::RunEnd;
+use workbench::companion::Companion;
 use workbench::done::Done;
 use workbench::fault::Fault;
 
@@ -49,53 +50,53 @@ pub fn run<S: Source, K: Sink>(
 }
 
 /// Plays the program that a file's bytes are by commands, which may take steps back.
-pub fn debug<S: Source, K: Sink>(
+pub fn debug<C: Companion, K: Sink>(
     alloc: Global,
     program: &[u8],
-    commands: &mut S,
+    commands: &mut C,
     output: &mut K,
 ) -> Result<(), Fault>
-    ensures outcome { Debugs None program.now result (S.left commands.old) (S.left commands.new) (S.has_failed commands.new)
+    ensures outcome { Debugs None program.now result (C.left commands.old) (C.left commands.new) (C.has_failed commands.new)
         (K.written output.old) (K.written output.new) (K.has_failed output.new) }
-    ensures shown { OnOk result (HasDebuggedFile None program.now (S.left commands.old) (S.left commands.new)
+    ensures shown { OnOk result (HasDebuggedFile None program.now (C.left commands.old) (C.left commands.new)
         (K.written output.old) (K.written output.new)) }
-    ensures few { GivesFew (S.left commands.old) (S.left commands.new) }
+    ensures few { GivesFew (C.left commands.old) (C.left commands.new) }
 {
     workbench::debug::debug(alloc, program, commands, output)
 }
 
 /// `debug` behind runs of choices.
-pub fn debug_behind<S: Source, K: Sink>(
+pub fn debug_behind<C: Companion, K: Sink>(
     alloc: Global,
     program: &[u8],
     runs: &[Run],
-    commands: &mut S,
+    commands: &mut C,
     output: &mut K,
 ) -> Result<(), Fault>
     ensures outcome { Debugs (Some runs.now) program.now result
-        (S.left commands.old) (S.left commands.new) (S.has_failed commands.new)
+        (C.left commands.old) (C.left commands.new) (C.has_failed commands.new)
         (K.written output.old) (K.written output.new) (K.has_failed output.new) }
-    ensures shown { OnOk result (HasDebuggedFile (Some runs.now) program.now (S.left commands.old) (S.left commands.new)
+    ensures shown { OnOk result (HasDebuggedFile (Some runs.now) program.now (C.left commands.old) (C.left commands.new)
         (K.written output.old) (K.written output.new)) }
-    ensures few { GivesFew (S.left commands.old) (S.left commands.new) }
+    ensures few { GivesFew (C.left commands.old) (C.left commands.new) }
 {
     workbench::debug::debug_behind(alloc, program, runs, commands, output)
 }
 
 /// `debug` behind the choices of a trace, which are played as they are read. Where it is none, no command is read.
-pub fn debug_at<T: Source, S: Source, K: Sink>(
+pub fn debug_at<T: Source, C: Companion, K: Sink>(
     alloc: Global,
     program: &[u8],
     trace: &mut T,
-    commands: &mut S,
+    commands: &mut C,
     output: &mut K,
 ) -> Result<Done, Fault>
     ensures outcome { DebugsAt program.now result (T.left trace.old) (T.left trace.new) (T.has_failed trace.new)
-        (S.left commands.old) (S.left commands.new) (S.has_failed commands.new)
+        (C.left commands.old) (C.left commands.new) (C.has_failed commands.new)
         (K.written output.old) (K.written output.new) (K.has_failed output.new) }
     ensures shown { result ≡ Ok done.AsAsked → HasDebuggedFileAt program.now (T.left trace.old) (T.left trace.new)
-        (S.left commands.old) (S.left commands.new) (K.written output.old) (K.written output.new) }
-    ensures few { GivesFew (S.left commands.old) (S.left commands.new) }
+        (C.left commands.old) (C.left commands.new) (K.written output.old) (K.written output.new) }
+    ensures few { GivesFew (C.left commands.old) (C.left commands.new) }
 {
     workbench::debug::debug_at(alloc, program, trace, commands, output)
 }

@@ -4,7 +4,7 @@ use crate::ending::flushed;
 use crate::planning::{Steps, runs_of_plan};
 use crate::trouble::{Answer, Trouble};
 use crate::{files, notes, printable};
-use byte_ports::{BlockSource, ReadPort, Source, WritePort};
+use byte_ports::{BlockSource, ReadPort, WritePort};
 use commands::making::parts_of;
 use commands::{GuidedCommands, list_rows};
 use headline::shown;
@@ -12,17 +12,18 @@ use schedule_reader::Run;
 use std::fs::File;
 use std::io::IsTerminal;
 use trace_compare::naming::{Named, NamingFault, choices_in};
+use workbench::companion::Companion;
 use workbench::done::{Done, as_asked};
 use workbench::fault::{Fault, push_counted_line};
 use workbench::input::read_all;
 
 /// Answers commands that are about a program, behind runs of choices if there are some. Nothing is kept back: standard output is
 /// flushed at each line's end.
-fn session<'a, S: Source>(
+fn session<'a, C: Companion>(
     rt: &HostRuntime,
     program: &[u8],
     runs: Option<&[Run]>,
-    commands: &mut S,
+    commands: &mut C,
 ) -> Answer<'a> {
     let mut output = WritePort::new(rt.stdout());
     let answer = match runs {
@@ -38,7 +39,7 @@ fn session_of_input<'a>(rt: &HostRuntime, program: &[u8], runs: Option<&[Run]>) 
     session(rt, program, runs, &mut commands)
 }
 
-/// The same behind the choices of a trace, which are played as they are read.
+/// Answers the commands on standard input behind the choices of a trace, which are played as they are read.
 fn session_at<'a>(rt: &HostRuntime, program: &[u8], trace: File) -> Answer<'a> {
     let mut trace = ReadPort::new(trace);
     let mut commands = BlockSource::new(rt.alloc(), ReadPort::new(rt.stdin()))?;
@@ -70,7 +71,7 @@ fn not_a_trace<'a>(rt: &HostRuntime, line: u64) -> Answer<'a> {
     Ok(flushed(answer, &mut output)?)
 }
 
-/// The same of a person behind the choices of a trace, which are kept for `w`.
+/// The commands are those of a person, behind the choices of a trace, which are kept for `w`.
 fn session_of_person_at<'a>(rt: &HostRuntime, program: &[u8], trace: File) -> Answer<'a> {
     match choices_in(rt.alloc(), &mut ReadPort::new(trace)) {
         Ok(Named::Choices(runs)) => session_of_person(rt, program, Some(runs.as_slice())),
@@ -140,7 +141,7 @@ fn begin<'a>(rt: &HostRuntime, program: &[u8], before: Before<'a>) -> Answer<'a>
     }
 }
 
-/// The same for a person, who is shown the program's rows first.
+/// Answers the commands of a person, who is shown the program's rows first.
 fn begin_with_rows<'a>(rt: &HostRuntime, program: &[u8], before: Before<'a>) -> Answer<'a> {
     let mut rows = WritePort::new(printable::errors(rt));
     list_rows(rt.alloc(), program, &mut rows)?;

@@ -18,11 +18,11 @@ ghost use Rattle.workbench.specs.Done.{IsSettledBy, as_asked};
 ghost use Rattle.workbench.specs.Input.{GivesInEach, IsCounted};
 ghost use Rattle.workbench.specs.Outcome.{ComesOf};
 
+use crate::companion::Companion;
 use crate::compare::push_verdict;
 use crate::done::{Done, as_asked, settled, settled_as_asked};
 use crate::fault::Fault;
 use crate::input::read_all;
-use crate::input_line::read_line;
 use crate::program_file::program_in;
 use byte_ports::{Sink, Source, SourceLines};
 use debugger::{CommandFault, Debugger, Stop, say_stop};
@@ -36,7 +36,7 @@ use trace_text::start::{StartFault, first_machine};
 /// How many choices can be taken back.
 const MOST_KEPT: u16 = 4096;
 
-/// How often the commands are read at most, a byte at a time, over all lines.
+/// How many bytes are read of the commands at most, over all lines.
 const MOST_READS: u64 = 1_000_000_000;
 
 /// Debugs the program in `file`, an image or a text: reads a line of `commands`, carries it out, writes its reply to
@@ -69,15 +69,15 @@ pub fn debug_cmd<F: Source, S: Source, K: Sink, E: Sink>(
 
 /// Debugs the program that a file's bytes are: reads a line of commands, carries it out, writes its reply, and reads on, up to the
 /// line `q` or to the end.
-pub fn debug<S: Source, K: Sink>(
+pub fn debug<C: Companion, K: Sink>(
     alloc: Global,
     program: &[u8],
-    commands: &mut S,
+    commands: &mut C,
     output: &mut K,
 ) -> Result<(), Fault>
-    ensures outcome { Debugs None program.now result (S.left commands.old) (S.left commands.new) (S.has_failed commands.new)
+    ensures outcome { Debugs None program.now result (C.left commands.old) (C.left commands.new) (C.has_failed commands.new)
         (K.written output.old) (K.written output.new) (K.has_failed output.new) }
-    ensures few { GivesFew (S.left commands.old) (S.left commands.new) }
+    ensures few { GivesFew (C.left commands.old) (C.left commands.new) }
 {
     let image = match program_in(alloc, program) {
         Ok(image) => image,
@@ -91,17 +91,17 @@ pub fn debug<S: Source, K: Sink>(
 }
 
 /// `debug` behind runs of choices, which are played first and told as the command `g` tells them.
-pub fn debug_behind<S: Source, K: Sink>(
+pub fn debug_behind<C: Companion, K: Sink>(
     alloc: Global,
     program: &[u8],
     runs: &[Run],
-    commands: &mut S,
+    commands: &mut C,
     output: &mut K,
 ) -> Result<(), Fault>
     ensures outcome { Debugs (Some runs.now) program.now result
-        (S.left commands.old) (S.left commands.new) (S.has_failed commands.new)
+        (C.left commands.old) (C.left commands.new) (C.has_failed commands.new)
         (K.written output.old) (K.written output.new) (K.has_failed output.new) }
-    ensures few { GivesFew (S.left commands.old) (S.left commands.new) }
+    ensures few { GivesFew (C.left commands.old) (C.left commands.new) }
 {
     let image = match program_in(alloc, program) {
         Ok(image) => image,
@@ -120,17 +120,17 @@ pub fn debug_behind<S: Source, K: Sink>(
 /// `debug` behind the choices of a trace, which are played as they are read, so that none is kept, and told as the command `g`
 /// tells them. Where it is no trace, its first line that is no line of one is told as `compare` tells it, and no command is
 /// read. The program is loaded before the trace is looked at.
-pub fn debug_at<T: Source, S: Source, K: Sink>(
+pub fn debug_at<T: Source, C: Companion, K: Sink>(
     alloc: Global,
     program: &[u8],
     trace: &mut T,
-    commands: &mut S,
+    commands: &mut C,
     output: &mut K,
 ) -> Result<Done, Fault>
     ensures outcome { DebugsAt program.now result (T.left trace.old) (T.left trace.new) (T.has_failed trace.new)
-        (S.left commands.old) (S.left commands.new) (S.has_failed commands.new)
+        (C.left commands.old) (C.left commands.new) (C.has_failed commands.new)
         (K.written output.old) (K.written output.new) (K.has_failed output.new) }
-    ensures few { GivesFew (S.left commands.old) (S.left commands.new) }
+    ensures few { GivesFew (C.left commands.old) (C.left commands.new) }
 {
     let image = match program_in(alloc, program) {
         Ok(image) => image,
@@ -221,24 +221,24 @@ fn first_debugger(alloc: Global, image: Image) -> Result<Debugger, Fault>
 }
 
 /// Reads lines and answers each before the next, up to `q` or to the end.
-fn converse<S: Source, K: Sink>(
+fn converse<C: Companion, K: Sink>(
     alloc: Global,
     debugger: &mut Debugger,
-    commands: &mut S,
+    commands: &mut C,
     output: &mut K,
 ) -> Result<(), Fault>
     ensures done { OnOk result (HasConversed Finished debugger.old
-        (S.left commands.old) (S.left commands.new) (K.written output.old) (K.written output.new)) }
+        (C.left commands.old) (C.left commands.new) (K.written output.old) (K.written output.new)) }
     ensures memory { result ≡ Err Fault.Memory → HasConversed Unanswered debugger.old
-        (S.left commands.old) (S.left commands.new) (K.written output.old) (K.written output.new) }
+        (C.left commands.old) (C.left commands.new) (K.written output.old) (K.written output.new) }
     ensures read { result ≡ Err Fault.Read
-        → (IsTrue (S.has_failed commands.new) ⊎ GivesOnAndOn (S.left commands.old) (S.left commands.new))
+        → (IsTrue (C.has_failed commands.new) ⊎ GivesOnAndOn (C.left commands.old) (C.left commands.new))
         × HasConversed Cut debugger.old
-        (S.left commands.old) (S.left commands.new) (K.written output.old) (K.written output.new) }
+        (C.left commands.old) (C.left commands.new) (K.written output.old) (K.written output.new) }
     ensures write { result ≡ Err Fault.Write
-        → IsTrue (K.has_failed output.new) × HasReadLines (S.left commands.old) (S.left commands.new) }
+        → IsTrue (K.has_failed output.new) × HasReadLines (C.left commands.old) (C.left commands.new) }
     ensures fault { IfErr result (λ fault. (fault ≡ Fault.Memory) ⊎ ((fault ≡ Fault.Read) ⊎ (fault ≡ Fault.Write))) }
-    ensures few { GivesFew (S.left commands.old) (S.left commands.new) }
+    ensures few { GivesFew (C.left commands.old) (C.left commands.new) }
 {
     let mut line = Vec::new(alloc);
     let mut reads = MOST_READS;
@@ -253,33 +253,33 @@ fn converse<S: Source, K: Sink>(
 }
 
 /// Reads a line and answers it; whether the session goes on. `reads` is how often the commands may still be read.
-fn take_turn<S: Source, K: Sink>(
+fn take_turn<C: Companion, K: Sink>(
     debugger: &mut Debugger,
     line: &mut Vec<u8>,
     reads: &mut u64,
-    commands: &mut S,
+    commands: &mut C,
     output: &mut K,
 ) -> Result<bool, Fault>
     ensures next { result ≡ Ok true → (exchange : Exchange)
         × (IsDialogue debugger.old (exchange ∷ []) debugger.new
-        × Consumes (S.left commands.old) (S.left commands.new) (bytes_of exchange.line true)
+        × Consumes (C.left commands.old) (C.left commands.new) (bytes_of exchange.line true)
         × Appends (K.written output.old) (K.written output.new) exchange.reply
         × (length exchange.line + 1 + reads.new ≡ reads.old)) }
     ensures last { result ≡ Ok false → HasConversed Finished debugger.old
-        (S.left commands.old) (S.left commands.new) (K.written output.old) (K.written output.new) }
+        (C.left commands.old) (C.left commands.new) (K.written output.old) (K.written output.new) }
     ensures memory { result ≡ Err Fault.Memory → HasConversed Unanswered debugger.old
-        (S.left commands.old) (S.left commands.new) (K.written output.old) (K.written output.new) }
+        (C.left commands.old) (C.left commands.new) (K.written output.old) (K.written output.new) }
     ensures read { result ≡ Err Fault.Read
-        → (IsTrue (S.has_failed commands.new)
-        ⊎ GivesInEach reads.old (S.left commands.old) (S.left commands.new))
+        → (IsTrue (C.has_failed commands.new)
+        ⊎ GivesInEach reads.old (C.left commands.old) (C.left commands.new))
         × HasConversed Cut debugger.old
-        (S.left commands.old) (S.left commands.new) (K.written output.old) (K.written output.new) }
+        (C.left commands.old) (C.left commands.new) (K.written output.old) (K.written output.new) }
     ensures write { result ≡ Err Fault.Write
-        → IsTrue (K.has_failed output.new) × HasReadLines (S.left commands.old) (S.left commands.new) }
+        → IsTrue (K.has_failed output.new) × HasReadLines (C.left commands.old) (C.left commands.new) }
     ensures fault { IfErr result (λ fault. (fault ≡ Fault.Memory) ⊎ ((fault ≡ Fault.Read) ⊎ (fault ≡ Fault.Write))) }
-    ensures few { IsCounted reads.old reads.new (S.left commands.old) (S.left commands.new) }
+    ensures few { IsCounted reads.old reads.new (C.left commands.old) (C.left commands.new) }
 {
-    let is_ended = match read_line(commands, reads, line) {
+    let is_ended = match commands.next_line(debugger, reads, line) {
         Ok(is_ended) => is_ended,
         Err(fault) => return Err(fault),
     };

@@ -6,12 +6,12 @@
 
 pub mod asm;
 pub mod both;
+pub mod companion;
 pub mod compare;
 pub mod debug;
 pub mod done;
 pub mod fault;
 pub mod input;
-pub mod input_line;
 pub mod list;
 pub mod live;
 pub mod program_file;

@@ -7,12 +7,12 @@ use Rattle.workbench.proofs.debug.converse.Goals as goal
 pub returns-in-Ok-false-clause-done : goal.returns-in-Ok-false-clause-done
 returns-in-Ok-false-clause-done g c =
     let before = c.args.debugger.now in
-    let a = g.S.Source.left c.args.commands.now in
-    let b = g.S.Source.left c.loop-reads.commands in
+    let a = g.C.Companion.left c.args.commands.now in
+    let b = g.C.Companion.left c.loop-reads.commands in
     let x = g.K.Sink.written c.args.output.now in
     let y = g.K.Sink.written c.loop-reads.output in
     let on = c.loop-reads.invariant.0 in
-    let d = g.S.Source.left c.take_turn.new.commands in
+    let d = g.C.Companion.left c.take_turn.new.commands in
     let z = g.K.Sink.written c.take_turn.new.output in
     let is : c.in-Ok-false.field-0 ≡ false = cc in
     conversed_after Finished before c.loop-reads.debugger a b d x y z on (c.in-Ok-false.ensures.last (ap Ok is))
@@ -20,12 +20,12 @@ returns-in-Ok-false-clause-done g c =
 pub returns-in-Err-clause-memory : goal.returns-in-Err-clause-memory
 returns-in-Err-clause-memory g c = λ is.
     let before = c.args.debugger.now in
-    let a = g.S.Source.left c.args.commands.now in
-    let b = g.S.Source.left c.loop-reads.commands in
+    let a = g.C.Companion.left c.args.commands.now in
+    let b = g.C.Companion.left c.loop-reads.commands in
     let x = g.K.Sink.written c.args.output.now in
     let y = g.K.Sink.written c.loop-reads.output in
     let on = c.loop-reads.invariant.0 in
-    let d = g.S.Source.left c.take_turn.new.commands in
+    let d = g.C.Companion.left c.take_turn.new.commands in
     let z = g.K.Sink.written c.take_turn.new.output in
     let same : c.in-Err.fault ≡ Memory = cc in
     conversed_after Unanswered before c.loop-reads.debugger a b d x y z on (c.in-Err.ensures.memory (ap Err same))
@@ -33,16 +33,16 @@ returns-in-Err-clause-memory g c = λ is.
 pub returns-in-Err-clause-read : goal.returns-in-Err-clause-read
 returns-in-Err-clause-read g c = λ is.
     let before = c.args.debugger.now in
-    let a = g.S.Source.left c.args.commands.now in
-    let b = g.S.Source.left c.loop-reads.commands in
+    let a = g.C.Companion.left c.args.commands.now in
+    let b = g.C.Companion.left c.loop-reads.commands in
     let x = g.K.Sink.written c.args.output.now in
     let y = g.K.Sink.written c.loop-reads.output in
     let on = c.loop-reads.invariant.0 in
-    let d = g.S.Source.left c.take_turn.new.commands in
+    let d = g.C.Companion.left c.take_turn.new.commands in
     let z = g.K.Sink.written c.take_turn.new.output in
     let same : c.in-Err.fault ≡ Read = cc in
     let e = c.in-Err.ensures.read (ap Err same) in (
-      failed_after before c.loop-reads.debugger a b d x y (IsTrue (g.S.Source.has_failed c.take_turn.new.commands)) c.loop-reads.reads on
+      failed_after before c.loop-reads.debugger a b d x y (IsTrue (g.C.Companion.has_failed c.take_turn.new.commands)) c.loop-reads.reads on
           c.loop-reads.invariant.1 e.0,
       conversed_after Cut before c.loop-reads.debugger a b d x y z on e.1,
     )
@@ -50,24 +50,24 @@ returns-in-Err-clause-read g c = λ is.
 pub returns-in-Err-clause-write : goal.returns-in-Err-clause-write
 returns-in-Err-clause-write g c = λ is.
     let before = c.args.debugger.now in
-    let a = g.S.Source.left c.args.commands.now in
-    let b = g.S.Source.left c.loop-reads.commands in
+    let a = g.C.Companion.left c.args.commands.now in
+    let b = g.C.Companion.left c.loop-reads.commands in
     let x = g.K.Sink.written c.args.output.now in
     let y = g.K.Sink.written c.loop-reads.output in
     let on = c.loop-reads.invariant.0 in
-    let d = g.S.Source.left c.take_turn.new.commands in
+    let d = g.C.Companion.left c.take_turn.new.commands in
     let same : c.in-Err.fault ≡ Write = cc in
     let e = c.in-Err.ensures.write (ap Err same) in (e.0, read_after before c.loop-reads.debugger a b d x y on e.1)
 
 pub loop-reads-preserved : goal.loop-reads-preserved
 loop-reads-preserved g c =
     let before = c.args.debugger.now in
-    let a = g.S.Source.left c.args.commands.now in
-    let b = g.S.Source.left c.loop-reads.commands in
+    let a = g.C.Companion.left c.args.commands.now in
+    let b = g.C.Companion.left c.loop-reads.commands in
     let x = g.K.Sink.written c.args.output.now in
     let y = g.K.Sink.written c.loop-reads.output in
     let on = c.loop-reads.invariant.0 in
-    let d = g.S.Source.left c.take_turn.new.commands in
+    let d = g.C.Companion.left c.take_turn.new.commands in
     let z = g.K.Sink.written c.take_turn.new.output in
     let is : c.in-Ok-true.field-0 ≡ true = cc in
     let e = c.in-Ok-true.ensures.next (ap Ok is) in
@@ -77,8 +77,8 @@ loop-reads-preserved g c =
 pub returns-clause-read : goal.returns-clause-read
 returns-clause-read g c = λ _.
     let before = c.args.debugger.now in
-    let a = g.S.Source.left c.args.commands.now in
-    let b = g.S.Source.left c.loop-reads.commands in
+    let a = g.C.Companion.left c.args.commands.now in
+    let b = g.C.Companion.left c.loop-reads.commands in
     let x = g.K.Sink.written c.args.output.now in
     let y = g.K.Sink.written c.loop-reads.output in
     let on = c.loop-reads.invariant.0 in
@@ -89,21 +89,21 @@ returns-clause-read g c = λ _.
 
 pub returns-in-Ok-false-clause-few : goal.returns-in-Ok-false-clause-few
 returns-in-Ok-false-clause-few g c =
-    few_after c.args.debugger.now c.loop-reads.debugger (g.S.Source.left c.args.commands.now) (g.S.Source.left c.loop-reads.commands)
-    (g.S.Source.left c.take_turn.new.commands) (g.K.Sink.written c.args.output.now) (g.K.Sink.written c.loop-reads.output)
+    few_after c.args.debugger.now c.loop-reads.debugger (g.C.Companion.left c.args.commands.now) (g.C.Companion.left c.loop-reads.commands)
+    (g.C.Companion.left c.take_turn.new.commands) (g.K.Sink.written c.args.output.now) (g.K.Sink.written c.loop-reads.output)
     c.loop-reads.reads c.take_turn.new.reads c.loop-reads.invariant.0 c.loop-reads.invariant.1 c.take_turn.ensures.few
 
 pub returns-in-Err-clause-few : goal.returns-in-Err-clause-few
 returns-in-Err-clause-few g c =
-    few_after c.args.debugger.now c.loop-reads.debugger (g.S.Source.left c.args.commands.now) (g.S.Source.left c.loop-reads.commands)
-    (g.S.Source.left c.take_turn.new.commands) (g.K.Sink.written c.args.output.now) (g.K.Sink.written c.loop-reads.output)
+    few_after c.args.debugger.now c.loop-reads.debugger (g.C.Companion.left c.args.commands.now) (g.C.Companion.left c.loop-reads.commands)
+    (g.C.Companion.left c.take_turn.new.commands) (g.K.Sink.written c.args.output.now) (g.K.Sink.written c.loop-reads.output)
     c.loop-reads.reads c.take_turn.new.reads c.loop-reads.invariant.0 c.loop-reads.invariant.1 c.take_turn.ensures.few
 
 pub returns-clause-few : goal.returns-clause-few
 returns-clause-few g c =
-    few_so_far c.args.debugger.now c.loop-reads.debugger (g.S.Source.left c.args.commands.now) (g.S.Source.left c.loop-reads.commands)
+    few_so_far c.args.debugger.now c.loop-reads.debugger (g.C.Companion.left c.args.commands.now) (g.C.Companion.left c.loop-reads.commands)
     (g.K.Sink.written c.args.output.now) (g.K.Sink.written c.loop-reads.output)
     c.loop-reads.reads c.loop-reads.invariant.0 c.loop-reads.invariant.1
 
 pub loop-reads-init : goal.loop-reads-init
-loop-reads-init g c = not_yet c.args.debugger.now (g.S.Source.left c.args.commands.now) (g.K.Sink.written c.args.output.now)
+loop-reads-init g c = not_yet c.args.debugger.now (g.C.Companion.left c.args.commands.now) (g.K.Sink.written c.args.output.now)

@@ -5,7 +5,7 @@ use Rattle.workbench.proofs.debug.converse.Given as goal
 -- a dialogue was held, in a read for each byte of its lines
 abbrev pub invariant-loop-reads : goal.invariant-loop-reads
 invariant-loop-reads g l =
-    (on : HasGoneOn l.fn.debugger l.debugger (g.S.Source.left l.fn.commands) (g.S.Source.left l.commands)
+    (on : HasGoneOn l.fn.debugger l.debugger (g.C.Companion.left l.fn.commands) (g.C.Companion.left l.commands)
     (g.K.Sink.written l.fn.output) (g.K.Sink.written l.output))
     × (length (lines_of on.exchanges) + l.reads ≡ 1000000000)
 

@@ -14,27 +14,27 @@ returns-in-Err-clause-memory g c = λ is.
 pub returns-in-Err-clause-read : goal.returns-in-Err-clause-read
 returns-in-Err-clause-read g c = λ is.
     let e = c.in-Err.ensures.read is in
-    (each_given _ _ _ _ c.read_line.new.line.items e.0 e.1, is_cut c.args.debugger.now _ _ _ _ c.read_line.new.line.items e.1 c.in-Err.ensures.line refl)
+    (each_given _ _ _ _ c.next_line.new.line.items e.0 e.1, is_cut c.args.debugger.now _ _ _ _ c.next_line.new.line.items e.1 c.in-Err.ensures.line refl)
 
 pub returns-then-is_empty-clause-last : goal.returns-then-is_empty-clause-last
 returns-then-is_empty-clause-last g c = λ _.
-    let none : length c.read_line.new.line.items ≡ 0 = search rules in
+    let none : length c.next_line.new.line.items ≡ 0 = search rules in
     let e = c.in-Ok.ensures.last (ap Ok c.if-not-is_ended.true) in
-    ends_without_a_line c.args.debugger.now _ _ _ _ c.read_line.new.line.items (nil_from_length c.read_line.new.line.items none) e.0 e.1 refl
+    ends_without_a_line c.args.debugger.now _ _ _ _ c.next_line.new.line.items (nil_from_length c.next_line.new.line.items none) e.0 e.1 refl
 
 pub returns-then-is_ended-clause-last : goal.returns-then-is_ended-clause-last
 returns-then-is_ended-clause-last g c = λ is.
     let off : c.in-Ok-answer.goes_on ≡ false = cc in
     let line = c.as_slice.ensures.value in
     quits c.args.debugger.now c.answer.new.debugger _ _ _ _ c.as_slice.result.now c.in-Ok-answer.ensures.answered.0
-    (subst (λ l. Consumes (g.S.Source.left c.args.commands.now) (g.S.Source.left c.read_line.new.source) (l ++ 10 ∷ [])) (sym line) (c.in-Ok.ensures.ended (ap Ok c.if-is_ended.true)).0)
+    (subst (λ l. Consumes (g.C.Companion.left c.args.commands.now) (g.C.Companion.left c.next_line.new.self) (l ++ 10 ∷ [])) (sym line) (c.in-Ok.ensures.ended (ap Ok c.if-is_ended.true)).0)
     (subst HasNoEnd (sym line) c.in-Ok.ensures.line)
     (sym c.in-Ok-answer.ensures.goes_on ∙ off)
     c.in-Ok-answer.ensures.answered.1.0 c.in-Ok-answer.ensures.answered.1.1
 
 pub returns-else-is_ended-clause-last : goal.returns-else-is_ended-clause-last
 returns-else-is_ended-clause-last g c = λ _.
-    let some : c.read_line.new.line.items ≢ [] = elim c.else-not-is_ended.branch [
+    let some : c.next_line.new.line.items ≢ [] = elim c.else-not-is_ended.branch [
       | else-not-is_ended-via-then-not-is_ended+else-is_empty w ↦ search rules
       | else-not-is_ended-via-else-not-is_ended w ↦ absurd (cc w.if-not-is_ended.false)
     ] in
@@ -42,7 +42,7 @@ returns-else-is_ended-clause-last g c = λ _.
     let e = c.in-Ok.ensures.last (ap Ok c.if-is_ended.false) in
     ends_with_a_line c.args.debugger.now c.answer.new.debugger _ _ _ _ c.as_slice.result.now c.in-Ok-answer.ensures.answered.0
     (subst (λ l. l ≢ []) (sym line) some)
-    (subst (Consumes (g.S.Source.left c.args.commands.now) (g.S.Source.left c.read_line.new.source)) (sym line) e.0) e.1
+    (subst (Consumes (g.C.Companion.left c.args.commands.now) (g.C.Companion.left c.next_line.new.self)) (sym line) e.0) e.1
     (subst HasNoEnd (sym line) c.in-Ok.ensures.line)
     c.in-Ok-answer.ensures.answered.1.0 c.in-Ok-answer.ensures.answered.1.1
 
@@ -59,21 +59,21 @@ returns-then-is_ended-clause-next g c = λ is.
           is_no_quit _ (sym c.in-Ok-answer.ensures.goes_on ∙ on),
           (c.answer.new.debugger, (answered.1.0, refl)),
         ),
-        subst (λ l. Consumes (g.S.Source.left c.args.commands.now) (g.S.Source.left c.read_line.new.source) (l ++ 10 ∷ [])) (sym line) ended.0,
+        subst (λ l. Consumes (g.C.Companion.left c.args.commands.now) (g.C.Companion.left c.next_line.new.self) (l ++ 10 ∷ [])) (sym line) ended.0,
         answered.1.1,
-        subst (λ l. length l + 1 + c.read_line.new.reads ≡ c.args.reads.now) (sym line) ended.1,
+        subst (λ l. length l + 1 + c.next_line.new.reads ≡ c.args.reads.now) (sym line) ended.1,
       ),
     )
 
 pub returns-in-Err-answer-clause-memory : goal.returns-in-Err-answer-clause-memory
 returns-in-Err-answer-clause-memory g c = λ is.
-    left_unanswered c.args.debugger.now _ _ _ _ c.read_line.new.line.items c.in-Ok.is_ended
+    left_unanswered c.args.debugger.now _ _ _ _ c.next_line.new.line.items c.in-Ok.is_ended
     (λ e. (c.in-Ok.ensures.ended (ap Ok e)).0) (λ e. c.in-Ok.ensures.last (ap Ok e)) c.in-Ok.ensures.line
     (c.in-Err-answer.ensures.memory is).1
 
 pub returns-in-Err-answer-clause-write : goal.returns-in-Err-answer-clause-write
 returns-in-Err-answer-clause-write g c = λ is. (
   c.in-Err-answer.ensures.write is,
-  was_read _ _ c.read_line.new.line.items c.in-Ok.is_ended
+  was_read _ _ c.next_line.new.line.items c.in-Ok.is_ended
       (λ e. (c.in-Ok.ensures.ended (ap Ok e)).0) (λ e. c.in-Ok.ensures.last (ap Ok e)),
 )

@@ -2,7 +2,7 @@ use Rattle.std.proofs.Common.{◌≡◌, ◌≢◌, ◌∙◌, ◌+◌, ◌++◌
 use Rattle.std.specs.Prelude.{All}
 use Rattle.std.specs.Io.KnownBytes.{Consumes}
 use Rattle.workbench.proofs.Conversations.{one_more, given_on}
-use Rattle.workbench.proofs.input_line.read_line.Goals as goal
+use Rattle.workbench.proofs.companion.AnyCompanion.next_line.Goals as goal
 
 pub returns-in-Ok-Some-eq10-clause-ended : goal.returns-in-Ok-Some-eq10-clause-ended
 returns-in-Ok-Some-eq10-clause-ended g c = λ _.

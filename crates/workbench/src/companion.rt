@@ -1,0 +1,87 @@
+ghost use Rattle.std.specs.Prelude.{◌≡◌, ◌⊎◌, ◌+◌, ◌≤◌, ◌∷◌, ◌++◌, [], true, false, ℕ, Bool, length, All, List, Option, Some, None, Ok, Err, IsTrue, IfErr};
+ghost use Rattle.std.specs.Io.KnownBytes.{Consumes, IsAtEnd};
+ghost use Rattle.workbench.specs.declared.fault.Fault.{Fault};
+ghost use Rattle.workbench.specs.Debug.{HasNoEnd};
+ghost use Rattle.workbench.specs.Input.{IsCounted};
+
+use crate::fault::Fault;
+use crate::input::pull;
+use byte_ports::Source;
+use debugger::Debugger;
+
+/// Who gives a session its lines, and sees the debugger before each of them. A source of bytes gives its lines as they are, and
+/// doesn't look.
+pub trait Companion {
+    // The bytes of the lines that are left. `None`: they aren't told.
+    ghost left: { Self → Option (List ℕ) };
+
+    // Whether the lines could not be read.
+    ghost has_failed: { Self → Bool };
+
+    /// Puts the next line, up to its LF, which is left out, or up to the end, in place of what the vector holds. Answers whether
+    /// there was an LF. No byte behind it is asked for, so a line can be answered before the next one is there. `reads` is how
+    /// many bytes may still be given.
+    fn next_line(
+        &mut self,
+        debugger: &Debugger,
+        reads: &mut u64,
+        line: &mut Vec<u8>,
+    ) -> Result<bool, Fault>
+        ensures ended { result ≡ Ok true
+            → Consumes (left self.old) (left self.new) (line.new.items ++ 10 ∷ [])
+            × (length line.new.items + 1 + reads.new ≡ reads.old) }
+        ensures last { result ≡ Ok false
+            → Consumes (left self.old) (left self.new) line.new.items × IsAtEnd (left self.new) }
+        ensures line { HasNoEnd line.new.items }
+        ensures read { result ≡ Err Fault.Read
+            → (IsTrue (has_failed self.new) ⊎ (reads.old ≤ length line.new.items))
+            × Consumes (left self.old) (left self.new) line.new.items }
+        ensures memory { result ≡ Err Fault.Memory → (part : List ℕ) × (HasNoEnd part
+            × Consumes (left self.old) (left self.new) part) }
+        ensures fault { IfErr result (λ fault. (fault ≡ Fault.Memory) ⊎ (fault ≡ Fault.Read)) }
+        ensures few { IsCounted reads.old reads.new (left self.old) (left self.new) };
+}
+
+/// The next byte, `None` at the end.
+fn next_byte<S: Source>(source: &mut S) -> Result<Option<u8>, Fault>
+    ensures byte { (byte : ℕ) → result ≡ Ok (Some byte) → Consumes (S.left source.old) (S.left source.new) (byte ∷ []) }
+    ensures end { result ≡ Ok None → Consumes (S.left source.old) (S.left source.new) [] × IsAtEnd (S.left source.new) }
+    ensures read { IfErr result (λ fault. (fault ≡ Fault.Read) × IsTrue (S.has_failed source.new)
+        × Consumes (S.left source.old) (S.left source.new) []) }
+{
+    let mut byte = [0u8; 1];
+    match pull(source, &mut byte) {
+        Ok(0) => Ok(None),
+        Ok(_) => Ok(Some(byte[0])),
+        Err(fault) => Err(fault),
+    }
+}
+
+impl<S: Source> Companion for S {
+    ghost left = { λ source. S.left source };
+
+    ghost has_failed = { λ source. S.has_failed source };
+
+    fn next_line(
+        &mut self,
+        _debugger: &Debugger,
+        reads: &mut u64,
+        line: &mut Vec<u8>,
+    ) -> Result<bool, Fault> {
+        line.clear();
+        while *reads > 0 {
+            *reads -= 1;
+            match next_byte(self) {
+                Ok(None) => return Ok(false),
+                Ok(Some(b'\n')) => return Ok(true),
+                Ok(Some(byte)) => {
+                    if line.push(byte).is_err() {
+                        return Err(Fault::Memory);
+                    }
+                }
+                Err(fault) => return Err(fault),
+            }
+        }
+        Err(Fault::Read)
+    }
+}
