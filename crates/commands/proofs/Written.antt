@@ -17,7 +17,7 @@ same_picture IsPicture program schedule file choices old new is also written =
     subst (λ text. HasWritten (IsPicture file text) old new) also
     (subst (λ text. HasWritten (IsPicture text schedule) old new) is written)
 
-pub both_read : {E : Type 0} (IsPicture : List ℕ → List ℕ → List ℕ → Type 0) (result : Result (Unit {0}) E)
+pub both_read : {A E : Type 0} (IsPicture : List ℕ → List ℕ → List ℕ → Type 0) (result : Result A E)
     (program schedule file choices : List ℕ)
     (file_before file_after schedule_before schedule_after old new : Option (List ℕ)) → program ≡ file → schedule ≡ choices
     → GivesAll file_before file_after file → GivesAll schedule_before schedule_after choices
@@ -27,7 +27,7 @@ both_read IsPicture (Ok x) program schedule file choices fb fa sb sa old new is 
     (file, (choices, (gives, more, same_picture IsPicture program schedule file choices old new is also written)))
 both_read IsPicture (Err e) program schedule file choices fb fa sb sa old new is also gives more written = written
 
-pub one_read : {E : Type 0} (IsPicture : List ℕ → List ℕ → List ℕ → Type 0) (result : Result (Unit {0}) E)
+pub one_read : {A E : Type 0} (IsPicture : List ℕ → List ℕ → List ℕ → Type 0) (result : Result A E)
     (program schedule file : List ℕ) (file_before file_after old new : Option (List ℕ))
     → program ≡ program_of file → schedule ≡ schedule_behind file
     → GivesAll file_before file_after file → OnOk result (HasWritten (IsPicture program schedule) old new)

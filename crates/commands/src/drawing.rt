@@ -12,6 +12,7 @@ use crate::picture_fault::{fault_of, start_fault};
 use assembler::{Symbols, assemble_named};
 use pictures::choices::choices_in;
 use pictures::picture::picture;
+use pictures::shown::{Shown, missing};
 use row_code::{Image, is_image_file, read_image};
 use std::alloc::Global;
 use trace_text::start::first_machine;
@@ -43,9 +44,9 @@ pub(crate) fn named_program(alloc: Global, file: &[u8]) -> Result<(Image, Symbol
 }
 
 /// The drawing of a program and a schedule.
-fn drawing_of(alloc: Global, width: u16, program: &[u8], schedule: &[u8]) -> Result<Vec<u8>, Fault>
+fn drawing_of(alloc: Global, width: u16, program: &[u8], schedule: &[u8]) -> Result<Shown, Fault>
     requires { length schedule.now ≤ most_bytes }
-    ensures drawing { IfOk result (λ text. IsDrawingIn width program.now schedule.now text.items) }
+    ensures drawing { IfOk result (λ shown. IsDrawingIn width program.now schedule.now shown.bytes.items) }
     ensures refused { IfErr result (λ fault. status_of fault ≡ 3 → HaveNoPicture picture.Drawing fault program.now schedule.now) }
     ensures other { (result ≢ Err Fault.Read) × (result ≢ Err Fault.Write) × (result ≢ Err Fault.Spawn) }
 {
@@ -59,7 +60,10 @@ fn drawing_of(alloc: Global, width: u16, program: &[u8], schedule: &[u8]) -> Res
         Err(fault) => return Err(fault_of(fault, PictureKind::Drawing)),
     };
     match picture(alloc, &mut machine, &symbols, width, choices.as_slice()) {
-        Ok(text) => Ok(text),
+        Ok(text) => Ok(Shown {
+            bytes: text,
+            missing: missing(&machine, choices.as_slice()),
+        }),
         Err(_) => Err(Fault::Memory),
     }
 }
@@ -72,7 +76,7 @@ impl Picture for Drawing {
 
     ghost kind = { picture.Drawing };
 
-    fn of(&self, alloc: Global, program: &[u8], schedule: &[u8]) -> Result<Vec<u8>, Fault> {
+    fn of(&self, alloc: Global, program: &[u8], schedule: &[u8]) -> Result<Shown, Fault> {
         drawing_of(alloc, self.width, program, schedule)
     }
 }

@@ -10,19 +10,21 @@ use crate::picture::Picture;
 use byte_ports::{Sink, Source};
 use row_code::is_image_file;
 use std::alloc::Global;
+use thread_machine::Choice;
 use workbench::fault::Fault;
 use workbench::input::read_all;
 use workbench::run_line::split_at_run;
 
 /// Writes the picture of the program in `file`, an image or a text, under the schedule in `schedule` to `output`. Both are read
-/// to their ends and the picture is whole before anything is written, so only after `Write` a part of it may stand.
+/// to their ends and the picture is whole before anything is written, so only after `Write` a part of it may stand. Answers the choice of a
+/// thread that isn't there, with its place from 1, if one ended the run.
 pub fn make<P: Picture, F: Source, S: Source, K: Sink>(
     alloc: Global,
     picture: &P,
     file: &mut F,
     schedule: &mut S,
     output: &mut K,
-) -> Result<(), Fault>
+) -> Result<Option<(u64, Choice)>, Fault>
     ensures done { OnOk result (HasMade (P.is_picture picture.now) (F.left file.old) (F.left file.new)
         (S.left schedule.old) (S.left schedule.new) (K.written output.old) (K.written output.new)) }
     ensures refused { IfErr result (λ fault. status_of fault ≡ 3
@@ -53,7 +55,7 @@ pub fn make_of_both<P: Picture, F: Source, K: Sink>(
     picture: &P,
     file: &mut F,
     output: &mut K,
-) -> Result<(), Fault>
+) -> Result<Option<(u64, Choice)>, Fault>
     ensures done { OnOk result (HasMadeOfBoth (P.is_picture picture.now) (F.left file.old) (F.left file.new)
         (K.written output.old) (K.written output.new)) }
     ensures refused { IfErr result (λ fault. status_of fault ≡ 3
@@ -89,7 +91,7 @@ fn write<P: Picture, K: Sink>(
     program: &[u8],
     schedule: &[u8],
     output: &mut K,
-) -> Result<(), Fault>
+) -> Result<Option<(u64, Choice)>, Fault>
     requires { length schedule.now ≤ most_bytes }
     ensures done { OnOk result (HasWritten (P.is_picture picture.now program.now schedule.now)
         (K.written output.old) (K.written output.new)) }
@@ -99,9 +101,9 @@ fn write<P: Picture, K: Sink>(
     ensures spawn { result ≢ Err Fault.Spawn }
     ensures write { result ≡ Err Fault.Write → IsTrue (K.has_failed output.new) }
 {
-    let bytes = picture.of(alloc, program, schedule)?;
-    match output.push(bytes.as_slice()) {
-        Ok(()) => Ok(()),
+    let shown = picture.of(alloc, program, schedule)?;
+    match output.push(shown.bytes.as_slice()) {
+        Ok(()) => Ok(shown.missing),
         Err(_) => Err(Fault::Write),
     }
 }

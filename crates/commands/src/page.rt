@@ -9,6 +9,7 @@ ghost use Rattle.workbench.specs.Input.{most_bytes};
 use crate::picture::Picture;
 use crate::picture_fault::fault_of;
 use pictures::page::page;
+use pictures::shown::Shown;
 use row_code::is_image_file;
 use std::alloc::Global;
 use workbench::fault::{Fault, PictureKind};
@@ -26,15 +27,15 @@ fn source_of(program: &[u8]) -> &[u8]
 }
 
 /// The page of a program and a schedule.
-fn page_of(alloc: Global, program: &[u8], schedule: &[u8]) -> Result<Vec<u8>, Fault>
+fn page_of(alloc: Global, program: &[u8], schedule: &[u8]) -> Result<Shown, Fault>
     requires { length schedule.now ≤ most_bytes }
-    ensures page { IfOk result (λ page. IsPageIn program.now schedule.now page.items) }
+    ensures page { IfOk result (λ shown. IsPageIn program.now schedule.now shown.bytes.items) }
     ensures refused { IfErr result (λ fault. status_of fault ≡ 3 → HaveNoPicture picture.Page fault program.now schedule.now) }
     ensures other { (result ≢ Err Fault.Read) × (result ≢ Err Fault.Write) × (result ≢ Err Fault.Spawn) }
 {
     let image = program_in(alloc, program)?;
     match page(alloc, image, source_of(program), schedule) {
-        Ok(page) => Ok(page),
+        Ok(shown) => Ok(shown),
         Err(fault) => Err(fault_of(fault, PictureKind::Page)),
     }
 }
@@ -47,7 +48,7 @@ impl Picture for Page {
 
     ghost kind = { picture.Page };
 
-    fn of(&self, alloc: Global, program: &[u8], schedule: &[u8]) -> Result<Vec<u8>, Fault> {
+    fn of(&self, alloc: Global, program: &[u8], schedule: &[u8]) -> Result<Shown, Fault> {
         page_of(alloc, program, schedule)
     }
 }

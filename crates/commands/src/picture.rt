@@ -5,6 +5,7 @@ ghost use Rattle.workbench.specs.declared.fault.PictureKind.{PictureKind};
 ghost use Rattle.workbench.specs.Fault.{status_of};
 ghost use Rattle.workbench.specs.Input.{most_bytes};
 
+use pictures::shown::Shown;
 use std::alloc::Global;
 use workbench::fault::Fault;
 
@@ -17,9 +18,9 @@ pub trait Picture {
     ghost kind: { PictureKind };
 
     /// The picture of a program, an image or a text, and a schedule. It is there as a whole or not at all.
-    fn of(&self, alloc: Global, program: &[u8], schedule: &[u8]) -> Result<Vec<u8>, Fault>
+    fn of(&self, alloc: Global, program: &[u8], schedule: &[u8]) -> Result<Shown, Fault>
         requires { length schedule.now ≤ most_bytes }
-        ensures picture { IfOk result (λ picture. is_picture self.now program.now schedule.now picture.items) }
+        ensures picture { IfOk result (λ shown. is_picture self.now program.now schedule.now shown.bytes.items) }
         ensures refused { IfErr result (λ fault. status_of fault ≡ 3 → HaveNoPicture kind fault program.now schedule.now) }
         ensures other { (result ≢ Err Fault.Read) × (result ≢ Err Fault.Write) × (result ≢ Err Fault.Spawn) };
 }

@@ -13,6 +13,7 @@ pub mod fixed;
 pub mod frame;
 mod moment;
 pub mod page;
+pub mod shown;
 mod what_if;
 
 // The text.

@@ -12,6 +12,7 @@ use crate::escape::add_escaped;
 use crate::fixed::{BEFORE_RUN, BEFORE_SOURCE, HEAD, TAIL};
 use crate::frame::Frame;
 use crate::moment;
+use crate::shown::{Shown, missing};
 use line_reader::disassemble;
 use loader::LoadFault;
 use row_code::Image;
@@ -144,10 +145,10 @@ fn page_with(
     image: Image,
     source: &[u8],
     schedule: &[u8],
-) -> Result<Vec<u8>, PageFault>
+) -> Result<Shown, PageFault>
     requires { length schedule.now < 9223372036854775807 }
-    ensures page { IfOk result (λ page. IsPageIn (parts_of frame.entry) image
-        source.now schedule.now page.items) }
+    ensures page { IfOk result (λ shown. IsPageIn (parts_of frame.entry) image
+        source.now schedule.now shown.bytes.items) }
     ensures load { (fault : LoadFault) → result ≡ Err (PageFault.Load fault)
         → IsRefused fault image × (is_want_of_memory fault ≡ false) }
     ensures schedule { (fault : ScheduleFault) → result ≡ Err (PageFault.Schedule fault)
@@ -173,19 +174,17 @@ fn page_with(
         &mut machine,
         choices.as_slice(),
     )?;
-    Ok(page)
+    Ok(Shown {
+        bytes: page,
+        missing: missing(&machine, choices.as_slice()),
+    })
 }
 
 /// The page of an image's program, of the text that it was written as, and of its run under a schedule. The source may be
 /// empty, as where the program is an image; whatever it is, it is told as it stands.
-pub fn page(
-    alloc: Global,
-    image: Image,
-    source: &[u8],
-    schedule: &[u8],
-) -> Result<Vec<u8>, PageFault>
+pub fn page(alloc: Global, image: Image, source: &[u8], schedule: &[u8]) -> Result<Shown, PageFault>
     requires { length schedule.now < 9223372036854775807 }
-    ensures page { IfOk result (λ page. IsPageOf image source.now schedule.now page.items) }
+    ensures page { IfOk result (λ shown. IsPageOf image source.now schedule.now shown.bytes.items) }
     ensures load { (fault : LoadFault) → result ≡ Err (PageFault.Load fault)
         → IsRefused fault image × (is_want_of_memory fault ≡ false) }
     ensures schedule { (fault : ScheduleFault) → result ≡ Err (PageFault.Schedule fault)

@@ -11,9 +11,13 @@ use crate::{files, help, notes};
 use byte_ports::{ReadPort, Sink, Source, WritePort};
 use commands::making::{make, make_of_both, parts_of};
 use commands::picture::Picture;
+use thread_machine::Choice;
 use workbench::done::Done;
 use workbench::input::read_all;
 use workbench::slice_source::SliceSource;
+
+/// The choice of a thread that isn't there, with its place, where one ended the run that is shown.
+type Missing = Option<(u64, Choice)>;
 
 /// Writes the picture of a file that holds program and schedule.
 fn draw_both<'a, P: Picture, F: Source, K: Sink>(
@@ -21,14 +25,13 @@ fn draw_both<'a, P: Picture, F: Source, K: Sink>(
     picture: &P,
     file: &mut F,
     output: &mut K,
-) -> Answer<'a> {
+) -> Result<Missing, Trouble<'a>> {
     let file = read_all(rt.alloc(), file)?;
     let file = file.as_slice();
     if parts_of(file).0.len() == file.len() {
         notes::push_no_schedule(rt);
     }
-    make_of_both(rt.alloc(), picture, &mut SliceSource::new(file), output)?;
-    Ok(Done::AsAsked)
+    Ok(make_of_both(rt.alloc(), picture, &mut SliceSource::new(file), output)?)
 }
 
 /// Writes the picture of a program under the schedule that a word names, which is read as far as its fault or a choice too many.
@@ -38,15 +41,14 @@ fn draw_under<'a, P: Picture, F: Source, K: Sink>(
     file: &mut F,
     word: &'a str,
     output: &mut K,
-) -> Answer<'a> {
+) -> Result<Missing, Trouble<'a>> {
     notes::push_schedule_waited_for(rt, word);
     let schedule = KeptSource::new(rt.alloc(), ReadPort::new(Input::named(rt, word)?));
     let mut schedule = ShortSchedule::new(rt.alloc(), schedule)?;
-    let answer = match make(rt.alloc(), picture, file, &mut schedule, output) {
-        Ok(()) => Ok(Done::AsAsked),
-        Err(fault) => Err(Trouble::Fault(fault)),
-    };
-    with_input(answer, word, schedule.into_source().into_kept())
+    let made = make(rt.alloc(), picture, file, &mut schedule, output).map_err(
+        |fault| Trouble::Fault(fault),
+    );
+    with_input(made, word, schedule.into_source().into_kept())
 }
 
 /// Writes the picture of what a plan stands for.
@@ -56,19 +58,13 @@ fn draw_plan<'a, P: Picture, F: Source, K: Sink>(
     file: &mut F,
     plan: &[u8],
     output: &mut K,
-) -> Answer<'a> {
+) -> Result<Missing, Trouble<'a>> {
     let file = read_all(rt.alloc(), file)?;
     let (program, _) = parts_of(file.as_slice());
     let schedule = schedule_of_plan(rt, program, plan)?;
     let mut schedule = ShortSchedule::new(rt.alloc(), SliceSource::new(schedule.as_bytes()))?;
-    make(
-        rt.alloc(),
-        picture,
-        &mut SliceSource::new(program),
-        &mut schedule,
-        output,
-    )?;
-    Ok(Done::AsAsked)
+    let program = &mut SliceSource::new(program);
+    Ok(make(rt.alloc(), picture, program, &mut schedule, output)?)
 }
 
 /// Writes the picture of the program in a file. It is written at once, so nothing is kept back.
@@ -80,7 +76,7 @@ pub fn draw<'a, P: Picture>(
 ) -> Answer<'a> {
     let mut program = ReadPort::new(files::read(rt, file)?);
     let mut output = WritePort::new(rt.stdout());
-    let done = match steps {
+    let missing = match steps {
         Steps::Beside => draw_both(rt, picture, &mut program, &mut output),
         Steps::Named(word) => draw_under(rt, picture, &mut program, word, &mut output),
         Steps::Plan(plan) => draw_plan(rt, picture, &mut program, plan.as_bytes(), &mut output),
@@ -89,7 +85,7 @@ pub fn draw<'a, P: Picture>(
             draw_plan(rt, picture, &mut program, plan.as_slice(), &mut output)
         }
     }?;
-    let done = flushed(Ok(done), &mut output)?;
-    help::push_missing(rt, file, steps);
-    Ok(done)
+    let missing = flushed(Ok(missing), &mut output)?;
+    help::push_missing(rt, missing);
+    Ok(Done::AsAsked)
 }

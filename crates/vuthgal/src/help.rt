@@ -2,12 +2,9 @@
 
 use crate::explaining::is_explained;
 use crate::files::writes_to_pipe;
-use crate::missing::missing;
-use crate::planning::Steps;
 use crate::printable;
 use byte_ports::{Sink, WritePort};
 use command_line::request::Request;
-use commands::making::parts_of;
 use plans::fault::PlanFault;
 use refusals::place::{Named, ProgramFile, push_place};
 use refusals::push_plan_place;
@@ -198,24 +195,12 @@ pub fn push_plan_help(rt: &HostRuntime, fault: PlanFault, files: Files<'_>) {
     };
 }
 
-/// Tells of a choice of a thread that isn't there, which ended the run that was shown. A plan makes none.
-pub fn push_missing(rt: &HostRuntime, file: &str, steps: Steps<'_>) {
-    if !is_explained(rt) {
+/// Tells of a choice of a thread that isn't there, where one ended the run that was shown.
+pub fn push_missing(rt: &HostRuntime, missing: Option<(u64, Choice)>) {
+    let Some((step, Choice { thread, expiry })) = missing else {
         return;
-    }
-    let file = contents(rt, file);
-    let found = match steps {
-        Steps::Beside => {
-            let (program, behind) = parts_of(file.as_slice());
-            missing(rt.alloc(), program, behind)
-        }
-        Steps::Named(word) => {
-            let schedule = contents(rt, named(word));
-            missing(rt.alloc(), file.as_slice(), schedule.as_slice())
-        }
-        Steps::Plan(_) | Steps::PlanIn(_) => None,
     };
-    if let Some((step, Choice { thread, expiry })) = found {
+    if is_explained(rt) {
         let letter = if expiry { "x" } else { "t" };
         push_text(
             rt,

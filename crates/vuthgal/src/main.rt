@@ -17,7 +17,6 @@ mod help;
 mod input;
 mod kept_source;
 mod living;
-mod missing;
 mod no_command;
 mod notes;
 mod origin;

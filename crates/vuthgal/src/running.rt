@@ -115,7 +115,11 @@ fn play_plan<'a>(rt: &HostRuntime, file: &[u8], plan: &[u8], expected: &[&str]) 
 }
 
 /// An answer, with what was read of a schedule that is refused, where that was standard input.
-pub fn with_input<'a>(answer: Answer<'a>, word: &str, kept: Vec<u8>) -> Answer<'a> {
+pub fn with_input<'a, A: Drop>(
+    answer: Result<A, Trouble<'a>>,
+    word: &str,
+    kept: Vec<u8>,
+) -> Result<A, Trouble<'a>> {
     match answer {
         Err(Trouble::Fault(fault @ Fault::Schedule(_))) if word == "-" => Err(Trouble::OfInput(
             fault, kept,

@@ -5,7 +5,7 @@ use Rattle.commands.proofs.page.page_of.Goals as goal
 
 pub returns-in-Ok-clause-page : goal.returns-in-Ok-clause-page
 returns-in-Ok-clause-page c =
-    page_in_file c.args.program.now c.args.schedule.now c.source_of.result.now c.in-Ok.page.items c.in_ok-image.image
+    page_in_file c.args.program.now c.args.schedule.now c.source_of.result.now c.in-Ok.shown.bytes.items c.in_ok-image.image
     c.source_of.ensures c.in_ok-image.ensures.program c.in-Ok.ensures.page
 
 pub returns-in-Err-clause-refused : goal.returns-in-Err-clause-refused
