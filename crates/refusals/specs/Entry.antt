@@ -2,21 +2,22 @@
 use Rattle.std.specs.Prelude.{ℕ, List, ◌++◌, Option, Some, None, codes}
 use Rattle.std.specs.Fmt.{decimal}
 use Rattle.refusals.specs.declared.entry.Entry.{Entry}
+use Rattle.refusals.specs.declared.entry.Place.{Place}
 
 abbrev pub line : List ℕ → List ℕ → List ℕ
 line label text = label ++ (text ++ codes "\n")
 
 -- the line of a place, where there is one
-abbrev pub place_line : List ℕ → Option ℕ → List ℕ
-place_line word (Some place) = codes "  Place:   " ++ line word (decimal place)
-place_line word None = codes ""
+abbrev pub place_line : Option Place → List ℕ
+place_line (Some place) = codes "  Place:  " ++ (place.word.now ++ line (codes " ") (decimal place.number))
+place_line None = codes ""
 
 -- what is written behind the words that programs are told
-abbrev pub words_of : Entry → List ℕ → List ℕ
+abbrev pub words_of : Entry → Option Place → List ℕ
 words_of e place =
-    line (codes "  Means:   ") e.means.now ++ (place ++ (line (codes "  Helps:   ") e.helps.now
+    line (codes "  Means:   ") e.means.now ++ (place_line place ++ (line (codes "  Helps:   ") e.helps.now
     ++ (line (codes "  Example: ") e.example.now ++ line (codes "  More:    ") e.more.now)))
 
 -- an entry as it is written
-abbrev pub text_of : Entry → List ℕ → List ℕ
+abbrev pub text_of : Entry → Option Place → List ℕ
 text_of e place = line (codes "") e.told.now ++ words_of e place

@@ -1,31 +1,29 @@
 -- What `explain` writes.
 use Rattle.std.specs.Prelude.{◌≡◌, ◌⊎◌, ◌++◌, ℕ, List, [], Option, codes}
+use Rattle.std.specs.Borrow.{Bor}
 use Rattle.std.specs.Io.KnownBytes.{Appends}
 use Rattle.refusals.specs.declared.entry.Entry.{Entry}
 use Rattle.refusals.specs.declared.explain.Unexplained.{Unexplained}
 use Rattle.refusals.specs.declared.explain.Unexplained.TheVariants as why
 use Rattle.refusals.specs.declared.question.Question.{Question}
-use Rattle.refusals.specs.Entry.{place_line, text_of}
+use Rattle.refusals.specs.Entry.{text_of}
 use Rattle.refusals.specs.Question.{AsksFor}
-use Rattle.refusals.specs.Subject.{place_word}
 use Rattle.refusals.specs.declared.word.WordEntry.{WordEntry}
 use Rattle.refusals.specs.Word.{AreItsWord, word_text}
-
--- the entry of the question's subject was written whole, with the place that was told
-abbrev pub HasAnswer : Question → Option (List ℕ) → Option (List ℕ) → Type 0
-HasAnswer q before after =
-    (entry : Entry) × (entry.subject ≡ q.subject)
-    × Appends before after (text_of entry (place_line (place_word q.subject) q.place))
 
 -- the entry of the one word of the language that the words are was written whole
 abbrev pub HasForm : List (List ℕ) → Option (List ℕ) → Option (List ℕ) → Type 0
 HasForm words before after = (entry : WordEntry) × AreItsWord entry words × Appends before after (word_text entry)
 
+-- the entry that the words ask for was written whole, with the place that they tell
+abbrev pub HasAnswer : List (Bor (List Entry)) → List (List ℕ) → Option (List ℕ) → Option (List ℕ) → Type 0
+HasAnswer tables words before after =
+    (q : Question) × AsksFor tables words q × Appends before after (text_of q.entry q.place)
+
 -- what can be asked, where there are no words, and else what is told of their word, or the answer to what they ask for
-abbrev pub HasExplained : List ℕ → List (List ℕ) → Option (List ℕ) → Option (List ℕ) → Type 0
-HasExplained questions words before after =
-    ((words ≡ []) × Appends before after questions)
-    ⊎ (HasForm words before after ⊎ ((q : Question) × AsksFor words q × HasAnswer q before after))
+abbrev pub HasExplained : List ℕ → List (Bor (List Entry)) → List (List ℕ) → Option (List ℕ) → Option (List ℕ) → Type 0
+HasExplained questions tables words before after =
+    ((words ≡ []) × Appends before after questions) ⊎ (HasForm words before after ⊎ HasAnswer tables words before after)
 
 -- the exit status of what isn't explained, and what is told of it
 abbrev pub unexplained_status : Unexplained → ℕ

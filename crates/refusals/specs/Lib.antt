@@ -1,6 +1,4 @@
 pub mod Entry
 pub mod Explained
-pub mod Numbers
 pub mod Question
-pub mod Subject
 pub mod Word

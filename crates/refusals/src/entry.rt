@@ -1,18 +1,17 @@
 //! An entry of the table, and how it is written.
-ghost use Rattle.std.specs.Prelude.{◌≡◌, ◌++◌, codes, IsTrue, OnErr, OnOk};
-ghost use Rattle.std.specs.Fmt.{decimal};
+ghost use Rattle.std.specs.Prelude.{IsTrue, OnErr, OnOk};
 ghost use Rattle.std.specs.Io.KnownBytes.{Appends};
 ghost use Rattle.refusals.specs.Entry.{line, place_line, text_of, words_of};
 
-use crate::subject::Subject;
 use byte_ports::{Failed, Sink};
 use itoa::Buffer;
 
-/// What is told of a subject.
-#[derive(Clone, Copy, Debug)]
+/// What is told of words.
+#[derive(Clone, Copy)]
 pub struct Entry {
-    /// What it is an entry of.
-    pub subject: Subject,
+    /// The patterns of the words, the word `refused` left out. A word that begins with a blank stands for a number, and is what that
+    /// counts; `_` stands for any word, and `..` behind the others for any words.
+    pub asked: &'static [&'static [&'static str]],
     /// The words that programs are told, with a word in capitals for a place.
     pub told: &'static str,
     /// What is wrong.
@@ -23,6 +22,13 @@ pub struct Entry {
     pub example: &'static str,
     /// Where the documents say more.
     pub more: &'static str,
+}
+
+/// Where a fault is: what is counted, behind a blank, and its number.
+#[derive(Clone, Copy)]
+pub struct Place {
+    pub word: &'static str,
+    pub number: u64,
 }
 
 /// A line that begins with this label.
@@ -36,25 +42,16 @@ pub fn push_line<W: Sink>(output: &mut W, label: &[u8], text: &str) -> Result<()
     output.push(b"\n")
 }
 
-/// A line with a number behind a word.
-fn push_number<W: Sink>(output: &mut W, word: &str, number: u64) -> Result<(), Failed>
-    ensures bytes { OnOk result (Appends (W.written output.old) (W.written output.new)
-        (line word.now (decimal number))) }
-    ensures failed { OnErr result (IsTrue (W.has_failed output.new)) }
-{
-    push_line(output, word.as_bytes(), Buffer::new().format(number))
-}
-
 /// The line of a place, where there is one.
-fn push_place<W: Sink>(output: &mut W, word: &str, place: Option<u64>) -> Result<(), Failed>
-    ensures bytes { OnOk result (Appends (W.written output.old) (W.written output.new)
-        (place_line word.now place)) }
+fn push_place<W: Sink>(output: &mut W, place: Option<Place>) -> Result<(), Failed>
+    ensures bytes { OnOk result (Appends (W.written output.old) (W.written output.new) (place_line place)) }
     ensures failed { OnErr result (IsTrue (W.has_failed output.new)) }
 {
     match place {
         Some(place) => {
-            output.push(b"  Place:   ")?;
-            push_number(output, word, place)
+            output.push(b"  Place:  ")?;
+            output.push(place.word.as_bytes())?;
+            push_line(output, b" ", Buffer::new().format(place.number))
         }
         None => output.push(b""),
     }
@@ -70,30 +67,23 @@ impl Entry {
     }
 
     /// Writes what the told line means, with the place that was told.
-    pub fn push_words<W: Sink>(
-        self,
-        output: &mut W,
-        word: &str,
-        place: Option<u64>,
-    ) -> Result<(), Failed>
-        ensures bytes { OnOk result (Appends (W.written output.old) (W.written output.new)
-            (words_of (self) (place_line word.now place))) }
+    pub fn push_words<W: Sink>(self, output: &mut W, place: Option<Place>) -> Result<(), Failed>
+        ensures bytes { OnOk result (Appends (W.written output.old) (W.written output.new) (words_of (self) place)) }
         ensures failed { OnErr result (IsTrue (W.has_failed output.new)) }
     {
         push_line(output, b"  Means:   ", self.means)?;
-        push_place(output, word, place)?;
+        push_place(output, place)?;
         push_line(output, b"  Helps:   ", self.helps)?;
         push_line(output, b"  Example: ", self.example)?;
         push_line(output, b"  More:    ", self.more)
     }
 
     /// Writes the whole entry.
-    pub fn push<W: Sink>(self, output: &mut W, word: &str, place: Option<u64>) -> Result<(), Failed>
-        ensures bytes { OnOk result (Appends (W.written output.old) (W.written output.new)
-            (text_of (self) (place_line word.now place))) }
+    pub fn push<W: Sink>(self, output: &mut W, place: Option<Place>) -> Result<(), Failed>
+        ensures bytes { OnOk result (Appends (W.written output.old) (W.written output.new) (text_of (self) place)) }
         ensures failed { OnErr result (IsTrue (W.has_failed output.new)) }
     {
         push_line(output, b"", self.told)?;
-        self.push_words(output, word, place)
+        self.push_words(output, place)
     }
 }

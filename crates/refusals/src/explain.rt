@@ -1,12 +1,13 @@
 //! The command.
-ghost use Rattle.std.specs.Prelude.{◌≡◌, ◌++◌, Err, IsTrue, MatchOption, OnErr, OnOk, map};
+ghost use Rattle.std.specs.Prelude.{◌≡◌, ◌++◌, Err, IsTrue, MatchOption, OnErr, OnOk};
 ghost use Rattle.std.specs.Io.KnownBytes.{Appends};
 ghost use Rattle.refusals.specs.declared.question.Question.{Question};
-ghost use Rattle.refusals.specs.Explained.{HasAnswer, HasExplained, unexplained_status, unexplained_text};
-ghost use Rattle.refusals.specs.Question.{AsksFor};
+ghost use Rattle.refusals.specs.Explained.{HasExplained, unexplained_status, unexplained_text};
+ghost use Rattle.refusals.specs.Question.{AsksFor, texts};
 ghost use Rattle.refusals.specs.Word.{AreItsWord, AreNoWord};
 
-use crate::question::{Question, question_of};
+use crate::entry::Entry;
+use crate::question::question_of;
 use crate::word::{WordEntry, word_entry};
 use byte_ports::{Failed, Sink};
 
@@ -38,17 +39,6 @@ fn push_questions<W: Sink>(output: &mut W) -> Result<(), Failed>
     ensures failed { OnErr result (IsTrue (W.has_failed output.new)) }
 {
     output.push(QUESTIONS.as_bytes())
-}
-
-/// Writes the entry that is asked for, with the place that was told.
-fn push_answer<W: Sink>(output: &mut W, question: Question) -> Result<(), Failed>
-    ensures bytes { OnOk result (HasAnswer question (W.written output.old) (W.written output.new)) }
-    ensures failed { OnErr result (IsTrue (W.has_failed output.new)) }
-{
-    let subject = question.subject;
-    subject
-        .entry()
-        .push(output, subject.place_word(), question.place)
 }
 
 /// Writes that no line has the words, and what can be asked.
@@ -95,7 +85,7 @@ impl Unexplained {
 
 /// The entry of the one word that is asked for, where it is one of the language.
 fn entry_asked(words: &[&str]) -> Option<WordEntry>
-    ensures { MatchOption result (AreNoWord (map (λ w. w.now) words.now)) (λ e. AreItsWord e (map (λ w. w.now) words.now)) }
+    ensures { MatchOption result (AreNoWord (texts words.now)) (λ e. AreItsWord e (texts words.now)) }
 {
     match words {
         [word] => word_entry(word),
@@ -103,16 +93,20 @@ fn entry_asked(words: &[&str]) -> Option<WordEntry>
     }
 }
 
-/// Writes the entry that the words ask for, the words being those of a line on standard error or one word of the language, or
+/// Writes the entry of these tables that the words ask for, the words being those of a line on standard error or one word of the language, or
 /// what can be asked where there are none.
-pub fn explain<W: Sink>(words: &[&str], output: &mut W) -> Result<(), Unexplained>
+pub fn explain<W: Sink>(
+    tables: &[&[Entry]],
+    words: &[&str],
+    output: &mut W,
+) -> Result<(), Unexplained>
     // The entry of the word of the language, or of the question that the words ask for, is written, and nothing else; without
     // words, what can be asked.
-    ensures told { OnOk result (HasExplained QUESTIONS.now (map (λ w. w.now) words.now) (W.written output.old) (W.written output.new)) }
+    ensures told { OnOk result (HasExplained QUESTIONS.now tables.now (texts words.now) (W.written output.old) (W.written output.new)) }
 
     // Words of no line, nor a word of the language: nothing is written.
-    ensures none { result ≡ Err Unexplained.NoLine → (q : Question) → AsksFor (map (λ w. w.now) words.now) q → ⊥ }
-    ensures no_word { result ≡ Err Unexplained.NoLine → AreNoWord (map (λ w. w.now) words.now) }
+    ensures none { result ≡ Err Unexplained.NoLine → (q : Question) → AsksFor tables.now (texts words.now) q → ⊥ }
+    ensures no_word { result ≡ Err Unexplained.NoLine → AreNoWord (texts words.now) }
     ensures untold { result ≡ Err Unexplained.NoLine → W.written output.new ≡ W.written output.old }
     ensures failed { result ≡ Err Unexplained.Write → IsTrue (W.has_failed output.new) }
 {
@@ -121,8 +115,8 @@ pub fn explain<W: Sink>(words: &[&str], output: &mut W) -> Result<(), Unexplaine
     } else {
         match entry_asked(words) {
             Some(entry) => entry.push(output),
-            None => match question_of(words) {
-                Some(question) => push_answer(output, question),
+            None => match question_of(tables, words) {
+                Some(question) => question.entry.push(output, question.place),
                 None => return Err(Unexplained::NoLine),
             },
         }

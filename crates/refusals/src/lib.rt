@@ -1,23 +1,22 @@
 //! What the program's refusals mean, in words, and where one is in the file that it is about.
 //!
-//! An entry says what is wrong, what helps, a command that makes just this refusal, and where the documents say more.
-//! Contracts tie each number to its kind and each kind to its own entry. A place is shown as the line, a mark below the word,
-//! and what may have been meant: the file is read again, and the assembler is asked, so nothing is parsed a second way.
+//! An entry has the patterns of the words that ask for it, what is wrong, what helps, a command that makes just this refusal, and
+//! where the documents say more. A terminal is told the entry that the words of the line ask for, so it is the one that `explain`
+//! tells. A place is shown as the line, a mark below the word, and what may have been meant: the file is read again, and the
+//! assembler is asked, so nothing is parsed a second way.
 #![tactic(auto)]
 
-// An entry, how it is written, what there is an entry of, and the table.
+// An entry, how it is written, the table of them, and that of the words of the language.
+pub mod entries;
 pub mod entry;
-pub mod subject;
 pub mod table;
 
 // Which words ask for which entry, and the command.
 pub mod explain;
-pub mod line_kinds;
 pub mod question;
 pub mod word;
 
-// What a fault is about: the names that a text gives and what a name names.
-mod about;
+// What a name names, and the names that a text gives.
 mod kinds;
 mod names;
 

@@ -1,26 +1,26 @@
 //! The place of a refusal, and its words.
 
-use crate::about::question_about;
 use crate::java::row_of;
 use crate::kinds::called;
 use crate::meant::{helps_at, helps_at_encoding, word_assigned};
 use crate::mistaken::{is_plan, is_trace};
 use crate::names::{first_line, nearest_name, nearest_option, nearest_word};
-use crate::question::Question;
+use crate::question::question_in_line;
 use crate::shown::{push_file, push_line, push_marked, push_shown, word_at};
-use crate::subject::Subject;
 use crate::word::{WordEntry, word_entry};
 use assembler::assemble;
 use assembler::made::line_that_makes;
 use assembler::placed::{PlacedFault, UnknownName, assemble_placed};
 use assembler::word_place::{WordPlace, line_at, place_of_word};
-use byte_ports::{Failed, Sink};
+use byte_ports::{Failed, MemorySink, Sink};
+use commands::unplanned::Unplanned;
 use instruction_table::OperandKind;
 use itoa::Buffer;
 use line_reader::asm_fault::AsmFaultKind;
 use line_reader::label::{before_last, is_label};
 use line_reader::words::{before_comment, is_blank};
 use loader::{LoadFault, Place};
+use schedule_reader::ScheduleFault;
 use std::alloc::{AllocError, Global};
 use workbench::fault::Fault;
 
@@ -54,6 +54,9 @@ impl From<AllocError> for Unshown {
         Unshown
     }
 }
+
+/// More bytes than the line of a fault has.
+const LONGEST_LINE: usize = 64;
 
 /// What helps where a schedule is a plan.
 const AT_PLAN: &str = "this looks like a plan: `vuthgal plan FILE PLAN` writes its schedule";
@@ -358,13 +361,38 @@ fn push_last_row<E: Sink>(
     }
 }
 
-/// What the place of a load fault counts.
-fn made_of(fault: LoadFault) -> OperandKind {
+/// What a load fault is about, and its number.
+fn made_in(fault: LoadFault) -> Option<(OperandKind, u64)> {
     match fault {
-        LoadFault::Target(Place::Thread(_)) => OperandKind::Thread,
-        LoadFault::Target(Place::Phaser(_)) | LoadFault::Declare(_, _) => OperandKind::Phaser,
-        LoadFault::Target(Place::Barrier(_)) | LoadFault::BarrierParties(_) => OperandKind::Barrier,
-        _ => OperandKind::Target,
+        LoadFault::Target(Place::Row(row))
+        | LoadFault::NoSuchPhaser(row)
+        | LoadFault::NoSuchBarrier(row)
+        | LoadFault::NoSuchThread(row)
+        | LoadFault::NoSuchCell(row) => Some((OperandKind::Target, u64::from(row))),
+        LoadFault::Target(Place::Thread(thread)) => Some((OperandKind::Thread, u64::from(thread))),
+        LoadFault::Target(Place::Phaser(phaser)) | LoadFault::Declare(phaser, _) => Some((
+            OperandKind::Phaser,
+            u64::from(phaser),
+        )),
+        LoadFault::Target(Place::Barrier(barrier)) | LoadFault::BarrierParties(barrier) => Some((
+            OperandKind::Barrier,
+            u64::from(barrier),
+        )),
+        LoadFault::FallsOff | LoadFault::NoThread | LoadFault::Memory => None,
+    }
+}
+
+/// The line of what a load fault is about; where a thread could go on past the last row, that row's.
+fn push_load_place<E: Sink>(
+    alloc: Global,
+    errors: &mut E,
+    program: ProgramFile<'_>,
+    fault: LoadFault,
+) -> Result<(), Unshown> {
+    match made_in(fault) {
+        Some((made, number)) => push_made_place(alloc, errors, program, made, number),
+        None if fault == LoadFault::FallsOff => push_last_row(alloc, errors, program),
+        None => Ok(()),
     }
 }
 
@@ -436,44 +464,47 @@ fn helps_at_schedule(
     }
 }
 
-/// Where a question's place is in the files, and what helps there, where that is more than its entry says.
+/// Where a fault is in the files, and what helps there, where that is more than its entry says.
 fn push_found<E: Sink>(
     alloc: Global,
     errors: &mut E,
-    question: Question,
+    fault: Fault,
     program: ProgramFile<'_>,
     schedule: Option<Named<'_>>,
 ) -> Result<Option<&'static str>, Unshown> {
-    let is_image = program.file.bytes.starts_with(b"PBW");
-    let Some(place) = question.place else {
-        if matches!(question.subject, Subject::Load(LoadFault::FallsOff)) && !is_image {
-            push_last_row(alloc, errors, program)?;
+    match fault {
+        Fault::Asm(fault) if fault.kind != AsmFaultKind::Memory => push_text_place(
+            alloc, errors, program, schedule, fault.line, fault.kind,
+        ),
+        Fault::Load(fault) if !program.file.bytes.starts_with(b"PBW") => {
+            push_load_place(alloc, errors, program, fault)?;
+            Ok(None)
         }
-        return Ok(None);
-    };
-    match question.subject {
-        Subject::Asm(kind) => return push_text_place(alloc, errors, program, schedule, place, kind),
-        Subject::Load(fault) if !is_image => push_made_place(
-            alloc,
-            errors,
-            program,
-            made_of(fault),
-            place,
-        )?,
-        Subject::Declare(_) if !is_image => push_made_place(
-            alloc,
-            errors,
-            program,
-            OperandKind::Phaser,
-            place,
-        )?,
-        Subject::Schedule(_) => {
-            push_schedule_place(errors, program, schedule, place)?;
-            return Ok(helps_at_schedule(alloc, program, schedule));
+        Fault::Schedule(
+            ScheduleFault::Byte(at) | ScheduleFault::Number(at) | ScheduleFault::Repeat(at),
+        ) => {
+            push_schedule_place(errors, program, schedule, at)?;
+            Ok(helps_at_schedule(alloc, program, schedule))
         }
-        _ => {}
+        _ => Ok(None),
     }
-    Ok(None)
+}
+
+/// Writes what the line means that tells this, as `explain` does with the line's words, but for what helps where that is known
+/// better.
+pub fn push_meaning<E: Sink>(
+    alloc: Global,
+    errors: &mut E,
+    why: Unplanned,
+    helps: Option<&'static str>,
+) -> Result<(), Unshown> {
+    let mut line = MemorySink::new(alloc, LONGEST_LINE, None)?;
+    why.tell(&mut line)?;
+    if let Some(question) = question_in_line(alloc, line.bytes())? {
+        let entry = question.entry.with_help(helps);
+        entry.push_words(errors, question.place)?;
+    }
+    Ok(())
 }
 
 /// Writes where the place of a fault is, if it is one of a program's text or of a schedule, and then the words of its entry.
@@ -484,10 +515,6 @@ pub fn push_place<E: Sink>(
     schedule: Option<Named<'_>>,
     errors: &mut E,
 ) -> Result<(), Unshown> {
-    let question = question_about(fault);
-    let helps = push_found(alloc, errors, question, program, schedule)?;
-    let subject = question.subject;
-    let entry = subject.entry().with_help(helps);
-    entry.push_words(errors, subject.place_word(), question.place)?;
-    Ok(())
+    let helps = push_found(alloc, errors, fault, program, schedule)?;
+    push_meaning(alloc, errors, Unplanned::Fault(fault), helps)
 }

@@ -3,12 +3,12 @@ ghost use Rattle.std.specs.Prelude.{◌≤◌, length};
 
 use crate::meant::{AT_COMMENT, has_comment_sign, helps_at_encoding};
 use crate::names::distance;
-use crate::place::{Named, ProgramFile, Unshown};
+use crate::place::{Named, ProgramFile, Unshown, push_meaning};
 use crate::shown::{push_file, push_line, push_marked, push_shown, word_at};
-use crate::subject::Subject;
 use assembler::word_place::{WordPlace, line_at};
 use byte_ports::Sink;
 use commands::plan::loaded_program;
+use commands::unplanned::Unplanned;
 use line_reader::words::{before_comment, is_blank, length_before};
 use plans::fault::{PlanFault, PlanFaultKind};
 use plans::read_plan;
@@ -252,8 +252,5 @@ pub fn push_plan_place<E: Sink>(
             helps = push_shown_place(alloc, errors, fault, names.as_slice(), plan)?;
         }
     }
-    let subject = Subject::Plan(fault.kind);
-    let entry = subject.entry().with_help(helps);
-    entry.push_words(errors, subject.place_word(), Some(fault.line))?;
-    Ok(())
+    push_meaning(alloc, errors, Unplanned::Plan(fault), helps)
 }

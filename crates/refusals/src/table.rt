@@ -1,20 +1,11 @@
-//! The entries, by the kinds of each fault.
+//! The entries of the words of the language: of the rows by their groups, and of what begins with a dot.
 
-pub mod asm;
 pub mod barrier_row;
 pub mod control_row;
-pub mod declare;
 pub mod directive;
-pub mod exception;
-pub mod image;
-pub mod line;
-pub mod load;
 pub mod phaser_row;
 pub mod plain_row;
-pub mod plan;
 pub mod row;
-pub mod schedule;
 pub mod shared_row;
-pub mod status;
 pub mod timed_row;
 pub mod view_row;

@@ -6,6 +6,7 @@ use crate::until_failure::UntilFailure;
 use crate::{files, printable};
 use byte_ports::{ReadPort, WritePort};
 use commands::list_rows;
+use refusals::entries::tables;
 use refusals::explain::explain;
 use std::io::BufWriter;
 use workbench::asm::asm;
@@ -45,7 +46,7 @@ pub fn write_list<'a>(rt: &HostRuntime, file: &'a str, has_rows: bool) -> Answer
 /// Tells what the words of a line mean.
 pub fn explain_words<'a>(rt: &HostRuntime, words: &[&'a str]) -> Answer<'a> {
     let mut output = WritePort::new(rt.stdout());
-    match explain(words, &mut output) {
+    match explain(&tables(), words, &mut output) {
         Ok(()) => Ok(as_asked(flushed(Ok(()), &mut output))?),
         Err(why) => Err(Trouble::Unexplained(why)),
     }

@@ -1,0 +1,31 @@
+//! The entries of the lines that programs are told, of exit statuses and of exceptions, a file for each group.
+
+pub mod asm;
+pub mod declare;
+pub mod ending;
+pub mod exception;
+pub mod finding;
+pub mod image;
+pub mod load;
+pub mod plan;
+pub mod schedule;
+pub mod status;
+
+use crate::entries::asm::ASM;
+use crate::entries::declare::DECLARE;
+use crate::entries::ending::ENDING;
+use crate::entries::exception::EXCEPTION;
+use crate::entries::finding::FINDING;
+use crate::entries::image::IMAGE;
+use crate::entries::load::LOAD;
+use crate::entries::plan::PLAN;
+use crate::entries::schedule::SCHEDULE;
+use crate::entries::status::STATUS;
+use crate::entry::Entry;
+
+/// The tables. Of several entries that words ask for it is the first.
+pub fn tables() -> [&'static [Entry]; 10] {
+    [
+        &ASM, &IMAGE, &LOAD, &DECLARE, &SCHEDULE, &PLAN, &ENDING, &FINDING, &STATUS, &EXCEPTION,
+    ]
+}

@@ -1,0 +1,77 @@
+use crate::entry::Entry;
+
+/// Why a phaser can't be declared.
+pub static DECLARE: [Entry; 6] = [
+    Entry {
+        asked: &[
+            &["load", "7", " phaser", "1"],
+            &["declare", "1"],
+            &["declare", " phaser", "1"],
+        ],
+        told: "refused load 7 PHASER 1",
+        means: "BadParties: below 0 or above 65535 parties",
+        helps: "0 to 65535 parties",
+        example: "none: neither a text nor an image can hold such parties",
+        more: "docs/FORMATS.md, \"Load faults\"",
+    },
+    Entry {
+        asked: &[
+            &["load", "7", " phaser", "2"],
+            &["declare", "2"],
+            &["declare", " phaser", "2"],
+        ],
+        told: "refused load 7 PHASER 2",
+        means: "TooMany: a phaser above it has 65535 parties, and would get one more",
+        helps: "room for one party of each child",
+        example: "printf '.phaser r 65535\\n.phaser x 1 parent r\\n.thread t #0\\nhalt\\n' | vuthgal",
+        more: "docs/FORMATS.md, \"Load faults\"",
+    },
+    Entry {
+        asked: &[
+            &["load", "7", " phaser", "3"],
+            &["declare", "3"],
+            &["declare", " phaser", "3"],
+        ],
+        told: "refused load 7 PHASER 3",
+        means: "TooDeep: it would be on level 9 of its tree",
+        helps: "up to 8 levels",
+        example: "{ echo .phaser a 0; for i in {0..7}; do echo .phaser a$i 0 parent \\#$i; done; echo .thread t \\#0; echo halt; } | vuthgal",
+        more: "docs/FORMATS.md, \"Load faults\"",
+    },
+    Entry {
+        asked: &[
+            &["load", "7", " phaser", "4"],
+            &["declare", "4"],
+            &["declare", " phaser", "4"],
+        ],
+        told: "refused load 7 PHASER 4",
+        means: "TooManyPhasers: there are 64 phasers already",
+        helps: "up to 64 phasers",
+        example: "none: neither a text nor an image can hold so many",
+        more: "docs/FORMATS.md, \"Load faults\"",
+    },
+    Entry {
+        asked: &[
+            &["load", "7", " phaser", "5"],
+            &["declare", "5"],
+            &["declare", " phaser", "5"],
+        ],
+        told: "refused load 7 PHASER 5",
+        means: "PhaseOnChild: a child is given a first phase other than 0",
+        helps: "the first phase at the root",
+        example: "printf '.phaser r 1\\n.phaser x 1 parent r phase 1\\n.thread t #0\\nhalt\\n' | vuthgal",
+        more: "docs/FORMATS.md, \"Load faults\"",
+    },
+    Entry {
+        asked: &[
+            &["load", "7", " phaser", "6"],
+            &["declare", "6"],
+            &["declare", " phaser", "6"],
+        ],
+        told: "refused load 7 PHASER 6",
+        means: "NoParent: no phaser before it has its parent's number",
+        helps: "the parent's line above its children's",
+        example: "printf '.phaser p 1 parent #0\\n.thread t #0\\nhalt\\n' | vuthgal",
+        more: "docs/FORMATS.md, \"Load faults\"",
+    },
+];

@@ -1,0 +1,69 @@
+use crate::entry::Entry;
+
+/// The numbers of exceptions.
+pub static EXCEPTION: [Entry; 8] = [
+    Entry {
+        asked: &[&["exception", "1"]],
+        told: "exception 1",
+        means: "IllegalStateException: an arrival without a party, or too many parties",
+        helps: "a registration before the arrival",
+        example: "printf '.phaser p 0\\n.thread t #0\\nparr r0 p\\nhalt\\n.run\\nt0\\n' | vuthgal",
+        more: "docs/BEHAVIOUR.md, \"Exceptions\"",
+    },
+    Entry {
+        asked: &[&["exception", "2"]],
+        told: "exception 2",
+        means: "IllegalArgumentException: bulkRegister of a number below 0",
+        helps: "0 or more parties",
+        example: "printf '.phaser p 1\\n.thread t #0\\nldi r1 -1\\npbulk r0 p r1\\nhalt\\n.run\\nt0*2\\n' | vuthgal",
+        more: "docs/BEHAVIOUR.md, \"Exceptions\"",
+    },
+    Entry {
+        asked: &[&["exception", "3"]],
+        told: "exception 3",
+        means: "InterruptedException: an interruptible wait of a thread that was interrupted",
+        helps: "`try L` before the wait catches it",
+        example: "printf '.phaser p 1\\n.thread t #0\\nintr #0\\npawaiti r1 p r2\\nhalt\\n.run\\nt0*2\\n' | vuthgal",
+        more: "docs/BEHAVIOUR.md, \"Exceptions\"",
+    },
+    Entry {
+        asked: &[&["exception", "4"]],
+        told: "exception 4",
+        means: "BrokenBarrierException: a wait at a barrier that is broken, or breaks",
+        helps: "`creset B` makes it whole",
+        example: "printf '.barrier b 2\\n.thread t #0\\n.thread u #1\\ncawaitt r0 b r1\\ncawait r0 b\\nhalt\\n.run\\nt0 t1\\n' | vuthgal",
+        more: "docs/BEHAVIOUR.md, \"Exceptions\"",
+    },
+    Entry {
+        asked: &[&["exception", "5"]],
+        told: "exception 5",
+        means: "TimeoutException: a timed wait without time, or whose time runs out",
+        helps: "a time above 0, and no xN in the schedule",
+        example: "printf '.barrier b 2\\n.thread t #0\\ncawaitt r0 b r1\\nhalt\\n.run\\nt0\\n' | vuthgal",
+        more: "docs/BEHAVIOUR.md, \"Exceptions\"",
+    },
+    Entry {
+        asked: &[&["exception", "6"]],
+        told: "exception 6",
+        means: "stack full: a call, a try or an arrival where the stack has 64 entries",
+        helps: "a ret for each call, an endtry for each try",
+        example: "printf '.thread t #0\\ncall #0\\nhalt\\n.run\\nt0*65\\n' | vuthgal",
+        more: "docs/BEHAVIOUR.md, \"Exceptions\"",
+    },
+    Entry {
+        asked: &[&["exception", "7"]],
+        told: "exception 7",
+        means: "bad return: ret or endtry without their entry, or halt in a routine or an action",
+        helps: "a call before each ret, a try before each endtry",
+        example: "printf '.thread t #0\\nret\\n.run\\nt0\\n' | vuthgal",
+        more: "docs/BEHAVIOUR.md, \"Exceptions\"",
+    },
+    Entry {
+        asked: &[&["exception", "8"]],
+        told: "exception 8",
+        means: "output full: out after 4096 numbers",
+        helps: "4096 numbers of a thread at most",
+        example: "printf '.thread t #0\\nout r0\\njmp #0\\n.run\\nt0*8193\\n' | vuthgal",
+        more: "docs/BEHAVIOUR.md, \"Exceptions\"",
+    },
+];

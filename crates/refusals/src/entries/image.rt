@@ -1,0 +1,61 @@
+use crate::entry::Entry;
+
+/// An image that is refused.
+pub static IMAGE: [Entry; 7] = [
+    Entry {
+        asked: &[&["image", "1"]],
+        told: "refused image 1",
+        means: "Short: the bytes end too early",
+        helps: "12 bytes, and as many entries as they count",
+        example: "printf 'PBW1' > a.image; vuthgal list a.image",
+        more: "docs/FORMATS.md, \"Images\"",
+    },
+    Entry {
+        asked: &[&["image", "2"]],
+        told: "refused image 2",
+        means: "Magic: the first four bytes are none of an image's",
+        helps: "PBW1 or PBW2",
+        example: "none: a FILE that begins otherwise is read as a program text",
+        more: "docs/FORMATS.md, \"Images\"",
+    },
+    Entry {
+        asked: &[&["image", "3"]],
+        told: "refused image 3",
+        means: "Count: more than 64 phasers, barriers or threads",
+        helps: "up to 64 of each",
+        example: "printf 'PBW1\\101\\0\\0\\0\\0\\0\\0\\0' > a.image; vuthgal list a.image",
+        more: "docs/FORMATS.md, \"Images\"",
+    },
+    Entry {
+        asked: &[&["image", "4"], &["image", "4", " byte"]],
+        told: "refused image 4 BYTE",
+        means: "Field: a field holds what it can't, from this byte of the file on",
+        helps: "a parent 0 to 63 or 255, a policy 0 to 3, phases from 0, rows to 65535",
+        example: "printf 'PBW1\\1\\0\\0\\0\\0\\0\\0\\0\\377\\4\\2\\0\\0\\0\\0\\0\\0\\0\\0\\0' > a.image; vuthgal list a.image",
+        more: "docs/FORMATS.md, \"Images\"",
+    },
+    Entry {
+        asked: &[&["image", "5"], &["image", "5", " row"]],
+        told: "refused image 5 ROW",
+        means: "Row: 8 bytes that spell no row, or behind PBW1 a row with a timeout",
+        helps: "rows as `vuthgal asm` writes them",
+        example: "printf 'PBW1\\0\\0\\0\\0\\0\\0\\1\\0\\143\\0\\0\\0\\0\\0\\0\\0' > a.image; vuthgal list a.image",
+        more: "docs/FORMATS.md, \"Images\"",
+    },
+    Entry {
+        asked: &[&["image", "6"]],
+        told: "refused image 6",
+        means: "Extra: bytes behind the last row",
+        helps: "nothing behind it",
+        example: "printf 'PBW1\\0\\0\\0\\0\\0\\0\\0\\0x' > a.image; vuthgal list a.image",
+        more: "docs/FORMATS.md, \"Images\"",
+    },
+    Entry {
+        asked: &[&["image", "8"]],
+        told: "refused image 8",
+        means: "Version: the magic is PBW2, and no row has a timeout",
+        helps: "PBW1 for a program without pawaitt and cawaitt",
+        example: "printf 'PBW2\\0\\0\\0\\0\\0\\0\\0\\0' > a.image; vuthgal list a.image",
+        more: "docs/FORMATS.md, \"Images\"",
+    },
+];

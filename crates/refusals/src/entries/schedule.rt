@@ -1,0 +1,29 @@
+use crate::entry::Entry;
+
+/// A schedule that is refused.
+pub static SCHEDULE: [Entry; 3] = [
+    Entry {
+        asked: &[&["schedule", "1"], &["schedule", "1", " byte"]],
+        told: "refused schedule 1 BYTE",
+        means: "Byte: a byte that can't stand there, or a token that is cut short",
+        helps: "tN, xN, tN*K and xN*K with blanks between them",
+        example: "printf '.thread t #0\\nhalt\\n.run\\nt0,t1\\n' | vuthgal",
+        more: "docs/FORMATS.md, \"Schedule text\"",
+    },
+    Entry {
+        asked: &[&["schedule", "2"], &["schedule", "2", " byte"]],
+        told: "refused schedule 2 BYTE",
+        means: "Number: a thread's number above 63, or of more than two digits",
+        helps: "t0 to t63, and x0 to x63",
+        example: "printf '.thread t #0\\nhalt\\n.run\\nt64\\n' | vuthgal",
+        more: "docs/FORMATS.md, \"Schedule text\"",
+    },
+    Entry {
+        asked: &[&["schedule", "3"], &["schedule", "3", " byte"]],
+        told: "refused schedule 3 BYTE",
+        means: "Repeat: a count of 0, above 1000000000, or of more than ten digits",
+        helps: "1 to 1000000000",
+        example: "printf '.thread t #0\\nhalt\\n.run\\nt0*0\\n' | vuthgal",
+        more: "docs/FORMATS.md, \"Schedule text\"",
+    },
+];
