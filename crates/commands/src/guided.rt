@@ -12,7 +12,7 @@ ghost use Rattle.workbench.specs.Debug.{HasNoEnd};
 use crate::drawing::named_program;
 use crate::may_go::push_may_go;
 use crate::plan::thread_names;
-use crate::spoken::in_numbers;
+use crate::spoken::{in_numbers, near_word};
 use assembler::Symbols;
 use byte_ports::{Failed, Sink, Source};
 use debugger::{Command, Debugger, Played, command_of};
@@ -79,6 +79,17 @@ fn is_unknown(command: &Command, debugger: &Debugger) -> bool {
     }
 }
 
+/// Tells why a line was answered with `?`, and what may have been meant.
+fn tell_why<E: Sink>(notes: &mut E, near: Option<&[u8]>) -> Result<(), Failed> {
+    notes.push(NO_COMMAND)?;
+    if let Some(near) = near {
+        notes.push(b"  Near: ")?;
+        notes.push(near)?;
+        notes.push(b"\n")?;
+    }
+    Ok(())
+}
+
 /// Puts a line in place of what the vector holds, without its LFs if there are any.
 #[tactic(auto, using(workbench::proofs::Conversations::one_more))]
 fn put_line(line: &mut Vec<u8>, text: &[u8]) -> Result<(), AllocError>
@@ -119,7 +130,8 @@ impl<'a, S: Source + Drop, K: Sink + Drop, E: Sink + Drop> Person<'a, S, K, E> {
     fn look(&mut self, debugger: &Debugger) -> Result<(), AllocError> {
         let command = replace(&mut self.command, Command::Print);
         if is_unknown(&command, debugger) {
-            note(self.notes.push(NO_COMMAND));
+            let near = near_word(&self.symbols, self.said.as_slice());
+            note(tell_why(&mut self.notes, near));
         }
         let choices = debugger.machine().choices();
         let more = choices.saturating_sub(self.choices);

@@ -6,6 +6,42 @@ use itoa::Buffer;
 use line_reader::words::is_blank;
 use std::alloc::{AllocError, Global};
 
+/// What a command is called elsewhere, and its letter here.
+const CALLED_ELSEWHERE: [(&[u8], &[u8]); 12] = [
+    (b"quit", b"q"),
+    (b"exit", b"q"),
+    (b"undo", b"b"),
+    (b"back", b"b"),
+    (b"step", b"s"),
+    (b"next", b"s"),
+    (b"go", b"g"),
+    (b"run", b"g"),
+    (b"continue", b"g"),
+    (b"break", b"k"),
+    (b"clear", b"c"),
+    (b"print", b"p"),
+];
+
+/// What the first word of a line may have been meant as: the command that is called so elsewhere, or the thread with this name
+/// in other letters.
+pub fn near_word<'a>(symbols: &Symbols<'a>, said: &[u8]) -> Option<&'a [u8]> {
+    let word = said
+        .split(|byte| is_blank(*byte))
+        .find(|word| !word.is_empty())?;
+    for (name, letter) in &CALLED_ELSEWHERE {
+        if name.eq_ignore_ascii_case(word) {
+            return Some(*letter);
+        }
+    }
+    for index in 0..symbols.len() {
+        let symbol = symbols.get(index)?;
+        if symbol.kind == OperandKind::Thread && symbol.name.eq_ignore_ascii_case(word) {
+            return Some(symbol.name);
+        }
+    }
+    None
+}
+
 /// The number of the thread that is called so.
 fn thread_called(symbols: &Symbols<'_>, name: &[u8]) -> Option<u16> {
     for index in 0..symbols.len() {
