@@ -46,7 +46,7 @@ abbrev pub AsksIn : List Entry → List (List ℕ) → Question → Type 0
 AsksIn [] words q = ⊥
 AsksIn (entry ∷ entries) words q = ((q.entry ≡ entry) × FitOne entry.asked.now words q.place) ⊎ AsksIn entries words q
 
--- the same of several tables
+-- words ask for an entry of one of several tables, and tell this place
 abbrev pub AsksAmong : List (Bor (List Entry)) → List (List ℕ) → Question → Type 0
 AsksAmong [] words q = ⊥
 AsksAmong (table ∷ tables) words q = AsksIn table.now words q ⊎ AsksAmong tables words q

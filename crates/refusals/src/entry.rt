@@ -58,7 +58,7 @@ fn push_place<W: Sink>(output: &mut W, place: Option<Place>) -> Result<(), Faile
 }
 
 impl Entry {
-    /// The same where something else helps.
+    /// The entry, where something else helps.
     pub fn with_help(self, helps: Option<&'static str>) -> Entry {
         match helps {
             Some(helps) => Entry { helps, ..self },

@@ -87,7 +87,7 @@ fn fitted(pattern: &[&'static str], words: &[&str]) -> Option<Option<Place>>
     }
 }
 
-/// The same of the first of several patterns that words fit.
+/// The place that words tell, if they tell one, where they fit one of several patterns: the first.
 fn fitted_one(patterns: &[&'static [&'static str]], words: &[&str]) -> Option<Option<Place>>
     ensures { MatchOption result ((place : Option Place) → FitOne patterns.now (texts words.now) place → ⊥)
         (FitOne patterns.now (texts words.now)) }
@@ -118,7 +118,7 @@ fn question_in(entries: &[Entry], words: &[&str]) -> Option<Question>
     }
 }
 
-/// The same of several tables.
+/// The first entry of several tables that words ask for.
 fn question_among(tables: &[&[Entry]], words: &[&str]) -> Option<Question>
     ensures { MatchOption result ((q : Question) → AsksAmong tables.now (texts words.now) q → ⊥)
         (AsksAmong tables.now (texts words.now)) }
