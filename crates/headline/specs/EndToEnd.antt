@@ -1,9 +1,10 @@
 -- FROM END TO END. What a command shows of an accepted program is the headline's machine (headline/specs/Headline.antt), from
--- the bytes that it reads to the bytes that it writes: without arguments, and in `run`, `debug` and `live` without `--runs`,
--- wherever its answer is Ok, behind `--at` wherever it is `AsAsked`. Behind each name of a `use` line stands the file that
--- defines it. The bytes of a text or a file are all that it holds, at most 16,777,216: the program reads them first
--- (`read_all`, workbench/src/input.rt). That it hands on just these is only tested, as is that `run FILE` alone hands on the
--- text's two parts. At a terminal the commands of `debug` are the lines that `GuidedCommands` hands on, and what that answers
+-- the bytes that it reads to the bytes that it writes. The commands are the program without arguments, `run`, `debug`, and
+-- `live` without `--runs`. What is said holds wherever the command's answer is Ok, of `debug --at` wherever it is `AsAsked`;
+-- what it leaves where it is a refusal each function of src/shown.rt says (`outcome`). Behind each name of a `use` line stands
+-- the file that defines it. The bytes of a text or a file are all that it holds, at most 16,777,216: the program reads them
+-- first (`read_all`, workbench/src/input.rt). That it hands on just these is only tested, as is that `run FILE` without a
+-- schedule hands on what stands before the line `.run` and behind it. At a terminal the commands of `debug` are the lines that `GuidedCommands` hands on, and what that answers
 -- itself isn't among these bytes.
 --
 -- A schedule, commands or an output is the bytes that a port still gives or has got. Ports over memory tell them. Ports over files, pipes
@@ -37,7 +38,7 @@ use Rattle.workbench.specs.RunLine.{program_part, schedule_part}
 abbrev pub AcceptedText : List ℕ → Image → Type 0
 AcceptedText text image = StandsFor text image × Accepted image
 
--- the same of a file, which is such a text or the bytes of an image
+-- a file that is such a text, or the bytes of an image, spells it
 abbrev pub AcceptedFile : List ℕ → Image → Type 0
 AcceptedFile file image = IsProgramFile file image × Accepted image
 

@@ -2,8 +2,9 @@
 --   1. the machine that plays them is what the rows of the instruction table give, applied in that order: its registers, cells,
 --      phasers, barriers, exceptions and waiting threads, its counts of choices and of steps, and its limit (GivesTheRows);
 --   2. no phase ends while a registered party has neither arrived nor left, unless an unregistered party has ever arrived in
---      that tree of phasers; a forced termination ends no phase (EndsNoPhaseEarly). A phaser comes into the phase of another
---      number only where a phase of its tree ends (NumbersChangeAtEnds);
+--      that tree of phasers; a forced termination ends no phase (EndsNoPhaseEarly). Parties have no names, as in Java: who
+--      arrives at a phaser is unregistered where none of those registered with it is left to arrive. A phaser comes into the
+--      phase of another number only where a phase of its tree ends (NumbersChangeAtEnds);
 --   3. each step back restores the state before (BackRestores);
 --   4. each barrier has one past, of which each state of the run is the record, so that whoever waits there meets the end of
 --      its own generation (BarriersHavePasts).
@@ -12,7 +13,7 @@
 -- believes this page has to read those too. Beside it stands what lies below: a tree whose words lag, and the word that real
 -- threads share. That commands show this of what they read is said by EndToEnd.antt, beside this file.
 --
--- The program calls none of these functions. Its runs step by `Machine::step` and `Machine::idle`, its debugger by
+-- The program calls none of these four functions, but those of src/shown.rt. Its runs step by `Machine::step` and `Machine::idle`, its debugger by
 -- `Machine::step_into` and `Debugger::back`: their contracts say the same of each choice (thread_machine/src/machine.rt, debugger/src/session.rt).
 --
 -- Trusted are Rattle's checker and its two compilers, LLVM, the C library and the system below them.
@@ -43,7 +44,8 @@ use Rattle.headline.specs.Pasts.{RecordsOnePast}
 abbrev pub Accepted : Image → Type 0
 Accepted image = IsImage image × (first_fault image ≡ None)
 
--- the world before the first choice. From there 1,000,000,000 choices at most may do something (steps); one more is refused
+-- the world before the first choice. From there 1,000,000,000 choices at most may do something (steps); one more is refused,
+-- and so is any behind 1,000,000,000,000 choices
 abbrev pub start : Image → World
 start image = first_of image 1000000000
 
@@ -65,8 +67,8 @@ NumbersChangeAtEnds =
     → let now : World = (execution (start image) choices).world in
     refusal_of now choice ≡ None → NumbersStay now.scene.phasers (played now choice).world.scene.phasers
 
--- 3. These choices were played, none was refused, and their events are those of the rows; then as many steps were taken back,
--- and all is as before, to the stored word.
+-- 3. None of these choices is refused where they are played in this order, these are their events, and once as many steps are
+-- taken back all is as before, to the stored word.
 abbrev pub BackRestores : StoredWorld → List Choice → List Event → StoredWorld → Type 0
 BackRestores before choices events after =
     let done : Execution = execution (world_of before) choices in

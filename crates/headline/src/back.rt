@@ -1,5 +1,5 @@
 //! Choices that are played and taken back.
-ghost use Rattle.std.specs.Prelude.{◌≡◌, ◌≤◌, ◌∷◌, [], length, None, IfOk};
+ghost use Rattle.std.specs.Prelude.{◌≡◌, ◌≤◌, ◌∷◌, [], length, None, IfOk, OnErr};
 ghost use Rattle.thread_machine.specs.World.{world_of};
 ghost use Rattle.thread_machine.specs.Execution.{execution};
 ghost use Rattle.debugger.specs.Moves.{AreSteps, backs};
@@ -9,9 +9,10 @@ use debugger::Debugger;
 use std::alloc::Global;
 use thread_machine::{Choice, Event, Machine, StepFault};
 
-/// Plays a choice on a machine, and takes it back.
+/// Plays a choice on a machine, and takes it back. Where it is refused nothing has changed.
 pub fn step_and_back(machine: &mut Machine, choice: Choice) -> Result<Event, StepFault>
     ensures restores { IfOk result (λ event. BackRestores machine.old (choice ∷ []) (event ∷ []) machine.new) }
+    ensures refused { OnErr result (machine.new ≡ machine.old) }
 {
     let (event, undo) = machine.step_noting(choice)?;
     machine.back(undo);
@@ -48,8 +49,7 @@ fn backs(debugger: &mut Debugger, count: usize)
     }
 }
 
-/// Plays these choices in a session, no more than it keeps, and takes as many back. Where one is refused, it stays where that
-/// one has found it.
+/// Plays these choices in a session, at most as many as it can keep, and takes as many back.
 pub fn steps_and_backs(
     alloc: Global,
     debugger: &mut Debugger,

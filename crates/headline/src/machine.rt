@@ -38,8 +38,8 @@ fn play_all(machine: &mut Machine, choices: &[Choice]) -> Result<(), StartFault>
     Ok(())
 }
 
-/// Loads a program and plays these choices in order, up to the first that is refused: the machine that is left. An accepted
-/// program is refused for want of memory alone.
+/// Loads a program and plays these choices in order, up to the first that is refused: the machine that is left. Of an
+/// accepted program it answers that, or `Memory`.
 #[tactic(auto, using(crate::proofs::Scenes::world_left))]
 pub fn play(alloc: Global, image: Image, choices: &[Choice]) -> Result<Machine, StartFault>
     ensures accepted { OnOk result (first_fault image ≡ None) }

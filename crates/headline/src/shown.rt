@@ -118,7 +118,7 @@ pub fn live<R: Threads + Wait + Sync, G: Gate + Sync, K: Sink>(
     workbench::live::live(threads, alloc, limit, gate, program, output)
 }
 
-/// A text whose program the loader refuses is never shown, as an empty thread's that runs past its last row.
+/// A text whose program the loader refuses is never shown: one of a thread without a row, say.
 pub fn what_is_refused_is_never_shown()
     ensures { (text : List ℕ) (image : Image) (why : LoadFault) (before after : Option (List ℕ))
         → StandsFor (program_part text) image → first_fault image ≡ Some why
