@@ -66,10 +66,16 @@ fn status<R: Threads + Wait + Sync>(
         Command::Run => run_cmd(alloc, file, other, output, errors),
         Command::Compare => compare_cmd(alloc, file, other, output, errors),
         Command::Debug => debug_cmd(alloc, file, other, output, errors),
-        Command::Show => settled_as_asked(make(alloc, &Page, file, other, output).map(|_| ()), errors),
+        Command::Show => settled_as_asked(
+            make(alloc, &Page, file, other, output).map(|_| ()),
+            errors,
+        ),
         Command::Draw => {
             let drawing = Drawing { width: 80 };
-            settled_as_asked(make(alloc, &drawing, file, other, output).map(|_| ()), errors)
+            settled_as_asked(
+                make(alloc, &drawing, file, other, output).map(|_| ()),
+                errors,
+            )
         }
         Command::Live => live_cmd(rt, alloc, 1000, file, output, errors),
     }
