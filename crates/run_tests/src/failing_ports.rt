@@ -100,10 +100,10 @@ const TRACE: &[u8] =
     b"1 t0 0 = 5\n2 t0 1 end\nstate 2 2 all\nt0 1 ended 0 regs 5 0 0 0 0 0 0 0 stack out\n";
 
 /// A read gives a whole input, and the next its end; of the debugger's lines a read gives one byte. An image is a call for
-/// its head, for each object of it and for its few rows, a trace one for each line of a choice and one for the state, a reply
-/// one, and all else is one.
+/// its head, for each object of it and for each of its rows, a trace one for each line of a choice and one for the state, a
+/// reply one, and all else is one.
 static CASES: [Case; 10] = [
-    (Command::Asm, MEETING, b"", [2, 0, 5], false),
+    (Command::Asm, MEETING, b"", [2, 0, 7], false),
     (Command::List, MEETING, b"", [2, 0, 1], false),
     (Command::Rows, MEETING, b"", [2, 0, 1], false),
     (Command::Both, BOTH, b"", [2, 0, 3], false),
