@@ -1,5 +1,5 @@
 -- The sets that are kept of a scene: threads that aren't there, and what a step leaves of the sets.
-use Rattle.std.proofs.Common.{◌≡◌, ◌≢◌, ◌∙◌, ℕ, arith, ◌+◌, ◌<◌, ◌≤◌, ◌==◌, ◌&&◌, not, Bool, true, false, inl, inr, ap, refl, sym, if◌then◌else◌}
+use Rattle.std.proofs.Common.{◌≡◌, ◌≢◌, ◌∙◌, ℕ, arith, ◌+◌, ◌<◌, ◌≤◌, ◌==◌, ◌&&◌, not, Bool, true, false, inl, inr, ap, refl, sym, subst, if◌then◌else◌}
 use Rattle.std.specs.Prelude.{length, is_some, nat_lt}
 use Rattle.std.proofs.Math.ListN.{get_or-eq_default}
 use Rattle.std.proofs.lemmas.Bool.{cases_eq, cases_lt}
@@ -141,31 +141,46 @@ all_beside test t set others own u = elim (cases_eq u t) as (λ _. has set u ≡
   | inr apart ↦ others u apart
 ]
 
--- nothing changes for a thread that runs on
+free : (blocked : Bool) → not blocked ≡ true → blocked ≡ false
+free true is = absurd (cc is)
+free false is = refl
+
+-- one that runs on is ready, and isn't about to register
+on_listed : (of : Status) (row : Row) (t : ℕ) (scene : Scene) → runs_on of row ≡ true → is_listed of row t scene ≡ true
+on_listed status.Runs row t scene is = ap not (seldom_blocked row t scene (free (may_be_blocked row) is))
+on_listed _ row t scene is = absurd (cc is)
+
+on_apart : (of : Status) (row : Row) → runs_on of row ≡ true → is_registering_in of row ≡ false
+on_apart status.Runs row is = seldom_registers status.Runs row (free (may_be_blocked row) is)
+on_apart _ row is = absurd (cc is)
+
+-- thread t runs on
+abbrev pub RunsOn : ℕ → Program → Scene → Type 0
+RunsOn t program scene = runs_on (thread_at scene t).status (row_at program.rows (thread_at scene t).pc) ≡ true
+
+on_ready : (program : Program) (t : ℕ) (scene : Scene) → RunsOn t program scene → is_ready t program scene ≡ true
+on_ready program t scene runs =
+    ready_as_listed t program scene ∙ on_listed (thread_at scene t).status (row_at program.rows (thread_at scene t).pc) t scene runs
+
+on_unregistered : (program : Program) (t : ℕ) (scene : Scene) → RunsOn t program scene → is_registering t program scene ≡ false
+on_unregistered program t scene runs = on_apart (thread_at scene t).status (row_at program.rows (thread_at scene t).pc) runs
+
+-- nothing changes for it
 pub runs_on_ready : (program : Program) (t : ℕ) (set : ReadySet) (scene : Scene) → AreReadyBeside program t set scene → has set.turns t ≡ true
-    → has set.registering t ≡ false → runs_on (thread_at scene t).status (row_at program.rows (thread_at scene t).pc) ≡ true
-    → AreReady program set scene
-runs_on_ready program t set scene others turn apart runs =
-    let thread = thread_at scene t in
-    let row = row_at program.rows thread.pc in
-    record {
-      turns = all_beside (λ u. is_ready u program scene) t set.turns others.turns
-          (turn ∙ sym (ready_as_listed t program scene ∙ listed thread.status row runs));
-      registering = all_beside (λ u. is_registering u program scene) t set.registering others.registering
-          (apart ∙ sym (unregistering thread.status row runs));
-    }
-  where
-    free : (blocked : Bool) → not blocked ≡ true → blocked ≡ false
-    free true is = absurd (cc is)
-    free false is = refl
+    → has set.registering t ≡ false → RunsOn t program scene → AreReady program set scene
+runs_on_ready program t set scene others turn apart runs = record {
+  turns = all_beside (λ u. is_ready u program scene) t set.turns others.turns (turn ∙ sym (on_ready program t scene runs));
+  registering = all_beside (λ u. is_registering u program scene) t set.registering others.registering
+      (apart ∙ sym (on_unregistered program t scene runs));
+}
 
-    listed : (of : Status) (row : Row) → runs_on of row ≡ true → is_listed of row t scene ≡ true
-    listed status.Runs row is = ap not (seldom_blocked row t scene (free (may_be_blocked row) is))
-    listed _ row is = absurd (cc is)
-
-    unregistering : (of : Status) (row : Row) → runs_on of row ≡ true → is_registering_in of row ≡ false
-    unregistering status.Runs row is = seldom_registers status.Runs row (free (may_be_blocked row) is)
-    unregistering _ row is = absurd (cc is)
+-- it needs no closer look
+pub looked_on : (program : Program) (t : ℕ) (before set : ReadySet) (scene : Scene) → RunsOn t program scene
+    → IsSetAt t true before.turns set.turns → IsSetAt t false before.registering set.registering → IsLooked program t before set scene
+looked_on program t before set scene runs turns registering =
+    looked program t before set scene
+    (subst (λ (x : Bool). IsSetAt t x before.turns set.turns) (sym (on_ready program t scene runs)) turns)
+    (subst (λ (x : Bool). IsSetAt t x before.registering set.registering) (sym (on_unregistered program t scene runs)) registering)
 
 -- one that begins to wait is left out
 pub waits_ready : (program : Program) (t : ℕ) (before set : ReadySet) (scene : Scene) → AreReadyBeside program t before scene

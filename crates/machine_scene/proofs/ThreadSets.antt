@@ -33,16 +33,6 @@ set_without a k fits within t = has-without a k fits within t ∙ without_by (k 
 
 pub ruleset set_at = (set_with, set_without)
 
--- a thread that isn't in the set is left out
-pub left_without : (a k : ℕ) → has a k ≡ false → (t : ℕ) → has a t ≡ (if k == t then false else has a t)
-left_without a k none t = elim (cases_eq t k) as (λ _. has a t ≡ (if k == t then false else has a t)) [
-  | inl same ↦ ap (has a) same ∙ none
-      ∙ sym (ap (λ (x : Bool). if x then false else has a t) (ap (λ (n : ℕ). k == n) same ∙ same-is k))
-  | inr apart ↦ sym (ap (λ (x : Bool). if x then false else has a t) (other-is k t (λ same. apart (sym same))))
-]
-
-pub ruleset added_to = (set_with, left_without)
-
 -- one thread was put to the test anew
 abbrev pub IsTestedAt : (ℕ → Bool) → ℕ → ℕ → ℕ → Type 0
 IsTestedAt test t before set = (u : ℕ) → has set u ≡ (if t == u then test u else has before u)

@@ -159,6 +159,15 @@ impl Machine {
                 return Ok(event);
             }
         }
+        self.seldom(choice)
+    }
+
+    /// `seldom_step`, with the room for what comes of it: a common turn pays nothing for that.
+    #[inline(always)]
+    fn seldom(&mut self, choice: Choice) -> Result<Event, StepFault>
+        requires { choice.thread < length self.old.scene.threads }
+        ensures { HasPlayed self.old choice result self.new }
+    {
         let mut told = Ok(IDLE);
         self.seldom_step(choice, &mut told);
         told

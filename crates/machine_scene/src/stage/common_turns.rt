@@ -61,8 +61,10 @@ impl Stage {
         if self.is_local_turn(row, t) {
             return Some(self.local_row(row, t));
         }
+        if matches!(self.threads[t].status(), Status::Runs) {
+            return self.common_arrival(program, row, t);
+        }
         match self.threads[t].status() {
-            Status::Runs => self.common_arrival(program, row, t),
             Status::AwaitsPhase(phase) => Some(self.finish_phase_wait(row, phase, t)),
             _ => None,
         }

@@ -51,17 +51,6 @@ fn set_at(set: u64, thread: usize, within: bool) -> u64
     }
 }
 
-/// The set with this thread, which isn't in it yet, where it is to be.
-#[inline(always)]
-#[tactic(auto, using(crate::proofs::ThreadSets::added_to))]
-fn added(set: u64, thread: usize, within: bool) -> u64
-    requires thread { thread < 64 }
-    requires without { has set thread ≡ false }
-    ensures { IsSetAt thread within set result }
-{
-    if within { set | (1 << thread) } else { set }
-}
-
 /// Whether the row is a registration.
 #[inline(always)]
 fn is_registration(row: Row) -> bool
@@ -162,9 +151,9 @@ impl Stage {
         }
     }
 
-    /// The sets with a thread looked at anew.
+    /// The sets with a thread looked at anew, by all that it may wait for.
     #[inline(always)]
-    fn looked(&self, program: &Loaded, before: ReadySet, t: usize) -> ReadySet
+    fn looked_closely(&self, program: &Loaded, before: ReadySet, t: usize) -> ReadySet
         requires sound { IsSound program.now most_after (scene_of self.now) }
         requires thread { t < length self.now.threads }
         ensures { IsLooked program.now t before result (scene_of self.now) }
@@ -175,18 +164,21 @@ impl Stage {
         }
     }
 
-    /// The sets with a thread looked at that is in neither.
+    /// The sets with a thread looked at anew. Most run on.
     #[inline(always)]
-    fn first_looked(&self, program: &Loaded, before: ReadySet, t: usize) -> ReadySet
+    #[tactic(auto, using(crate::proofs::ReadySets::looked_on))]
+    fn looked(&self, program: &Loaded, before: ReadySet, t: usize) -> ReadySet
         requires sound { IsSound program.now most_after (scene_of self.now) }
         requires thread { t < length self.now.threads }
-        requires turns { has before.turns t ≡ false }
-        requires registering { has before.registering t ≡ false }
         ensures { IsLooked program.now t before result (scene_of self.now) }
     {
-        ReadySet {
-            turns: added(before.turns, t, self.goes_on(program, t)),
-            registering: added(before.registering, t, self.is_registering(program, t)),
+        if self.runs_on(program, t) {
+            ReadySet {
+                turns: set_at(before.turns, t, true),
+                registering: set_at(before.registering, t, false),
+            }
+        } else {
+            self.looked_closely(program, before, t)
         }
     }
 
@@ -198,7 +190,7 @@ impl Stage {
         ensures stored { self.new ≡ record self.old { ready = self.new.ready } }
         ensures looked { IsLooked program.now t self.old.ready self.new.ready (scene_of self.old) }
     {
-        self.ready = self.looked(program, self.ready, t);
+        self.ready = self.looked_closely(program, self.ready, t);
     }
 
     /// Whether a thread runs, and its row is none that it may have to wait at.
@@ -242,7 +234,7 @@ impl Stage {
     }
 
     /// A thread's turn isn't ready any more.
-    #[inline(never)]
+    #[inline(always)]
     fn leave_out(&mut self, t: usize)
         requires { t < length self.old.threads }
         ensures stored { self.new ≡ record self.old { ready = self.new.ready } }
@@ -279,7 +271,7 @@ impl Stage {
             registering: 0,
         };
         for u in 0..self.threads.len() {
-            set = self.first_looked(program, set, u);
+            set = self.looked(program, set, u);
         }
         set
     }
