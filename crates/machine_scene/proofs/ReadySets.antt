@@ -1,6 +1,6 @@
 -- The sets that are kept of a scene: threads that aren't there, and what a step leaves of the sets.
 use Rattle.std.proofs.Common.{◌≡◌, ◌≢◌, ◌∙◌, ℕ, arith, ◌+◌, ◌<◌, ◌≤◌, ◌==◌, ◌&&◌, not, Bool, true, false, inl, inr, ap, refl, sym, subst, if◌then◌else◌}
-use Rattle.std.specs.Prelude.{length, is_some, nat_lt}
+use Rattle.std.specs.Prelude.{length, is_some}
 use Rattle.std.proofs.Math.ListN.{get_or-eq_default}
 use Rattle.std.proofs.lemmas.Bool.{cases_eq, cases_lt}
 use Rattle.instruction_table.specs.declared.row.Row.{Row}
@@ -17,7 +17,7 @@ use Rattle.machine_scene.specs.Ready.{is_listed, may_be_blocked}
 use Rattle.machine_scene.specs.ReadySet.{is_registering_in, is_registering, AreReady, IsSetAt, AreLooked, IsLooked, AreOthersReady, AreReadyBeside, interrupts, changes_tree, runs_on}
 use Rattle.machine_scene.proofs.Readiness.{seldom_blocked}
 use Rattle.machine_scene.proofs.ReadyThreads.{ready_as_listed}
-use Rattle.machine_scene.proofs.ThreadSets.{tested_at, all_right, apart_from, nobody, IsFilledTo, filled_none, filled_more, filled_all, not_below}
+use Rattle.machine_scene.proofs.ThreadSets.{tested_at, all_right, apart_from, nobody, IsFilledTo, filled_none, filled_more, filled_all}
 use Rattle.tier_tree.proofs.Stands.{same-is, other-is}
 use Rattle.cyclic_barrier.proofs.WaitsLemmas.{has-none}
 
@@ -75,48 +75,22 @@ all_ready program k set scene all whole = record {
       (λ u beyond. none_registering u program scene (omega (arith, whole, beyond)));
 }
 
--- those that are about to register were looked at
-by_place : (below registering now was right : Bool) → now ≡ (if below && registering then right else was)
-    → (below ≡ false → registering ≡ false) → (registering ≡ false → was ≡ right) → now ≡ right
-by_place true true now was right is there same = is
-by_place true false now was right is there same = is ∙ same refl
-by_place false true now was right is there same = absurd (let none = there refl in cc none)
-by_place false false now was right is there same = is ∙ same refl
-
-not_both : (tree registering : Bool) → registering ≡ false → (tree && registering) ≡ false
-not_both true registering none = none
-not_both false registering none = refl
-
-pub after_looks : (program : Program) (t u : ℕ) (row : Row) (before : ReadySet) (turns : ℕ) (scene : Scene)
-    → has turns u ≡ (if nat_lt u (length scene.threads) && has before.registering u then is_ready u program scene else has before.turns u)
-    → AreOthersReady program t row before scene → u ≢ t → interrupts u row ≡ false → has turns u ≡ is_ready u program scene
-after_looks program t u row before turns scene is others apart free =
-    by_place (nat_lt u (length scene.threads)) (has before.registering u) (has turns u) (has before.turns u) (is_ready u program scene) is
-    (λ beyond. others.registering u apart free ∙ none_registering u program scene (not_below u (length scene.threads) beyond))
-    (λ none. others.turns u apart free (not_both (changes_tree row) (has before.registering u) none))
-
 -- no look is needed
 if_nobody : (tree : Bool) (registering u : ℕ) → (tree ≡ true → registering ≡ 0) → (tree && has registering u) ≡ false
 if_nobody false registering u none = refl
 if_nobody true registering u none = ap (λ (set : ℕ). has set u) (none refl) ∙ has-none u
 
-pub without_looks : (program : Program) (t u : ℕ) (row : Row) (before : ReadySet) (scene : Scene) → (changes_tree row ≡ true → before.registering ≡ 0)
-    → AreOthersReady program t row before scene → u ≢ t → interrupts u row ≡ false → has before.turns u ≡ is_ready u program scene
-without_looks program t u row before scene none others apart free =
-    others.turns u apart free (if_nobody (changes_tree row) before.registering u none)
-
 -- all are right after looks at the thread that is interrupted, and at the one that took the step
-pub few_ready : (program : Program) (t : ℕ) (row : Row) (before others rest set : ReadySet) (scene : Scene)
-    → ((u : ℕ) → u ≢ t → interrupts u row ≡ false → has others.turns u ≡ is_ready u program scene) → others.registering ≡ before.registering
-    → AreOthersReady program t row before scene → AreLooked program (λ u. interrupts u row) others rest scene → IsLooked program t rest set scene
-    → AreReady program set scene
-few_ready program t row before others rest set scene turns same was interrupted is = record {
+pub few_ready : (program : Program) (t : ℕ) (row : Row) (before rest set : ReadySet) (scene : Scene)
+    → (changes_tree row ≡ true → before.registering ≡ 0) → AreOthersReady program t row before scene
+    → AreLooked program (λ u. interrupts u row) before rest scene → IsLooked program t rest set scene → AreReady program set scene
+few_ready program t row before rest set scene none was interrupted is = record {
   turns = λ u. all_right (t == u) (has set.turns u) (has rest.turns u) (is_ready u program scene) (is.turns u)
-      (λ other. all_right (interrupts u row) (has rest.turns u) (has others.turns u) (is_ready u program scene) (interrupted.turns u)
-      (turns u (apart_from t u other)));
+      (λ other. all_right (interrupts u row) (has rest.turns u) (has before.turns u) (is_ready u program scene) (interrupted.turns u)
+      (λ free. was.turns u (apart_from t u other) free (if_nobody (changes_tree row) before.registering u none)));
   registering = λ u. all_right (t == u) (has set.registering u) (has rest.registering u) (is_registering u program scene) (is.registering u)
-      (λ other. all_right (interrupts u row) (has rest.registering u) (has others.registering u) (is_registering u program scene) (interrupted.registering u)
-      (λ free. ap (λ (registering : ℕ). has registering u) same ∙ was.registering u (apart_from t u other) free));
+      (λ other. all_right (interrupts u row) (has rest.registering u) (has before.registering u) (is_registering u program scene) (interrupted.registering u)
+      (λ free. was.registering u (apart_from t u other) free));
 }
 
 -- at a row at which nobody has to wait nobody is about to register

@@ -5,10 +5,8 @@ use Rattle.machine_scene.specs.ReadySet.{IsSetAt}
 use Rattle.cyclic_barrier.proofs.ThreadSetLemmas.{has-with, has-without}
 use Rattle.cyclic_barrier.proofs.WaitsLemmas.{has-none}
 use Rattle.tier_tree.proofs.Stands.{same-is, other-is}
-use Rattle.std.specs.Prelude.{nat_lt}
 use Rattle.std.specs.Int.{trailing_zeros}
 use Rattle.std.proofs.lemmas.Bool.{cases_eq, cases_lt}
-use Rattle.std.proofs.lemmas.Bool.Decides.{nat_tests}
 use Rattle.std.proofs.lemmas.Nat.Bits.{bit_at-trailing_zeros}
 
 with_by : (here was : Bool) → (was || here) ≡ (if here then true else was)
@@ -90,68 +88,6 @@ pub filled_all : (test : ℕ → Bool) (n set : ℕ) → IsFilledTo test n set �
 filled_all test n set filled none u = elim (cases_lt u n) as (λ _. has set u ≡ test u) [
   | inl within ↦ filled.below u within
   | inr beyond ↦ filled.above u beyond ∙ sym (none u beyond)
-]
-
--- of the first threads those in a set were put to the test anew
-abbrev pub IsRefilledTo : (ℕ → Bool) → ℕ → ℕ → ℕ → ℕ → Type 0
-IsRefilledTo test these before k set = (u : ℕ) → has set u ≡ (if nat_lt u k && has these u then test u else has before u)
-
-passed_by : (below this new old : Bool) → below ≡ false → (if below && this then new else old) ≡ old
-passed_by false this new old is = refl
-passed_by true this new old is = absurd (cc is)
-
-left_out : (below this new old : Bool) → this ≡ false → (if below && this then new else old) ≡ old
-left_out false this new old is = refl
-left_out true false new old is = refl
-left_out true true new old is = absurd (cc is)
-
-put_to : (below this new old : Bool) → below ≡ true → this ≡ true → (if below && this then new else old) ≡ new
-put_to true true new old first second = refl
-put_to true false new old first second = absurd (cc second)
-put_to false this new old first second = absurd (cc first)
-
-below_none : (u : ℕ) → nat_lt u 0 ≡ false
-below_none u = grind (arith, nat_tests)
-
-pub refilled_none : (test : ℕ → Bool) (these before : ℕ) → IsRefilledTo test these before 0 before
-refilled_none test these before u = sym (passed_by (nat_lt u 0) (has these u) (test u) (has before u) (below_none u))
-
-not_yet : (u k : ℕ) → u ≡ k → nat_lt u k ≡ false
-not_yet u k same = grind (arith, nat_tests, same)
-
-now_below : (u k : ℕ) → u ≡ k → nat_lt u (k + 1) ≡ true
-now_below u k same = grind (arith, nat_tests, same)
-
-as_before : (u k : ℕ) → u ≢ k → nat_lt u k ≡ nat_lt u (k + 1)
-as_before u k apart = grind (arith, nat_tests, apart)
-
-refilled_else : (test : ℕ → Bool) (these before k set : ℕ) → IsRefilledTo test these before k set → (u : ℕ) → u ≢ k
-    → has set u ≡ (if nat_lt u (k + 1) && has these u then test u else has before u)
-refilled_else test these before k set filled u apart =
-    filled u ∙ ap (λ (x : Bool). if x && has these u then test u else has before u) (as_before u k apart)
-
-pub refilled_same : (test : ℕ → Bool) (these before k set : ℕ) → IsRefilledTo test these before k set → has these k ≡ false
-    → IsRefilledTo test these before (k + 1) set
-refilled_same test these before k set filled none u =
-    elim (cases_eq u k) as (λ _. has set u ≡ (if nat_lt u (k + 1) && has these u then test u else has before u)) [
-      | inl same ↦ filled u ∙ passed_by (nat_lt u k) (has these u) (test u) (has before u) (not_yet u k same)
-          ∙ sym (left_out (nat_lt u (k + 1)) (has these u) (test u) (has before u) (ap (has these) same ∙ none))
-      | inr apart ↦ refilled_else test these before k set filled u apart
-    ]
-
-pub refilled_more : (test : ℕ → Bool) (these before k set after : ℕ) → IsRefilledTo test these before k set → has these k ≡ true
-    → IsTestedAt test k set after → IsRefilledTo test these before (k + 1) after
-refilled_more test these before k set after filled some is u =
-    elim (cases_eq u k) as (λ _. has after u ≡ (if nat_lt u (k + 1) && has these u then test u else has before u)) [
-      | inl same ↦ ap (has after) same ∙ here test k set after is ∙ ap test (sym same)
-          ∙ sym (put_to (nat_lt u (k + 1)) (has these u) (test u) (has before u) (now_below u k same) (ap (has these) same ∙ some))
-      | inr apart ↦ elsewhere test k set after is u apart ∙ refilled_else test these before k set filled u apart
-    ]
-
-pub not_below : (u n : ℕ) → nat_lt u n ≡ false → n ≤ u
-not_below u n is = elim (cases_lt u n) as (λ _. n ≤ u) [
-  | inl within ↦ absurd (let below : nat_lt u n ≡ true = grind (arith, nat_tests, within) in cc (below, is))
-  | inr beyond ↦ beyond
 ]
 
 -- the lowest bit of a set that isn't empty is a member

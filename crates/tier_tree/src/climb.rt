@@ -155,6 +155,25 @@ fn ascend<const LEAVE: bool>(nodes: &mut [Node], i: usize) -> Arrived
     }
 }
 
+/// `ascend`, with the room for what comes of it: an arrival that ends at its phaser pays nothing for that.
+#[inline(always)]
+fn arrive_above(nodes: &mut [Node], i: usize, leave: bool) -> Arrived
+    requires stored { IsStored nodes.old }
+    requires there { i < length nodes.old }
+    requires live { (flat_at (phasers_of nodes.old) i).ended ≡ false }
+    ensures arrival { record { phasers = phasers_of nodes.new; answer = result }
+        ≡ arrival i leave (phasers_of nodes.old) }
+    ensures stored { IsStored nodes.new }
+    ensures only { ChangedAt i nodes.old nodes.new }
+    ensures refused { DoesntArrive result → nodes.new ≡ nodes.old }
+{
+    if leave {
+        ascend::<true>(nodes, i)
+    } else {
+        ascend::<false>(nodes, i)
+    }
+}
+
 /// An arrival at one phaser, with what it makes of those above. One that ends at the phaser is told without a call.
 #[inline(always)]
 pub fn arrive(nodes: &mut [Node], i: usize, leave: bool) -> Arrived
@@ -174,11 +193,7 @@ pub fn arrive(nodes: &mut [Node], i: usize, leave: bool) -> Arrived
         packed_phaser::Arrived::Turned(word) => {
             let root = root_of(nodes, i);
             if root as usize != i {
-                return if leave {
-                    ascend::<true>(nodes, i)
-                } else {
-                    ascend::<false>(nodes, i)
-                };
+                return arrive_above(nodes, i, leave);
             }
             set_word(nodes, i, word);
             Arrived::Turning {

@@ -1,4 +1,4 @@
-ghost use Rattle.std.specs.Prelude.{◌≡◌, ◌≢◌, ℕ, ◌<◌, ◌&&◌, nat_lt, length, true, false, None, IfSome, if◌then◌else◌};
+ghost use Rattle.std.specs.Prelude.{◌≡◌, ◌≢◌, ℕ, ◌<◌, length, true, false, None, IfSome};
 ghost use Rattle.instruction_table.specs.LocalRows.{is_local_row};
 ghost use Rattle.cyclic_barrier.specs.ThreadSet.{has};
 ghost use Rattle.loader.specs.Program.{IsNamed, row_at};
@@ -234,7 +234,7 @@ impl Stage {
     }
 
     /// A thread's turn isn't ready any more.
-    #[inline(always)]
+    #[inline(never)]
     fn leave_out(&mut self, t: usize)
         requires { t < length self.old.threads }
         ensures stored { self.new ≡ record self.old { ready = self.new.ready } }
@@ -276,36 +276,6 @@ impl Stage {
         set
     }
 
-    /// The set of ready turns, with all threads looked at anew that are about to register.
-    #[inline(never)]
-    fn registering_looked(&self, program: &Loaded, before: ReadySet) -> u64
-        requires sound { IsSound program.now most_after (scene_of self.now) }
-        ensures { (u : ℕ) → has result u ≡ (if nat_lt u (length self.now.threads) && has before.registering u
-            then is_ready u program.now (scene_of self.now) else has before.turns u) }
-    {
-        let mut turns = before.turns;
-        for u in 0..self.threads.len() {
-            if is_in(before.registering, u) {
-                turns = set_at(turns, u, self.goes_on(program, u));
-            }
-        }
-        turns
-    }
-
-    /// The set of ready turns after a step at this row, but for its own thread and one that it interrupts.
-    #[inline(always)]
-    fn others_looked(&self, program: &Loaded, before: ReadySet, row: Row) -> u64
-        requires sound { IsSound program.now most_after (scene_of self.now) }
-        ensures { (t u : ℕ) → AreOthersReady program.now t row before (scene_of self.now) → u ≢ t
-            → interrupts u row ≡ false → has result u ≡ is_ready u program.now (scene_of self.now) }
-    {
-        if changes_tree(row) && before.registering != 0 {
-            self.registering_looked(program, before)
-        } else {
-            before.turns
-        }
-    }
-
     /// The sets with the thread looked at anew that the row interrupts.
     #[inline(always)]
     fn interrupted_looked(&self, program: &Loaded, before: ReadySet, row: Row) -> ReadySet
@@ -325,14 +295,11 @@ impl Stage {
         requires sound { IsSound program.now most_after (scene_of self.now) }
         requires thread { t < length self.now.threads }
         requires named { IsNamed (counts_in self.now) row }
+        requires free { changes_tree row ≡ true → before.registering ≡ 0 }
         requires others { AreOthersReady program.now t row before (scene_of self.now) }
         ensures { AreReady program.now result (scene_of self.now) }
     {
-        let others = ReadySet {
-            turns: self.others_looked(program, before, row),
-            registering: before.registering,
-        };
-        let rest = self.interrupted_looked(program, others, row);
+        let rest = self.interrupted_looked(program, before, row);
         self.looked(program, rest, t)
     }
 
@@ -353,7 +320,7 @@ impl Stage {
             → AreOthersReady program.now t row before (scene_of self.now) }
         ensures { AreReady program.now result (scene_of self.now) }
     {
-        if changes_all(row, event) {
+        if changes_all(row, event) || changes_tree(row) && before.registering != 0 {
             self.all_looked(program)
         } else {
             self.few_looked(program, before, row, t)

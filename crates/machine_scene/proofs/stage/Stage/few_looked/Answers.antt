@@ -1,10 +1,8 @@
-use Rattle.std.proofs.Common.{refl}
 use Rattle.machine_scene.specs.Scene.{scene_of}
 use Rattle.machine_scene.proofs.ReadySets.{few_ready}
 use Rattle.machine_scene.proofs.stage.Stage.few_looked.Goals as goal
 
 pub returns : goal.returns
 returns c =
-    few_ready c.args.program.now c.args.t c.args.row c.args.before _ c.interrupted_looked-rest.result c.looked.result
-    (scene_of c.args.self.now) (λ u apart free. c.others_looked.ensures c.args.t u c.requires.others apart free) refl
-    c.requires.others c.interrupted_looked-rest.ensures c.looked.ensures
+    few_ready c.args.program.now c.args.t c.args.row c.args.before c.interrupted_looked-rest.result c.looked.result
+    (scene_of c.args.self.now) c.requires.free c.requires.others c.interrupted_looked-rest.ensures c.looked.ensures
