@@ -148,24 +148,36 @@ impl Machine {
         if t >= self.stage.thread_count() {
             return Err(StepFault::NoSuchThread);
         }
-        if !choice.expiry
-            && self.choices != MOST_CHOICES
-            && self.steps != self.limit
-            && self.stage.is_ready(&self.program, t)
-        {
-            if let Some(event) = self.stage.common_turn(&self.program, t) {
+        if self.choices == MOST_CHOICES {
+            return Err(StepFault::StepLimit);
+        }
+        if choice.expiry {
+            return self.seldom(choice);
+        }
+        if !self.stage.is_ready(&self.program, t) {
+            self.stay(choice);
+            return Ok(IDLE);
+        }
+        if self.steps == self.limit {
+            return Err(StepFault::StepLimit);
+        }
+        match self.stage.common_turn(&self.program, t) {
+            Some(event) => {
                 self.choices += 1;
                 self.steps += 1;
-                return Ok(event);
+                Ok(event)
             }
+            None => self.seldom(choice),
         }
-        self.seldom(choice)
     }
 
     /// `seldom_step`, with the room for what comes of it: a common turn pays nothing for that.
     #[inline(always)]
     fn seldom(&mut self, choice: Choice) -> Result<Event, StepFault>
-        requires { choice.thread < length self.old.scene.threads }
+        requires there { choice.thread < length self.old.scene.threads }
+        requires choices { self.old.choices < 1000000000000 }
+        requires turn { choice.expiry ≡ false → (self.old.steps < self.old.limit)
+            × (is_ready choice.thread self.old.program (scene_of self.old.scene) ≡ true) }
         ensures { HasPlayed self.old choice result self.new }
     {
         let mut told = Ok(IDLE);
@@ -173,23 +185,25 @@ impl Machine {
         told
     }
 
-    /// A choice of a thread that is there. What comes of it is written where its caller wants it, in place of an idle choice.
+    /// A turn that isn't a common one, or an expiry. What comes of it is written where its caller wants it, in place of an idle
+    /// choice.
     #[inline(never)]
     fn seldom_step(&mut self, choice: Choice, told: &mut Result<Event, StepFault>)
         requires there { choice.thread < length self.old.scene.threads }
+        requires choices { self.old.choices < 1000000000000 }
+        requires turn { choice.expiry ≡ false → (self.old.steps < self.old.limit)
+            × (is_ready choice.thread self.old.program (scene_of self.old.scene) ≡ true) }
         requires told { told.old ≡ Ok idle_event }
         ensures { HasPlayed self.old choice told.new self.new }
     {
-        if self.choices == MOST_CHOICES {
-            *told = Err(StepFault::StepLimit);
-        } else if !self.is_choice_ready(choice) {
+        if !choice.expiry {
+            self.turn(choice, told);
+        } else if !self.can_expire(choice.thread) {
             self.stay(choice);
         } else if self.steps == self.limit {
             *told = Err(StepFault::StepLimit);
-        } else if choice.expiry {
-            self.expire(choice, told);
         } else {
-            self.turn(choice, told);
+            self.expire(choice, told);
         }
     }
 

@@ -8,5 +8,5 @@ invariant_of-self c =
     let most = c.self.invariant.steps in
     let many = c.self.invariant.choices in
     one_step_more inside.program inside.limit inside.choices inside.steps inside.stage c.common_turn.new.self c.self.invariant
-    (omega (arith, most, c.if-self.true)) (omega (arith, many, c.if-self-ne-MOST_CHOICES.true)) (λ few. c.in-Some.ensures.ok.sound inside.steps (omega (arith, few)))
+    (omega (arith, most, c.if-self.false)) (omega (arith, many, c.if-self-eq-MOST_CHOICES.false)) (λ few. c.in-Some.ensures.ok.sound inside.steps (omega (arith, few)))
     c.in-Some.ensures.known
