@@ -1,4 +1,4 @@
-ghost use Rattle.std.specs.Prelude.{◌≡◌, ◌≢◌, ℕ, ◌<◌, length, true, false, None, IfSome};
+ghost use Rattle.std.specs.Prelude.{◌≡◌, ℕ, ◌<◌, length, true, false, None, IfSome};
 ghost use Rattle.instruction_table.specs.LocalRows.{is_local_row};
 ghost use Rattle.cyclic_barrier.specs.ThreadSet.{has};
 ghost use Rattle.loader.specs.Program.{IsNamed, row_at};
