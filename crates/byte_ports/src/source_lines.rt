@@ -1,6 +1,6 @@
 ghost use Rattle.std.specs.Prelude.{◌≡◌, ◌≢◌, ◌≤◌, ◌<◌, ◌+◌, ◌-◌, ◌++◌, ◌⊎◌, [], ℕ, List, length, take, drop, get_or, Ok, IsTrue, IfOk, OnErr, OnOk};
 ghost use Rattle.std.specs.Io.KnownBytes.{Consumes, IsAtEnd, Keeps, prepend_known};
-ghost use Rattle.byte_ports.specs.SourceLines.{Gave, HasCome, IsOneLine, taken};
+ghost use Rattle.byte_ports.specs.SourceLines.{EndsInAPiece, Gave, HasCome, IsOneLine, taken};
 
 use crate::failed::Failed;
 use crate::source::Source;
@@ -211,6 +211,8 @@ impl SourceLines {
             (prepend_known self.new.held (S.left source.new)) (taken result self.new.line) }
         ensures came { IfOk result (λ how. HasCome how self.new.line (prepend_known self.new.held (S.left source.new))) }
         ensures one { OnOk result (IsOneLine self.new.line) }
+        ensures far { OnOk result ((S.left source.new ≡ S.left source.old)
+            ⊎ EndsInAPiece (taken result self.new.line ++ self.new.held)) }
         ensures given { IfOk result (λ how. how ≢ LineEnded.AtEnd
             → Gave self.old self.new (length (taken result self.new.line))) }
         ensures failed { OnErr result (IsTrue (S.has_failed source.new)
