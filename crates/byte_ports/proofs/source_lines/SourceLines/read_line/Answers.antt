@@ -1,4 +1,4 @@
-use Rattle.std.proofs.Common.{◌≡◌, ◌∙◌, ◌⊎◌, ◌≤◌, ap, inr, sym, subst, length, take, arith, rules, length-append, length-drop, length-take-le}
+use Rattle.std.proofs.Common.{◌≡◌, ◌∙◌, ◌⊎◌, ◌≤◌, ◌++◌, ◌∷◌, [], ℕ, List, ap, append_assoc, inr, sym, subst, length, take, arith, length-append, length-drop, length-take-le}
 use Rattle.std.proofs.KnownBytes.{Keeps-trans}
 use Rattle.byte_ports.specs.SourceLines.{EndsInAPiece, IsOneLine}
 use Rattle.byte_ports.proofs.Pieces.{front-held, less-line, line-held, one-still, piece-behind, taken-held}
@@ -65,5 +65,20 @@ loop-held-preserved g c =
       given = omega (arith, inv.given, c.in_ok-fill.ensures.counted, ap length is, length-append held got, size, c.if-branch-eq0.false);
       far = inr (piece-behind held c.held-held.result.now got _ place.result c.held-held.ensures.value all is place.ensures.one
           (omega (arith, size, few)));
+      behind = (let (more, grown) = inv.behind in (more ++ got, is ∙ ap (λ h. h ++ got) grown ∙ append_assoc c.args.self.now.held more got));
+      sound = λ _. c.in_ok-fill.ensures.sound;
       reads = omega (arith, inv.reads, c.in_ok-fill.ensures.reads);
     }
+
+pub returns-then-place-gt-MOST_BYTES-clause-behind :
+    goal.returns-then-place-gt-MOST_BYTES-clause-behind
+returns-then-place-gt-MOST_BYTES-clause-behind g c =
+    subst (λ bytes. (got : List ℕ) × (bytes ≡ c.args.self.now.held ++ got))
+    (front-held c.loop-held.self.held _ _ 65537 c.take_line.ensures.line c.take_line.ensures.held) c.loop-held.invariant.behind
+
+pub returns-then-place-held-clause-behind : goal.returns-then-place-held-clause-behind
+returns-then-place-held-clause-behind g c =
+    subst (λ bytes. (got : List ℕ) × (bytes ≡ c.args.self.now.held ++ got))
+    (line-held c.held-held.result.now c.loop-held.self.held _ _ c.place_of_lf-place.result c.held-held.ensures.value c.if-place-held.true
+    (c.place_of_lf-place.ensures.lf c.if-place-held.true) c.take_line-then-place-held.ensures.line c.take_line-then-place-held.ensures.held)
+    c.loop-held.invariant.behind
