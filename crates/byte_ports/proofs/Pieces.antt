@@ -5,9 +5,9 @@ use Rattle.std.specs.Io.KnownBytes.{Consumes, Keeps, prepend_known}
 use Rattle.std.proofs.KnownBytes.{prepend_known-read}
 use Rattle.std.proofs.Math.Seq.{take-add}
 use Rattle.std.proofs.lemmas.Bool.{ne_eqb}
-use Rattle.std.proofs.lemmas.List.{take-take, drop_more}
+use Rattle.std.proofs.lemmas.List.{take-append-le, take_all, take-take, drop_more}
 use Rattle.std.proofs.lemmas.List.Elements.{All-push, All-take}
-use Rattle.byte_ports.specs.SourceLines.{IsOneLine, is_lf}
+use Rattle.byte_ports.specs.SourceLines.{EndsInAPiece, IsOneLine, is_lf}
 
 -- a byte more of one line
 pub one-more : (bytes : List ℕ) (n m : ℕ) → m ≡ n + 1 → IsOneLine (take n bytes) → n < length bytes → (get_or bytes n 0 ≡ 10 → ⊥)
@@ -59,3 +59,14 @@ line-held bytes held line rest n same there is front behind =
     ∙ ap (λ r. take n held ++ r) (drop_more held n 0 lt ∙ ap (λ b. b ∷ drop (n + 1) held) lf)
     ∙ sym (append_assoc (take n held) (10 ∷ []) (drop (n + 1) held))
     ∙ ap (λ l. (l ++ 10 ∷ []) ++ drop (n + 1) held) (sym front) ∙ ap (λ r. (line ++ 10 ∷ []) ++ r) (sym behind)
+
+-- a piece more, behind bytes of one line
+pub one-still : (held bytes got new : List ℕ) (n : ℕ) → bytes ≡ held → n ≤ length bytes → length bytes ≤ n → new ≡ held ++ got
+    → IsOneLine (take n bytes) → IsOneLine (take n new)
+one-still held bytes got new n same within all is one =
+    subst IsOneLine (sym (ap (take n) is ∙ take-append-le n held got (omega (arith, within, ap length same)) ∙ ap (take n) (sym same))) one
+
+pub piece-behind : (held bytes got new : List ℕ) (n : ℕ) → bytes ≡ held → length bytes ≤ n → new ≡ held ++ got
+    → IsOneLine (take n bytes) → length got ≤ 16384 → EndsInAPiece new
+piece-behind held bytes got new n same all is one few =
+    (held, (got, (is, subst IsOneLine (take_all n bytes all ∙ same) one, few)))

@@ -32,6 +32,11 @@ HasCome ended.Whole line left = length line ≤ 65536
 HasCome ended.AtEnd line left = (length line ≤ 65536) × IsAtEnd left
 HasCome ended.TooLong line left = length line ≡ 65537
 
+-- these are bytes of one line, and behind them a piece of a source
+abbrev pub EndsInAPiece : List ℕ → Type 0
+EndsInAPiece bytes =
+    (front : List ℕ) × ((piece : List ℕ) × ((bytes ≡ front ++ piece) × IsOneLine front × (length piece ≤ 16384)))
+
 -- each read gave a byte at least, where so many bytes were taken
 abbrev pub Gave : Lines → Lines → ℕ → Type 0
 Gave before after count = after.reads + length before.held ≤ before.reads + (count + length after.held)

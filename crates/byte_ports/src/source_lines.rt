@@ -1,6 +1,6 @@
-ghost use Rattle.std.specs.Prelude.{◌≡◌, ◌≢◌, ◌≤◌, ◌<◌, ◌+◌, ◌-◌, ◌++◌, ◌⊎◌, [], ℕ, List, length, take, drop, get_or, Ok, IsTrue, IfOk, OnErr, OnOk};
+ghost use Rattle.std.specs.Prelude.{◌≡◌, ◌≢◌, ◌≤◌, ◌<◌, ◌+◌, ◌-◌, ◌++◌, ◌⊎◌, [], false, ℕ, List, length, take, drop, get_or, Ok, IsTrue, IfOk, OnErr, OnOk};
 ghost use Rattle.std.specs.Io.KnownBytes.{Consumes, IsAtEnd, Keeps, prepend_known};
-ghost use Rattle.byte_ports.specs.SourceLines.{Gave, HasCome, IsOneLine, taken};
+ghost use Rattle.byte_ports.specs.SourceLines.{EndsInAPiece, Gave, HasCome, IsOneLine, taken};
 
 use crate::failed::Failed;
 use crate::source::Source;
@@ -112,6 +112,7 @@ fn pull_behind<S: Source>(source: &mut S, block: &mut [u8], held: usize) -> Resu
         (take count (drop held block.new))) }
     ensures end { result ≡ Ok 0 → IsAtEnd (S.left source.new) }
     ensures failed { OnErr result (IsTrue (S.has_failed source.new) × Keeps (S.left source.old) (S.left source.new)) }
+    ensures sound { OnOk result (S.has_failed source.new ≡ false) }
     ensures reads { S.reads source.new ≤ S.reads source.old + 1 }
 {
     source.pull(&mut block[held..held + PIECE])
@@ -185,6 +186,7 @@ impl SourceLines {
         ensures end { result ≡ Ok 0 → IsAtEnd (S.left source.new) }
         ensures failed { OnErr result ((IsTrue (S.has_failed source.new)
             ⊎ ((self.new.reads ≡ 1000000000) × (self.new.reads ≡ self.old.reads))) × (self.new.held ≡ self.old.held)) }
+        ensures sound { OnOk result (S.has_failed source.new ≡ false) }
         ensures counted { self.new.reads ≤ self.old.reads + 1 }
         ensures reads { S.reads source.new + self.old.reads ≤ S.reads source.old + self.new.reads }
         ensures within { self.new.reads ≤ 1000000000 }
@@ -211,10 +213,15 @@ impl SourceLines {
             (prepend_known self.new.held (S.left source.new)) (taken result self.new.line) }
         ensures came { IfOk result (λ how. HasCome how self.new.line (prepend_known self.new.held (S.left source.new))) }
         ensures one { OnOk result (IsOneLine self.new.line) }
+        ensures far { OnOk result ((S.left source.new ≡ S.left source.old)
+            ⊎ EndsInAPiece (taken result self.new.line ++ self.new.held)) }
+        ensures behind { OnOk result ((got : List ℕ) × (taken result self.new.line ++ self.new.held ≡ self.old.held ++ got)) }
+        ensures all { result ≡ Ok LineEnded.AtEnd → self.new.held ≡ [] }
         ensures given { IfOk result (λ how. how ≢ LineEnded.AtEnd
             → Gave self.old self.new (length (taken result self.new.line))) }
         ensures failed { OnErr result (IsTrue (S.has_failed source.new)
             ⊎ ((self.new.reads ≡ 1000000000) × Gave self.old self.new 0)) }
+        ensures sound { OnOk result (S.has_failed source.old ≡ false → S.has_failed source.new ≡ false) }
         ensures reads { S.reads source.new + self.old.reads ≤ S.reads source.old + self.new.reads }
         ensures within { self.new.reads ≤ 1000000000 }
     {

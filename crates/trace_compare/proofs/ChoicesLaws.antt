@@ -14,7 +14,7 @@ use Rattle.trace_text.specs.Reading.{choice_in, is_too_long}
 use Rattle.trace_text.specs.State.{state_text}
 use Rattle.trace_text.specs.Trace.{lines_by, lines_of, trace_of}
 use Rattle.trace_text.proofs.Naming.{IsOwnLine}
-use Rattle.trace_compare.proofs.OwnTrace.{IsNamed, counted, own-line}
+use Rattle.trace_compare.proofs.OwnTrace.{IsNamed, after_by, counted, own-line}
 use Rattle.trace_compare.proofs.SameTrace.{after_choice, left_by}
 use Rattle.trace_text.proofs.StateLines.{parts_text, state-is_state, state-line}
 use Rattle.trace_text.proofs.WholeLines.{split-line}
@@ -71,15 +71,6 @@ one_by (Some fault) world choice = refl
 one-refusal : (world : World) (choice : Choice) → (execution world (choice ∷ [])).refusal ≡ refusal_of world choice
 one-refusal world choice = one_by (refusal_of world choice) world choice
 
-world_by : (refusal : Option StepFault) (world : World) (choice : Choice) → refusal ≡ None
-    → (execution_by refusal world choice (λ after. execution after [])).world ≡ (played world choice).world
-world_by None world choice none = refl
-world_by (Some fault) world choice none = let no : ⊥ = cc in absurd no
-
-one-world : (world : World) (choice : Choice) → refusal_of world choice ≡ None
-    → (execution world (choice ∷ [])).world ≡ (played world choice).world
-one-world world choice none = world_by (refusal_of world choice) world choice none
-
 -- what follows a choice's line, by whether it was refused
 rest_by : (refusal : Option StepFault) (world : World) (choice : Choice) (choices : List Choice) (n : ℕ)
     → refusal_of world choice ≡ refusal → world.choices ≤ 1000000000000
@@ -90,7 +81,7 @@ rest_by : (refusal : Option StepFault) (world : World) (choice : Choice) (choice
 rest_by None world choice choices n is few rest =
     let after = (execution world (choice ∷ [])).world in
     rest after (counted world choice few (one-refusal world choice ∙ is))
-    ∙ ap (λ (w : World). whole (shown w choices)) (one-world world choice is)
+    ∙ ap (λ (w : World). whole (shown w choices)) (after_by (refusal_of world choice) world choice (one-refusal world choice ∙ is)).1
 rest_by (Some fault) world choice choices n is few rest = states-named (execution world (choice ∷ [])).world n
 
 trace-named : (choices : List Choice) (world : World) (n : ℕ) → world.choices ≤ 1000000000000 → All IsNamed choices

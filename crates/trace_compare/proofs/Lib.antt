@@ -4,9 +4,8 @@ pub mod WrittenRuns
 pub mod Verdicts
 pub mod SameTrace
 pub mod OwnLines
-pub mod LineCounts
 pub mod OwnTrace
-pub mod PieceLines
+pub mod TakenLines
 pub mod NamedThreads
 pub mod StoredOtherwise
 pub mod OneVerdict

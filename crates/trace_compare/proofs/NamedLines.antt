@@ -24,7 +24,7 @@ use Rattle.trace_compare.specs.Naming.{HasNamed, HasRead, Naming, Names, behind_
 -- ---- one line
 
 -- a whole line
-whole-line : (line rest : List ℕ) → IsOneLine line
+pub whole-line : (line rest : List ℕ) → IsOneLine line
     → slice_split is_line_end ((line ++ 10 ∷ []) ++ rest) ≡ line ∷ slice_split is_line_end rest
 whole-line line rest one =
     ap (slice_split is_line_end) (append_assoc line (10 ∷ []) rest) ∙ slice_split_at is_line_end line 10 rest one refl
@@ -37,14 +37,14 @@ long-names : (line : List ℕ) → 65536 < length line → line_names line ≡ n
 long-names line many = let long : is_too_long line ≡ true = lt-ltb 65536 (length line) many in rw long refl
 
 -- the first line of a text that begins with these bytes
-split_some : (ys : List ℕ) → (h : List ℕ) × ((t : List (List ℕ)) × (slice_split is_line_end ys ≡ h ∷ t))
+pub split_some : (ys : List ℕ) → (h : List ℕ) × ((t : List (List ℕ)) × (slice_split is_line_end ys ≡ h ∷ t))
 split_some ys = first_of_some (slice_split is_line_end ys) (omega (arith, length-slice_split is_line_end ys))
   where
     first_of_some : (pieces : List (List ℕ)) → 0 < length pieces → (h : List ℕ) × ((t : List (List ℕ)) × (pieces ≡ h ∷ t))
     first_of_some [] some = absurd (omega (arith, some))
     first_of_some (h ∷ t) some = (h, (t, refl))
 
-begun-line : (xs ys : List ℕ) → IsOneLine xs
+pub begun-line : (xs ys : List ℕ) → IsOneLine xs
     → (h : List ℕ) × ((t : List (List ℕ)) × (slice_split is_line_end (xs ++ ys) ≡ (xs ++ h) ∷ t))
 begun-line [] ys one = split_some ys
 begun-line (x ∷ xs) ys one =
@@ -192,24 +192,30 @@ taken-named n choices name y z a b c is taken end same =
     (behind_choices choices (last_naming name n), (taken-all n choices (last_naming name n) y z a b c taken end, sym same))
 
 -- a source that gives on and on
-pub taken-on : (n : ℕ) (choices : List Choice) (y z : Lines) (a b c : Option (List ℕ))
-    → HasTaken 1 choices n none_read y a b → HasGone [] y z b c → z.reads ≡ 1000000000 → GivesOnAndOn a c
-taken-on n choices y z a b c (one, (gone, many, names)) on most =
+pub gone-on : (bytes : List ℕ) (y z : Lines) (a b c : Option (List ℕ)) → HasGone bytes none_read y a b → HasGone [] y z b c
+    → z.reads ≡ 1000000000 → GivesOnAndOn a c
+gone-on bytes y z a b c gone on most =
     subst (λ o. GivesOnAndOn o c) (prepend_known-nil a) (
-      (one ++ []) ++ z.held,
+      (bytes ++ []) ++ z.held,
       (
-        unread (prepend_known [] a) c (one ++ []) z.held (Consumes-trans _ _ _ one [] gone.0 on.0),
-        omega (arith, gone.1, on.1, most, length-append (one ++ []) z.held, length-append one []),
+        unread (prepend_known [] a) c (bytes ++ []) z.held (Consumes-trans _ _ _ bytes [] gone.0 on.0),
+        omega (arith, gone.1, on.1, most, length-append (bytes ++ []) z.held, length-append bytes []),
       ),
     )
 
+pub gone-lines : (bytes : List ℕ) (y : Lines) (a b : Option (List ℕ)) → HasGone bytes none_read y a b → 1000000000 ≤ length bytes
+    → GivesOnAndOn a b
+gone-lines bytes y a b gone most =
+    subst (λ o. GivesOnAndOn o b) (prepend_known-nil a)
+    (bytes ++ y.held, (unread (prepend_known [] a) b bytes y.held gone.0, omega (arith, most, length-append bytes y.held)))
+
+pub taken-on : (n : ℕ) (choices : List Choice) (y z : Lines) (a b c : Option (List ℕ))
+    → HasTaken 1 choices n none_read y a b → HasGone [] y z b c → z.reads ≡ 1000000000 → GivesOnAndOn a c
+taken-on n choices y z a b c (one, (gone, many, names)) on most = gone-on one y z a b c gone on most
+
 pub taken-lines : (n : ℕ) (choices : List Choice) (y : Lines) (a b : Option (List ℕ))
     → HasTaken 1 choices n none_read y a b → 1000000001 ≤ n → GivesOnAndOn a b
-taken-lines n choices y a b (one, (gone, many, names)) most =
-    subst (λ o. GivesOnAndOn o b) (prepend_known-nil a) (
-      one ++ y.held,
-      (unread (prepend_known [] a) b one y.held gone.0, omega (arith, many, most, length-append one y.held)),
-    )
+taken-lines n choices y a b (one, (gone, many, names)) most = gone-lines one y a b gone (omega (arith, many, most))
 
 pub or_else : {F G H : Type 0} → F ⊎ H → (H → G) → F ⊎ G
 or_else (inl f) turn = inl f

@@ -1,8 +1,11 @@
--- An image's program shows the same under the same choices, however its phasers are stored.
-use Rattle.std.proofs.Common.{◌≡◌, ◌∙◌, ◌+◌, ℕ, List, [], ◌∷◌, ◌++◌, Option, Some, None, refl, ap}
+-- An image's program shows the same under the same choices, however its phasers are stored. So a trace that was written is found
+-- the same.
+use Rattle.std.proofs.Common.{◌≡◌, ◌∙◌, ◌+◌, ℕ, List, [], ◌∷◌, ◌++◌, All, Option, Some, None, inl, inr, refl, ap, append-nil, arith, sym}
 use Rattle.row_code.specs.declared.image.Image.{Image}
 use Rattle.tier_tree.specs.Stored.{Stored}
 use Rattle.machine_scene.specs.Scene.{thread_at}
+use Rattle.schedule_reader.specs.declared.run.Run.{Run}
+use Rattle.schedule_reader.specs.Schedule.{IsRun, choices_of}
 use Rattle.thread_machine.specs.declared.choice.Choice.{Choice}
 use Rattle.thread_machine.specs.declared.fault.StepFault.{StepFault}
 use Rattle.thread_machine.specs.declared.fault.StepFault.TheVariants.{NoSuchThread, StepLimit, Memory}
@@ -11,9 +14,17 @@ use Rattle.thread_machine.specs.Ready.{outcome_of_choice}
 use Rattle.thread_machine.specs.Step.{Played, played, refusal_of}
 use Rattle.thread_machine.specs.Execution.{Execution, execution, execution_by}
 use Rattle.trace_text.specs.Lines.{event_text}
+use Rattle.trace_text.specs.Outcome.{EndsFrom}
+use Rattle.trace_text.specs.RunText.{AreTraced}
+use Rattle.trace_text.specs.Start.{Begins}
 use Rattle.trace_text.specs.State.{state_text}
 use Rattle.trace_text.specs.Trace.{lines_by, lines_of, trace_of}
+use Rattle.trace_text.specs.declared.run_end.RunEnd.{RunEnd}
+use Rattle.trace_compare.specs.declared.comparison.Verdict.TheVariants as verdict
+use Rattle.trace_compare.specs.Compare.{HasWrittenTheSame, IsFoundTheSame, verdict_of}
+use Rattle.trace_compare.proofs.NamedThreads.{named-runs, named-threads}
 use Rattle.trace_compare.proofs.OneVerdict.{as-stored, plays-same, played-event, played-world, refusal-same, state-same, stored}
+use Rattle.trace_compare.proofs.OwnTrace.{IsNamed, own-trace}
 
 after-same : (phasers : List Stored) (world : World) (choice : Choice)
     → (played (stored phasers world) choice).world ≡ stored phasers (played world choice).world
@@ -76,3 +87,37 @@ pub trace-first : (image : Image) (limit : ℕ) (world : World) (choices : List 
 trace-first image limit world choices is =
     ap (λ w. trace_of w choices) (as-stored image limit world is)
     ∙ trace-same choices world.program.phasers (first_of image limit)
+
+-- the verdict on a trace, beside the program that it is of
+begun-verdict : (image : Image) (world : World) (choices : List Choice) → Begins image world → All IsNamed choices
+    → verdict_of world (trace_of world choices) ≡ verdict.Same
+begun-verdict image world choices (loads, first) named =
+    own-trace choices world 1 (omega (arith, ap (λ (w : World). w.choices) first)) named
+
+-- and beside that program from another world in which it begins
+other-verdict : (image : Image) (one other : World) (choices : List Choice) → Begins image one → Begins image other → All IsNamed choices
+    → verdict_of other (trace_of one choices) ≡ verdict.Same
+other-verdict image one other choices begins begins' named =
+    ap (verdict_of other) (trace-first image 1000000000 one choices begins.1 ∙ sym (trace-first image 1000000000 other choices begins'.1))
+    ∙ begun-verdict image other choices begins' named
+
+-- so a comparison with that program finds it the same
+found-same : (image : Image) (one : World) (choices : List Choice) → Begins image one → All IsNamed choices
+    → IsFoundTheSame image (trace_of one choices)
+found-same image one choices begins named left v (other, (bytes, (begins', consumed, inl (end, found)))) =
+    let all : bytes ≡ trace_of one choices = sym (append-nil bytes) ∙ ap (λ rest. bytes ++ rest) (sym end) ∙ sym consumed in
+    sym found ∙ ap (verdict_of other) all ∙ other-verdict image one other choices begins begins' named
+found-same image one choices begins named left v (other, (bytes, (begins', consumed, inr later))) =
+    sym (later left) ∙ ap (verdict_of other) (sym consumed) ∙ other-verdict image one other choices begins begins' named
+
+-- that of runs that a token can spell
+pub traced-same : (image : Image) (world : World) (runs : List Run) (end : RunEnd) (old new : Option (List ℕ))
+    → Begins image world → All IsRun runs → AreTraced world (choices_of runs) end old new → HasWrittenTheSame image old new
+traced-same image world runs end old new begins are (ends, appends) =
+    (trace_of world (choices_of runs), (appends, found-same image world (choices_of runs) begins (named-runs runs are)))
+
+-- and that which a run writes
+pub ended-same : (image : Image) (world : World) (end : RunEnd) (schedule_before schedule_after old new : Option (List ℕ))
+    → Begins image world → EndsFrom world end schedule_before schedule_after old new → HasWrittenTheSame image old new
+ended-same image world end schedule_before schedule_after old new begins (bytes, (runs, (consumed, at_end, is, (ends, appends)))) =
+    (trace_of world (choices_of runs), (appends, found-same image world (choices_of runs) begins (named-threads bytes runs None is)))

@@ -116,7 +116,7 @@ accepted-few_by true all limit is = let no : ⊥ = cc in absurd no
 accepted-few_by false true limit is = let no : ⊥ = cc in absurd no
 accepted-few_by false false limit is = refl
 
-after_by : (refusal : Option StepFault) (world : World) (choice : Choice)
+pub after_by : (refusal : Option StepFault) (world : World) (choice : Choice)
     → (execution_by refusal world choice (λ after. execution after [])).refusal ≡ None
     → (refusal ≡ None) × ((execution_by refusal world choice (λ after. execution after [])).world ≡ (played world choice).world)
 after_by (Some fault) world choice none = let no : ⊥ = cc in absurd no

@@ -1,18 +1,18 @@
 -- The verdict on lines that are the run's.
-use Rattle.std.proofs.Common.{◌≡◌, ◌∙◌, ◌↔◌, ◌+◌, ◌-◌, ◌<◌, ◌≤◌, ◌&&◌, ℕ, Bool, true, false, List, [], ◌∷◌, ◌++◌, length, drop, Option, Some, None, IsTrue, ◌==◌, zero, suc, refl, ap, sym, subst, arith, is_none, not, cond, inl, inr, take, min, append_assoc, append-nil, length-append}
-use Rattle.std.specs.Prelude.{Result, Ok, Err, IfOk, All}
+use Rattle.std.proofs.Common.{◌≡◌, ◌∙◌, ◌↔◌, ◌+◌, ◌<◌, ◌≤◌, ◌&&◌, ◌⊎◌, ℕ, Bool, true, false, List, [], ◌∷◌, ◌++◌, length, drop, Option, Some, None, IsTrue, ◌==◌, zero, suc, refl, ap, sym, subst, arith, is_none, cond, inl, inr, take, min, append-nil, length-append, take-append-drop}
+use Rattle.std.specs.Prelude.{Result, Ok, Err, IfOk}
 use Rattle.trace_compare.specs.declared.comparison.Comparison.{Comparison}
-use Rattle.trace_compare.specs.Comparing.{HasLeft, IsOpen, bytes_left, decided, lines_left}
-use Rattle.std.proofs.Math.Seq.{take-append_seam}
-use Rattle.std.proofs.lemmas.Bool.{cases_lt, lt-ltb, false_from_ne_true}
-use Rattle.std.proofs.lemmas.Bool.Decides.{nat_tests}
-use Rattle.std.proofs.lemmas.List.Elements.{All-append, All-cons, All-head, All-tail}
-use Rattle.std.proofs.lemmas.List.Splits.{slice_split_at, slice_split_none, slice_split-cons_no, length-slice_split}
+use Rattle.trace_compare.specs.Comparing.{HasCounted, HasJudged, HasLeft, IsOpen, StandsFrom, bytes_left, decided, lines_left}
+use Rattle.std.proofs.Math.Seq.{drop-append_seam, take-append_seam}
+use Rattle.std.proofs.lemmas.Bool.{and_from, and_parts, cases_lt, lt-ltb, false_from_ne_true}
+use Rattle.std.proofs.lemmas.List.Splits.{slice_split_none, length-slice_split}
 use Rattle.std.proofs.lemmas.List.{drop_all, length-take, take_all, drop-drop}
-use Rattle.std.specs.List.{position_or_len, slice_split, onto_first}
+use Rattle.std.specs.List.{position_or_len, slice_split}
 use Rattle.std.specs.Str.{bytes_eq}
 use Rattle.std.proofs.lemmas.Slice.Eq.{bytes_eq-Decides}
 use Rattle.std.specs.Io.KnownBytes.{Consumes}
+use Rattle.byte_ports.specs.SourceLines.{IsOneLine}
+use Rattle.byte_ports.specs.declared.source_lines.LineEnded.TheVariants as how
 use Rattle.row_code.specs.declared.image.Image.{Image}
 use Rattle.trace_text.specs.Start.{Begins}
 use Rattle.line_reader.specs.Words.{is_line_end}
@@ -31,20 +31,32 @@ use Rattle.trace_text.specs.State.{state_text}
 use Rattle.trace_text.specs.Trace.{Plays, lines_by, lines_of}
 use Rattle.machine_scene.specs.Scene.{thread_at}
 use Rattle.thread_machine.specs.Step.{Played, played, refusal_of}
+use Rattle.trace_compare.proofs.NamedLines.{begun-line, whole-line}
 use Rattle.trace_text.proofs.Naming.{event-few, refusal-few}
 use Rattle.trace_text.proofs.StateLines.{parts_text, state-line}
 use Rattle.trace_text.proofs.WholeLines.{first-is}
 
-of_not : (b : Bool) → not b ≡ false → b ≡ true
-of_not true is = refl
-of_not false is = sym is
-
 same_bytes : (xs ys : List ℕ) → xs ≡ ys → bytes_eq xs ys ≡ true
 same_bytes xs ys same = (bytes_eq-Decides xs ys).1 same
 
--- bytes that were found to be the same
-pub found_same : (xs ys : List ℕ) (differ : Bool) → differ ≡ not (bytes_eq xs ys) → differ ≡ false → xs ≡ ys
-found_same xs ys differ is none = (bytes_eq-Decides xs ys).0 (of_not (bytes_eq xs ys) (sym is ∙ none))
+-- a text begins with a line, and an LF stands behind it
+as_well : (a b : Bool) → (a ≡ true → b ≡ true) → (b ≡ true → a ≡ true) → a ≡ b
+as_well true b to from = sym (to refl)
+as_well false true to from = from refl
+as_well false false to from = refl
+
+pub line-eq : (line text : List ℕ)
+    → (bytes_eq line (take (length line) text) && bytes_eq (drop (length line) text) (10 ∷ [])) ≡ bytes_eq (line ++ (10 ∷ [])) text
+line-eq line text =
+    let n = length line in
+    as_well _ _
+    (λ both. let (front, end) = and_parts (bytes_eq line (take n text)) (bytes_eq (drop n text) (10 ∷ [])) both in
+    same_bytes (line ++ (10 ∷ [])) text
+    (ap (λ l. l ++ (10 ∷ [])) ((bytes_eq-Decides line (take n text)).0 front)
+    ∙ ap (λ e. take n text ++ e) (sym ((bytes_eq-Decides (drop n text) (10 ∷ [])).0 end)) ∙ take-append-drop n text))
+    (λ same. let is : text ≡ line ++ (10 ∷ []) = sym ((bytes_eq-Decides (line ++ (10 ∷ [])) text).0 same) in
+    and_from _ _ (same_bytes line (take n text) (sym (ap (take n) is ∙ take-append_seam line (10 ∷ []))))
+    (same_bytes (drop n text) (10 ∷ []) (ap (drop n) is ∙ drop-append_seam line (10 ∷ []))))
 
 -- a line that isn't the run's, and is too long
 long-otherwise : (n : ℕ) (line : List ℕ) → 65536 < length line → otherwise n line ≡ verdict.NotATrace n
@@ -81,12 +93,12 @@ none_by (Some fault) false is = refl
 
 -- the line of a choice
 pub choice-same : (named : Option Choice) (choice : Choice) (accepted more : Bool) (world after : World) (n : ℕ)
-    (line whole text : List ℕ) (rest : Bool → World → Verdict) → named ≡ Some choice → accepted ≡ true
-    → whole ≡ line ++ (10 ∷ []) → whole ≡ text → Plays world after (choice ∷ []) more (Some []) (Some text)
+    (line text : List ℕ) (rest : Bool → World → Verdict) → named ≡ Some choice → accepted ≡ true
+    → bytes_eq (line ++ (10 ∷ [])) text ≡ true → Plays world after (choice ∷ []) more (Some []) (Some text)
     → choice_verdict named accepted world n line rest ≡ rest more after
-choice-same named choice accepted more world after n line whole text rest named_is accepted_is whole_is same p =
+choice-same named choice accepted more world after n line text rest named_is accepted_is same p =
     let lines : bytes_eq (line ++ (10 ∷ [])) (lines_of world (choice ∷ [])) ≡ true =
-    same_bytes _ _ (sym whole_is ∙ same ∙ p.lines) in
+    ap (bytes_eq (line ++ (10 ∷ []))) (sym p.lines) ∙ same in
     rw (named_is, accepted_is, lines) (ap (λ b. rest b (execution world (choice ∷ [])).world) (none_by _ more p.answer) ∙ ap (λ w. rest more w) (sym p.world))
 
 -- as many bytes as there are
@@ -104,14 +116,14 @@ drop_up_to bytes n m is =
       | inr more ↦ drop_all n bytes (omega (arith, is, more)) ∙ sym (drop_all m bytes more)
     ]
 
-pub state-further : (text due : List ℕ) (at first end n : ℕ) (line whole part : List ℕ) (lines : List (List ℕ))
+pub state-further : (text due : List ℕ) (at first end n : ℕ) (line part : List ℕ) (lines : List (List ℕ))
     → due ≡ drop at text → 0 < length due → first ≡ position_or_len is_line_end due
-    → end ≡ min (first + 1) (length due) → whole ≡ line ++ (10 ∷ []) → whole ≡ part → part ≡ take end due
+    → end ≡ min (first + 1) (length due) → bytes_eq (line ++ (10 ∷ [])) part ≡ true → part ≡ take end due
     → state_verdict (drop at text) n (line ∷ lines) ≡ state_verdict (drop (at + end) text) (n + 1) lines
-state-further text due at first end n line whole part lines due_is some first_is end_is whole_is part_is taken =
+state-further text due at first end n line part lines due_is some first_is end_is same taken =
     let size : end ≡ min (position_or_len is_line_end due + 1) (length due) = end_is ∙ ap (λ k. min (k + 1) (length due)) first_is in
     ap (λ d. state_verdict d n (line ∷ lines)) (sym due_is)
-    ∙ state-same due n line lines some (sym whole_is ∙ part_is ∙ taken ∙ take_up_to due end _ size)
+    ∙ state-same due n line lines some ((bytes_eq-Decides (line ++ (10 ∷ [])) part).0 same ∙ taken ∙ take_up_to due end _ size)
     ∙ ap (λ d. state_verdict d (n + 1) lines)
     (sym (drop_up_to due end _ size) ∙ ap (drop end) due_is ∙ drop-drop end at text)
 
@@ -163,54 +175,28 @@ more_to_come true came (suc due) line is isnt state_is = omega arith
 more_to_come true came zero (suc line) is isnt state_is = omega arith
 more_to_come false came due line is isnt state_is = let bad : ⊥ = cc in absurd bad
 
--- what stands before a line's LF
-pub before_lf : (whole line : List ℕ) (n : ℕ) → whole ≡ line ++ (10 ∷ []) → n ≡ length whole - 1 → take n whole ≡ line
-before_lf whole line n is n_is =
-    let size : n ≡ length line = omega (arith, n_is, ap length is, length-append line (10 ∷ [])) in
-    ap (take n) is ∙ ap (λ k. take k (line ++ (10 ∷ []))) size ∙ take-append_seam line (10 ∷ [])
+-- a line with its LF
+pub judged-whole : {E : Type 0} (result : Result (Option Verdict) E) (before after : Comparison) (line : List ℕ) → IsOneLine line
+    → ((lines : List (List ℕ)) → IsOpen before line lines
+    → IfOk result (λ v. lines_left before (line ∷ lines) ≡ decided v (lines_left after lines)))
+    → IfOk result (λ v. HasCounted before.number after.number v) → IfOk result (λ v. HasJudged before after how.Whole line v)
+judged-whole (Ok None) before after line one same counted = (
+  refl,
+  counted,
+  λ rest. ap (lines_left before) (whole-line line rest one)
+      ∙ same (slice_split is_line_end rest) (λ state. omega (arith, length-slice_split is_line_end rest)),
+)
+judged-whole (Ok (Some v)) before after line one same counted = (
+  counted,
+  λ rest. ap (lines_left before) (whole-line line rest one)
+      ∙ same (slice_split is_line_end rest) (λ state. omega (arith, length-slice_split is_line_end rest)),
+)
+judged-whole (Err e) before after line one same counted = tt
 
--- a line has come whole
-byte-ends_by : (before : Comparison) (line front rest : List ℕ) (byte : ℕ) → All (λ b. is_line_end b ≡ false) line → byte ≡ 10
-    → front ≡ line → bytes_left before line (byte ∷ rest) ≡ lines_left before (front ∷ slice_split is_line_end rest)
-byte-ends_by before line front rest byte one is front_is =
-    ap (λ b. lines_left before (slice_split is_line_end (line ++ (b ∷ rest)))) is
-    ∙ ap (lines_left before) (slice_split_at is_line_end line 10 rest one refl)
-    ∙ ap (λ l. lines_left before (l ∷ slice_split is_line_end rest)) (sym front_is)
-
-pub byte-ends : {E : Type 0} (result : Result (Option Verdict) E) (before after : Comparison) (line front next rest : List ℕ) (byte : ℕ)
-    → All (λ b. is_line_end b ≡ false) line → byte ≡ 10 → front ≡ line → next ≡ []
-    → ((lines : List (List ℕ)) → IsOpen before front lines
-    → IfOk result (λ v. lines_left before (front ∷ lines) ≡ decided v (lines_left after lines)))
-    → IfOk result (λ v. bytes_left before line (byte ∷ rest) ≡ decided v (bytes_left after next rest))
-byte-ends (Ok v) before after line front next rest byte one is front_is none q =
-    byte-ends_by before line front rest byte one is front_is
-    ∙ q (slice_split is_line_end rest) (λ state. omega (arith, length-slice_split is_line_end rest))
-    ∙ ap (λ l. decided v (lines_left after (slice_split is_line_end (l ++ rest)))) (sym none)
-byte-ends (Err e) before after line front next rest byte one is front_is none q = q (slice_split is_line_end rest) (λ state. omega (arith, length-slice_split is_line_end rest))
-
--- bytes of one line, and what follows them
-onto_first-list : (x : ℕ) (h : List ℕ) (t pieces : List (List ℕ)) → pieces ≡ h ∷ t → onto_first x pieces ≡ (x ∷ h) ∷ t
-onto_first-list x h t pieces is = ap (onto_first x) is
-
-pub split_some : (ys : List ℕ) → (h : List ℕ) × ((t : List (List ℕ)) × (slice_split is_line_end ys ≡ h ∷ t))
-split_some ys = first_of_some (slice_split is_line_end ys) (omega (arith, length-slice_split is_line_end ys))
-  where
-    first_of_some : (pieces : List (List ℕ)) → 0 < length pieces → (h : List ℕ) × ((t : List (List ℕ)) × (pieces ≡ h ∷ t))
-    first_of_some [] some = absurd (omega (arith, some))
-    first_of_some (h ∷ t) some = (h, (t, refl))
-
-pub line_and_more : (xs ys : List ℕ) → All (λ b. is_line_end b ≡ false) xs
-    → (h : List ℕ) × ((t : List (List ℕ)) × (slice_split is_line_end (xs ++ ys) ≡ (xs ++ h) ∷ t))
-line_and_more [] ys one = split_some ys
-line_and_more (x ∷ xs) ys one =
-    let (h, (t, is)) = line_and_more xs ys (All-tail (λ b. is_line_end b ≡ false) x xs one) in (
-      h,
-      (
-        t,
-        slice_split-cons_no is_line_end x (xs ++ ys) (All-head (λ b. is_line_end b ≡ false) x xs one)
-            ∙ onto_first-list x (xs ++ h) t _ is,
-      ),
-    )
+-- what is left at the end
+pub judged-last : (now after : Comparison) (line : List ℕ) (v : Verdict) → IsOneLine line → lines_left now (line ∷ []) ≡ v
+    → (v ≡ verdict.Same) ⊎ StandsFrom now.number v → HasJudged now after how.AtEnd line (Some v)
+judged-last now after line v one is stands = (stands, ap (lines_left now) (slice_split_none is_line_end line one) ∙ is)
 
 -- by whether it is of the state
 long_by : (state : Bool) (x y v : Verdict) → x ≡ v → y ≡ v → cond state x y ≡ v
@@ -271,56 +257,27 @@ long_line accepted world n line lines many =
     (long_state (state_text world) n line lines (omega (arith, end, size)) many)
     (long_choice (choice_in line) accepted world n line (λ accepted after. lines_verdict accepted after (n + 1) lines) many)
 
-no_line_end : (byte : ℕ) → (byte ≡ 10 → ⊥) → is_line_end byte ≡ false
-no_line_end byte other = grind (arith, nat_tests, other)
-
-pub byte-too_many : (now : Comparison) (line rest : List ℕ) (byte : ℕ) → All (λ b. is_line_end b ≡ false) line → (byte ≡ 10 → ⊥)
-    → HasNoLongLine now.text.items → length line ≡ 65536
-    → bytes_left now line (byte ∷ rest) ≡ verdict.NotATrace now.number
-byte-too_many now line rest byte one other short many =
-    let longer = All-append (λ b. is_line_end b ≡ false) line (byte ∷ []) one
-    (All-cons (λ b. is_line_end b ≡ false) byte [] (no_line_end byte other) (λ k d there. absurd (omega (arith, there)))) in
-    let (h, (t, is)) = line_and_more (line ++ byte ∷ []) rest longer in
-    let long = (line ++ byte ∷ []) ++ h in
-    let too_long : 65536 < length long =
-    omega (arith, length-append (line ++ byte ∷ []) h, length-append line (byte ∷ []), many) in
-    ap (λ bytes. lines_left now (slice_split is_line_end bytes)) (sym (append_assoc line (byte ∷ []) rest))
-    ∙ ap (lines_left now) is
-    ∙ long_by now.is_state _ _ (verdict.NotATrace now.number)
-    (long_state (drop now.at now.text.items) now.number long t (short now.at) too_long)
-    (long_line now.accepted (world_of now.machine) now.number long t too_long)
-
--- the last line has no LF
-pub last-line : {E : Type 0} (result : Result Verdict E) (now : Comparison) (line front : List ℕ)
-    → All (λ b. is_line_end b ≡ false) line → front ≡ line
-    → IfOk result (λ v. lines_left now (front ∷ []) ≡ v) → IfOk result (λ v. bytes_left now line [] ≡ v)
-last-line (Ok v) now line front one front_is q =
-    ap (λ bytes. lines_left now (slice_split is_line_end bytes)) (append-nil line)
-    ∙ ap (lines_left now) (slice_split_none is_line_end line one)
-    ∙ ap (λ l. lines_left now (l ∷ [])) (sym front_is) ∙ q
-last-line (Err e) now line front one front_is q = q
-
--- one piece after others
-pub pieces-decided : {E : Type 0} (result : Result (Option Verdict) E) (v : Option Verdict) (first now after : Comparison)
-    (line next bytes piece rest : List ℕ) → result ≡ Ok v
-    → ((more : List ℕ) → bytes_left first [] (bytes ++ more) ≡ bytes_left now line more)
-    → ((more : List ℕ) → IfOk result (λ w. bytes_left now line (piece ++ more) ≡ decided w (bytes_left after next more)))
-    → bytes_left first [] ((bytes ++ piece) ++ rest) ≡ decided v (bytes_left after next rest)
-pieces-decided {E} result v first now after line next bytes piece rest is before one =
-    ap (bytes_left first []) (append_assoc bytes piece rest)
-    ∙ before (piece ++ rest)
-    ∙ (let P : Result (Option Verdict) E → Type 0 =
-    λ r. IfOk r (λ w. bytes_left now line (piece ++ rest) ≡ decided w (bytes_left after next rest)) in
-    subst P is (one rest))
+pub too_long : (now after : Comparison) (line : List ℕ) → IsOneLine line → HasNoLongLine now.text.items → 65536 < length line
+    → HasJudged now after how.TooLong line (Some (verdict.NotATrace now.number))
+too_long now after line one short many = (
+  omega arith,
+  λ rest.
+      let (h, (t, is)) = begun-line line rest one in
+      let longer : 65536 < length (line ++ h) = omega (arith, length-append line h, many) in
+      ap (lines_left now) is
+      ∙ long_by now.is_state _ _ (verdict.NotATrace now.number)
+      (long_state (drop now.at now.text.items) now.number (line ++ h) t (short now.at) longer)
+      (long_line now.accepted (world_of now.machine) now.number (line ++ h) t longer),
+)
 
 -- a comparison that begins, by its parts
 left-first : (now : Comparison) (machine : StoredWorld) (bytes : List ℕ) → now.machine ≡ machine → now.accepted ≡ true
-    → now.is_state ≡ false → now.number ≡ 1 → bytes_left now [] bytes ≡ verdict_of (world_of machine) bytes
+    → now.is_state ≡ false → now.number ≡ 1 → bytes_left now bytes ≡ verdict_of (world_of machine) bytes
 left-first now machine bytes machine_is accepted_is state_is number_is =
     rw (state_is, accepted_is, machine_is, number_is) refl
 
 verdict-first : (now : Comparison) (machine : StoredWorld) (bytes : List ℕ) (left : Option (List ℕ)) (v : Verdict)
-    → ((rest : List ℕ) → bytes_left now [] rest ≡ verdict_of (world_of machine) rest)
+    → ((rest : List ℕ) → bytes_left now rest ≡ verdict_of (world_of machine) rest)
     → HasLeft now bytes left v → HasVerdict (world_of machine) bytes left v
 verdict-first now machine bytes left v same (inl (end, is)) = inl (end, sym (same bytes) ∙ is)
 verdict-first now machine bytes left v same (inr is) = inr (λ rest. sym (same (bytes ++ rest)) ∙ is rest)

@@ -69,7 +69,7 @@ take-first start new choices choice run thread is (none, same) =
       ),
     )
 
--- the same once more
+-- the last choice once more
 pub take-more : (start new : Option (List ℕ)) (choices : List Choice) (choice : Choice) (run more : Run) → choice.thread ≤ 63
     → run.choice ≡ choice → run.times < 1000000000 → more ≡ run_of choice (run.times + 1) → HasWritten start (Some run) new choices
     → HasWritten start (Some more) new (choices ++ choice ∷ [])

@@ -1,14 +1,17 @@
 -- What the lines that are left make of a comparison. Nobody has to believe this: it is what proofs go by, from line to line.
-use Rattle.std.specs.Prelude.{◌≡◌, ◌⊎◌, [], ◌+◌, ◌<◌, ◌≤◌, ◌++◌, ℕ, All, false, true, List, drop, length, if◌then◌else◌, Option, Some, None}
+use Rattle.std.specs.Prelude.{◌≡◌, ◌⊎◌, [], ◌∷◌, ◌+◌, ◌<◌, ◌≤◌, ◌++◌, ℕ, false, true, List, drop, length, take, if◌then◌else◌, Option, Some, None}
 use Rattle.std.specs.Io.KnownBytes.{IsAtEnd}
 use Rattle.std.specs.List.{count_by, slice_split}
+use Rattle.byte_ports.specs.SourceLines.{Lines}
+use Rattle.byte_ports.specs.declared.source_lines.LineEnded.{LineEnded}
+use Rattle.byte_ports.specs.declared.source_lines.LineEnded.TheVariants as how
 use Rattle.line_reader.specs.Words.{is_line_end}
 use Rattle.thread_machine.specs.World.{world_of}
 use Rattle.trace_compare.specs.declared.comparison.Comparison.{Comparison}
 use Rattle.trace_compare.specs.declared.comparison.Verdict.{Verdict}
 use Rattle.trace_compare.specs.declared.comparison.Verdict.TheVariants as verdict
-use Rattle.trace_text.specs.Reading.{HasNoLongLine}
-use Rattle.trace_compare.specs.Compare.{lines_verdict, state_verdict}
+use Rattle.trace_compare.specs.Compare.{IsReadUpTo, lines_verdict, state_verdict}
+use Rattle.trace_compare.specs.NamedLines.{HasGone, none_read}
 
 -- a verdict that was reached, else what the rest makes of it
 abbrev pub decided : Option Verdict → Verdict → Verdict
@@ -25,13 +28,26 @@ abbrev pub IsOpen : Comparison → List ℕ → List (List ℕ) → Type 0
 IsOpen now line lines =
     now.is_state ≡ true → 0 < length (drop now.at now.text.items) + (length line + length lines)
 
--- what the bytes that are left make of it, where these bytes of a line have come
-abbrev pub bytes_left : Comparison → List ℕ → List ℕ → Verdict
-bytes_left now line rest = lines_left now (slice_split is_line_end (line ++ rest))
+-- what the bytes that are left make of it
+abbrev pub bytes_left : Comparison → List ℕ → Verdict
+bytes_left now bytes = lines_left now (slice_split is_line_end bytes)
 
 -- how many lines end in these bytes
 abbrev pub line_ends : List ℕ → ℕ
 line_ends bytes = count_by is_line_end bytes
+
+-- the state line hasn't come, and all choices so far were accepted
+abbrev pub IsReading : Comparison → Type 0
+IsReading now = (now.is_state ≡ false) × (now.accepted ≡ true)
+
+-- so many of these bytes are the run's own lines, of which each is counted, and what stands behind them makes the same of it
+pub record GoesOver (before after : Comparison) (bytes : List ℕ) (count : ℕ) : Type 0 where
+  pub within : count ≤ length bytes
+  pub left : (more : List ℕ) → bytes_left before (bytes ++ more) ≡ bytes_left after (drop count bytes ++ more)
+  pub counted : before.number + line_ends (take count bytes) ≤ after.number
+  pub number : after.number ≤ before.number + count
+  pub text : after.text ≡ before.text
+  pub at : after.at ≡ before.at
 
 -- a verdict stands at the line with this number, or at a later one
 abbrev pub StandsFrom : ℕ → Verdict → Type 0
@@ -39,19 +55,34 @@ StandsFrom n verdict.Same = ⊥
 StandsFrom n (verdict.Differs line) = n ≤ line
 StandsFrom n (verdict.NotATrace line) = n ≤ line
 
--- so many lines more have ended, of which each is counted unless a verdict was reached, and that stands no earlier
-abbrev pub HasCounted : ℕ → ℕ → ℕ → Option Verdict → Type 0
-HasCounted before ends after None = before + ends ≤ after
-HasCounted before ends after (Some v) = StandsFrom before v
+-- a line is counted unless a verdict was reached, and that stands no earlier
+abbrev pub HasCounted : ℕ → ℕ → Option Verdict → Type 0
+HasCounted before after None = after ≡ before + 1
+HasCounted before after (Some v) = StandsFrom before v
 
--- these bytes are those of one line, and not too many, and no line of the state text has more
-pub record IsReading (now : Comparison) (line : List ℕ) : Type 0 where
-  pub one_line : All (λ byte. is_line_end byte ≡ false) line
-  pub few : length line ≤ 65536
-  pub within : now.at ≤ length now.text.items
-  pub short : HasNoLongLine now.text.items
+-- a line that ended so was the run's, or it reached a verdict, whatever comes behind it where something may
+abbrev pub HasJudged : Comparison → Comparison → LineEnded → List ℕ → Option Verdict → Type 0
+HasJudged before after ended line None =
+    (ended ≡ how.Whole) × (after.number ≡ before.number + 1)
+    × ((rest : List ℕ) → bytes_left before ((line ++ 10 ∷ []) ++ rest) ≡ bytes_left after rest)
+HasJudged before after how.Whole line (Some v) =
+    StandsFrom before.number v × ((rest : List ℕ) → bytes_left before ((line ++ 10 ∷ []) ++ rest) ≡ v)
+HasJudged before after how.AtEnd line (Some v) =
+    ((v ≡ verdict.Same) ⊎ StandsFrom before.number v) × (bytes_left before line ≡ v)
+HasJudged before after how.TooLong line (Some v) =
+    StandsFrom before.number v × ((rest : List ℕ) → bytes_left before (line ++ rest) ≡ v)
 
 -- these bytes reach a verdict: the trace ends with them, or whatever comes after them makes no difference
 abbrev pub HasLeft : Comparison → List ℕ → Option (List ℕ) → Verdict → Type 0
 HasLeft now bytes left v =
-    (IsAtEnd left × (bytes_left now [] bytes ≡ v)) ⊎ ((rest : List ℕ) → bytes_left now [] (bytes ++ rest) ≡ v)
+    (IsAtEnd left × (bytes_left now bytes ≡ v)) ⊎ ((rest : List ℕ) → bytes_left now (bytes ++ rest) ≡ v)
+
+-- a comparison that began so has come to this behind as many lines at least, which reached no verdict: a byte each was taken at
+-- least, and what is held and comes makes the same of it
+pub record HasComeTo (first now : Comparison) (lines : Lines) (turns : ℕ) (before after : Option (List ℕ)) : Type 0 where
+  pub bytes : List ℕ
+  pub gone : HasGone bytes none_read lines before after
+  pub left : (more : List ℕ) → bytes_left first (bytes ++ (lines.held ++ more)) ≡ bytes_left now (lines.held ++ more)
+  pub counted : 1 + line_ends bytes ≤ now.number
+  pub some : turns ≤ length bytes
+  pub far : IsReadUpTo now.number before after

@@ -67,7 +67,7 @@ Names n bytes left is =
 abbrev pub HasRead : Option (List ℕ) → Option (List ℕ) → Naming → Type 0
 HasRead before after is = (bytes : List ℕ) × (Consumes before after bytes × Names 1 bytes after is)
 
--- the same of its choices, or the number of the line
+-- a trace was read so far, and these are its choices, or the number of the line that is none of a trace
 abbrev pub HasNamed : Option (List ℕ) → Option (List ℕ) → Result (List Choice) ℕ → Type 0
 HasNamed before after is =
     (naming : Naming) × (HasRead before after naming × (is ≡ choices_or_line naming.choices naming.no_line))

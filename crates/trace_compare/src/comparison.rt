@@ -1,15 +1,16 @@
-ghost use Rattle.std.specs.Prelude.{◌≡◌, ◌≢◌, ◌⊎◌, IsTrue, IfErr, Err, OnErr, false, true, ◌==◌, ◌&&◌, ◌<◌, ◌≤◌, ◌+◌, ◌-◌, ◌++◌, ◌∷◌, [], List, ℕ, IfOk, OnOk, drop, length, take};
+ghost use Rattle.std.specs.Prelude.{◌≡◌, ◌≢◌, ◌⊎◌, IsTrue, IfErr, Err, false, true, ◌==◌, ◌&&◌, ◌<◌, ◌≤◌, ◌+◌, ◌-◌, ◌++◌, ◌∷◌, [], List, ℕ, Option, None, Ok, IfOk, drop, length, take};
 ghost use Rattle.std.specs.Io.KnownBytes.{Consumes};
-ghost use Rattle.std.specs.List.{position_or_len};
-ghost use Rattle.line_reader.specs.Words.{is_line_end};
+ghost use Rattle.std.specs.Str.{bytes_eq};
+ghost use Rattle.byte_ports.specs.SourceLines.{HasCome, IsOneLine};
 ghost use Rattle.thread_machine.specs.World.{world_of};
 ghost use Rattle.trace_text.specs.RunText.{GivesOnAndOn};
 ghost use Rattle.trace_text.specs.Start.{IsRefused, is_want_of_memory};
+ghost use Rattle.trace_text.specs.Reading.{HasNoLongLine, choice_in};
 ghost use Rattle.trace_compare.specs.Compare.{HasCompared, IsReadNoFurther, choice_verdict, lines_verdict, state_verdict};
-ghost use Rattle.trace_text.specs.Reading.{HasNoLongLine, choice_in, is_state_line};
-ghost use Rattle.trace_compare.specs.Comparing.{HasCounted, HasLeft, IsOpen, IsReading, StandsFrom, bytes_left, decided, line_ends, lines_left};
+ghost use Rattle.trace_compare.specs.Comparing.{GoesOver, HasCounted, HasJudged, HasLeft, IsOpen, IsReading, StandsFrom, decided, lines_left};
 
-use byte_ports::Source;
+use crate::naming::MOST_LINES;
+use byte_ports::{LineEnded, Source, SourceLines};
 use line_reader::words::length_before;
 use loader::LoadFault;
 use row_code::Image;
@@ -23,15 +24,6 @@ use trace_text::play::{line_of_choice, own_line_of_choice};
 use trace_text::start::{StartFault, first_machine};
 use trace_text::state::state_text;
 use trace_text::trace_line::{choice_in, is_state_line};
-
-/// How many bytes of a trace are read at a time.
-const PIECE: usize = 16_384;
-
-/// How often a trace is read at most.
-const MOST_READS: u64 = 1_000_000_000;
-
-/// How many bytes a line of a trace has at most, without its LF.
-const MOST_BYTES: usize = 65_536;
 
 /// How many bytes the line of a choice that was played has at most.
 const MOST_OWN: usize = 120;
@@ -83,6 +75,13 @@ struct Comparison {
     number: u64,
 }
 
+/// Whether a text is this line and its LF.
+fn is_line(line: &[u8], text: &[u8]) -> bool
+    ensures { result ≡ bytes_eq (line.now ++ (10 ∷ [])) text.now }
+{
+    text.starts_with(line) && rest_of(text, line.len()) == b"\n".as_slice()
+}
+
 impl Comparison {
     /// Before the first line.
     fn new(alloc: Global, machine: Machine) -> Comparison
@@ -111,9 +110,8 @@ impl Comparison {
         }
     }
 
-    /// Goes on over a line that names a choice, if it names one. The line is given without its LF and with it.
-    fn take_choice(&mut self, line: &[u8], whole: &[u8]) -> Result<Option<Verdict>, AllocError>
-        requires whole { whole.now ≡ line.now ++ (10 ∷ []) }
+    /// Goes on over a line that names a choice, if it names one.
+    fn take_choice(&mut self, line: &[u8]) -> Result<Option<Verdict>, AllocError>
         requires number { self.old.number < 9223372036854775807 }
         requires few { length line.now ≤ 65536 }
         ensures verdict { (lines : List (List ℕ)) → IfOk result (λ verdict. choice_verdict
@@ -122,8 +120,7 @@ impl Comparison {
             ≡ decided verdict (lines_verdict self.new.accepted (world_of self.new.machine) self.new.number lines)) }
         ensures text { (self.new.text ≡ self.old.text) × (self.new.at ≡ self.old.at) }
         ensures stage { self.new.is_state ≡ self.old.is_state }
-        ensures number { self.new.number ≤ self.old.number + 1 }
-        ensures counted { IfOk result (λ verdict. HasCounted self.old.number 1 self.new.number verdict) }
+        ensures counted { IfOk result (λ verdict. HasCounted self.old.number self.new.number verdict) }
     {
         let Some(choice) = choice_in(line) else {
             return Ok(Some(Verdict::NotATrace { line: self.number }));
@@ -135,7 +132,7 @@ impl Comparison {
             Ok(accepted) => accepted,
             Err(error) => return Err(error),
         };
-        if whole != self.expected.as_slice() {
+        if !is_line(line, self.expected.as_slice()) {
             return Ok(Some(Verdict::Differs { line: self.number }));
         }
         self.accepted = accepted;
@@ -144,8 +141,7 @@ impl Comparison {
     }
 
     /// Goes on over a line of the state text, behind which something follows or an LF.
-    fn take_state_line(&mut self, line: &[u8], whole: &[u8]) -> Option<Verdict>
-        requires whole { whole.now ≡ line.now ++ (10 ∷ []) }
+    fn take_state_line(&mut self, line: &[u8]) -> Option<Verdict>
         requires number { self.old.number < 9223372036854775807 }
         requires few { length line.now ≤ 65536 }
         requires at { self.old.at ≤ length self.old.text.items }
@@ -156,13 +152,12 @@ impl Comparison {
         ensures text { self.new.text ≡ self.old.text }
         ensures at { self.new.at ≤ length self.new.text.items }
         ensures stage { self.new.is_state ≡ self.old.is_state }
-        ensures number { self.new.number ≤ self.old.number + 1 }
-        ensures counted { HasCounted self.old.number 1 self.new.number result }
+        ensures counted { HasCounted self.old.number self.new.number result }
     {
         let text = self.text.as_slice();
         let due = rest_of(text, self.at);
         let end = (length_before(b'\n', due) + 1).min(due.len());
-        if due.is_empty() || whole != first_bytes(due, end) {
+        if due.is_empty() || !is_line(line, first_bytes(due, end)) {
             return Some(Verdict::Differs { line: self.number });
         }
         self.at += end;
@@ -170,14 +165,8 @@ impl Comparison {
         None
     }
 
-    /// Goes on over a line, which is given without its LF and with it.
-    fn take_line(
-        &mut self,
-        alloc: Global,
-        line: &[u8],
-        whole: &[u8],
-    ) -> Result<Option<Verdict>, AllocError>
-        requires whole { whole.now ≡ line.now ++ (10 ∷ []) }
+    /// Goes on over a line.
+    fn take_line(&mut self, alloc: Global, line: &[u8]) -> Result<Option<Verdict>, AllocError>
         requires number { self.old.number < 9223372036854775807 }
         requires few { length line.now ≤ 65536 }
         requires at { self.old.at ≤ length self.old.text.items }
@@ -186,14 +175,13 @@ impl Comparison {
             ≡ decided verdict (lines_left self.new lines)) }
         ensures at { self.new.at ≤ length self.new.text.items }
         ensures short { HasNoLongLine self.old.text.items → HasNoLongLine self.new.text.items }
-        ensures number { self.new.number ≤ self.old.number + 1 }
-        ensures counted { IfOk result (λ verdict. HasCounted self.old.number 1 self.new.number verdict) }
+        ensures counted { IfOk result (λ verdict. HasCounted self.old.number self.new.number verdict) }
     {
         if self.is_state {
-            return Ok(self.take_state_line(line, whole));
+            return Ok(self.take_state_line(line));
         }
         if !is_state_line(line) {
-            return self.take_choice(line, whole);
+            return self.take_choice(line);
         }
         self.text = match state_text(alloc, &self.machine) {
             Ok(text) => text,
@@ -201,7 +189,7 @@ impl Comparison {
         };
         self.at = 0;
         self.is_state = true;
-        Ok(self.take_state_line(line, whole))
+        Ok(self.take_state_line(line))
     }
 
     /// Goes on over the run's line of the choice that was just played, where these bytes begin with it. Answers how many
@@ -234,14 +222,9 @@ impl Comparison {
     fn take_idle_line(&mut self, bytes: &[u8]) -> usize
         requires room { 120 ≤ length bytes.now }
         requires number { self.old.number < 9223372036854775807 }
-        requires reading { (self.old.is_state ≡ false) × (self.old.accepted ≡ true) }
-        ensures verdict { (more : List ℕ) → bytes_left self.old [] (bytes.now ++ more)
-            ≡ bytes_left self.new [] (drop result bytes.now ++ more) }
-        ensures text { (self.new.text ≡ self.old.text) × (self.new.at ≡ self.old.at) }
-        ensures reading { (self.new.is_state ≡ false) × (self.new.accepted ≡ true) }
-        ensures within { result ≤ length bytes.now }
-        ensures number { self.new.number ≤ self.old.number + result }
-        ensures counted { self.old.number + line_ends (take result bytes.now) ≤ self.new.number }
+        requires reading { IsReading self.old }
+        ensures over { GoesOver self.old self.new bytes.now result }
+        ensures reading { IsReading self.new }
     {
         let choice = self.last;
         if usize::from(choice.thread) >= self.machine.thread_count() {
@@ -268,14 +251,8 @@ impl Comparison {
     fn take_own_line(&mut self, bytes: &[u8]) -> Result<usize, AllocError>
         requires room { 120 ≤ length bytes.now }
         requires number { self.old.number < 9223372036854775807 }
-        requires reading { (self.old.is_state ≡ false) × (self.old.accepted ≡ true) }
-        ensures verdict { (more : List ℕ) → IfOk result (λ count. bytes_left self.old [] (bytes.now ++ more)
-            ≡ bytes_left self.new [] (drop count bytes.now ++ more)) }
-        ensures text { (self.new.text ≡ self.old.text) × (self.new.at ≡ self.old.at) }
-        ensures within { IfOk result (λ count. count ≤ length bytes.now) }
-        ensures number { IfOk result (λ count. self.new.number ≤ self.old.number + count) }
-        ensures counted { IfOk result (λ count. self.old.number + line_ends (take count bytes.now) ≤ self.new.number) }
-        ensures err { OnErr result (self.new.number ≡ self.old.number) }
+        requires reading { IsReading self.old }
+        ensures { IfOk result (λ count. GoesOver self.old self.new bytes.now count) }
     {
         self.next.move_to(self.machine.choices() + 1);
         let Some(choice) = choice_behind(bytes, self.next.count()) else {
@@ -305,14 +282,9 @@ impl Comparison {
     fn take_line_again(&mut self, bytes: &[u8]) -> usize
         requires room { 120 ≤ length bytes.now }
         requires number { self.old.number < 9223372036854775807 }
-        requires reading { (self.old.is_state ≡ false) × (self.old.accepted ≡ true) }
-        ensures verdict { (more : List ℕ) → bytes_left self.old [] (bytes.now ++ more)
-            ≡ bytes_left self.new [] (drop result bytes.now ++ more) }
-        ensures text { (self.new.text ≡ self.old.text) × (self.new.at ≡ self.old.at) }
-        ensures reading { (self.new.is_state ≡ false) × (self.new.accepted ≡ true) }
-        ensures within { result ≤ length bytes.now }
-        ensures number { self.new.number ≤ self.old.number + result }
-        ensures counted { self.old.number + line_ends (take result bytes.now) ≤ self.new.number }
+        requires reading { IsReading self.old }
+        ensures over { GoesOver self.old self.new bytes.now result }
+        ensures reading { IsReading self.new }
     {
         if !self.again || self.machine.steps() != self.steps {
             return 0;
@@ -327,13 +299,7 @@ impl Comparison {
     fn take_next_line(&mut self, bytes: &[u8]) -> Result<usize, AllocError>
         requires room { 120 ≤ length bytes.now }
         requires number { self.old.number < 9223372036854775807 }
-        ensures verdict { (more : List ℕ) → IfOk result (λ count. bytes_left self.old [] (bytes.now ++ more)
-            ≡ bytes_left self.new [] (drop count bytes.now ++ more)) }
-        ensures text { (self.new.text ≡ self.old.text) × (self.new.at ≡ self.old.at) }
-        ensures within { IfOk result (λ count. count ≤ length bytes.now) }
-        ensures number { IfOk result (λ count. self.new.number ≤ self.old.number + count) }
-        ensures counted { IfOk result (λ count. self.old.number + line_ends (take count bytes.now) ≤ self.new.number) }
-        ensures err { OnErr result (self.new.number ≤ self.old.number) }
+        ensures { IfOk result (λ count. GoesOver self.old self.new bytes.now count) }
     {
         if self.is_state || !self.accepted {
             return Ok(0);
@@ -345,16 +311,11 @@ impl Comparison {
         self.take_own_line(bytes)
     }
 
-    /// The same over as many lines as there are. The last bytes, in which a line may not lie whole, are left.
+    /// Goes on over the run's own lines, as many as these bytes begin with. The last bytes, in which a line may not lie whole,
+    /// are left.
     fn take_own_lines(&mut self, bytes: &[u8]) -> Result<usize, AllocError>
         requires number { self.old.number + length bytes.now < 9223372036854775807 }
-        ensures verdict { (more : List ℕ) → IfOk result (λ count. bytes_left self.old [] (bytes.now ++ more)
-            ≡ bytes_left self.new [] (drop count bytes.now ++ more)) }
-        ensures text { (self.new.text ≡ self.old.text) × (self.new.at ≡ self.old.at) }
-        ensures within { IfOk result (λ count. count ≤ length bytes.now) }
-        ensures number { IfOk result (λ count. self.new.number ≤ self.old.number + count) }
-        ensures counted { IfOk result (λ count. self.old.number + line_ends (take count bytes.now) ≤ self.new.number) }
-        ensures err { OnErr result (self.new.number ≤ self.old.number + length bytes.now) }
+        ensures { IfOk result (λ count. GoesOver self.old self.new bytes.now count) }
     {
         let mut done = 0;
         while bytes.len() - done >= MOST_OWN {
@@ -399,8 +360,7 @@ impl Comparison {
     }
 
     /// The verdict with what stands behind the last LF.
-    fn end(&mut self, alloc: Global, line: &[u8], whole: &[u8]) -> Result<Verdict, AllocError>
-        requires whole { whole.now ≡ line.now ++ (10 ∷ []) }
+    fn end(&mut self, alloc: Global, line: &[u8]) -> Result<Verdict, AllocError>
         requires number { self.old.number < 9223372036854775807 }
         requires few { length line.now ≤ 65536 }
         requires at { self.old.at ≤ length self.old.text.items }
@@ -410,10 +370,36 @@ impl Comparison {
         if self.is_whole(line) {
             return Ok(Verdict::Same);
         }
-        match self.take_line(alloc, line, whole) {
+        match self.take_line(alloc, line) {
             Ok(Some(verdict)) => Ok(verdict),
             Ok(None) => Ok(self.end_verdict()),
             Err(error) => Err(error),
+        }
+    }
+
+    /// Goes on over a line that was read, by how it ended.
+    fn take_ended(
+        &mut self,
+        alloc: Global,
+        line: &[u8],
+        ended: LineEnded,
+    ) -> Result<Option<Verdict>, AllocError>
+        requires number { self.old.number < 9223372036854775807 }
+        requires at { self.old.at ≤ length self.old.text.items }
+        requires short { HasNoLongLine self.old.text.items }
+        requires one { IsOneLine line.now }
+        requires came { (left : Option (List ℕ)) × HasCome ended line.now left }
+        ensures judged { IfOk result (λ verdict. HasJudged self.old self.new ended line.now verdict) }
+        ensures at { result ≡ Ok None → self.new.at ≤ length self.new.text.items }
+        ensures short { result ≡ Ok None → HasNoLongLine self.new.text.items }
+    {
+        match ended {
+            LineEnded::Whole => self.take_line(alloc, line),
+            LineEnded::AtEnd => match self.end(alloc, line) {
+                Ok(verdict) => Ok(Some(verdict)),
+                Err(error) => Err(error),
+            },
+            LineEnded::TooLong => Ok(Some(Verdict::NotATrace { line: self.number })),
         }
     }
 }
@@ -463,186 +449,13 @@ fn last_line(text: &[u8]) -> &[u8] {
     &text[start.min(text.len())..]
 }
 
-/// A line without its LF.
-fn before_lf(whole: &[u8]) -> &[u8]
-    requires { 0 < length whole.now }
-    ensures { (line : List ℕ) → whole.now ≡ line ++ (10 ∷ []) → result.now ≡ line }
-{
-    let length = whole.len() - 1;
-    &whole[..length]
-}
-
-/// Goes on over the next byte of the trace, after those of a line that have come.
-fn take_byte(
-    now: &mut Comparison,
+/// Compares a trace with the run from the world in which the comparison stands. The run's own lines are taken where they lie,
+/// any other line is read.
+fn compare_lines<S: Source>(
     alloc: Global,
-    line: &mut Vec<u8>,
-    byte: u8,
-) -> Result<Option<Verdict>, AllocError>
-    requires reading { IsReading now.old line.old.items }
-    requires number { now.old.number < 9223372036854775807 }
-    ensures verdict { (rest : List ℕ) → IfOk result (λ verdict.
-        bytes_left now.old line.old.items (byte ∷ rest)
-        ≡ decided verdict (bytes_left now.new line.new.items rest)) }
-    ensures reading { OnOk result (IsReading now.new line.new.items) }
-    ensures number { now.new.number ≤ now.old.number + 1 }
-    ensures counted { IfOk result (λ verdict. HasCounted now.old.number (line_ends (byte ∷ [])) now.new.number verdict) }
-{
-    if byte != b'\n' {
-        let length = line.as_slice().len();
-        if length == MOST_BYTES {
-            return Ok(Some(Verdict::NotATrace { line: now.number }));
-        }
-        line.push(byte)?;
-        return Ok(None);
-    }
-    line.push(byte)?;
-    let whole = line.as_slice();
-    let verdict = now.take_line(alloc, before_lf(whole), whole);
-    line.clear();
-    verdict
-}
-
-/// Goes on over the line that these bytes begin with, up to its LF at this place.
-fn take_whole_line(
     now: &mut Comparison,
-    alloc: Global,
-    bytes: &[u8],
-    end: usize,
-) -> Result<Option<Verdict>, AllocError>
-    requires end { end ≡ position_or_len is_line_end bytes.now }
-    requires there { end < length bytes.now }
-    requires few { end ≤ 65536 }
-    requires number { now.old.number < 9223372036854775807 }
-    requires at { now.old.at ≤ length now.old.text.items }
-    ensures verdict { (more : List ℕ) → IfOk result (λ verdict.
-        bytes_left now.old [] (bytes.now ++ more)
-        ≡ decided verdict (bytes_left now.new [] (drop (end + 1) bytes.now ++ more))) }
-    ensures at { now.new.at ≤ length now.new.text.items }
-    ensures short { HasNoLongLine now.old.text.items → HasNoLongLine now.new.text.items }
-    ensures number { now.new.number ≤ now.old.number + 1 }
-    ensures counted { IfOk result (λ verdict. HasCounted now.old.number (line_ends (take (end + 1) bytes.now)) now.new.number verdict) }
-{
-    let whole = first_bytes(bytes, end + 1);
-    now.take_line(alloc, first_bytes(bytes, end), whole)
-}
-
-/// Goes on over some of the next bytes, after those of a line that have come: a line that lies whole in them is taken
-/// where it lies, else one byte. Answers how many.
-fn take_some(
-    now: &mut Comparison,
-    alloc: Global,
-    line: &mut Vec<u8>,
-    rest: &[u8],
-) -> Result<(Option<Verdict>, usize), AllocError>
-    requires some { 0 < length rest.now }
-    requires reading { IsReading now.old line.old.items }
-    requires number { now.old.number < 9223372036854775807 }
-    ensures verdict { (more : List ℕ) → IfOk result (λ taken.
-        bytes_left now.old line.old.items (rest.now ++ more)
-        ≡ decided taken.0 (bytes_left now.new line.new.items (drop taken.1 rest.now ++ more))) }
-    ensures reading { OnOk result (IsReading now.new line.new.items) }
-    ensures some { IfOk result (λ taken. 0 < taken.1) }
-    ensures within { IfOk result (λ taken. taken.1 ≤ length rest.now) }
-    ensures number { now.new.number ≤ now.old.number + 1 }
-    ensures counted { IfOk result (λ taken. HasCounted now.old.number (line_ends (take taken.1 rest.now)) now.new.number taken.0) }
-{
-    if line.is_empty() {
-        let end = length_before(b'\n', rest);
-        if end < rest.len() && end <= MOST_BYTES {
-            return match take_whole_line(now, alloc, rest, end) {
-                Ok(verdict) => Ok((verdict, end + 1)),
-                Err(error) => Err(error),
-            };
-        }
-    }
-    match take_byte(now, alloc, line, rest[0]) {
-        Ok(verdict) => Ok((verdict, 1)),
-        Err(error) => Err(error),
-    }
-}
-
-/// The same, of as many lines as lie whole in them and are the run's own, where there are some.
-fn take_more(
-    now: &mut Comparison,
-    alloc: Global,
-    line: &mut Vec<u8>,
-    rest: &[u8],
-) -> Result<(Option<Verdict>, usize), AllocError>
-    requires some { 0 < length rest.now }
-    requires reading { IsReading now.old line.old.items }
-    requires number { now.old.number + length rest.now < 9223372036854775807 }
-    ensures verdict { (more : List ℕ) → IfOk result (λ taken.
-        bytes_left now.old line.old.items (rest.now ++ more)
-        ≡ decided taken.0 (bytes_left now.new line.new.items (drop taken.1 rest.now ++ more))) }
-    ensures reading { OnOk result (IsReading now.new line.new.items) }
-    ensures some { IfOk result (λ taken. 0 < taken.1) }
-    ensures within { IfOk result (λ taken. taken.1 ≤ length rest.now) }
-    ensures number { IfOk result (λ taken. now.new.number ≤ now.old.number + taken.1) }
-    ensures counted { IfOk result (λ taken. HasCounted now.old.number (line_ends (take taken.1 rest.now)) now.new.number taken.0) }
-    ensures err { OnErr result (now.new.number ≤ now.old.number + length rest.now) }
-{
-    if !line.is_empty() {
-        return take_some(now, alloc, line, rest);
-    }
-    match now.take_own_lines(rest) {
-        Ok(0) => take_some(now, alloc, line, rest),
-        Ok(count) => Ok((None, count)),
-        Err(error) => Err(error),
-    }
-}
-
-/// Goes on over a piece of the trace.
-fn take_piece(
-    now: &mut Comparison,
-    alloc: Global,
-    line: &mut Vec<u8>,
-    piece: &[u8],
-) -> Result<Option<Verdict>, AllocError>
-    requires reading { IsReading now.old line.old.items }
-    requires number { now.old.number + length piece.now < 9223372036854775807 }
-    ensures verdict { (rest : List ℕ) → IfOk result (λ verdict.
-        bytes_left now.old line.old.items (piece.now ++ rest)
-        ≡ decided verdict (bytes_left now.new line.new.items rest)) }
-    ensures reading { OnOk result (IsReading now.new line.new.items) }
-    ensures number { now.new.number ≤ now.old.number + length piece.now }
-    ensures counted { IfOk result (λ verdict. HasCounted now.old.number (line_ends piece.now) now.new.number verdict) }
-{
-    let mut done = 0;
-    while done < piece.len() {
-        match take_more(now, alloc, line, rest_of(piece, done)) {
-            Ok((None, count)) => done += count,
-            Ok((Some(verdict), _)) => return Ok(Some(verdict)),
-            Err(error) => return Err(error),
-        }
-    }
-    Ok(None)
-}
-
-/// The verdict where the trace ends behind these bytes of a line.
-fn last_verdict(
-    now: &mut Comparison,
-    alloc: Global,
-    line: &mut Vec<u8>,
-) -> Result<Verdict, AllocError>
-    requires reading { IsReading now.old line.old.items }
-    requires number { now.old.number < 9223372036854775807 }
-    ensures verdict { IfOk result (λ verdict. bytes_left now.old line.old.items [] ≡ verdict) }
-    ensures stands { IfOk result (λ verdict. (verdict ≡ Verdict.Same) ⊎ StandsFrom now.old.number verdict) }
-{
-    line.push(b'\n')?;
-    let whole = line.as_slice();
-    now.end(alloc, before_lf(whole), whole)
-}
-
-/// Goes on to the verdict.
-fn compare_stream<S: Source>(
-    now: &mut Comparison,
-    alloc: Global,
-    line: &mut Vec<u8>,
     trace: &mut S,
 ) -> Result<Verdict, CompareFault>
-    requires line { line.old.items ≡ [] }
     requires number { now.old.number ≡ 1 }
     requires at { now.old.at ≤ length now.old.text.items }
     requires short { HasNoLongLine now.old.text.items }
@@ -653,51 +466,29 @@ fn compare_stream<S: Source>(
     ensures read { result ≡ Err CompareFault.Read → IsTrue (S.has_failed trace.new)
         ⊎ GivesOnAndOn (S.left trace.old) (S.left trace.new) }
     ensures reads { S.reads trace.new ≤ S.reads trace.old + 1000000000 }
+    ensures sound { result ≢ Err CompareFault.Read → S.has_failed trace.old ≡ false → S.has_failed trace.new ≡ false }
     ensures load { (fault : LoadFault) → result ≢ Err (CompareFault.Load fault) }
 {
-    let mut piece = [0u8; PIECE];
-    for _ in 0..MOST_READS {
-        let count = match trace.pull(&mut piece) {
+    let Ok(mut lines) = SourceLines::new(alloc) else {
+        return Err(CompareFault::Memory);
+    };
+    for _ in 0..MOST_LINES {
+        let count = match now.take_own_lines(lines.held()) {
             Ok(count) => count,
+            Err(_) => return Err(CompareFault::Memory),
+        };
+        lines.skip(count);
+        let ended = match lines.read_line(trace) {
+            Ok(ended) => ended,
             Err(_) => return Err(CompareFault::Read),
         };
-        if count == 0 {
-            return match last_verdict(now, alloc, line) {
-                Ok(verdict) => Ok(verdict),
-                Err(_) => Err(CompareFault::Memory),
-            };
-        }
-        match take_piece(now, alloc, line, &piece[..count]) {
+        match now.take_ended(alloc, lines.line(), ended) {
             Ok(None) => {}
             Ok(Some(verdict)) => return Ok(verdict),
             Err(_) => return Err(CompareFault::Memory),
         }
     }
     Err(CompareFault::Read)
-}
-
-/// Compares a trace with the run from the world in which the comparison stands.
-fn compare_all<S: Source>(
-    alloc: Global,
-    now: &mut Comparison,
-    trace: &mut S,
-) -> Result<Verdict, CompareFault>
-    requires number { now.old.number ≡ 1 }
-    requires at { now.old.at ≤ length now.old.text.items }
-    requires short { HasNoLongLine now.old.text.items }
-    ensures verdict { IfOk result (λ verdict. (bytes : List ℕ)
-        × (Consumes (S.left trace.old) (S.left trace.new) bytes
-        × HasLeft now.old bytes (S.left trace.new) verdict)) }
-    ensures far { IfOk result (λ verdict. IsReadNoFurther (S.left trace.old) (S.left trace.new) verdict) }
-    ensures read { result ≡ Err CompareFault.Read → IsTrue (S.has_failed trace.new)
-        ⊎ GivesOnAndOn (S.left trace.old) (S.left trace.new) }
-    ensures reads { S.reads trace.new ≤ S.reads trace.old + 1000000000 }
-    ensures load { (fault : LoadFault) → result ≢ Err (CompareFault.Load fault) }
-{
-    match Vec::with_capacity(alloc, MOST_BYTES + 1) {
-        Ok(mut line) => compare_stream(now, alloc, &mut line, trace),
-        Err(_) => Err(CompareFault::Memory),
-    }
 }
 
 /// A verdict, and the run's line where the trace's differs.
@@ -719,7 +510,6 @@ pub fn compare<S: Source>(
 ) -> Result<Verdict, CompareFault>
     ensures verdict { IfOk result (λ verdict.
         HasCompared image (S.left trace.old) (S.left trace.new) verdict) }
-
     ensures far { IfOk result (λ verdict. IsReadNoFurther (S.left trace.old) (S.left trace.new) verdict) }
     ensures load { (fault : LoadFault) → result ≡ Err (CompareFault.Load fault)
         → IsRefused fault image × (S.left trace.new ≡ S.left trace.old) }
@@ -729,18 +519,19 @@ pub fn compare<S: Source>(
     ensures read { result ≡ Err CompareFault.Read → IsTrue (S.has_failed trace.new)
         ⊎ GivesOnAndOn (S.left trace.old) (S.left trace.new) }
     ensures reads { S.reads trace.new ≤ S.reads trace.old + 1000000000 }
+    ensures sound { result ≢ Err CompareFault.Read → S.has_failed trace.old ≡ false → S.has_failed trace.new ≡ false }
 {
     match first_machine(alloc, image) {
         Ok(machine) => {
             let mut now = Comparison::new(alloc, machine);
-            compare_all(alloc, &mut now, trace)
+            compare_lines(alloc, &mut now, trace)
         }
         Err(StartFault::Load(fault)) => Err(CompareFault::Load(fault)),
         Err(StartFault::Memory) => Err(CompareFault::Memory),
     }
 }
 
-/// The same, with the run's line beside a verdict that a line differs. Only that line is copied.
+/// As `compare` does, with the run's line beside a verdict that a line differs. Only that line is copied.
 pub fn compare_shown<S: Source>(
     alloc: Global,
     image: Image,
@@ -757,11 +548,12 @@ pub fn compare_shown<S: Source>(
     ensures read { result ≡ Err CompareFault.Read → IsTrue (S.has_failed trace.new)
         ⊎ GivesOnAndOn (S.left trace.old) (S.left trace.new) }
     ensures reads { S.reads trace.new ≤ S.reads trace.old + 1000000000 }
+    ensures sound { result ≢ Err CompareFault.Read → S.has_failed trace.old ≡ false → S.has_failed trace.new ≡ false }
 {
     match first_machine(alloc, image) {
         Ok(machine) => {
             let mut now = Comparison::new(alloc, machine);
-            let verdict = compare_all(alloc, &mut now, trace)?;
+            let verdict = compare_lines(alloc, &mut now, trace)?;
             with_run_line(alloc, &now, verdict)
         }
         Err(StartFault::Load(fault)) => Err(CompareFault::Load(fault)),

@@ -1,4 +1,3 @@
-mod Places
 mod Wholes
 pub mod LineEnds
 pub mod Traces

@@ -17,7 +17,7 @@ pub room_for_count : (bytes line : List ℕ) (start n : ℕ) → length bytes �
 room_for_count bytes line start n long within is few fits =
     omega (arith, ap length is, length-drop start bytes, long, few, length-decimal-le 20 n (omega arith) (omega arith) fits)
 
--- the same, of at most 10 digits and a sign
+-- where it isn't long, for one of at most 10 digits and a sign
 pub room_for_value : (bytes line : List ℕ) (start n : ℕ) → length bytes ≡ 192 → start ≤ 192 → drop start bytes ≡ line
     → length line + 11 ≤ 192 → n < 2 ^ 32 → length (decimal n) + 1 ≤ start
 room_for_value bytes line start n long within is few fits =
@@ -112,7 +112,7 @@ counted_up_alone block count n next last long few is last_is low one_more fits =
     (is ∙ sym (append-nil (decimal n))) (last_is ∙ ap (λ i. get_or block i 0) (sym place)) low fits' in
     ap (λ i. drop (20 - count) (set block i (last + 1))) (sym place) ∙ up.1 ∙ append-nil (decimal (n + 1)) ∙ ap decimal (sym one_more)
 
--- the same where the last digit is a 9, and the one before it isn't
+-- counted up by one where the last digit is a 9, and the one before it isn't
 pub carried : (block : List ℕ) (count n next ten : ℕ) → length block ≡ 20 → count ≤ 20
     → drop (20 - count) block ≡ decimal n → get_or block 19 0 ≡ 57 → ten ≡ get_or block 18 0 → ten < 57
     → next ≡ n + 1 → 10 < next → next < 2 ^ 64

@@ -1,6 +1,6 @@
 -- What a choice's own line names.
-use Rattle.std.proofs.Common.{◌≡◌, ◌∙◌, ◌+◌, ◌/◌, ◌%◌, ◌^◌, ◌<◌, ◌≤◌, ◌==◌, ◌&&◌, not, ℕ, zero, suc, Bool, true, false, List, [], ◌∷◌, ◌++◌, length, take, drop, cond, if◌then◌else◌, Option, Some, None, codes, decimal, refl, ap, sym, subst, arith, append_assoc, length-append, ℤ}
-use Rattle.std.specs.Fmt.{signed_decimal, digits, digits_onto, digit_glyph}
+use Rattle.std.proofs.Common.{◌≡◌, ◌∙◌, ◌+◌, ◌^◌, ◌<◌, ◌≤◌, ◌==◌, ◌&&◌, not, ℕ, Bool, true, false, List, [], ◌∷◌, ◌++◌, length, take, drop, cond, if◌then◌else◌, Option, Some, None, codes, decimal, refl, ap, sym, subst, arith, append_assoc, length-append, ℤ}
+use Rattle.std.specs.Fmt.{signed_decimal, digits}
 use Rattle.std.specs.Char.{is_ascii_digit}
 use Rattle.std.specs.List.{before_first, after_first, list_all, position_or_len}
 use Rattle.std.specs.Str.{bytes_eq}
@@ -16,7 +16,7 @@ use Rattle.thread_state.specs.declared.event.Mark.{Mark}
 use Rattle.thread_state.specs.declared.event.Mark.TheVariants as mark
 use Rattle.trace_text.specs.Reading.{is_space, is_step, choice_of_digits, choice_named, choice_in, is_state_line, is_too_long}
 use Rattle.trace_text.specs.Lines.{what_text, mark_text, choice_text, event_text, refusal_text}
-use Rattle.trace_text.proofs.WholeLines.{is_within, IsPart, Part-append, Part-more, IsLine, Line-end, Line-after, decimal-part, signed-part}
+use Rattle.trace_text.proofs.WholeLines.{is_within, IsPart, Part-append, Part-more, IsLine, Line-end, Line-after, all_more, decimal-number, decimal-part, signed-part}
 
 -- up to the first space
 space_after : (xs ys : List ℕ) → list_all (λ b. not (is_space b)) xs ≡ true → position_or_len is_space (xs ++ 32 ∷ ys) ≡ length xs
@@ -35,36 +35,8 @@ after_space xs ys none = ap (λ n. drop (n + 1) (xs ++ 32 ∷ ys)) (space_after 
 digit-no_space : (b : ℕ) → is_ascii_digit b ≡ true → not (is_space b) ≡ true
 digit-no_space b digit = ap not (ne_eqb b 32 (λ e. let no : ⊥ = cc in no))
 
--- the digits of a number
-glyph-digit : (d : ℕ) → d < 10 → is_ascii_digit (digit_glyph false d) ≡ true
-glyph-digit d small =
-    ap (λ b. is_ascii_digit (cond b (48 + d) (87 + d))) (lt-ltb d 10 small)
-    ∙ and_from _ _ (le-leb 48 (48 + d) (omega arith)) (le-leb (48 + d) 57 (omega (arith, small)))
-
-all_by : (test : ℕ → Bool) (last : Bool) (xs ys : List ℕ) → list_all test xs ≡ true → list_all test ys ≡ true
-    → list_all test (cond last xs ys) ≡ true
-all_by test true xs ys p q = p
-all_by test false xs ys p q = q
-
-digits-digits : (k n : ℕ) (acc : List ℕ) → list_all is_ascii_digit acc ≡ true
-    → list_all is_ascii_digit (digits_onto k 10 false n acc) ≡ true
-digits-digits zero n acc p = p
-digits-digits (suc k) n acc p =
-    let there = and_from _ _ (glyph-digit (n % 10) (omega arith)) p in
-    all_by is_ascii_digit (n / 10 == 0) (digit_glyph false (n % 10) ∷ acc) _ there
-    (digits-digits k (n / 10) (digit_glyph false (n % 10) ∷ acc) there)
-
-pub decimal-digits : (n : ℕ) → list_all is_ascii_digit (decimal n) ≡ true
-unfolding digits
-decimal-digits n = digits-digits 64 n [] refl
-
-all_more : (p q : ℕ → Bool) → ((b : ℕ) → p b ≡ true → q b ≡ true) → (xs : List ℕ) → list_all p xs ≡ true → list_all q xs ≡ true
-all_more p q more [] all = refl
-all_more p q more (x ∷ xs) all =
-    and_from _ _ (more x (and_parts _ _ all).0) (all_more p q more xs (and_parts _ _ all).1)
-
 decimal-no_space : (n : ℕ) → list_all (λ b. not (is_space b)) (decimal n) ≡ true
-decimal-no_space n = all_more is_ascii_digit _ digit-no_space (decimal n) (decimal-digits n)
+decimal-no_space n = all_more is_ascii_digit _ digit-no_space (decimal n) (decimal-number n).digits
 
 -- the name of each thread
 names : Bool → ℕ → Option Choice → Bool
@@ -135,7 +107,7 @@ words-is step choice rest =
 step_word : (step : ℕ) → step < 10 ^ 13 → is_step (decimal step) ≡ true
 step_word step few =
     and_from _ _ (lt-ltb 0 _ (decimal_nonempty step (omega (arith, few))))
-    (and_from _ _ (le-leb _ 13 (length-decimal-le 13 step (omega arith) few (omega (arith, few)))) (decimal-digits step))
+    (and_from _ _ (le-leb _ 13 (length-decimal-le 13 step (omega arith) few (omega (arith, few)))) (decimal-number step).digits)
 
 -- a line that begins with a choice names that choice
 pub line_names : (step : ℕ) (choice : Choice) (rest : List ℕ) → step < 10 ^ 13 → choice.thread ≤ 63
@@ -162,7 +134,7 @@ line-no_state step choice rest =
     let name = name_text choice in
     ap is_state_line (words-is step choice rest)
     ∙ ap (λ w. bytes_eq w (codes "state")) (before_space (decimal step) (name ++ 32 ∷ rest) (decimal-no_space step))
-    ∙ not_state (decimal step) (decimal-digits step)
+    ∙ not_state (decimal step) (decimal-number step).digits
 
 -- the beginning of a choice's line
 pub choice-part : (step : ℕ) (choice : Choice) → IsPart 131 (choice_text step choice)
@@ -267,20 +239,3 @@ event-few step choice pc event = text-few step choice 276 _ (omega arith) (event
 pub refusal-few : (step : ℕ) (choice : Choice) (pc : Option ℕ) → length (refusal_text step choice pc) ≤ 408
 refusal-few step choice None = text-few step choice 6 (codes "- none\n") (omega arith) none-line
 refusal-few step choice (Some pc) = text-few step choice 70 (decimal pc ++ codes " limit\n") (omega arith) (limit-line pc)
-
--- each number has a digit
-some_by : (last : Bool) (xs ys : List ℕ) → 0 < length xs → 0 < length ys → 0 < length (cond last xs ys)
-some_by true xs ys p q = p
-some_by false xs ys p q = q
-
-digits-some : (k n : ℕ) (acc : List ℕ) → 0 < length acc → 0 < length (digits_onto k 10 false n acc)
-digits-some zero n acc some = some
-digits-some (suc k) n acc some =
-    let glyph : ℕ = digit_glyph false (n % 10) in
-    some_by (n / 10 == 0) (glyph ∷ acc) _ (omega arith) (digits-some k (n / 10) (glyph ∷ acc) (omega arith))
-
-pub decimal-some : (n : ℕ) → 0 < length (decimal n)
-unfolding digits
-decimal-some n =
-    let glyph : ℕ = digit_glyph false (n % 10) in
-    some_by (n / 10 == 0) (glyph ∷ []) (digits_onto 63 10 false (n / 10) (glyph ∷ [])) (omega arith) (digits-some 63 (n / 10) (glyph ∷ []) (omega arith))

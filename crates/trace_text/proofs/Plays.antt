@@ -139,10 +139,9 @@ refusal_of-accepted event world choice there left =
     (λ is. let no = there.1 is in cc) (λ is. let no = left.1 is in cc)
 
 -- each choice is counted
-choices-by : (outcome : Option Outcome) (world : World)
-    → (played_by outcome world).world.choices ≡ world.choices + 1
-choices-by (Some outcome) world = refl
-choices-by None world = refl
+pub played-choices : (outcome : Option Outcome) (world : World) → (played_by outcome world).world.choices ≡ world.choices + 1
+played-choices (Some outcome) world = refl
+played-choices None world = refl
 
 -- a choice that is accepted
 pub Plays-played : (world after : World) (choice : Choice) (event : Event) (step pc : ℕ) (old new : Option (List ℕ))
@@ -160,7 +159,7 @@ Plays-played world after choice event step pc old new accepted both step_is pc_i
     let event_is : event ≡ (played world choice).event = ap (λ (play : Played). play.event) both in
     let counted : step ≡ world.choices + 1 =
     step_is ∙ ap (λ (w : World). w.choices) world_is
-    ∙ choices-by (outcome_of_choice world.program choice world.scene) world in
+    ∙ played-choices (outcome_of_choice world.program choice world.scene) world in
     let text : event_text step choice pc event ≡ lines None =
     ap (λ n. event_text n choice pc event) counted
     ∙ ap (λ row. event_text (world.choices + 1) choice row event) pc_is
@@ -392,11 +391,7 @@ replicate-some n times choice few =
     let is : n ≡ times + (n - times) = omega (arith, few) in
     ap (λ k. replicate k choice) is ∙ sym (replicate-append-replicate times (n - times) choice)
 
--- an accepted choice is counted
-pub played-choices : (outcome : Option Outcome) (world : World) → (played_by outcome world).world.choices ≡ world.choices + 1
-played-choices (Some outcome) world = refl
-played-choices None world = refl
-
+-- and the number of the choices tells it
 pub played-counted : (world after : World) (choice : Choice) (event : Event)
     → (let both : Played = record { world = after; event = event } in both ≡ played world choice)
     → after.choices ≡ world.choices + 1

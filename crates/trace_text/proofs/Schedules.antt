@@ -14,7 +14,7 @@ use Rattle.trace_text.specs.declared.run.RunFault.{RunFault}
 use Rattle.trace_text.specs.declared.run.RunFault.TheVariants as fault
 use Rattle.trace_text.specs.Outcome.{StopsFrom}
 use Rattle.trace_text.specs.Playing.{IsUpTo, PlaysOn, StopsAt, WritesOn, WritesPartOn}
-use Rattle.trace_text.specs.RunText.{faulty_after}
+use Rattle.trace_text.specs.RunText.{HasFault, HasNoEarlierFault, faulty_after}
 use Rattle.trace_text.specs.Trace.{AppendsPartOf, Plays, lines_of}
 use Rattle.trace_text.proofs.Plays.{Part-longer}
 
@@ -161,7 +161,33 @@ pub schedule_by_fault : (schedule : Schedule) (fault : Option ScheduleFault) →
 schedule_by_fault schedule fault is =
     let make : Option ScheduleFault → Schedule = λ f. record { runs = schedule.runs; fault = f } in ap make is
 
--- what stops a run behind a piece of its schedule
+-- what stops a run whose reader has gone on from one schedule to a longer one
+stops-behind : (f : RunFault) (told : Result (Unit {0}) ScheduleFault) (shorter longer : Schedule) (bytes : List ℕ) (first before : World)
+    (was : Bool) (schedule_before schedule_after old known new : Option (List ℕ)) (failed other : Bool) (start runs : List Run)
+    → start ≡ [] → Plays first before (choices_of shorter.runs) was old known → Consumes schedule_before schedule_after bytes
+    → failed ≡ false → Adds told shorter longer start runs
+    → ((e : ScheduleFault) → told ≡ Err e → told ≢ Err Memory → HasNoEarlierFault bytes × HasFault bytes schedule_after longer.runs e)
+    → (longer ≡ open_schedule bytes) ⊎ (IsAtEnd schedule_after × (longer ≡ finished_schedule bytes))
+    → StopsAt f told before was (choices_of runs) known new other
+    → StopsFrom first f schedule_before schedule_after failed old new other
+stops-behind (fault.Schedule f) told shorter longer bytes first before was schedule_before schedule_after old known new failed other start runs
+    empty plays consumed sound adds faulty at (is, is_other, writes) =
+    let enough = told_other told f is is_other in
+    let (free, has) = faulty f is enough in
+    let all = added-writes told shorter longer first before was old known new start runs empty enough adds plays writes in
+    (sound, (bytes, (longer.runs, (is_other, consumed, free, has, all))))
+stops-behind fault.Memory told shorter longer bytes first before was schedule_before schedule_after old known new failed other start runs
+    empty plays consumed sound adds faulty at writes =
+    let part = added-writes_part told shorter longer first before was old known new start runs empty adds plays writes in
+    (sound, (bytes, (longer, (consumed, at, part))))
+stops-behind fault.Write told shorter longer bytes first before was schedule_before schedule_after old known new failed other start runs
+    empty plays consumed sound adds faulty at writes = writes
+stops-behind fault.Read told shorter longer bytes first before was schedule_before schedule_after old known new failed other start runs
+    empty plays consumed sound adds faulty at never = absurd never
+stops-behind (fault.Load f) told shorter longer bytes first before was schedule_before schedule_after old known new failed other start runs
+    empty plays consumed sound adds faulty at never = absurd never
+
+-- behind a piece of its schedule
 pub piece-stops : (f : RunFault) (told : Result (Unit {0}) ScheduleFault) (bytes piece : List ℕ) (first before : World) (was : Bool)
     (schedule_before schedule_after old known new : Option (List ℕ)) (failed other : Bool) (start runs : List Run) (now next : Progress)
     → start ≡ [] → IsUpTo first before bytes now was old known → Consumes schedule_before schedule_after (bytes ++ piece)
@@ -170,100 +196,17 @@ pub piece-stops : (f : RunFault) (told : Result (Unit {0}) ScheduleFault) (bytes
     → (told ≡ Err Memory) ⊎ HasRead next (bytes ++ piece) → IfErr told (λ e. next.fault ≡ Some e)
     → StopsAt f told before was (choices_of runs) known new other
     → StopsFrom first f schedule_before schedule_after failed old new other
-piece-stops (fault.Schedule f) told bytes piece first before was schedule_before schedule_after old known new failed other start runs now next
-    empty up consumed few sound adds read err (is, is_other, writes) =
+piece-stops f told bytes piece first before was schedule_before schedule_after old known new failed other start runs now next
+    empty up consumed few sound adds read err stops =
     let longer = bytes ++ piece in
-    let enough = told_other told f is is_other in
-    let has = has_read told next longer enough read in (
-      sound,
-      (
-        longer,
-        (
-          (open_schedule longer).runs,
-          (
-            is_other,
-            consumed,
-            (bytes, (piece, (refl, few, up.free))),
-            inr (λ rest. faulty_then next longer rest f (fault_told told f next is err) has),
-            added-writes told (open_schedule bytes) (open_schedule longer) first before was old known new start runs empty enough adds up.plays writes,
-          ),
-        ),
-      ),
-    )
-piece-stops fault.Memory told bytes piece first before was schedule_before schedule_after old known new failed other start runs now next
-    empty up consumed few sound adds read err writes =
-    let longer = bytes ++ piece in (
-      sound,
-      (
-        longer,
-        (
-          open_schedule longer,
-          (
-            consumed,
-            inl refl,
-            added-writes_part told (open_schedule bytes) (open_schedule longer) first before was old known new start runs empty adds up.plays writes,
-          ),
-        ),
-      ),
-    )
-piece-stops fault.Write told bytes piece first before was schedule_before schedule_after old known new failed other start runs now next
-    empty up consumed few sound adds read err writes = writes
-piece-stops fault.Read told bytes piece first before was schedule_before schedule_after old known new failed other start runs now next
-    empty up consumed few sound adds read err never = absurd never
-piece-stops (fault.Load f) told bytes piece first before was schedule_before schedule_after old known new failed other start runs now next
-    empty up consumed few sound adds read err never = absurd never
+    stops-behind f told (open_schedule bytes) (open_schedule longer) longer first before was schedule_before schedule_after old known new
+    failed other start runs empty up.plays consumed sound adds
+    (λ e is enough. (
+      (bytes, (piece, (refl, few, up.free))),
+      inr (λ rest. faulty_then next longer rest e (fault_told told e next is err) (has_read told next longer enough read)),
+    )) (inl refl) stops
 
 -- and behind its last token
-pub end-stops : (f : RunFault) (told : Result (Unit {0}) ScheduleFault) (bytes : List ℕ) (first before : World) (was : Bool)
-    (schedule_before schedule_after old known new : Option (List ℕ)) (failed other : Bool) (start runs : List Run) (now : Progress)
-    → start ≡ [] → IsUpTo first before bytes now was old known → Consumes schedule_before schedule_after bytes → IsAtEnd schedule_after
-    → failed ≡ false → Adds told (open_schedule bytes) (finished_schedule bytes) start runs
-    → (told ≡ Err Memory) ⊎ (told ≡ answer_of (finished_schedule bytes))
-    → StopsAt f told before was (choices_of runs) known new other
-    → StopsFrom first f schedule_before schedule_after failed old new other
-end-stops (fault.Schedule f) told bytes first before was schedule_before schedule_after old known new failed other start runs now
-    empty up consumed end sound adds answer (is, is_other, writes) =
-    let schedule = finished_schedule bytes in
-    let enough = told_other told f is is_other in
-    let by_fault : schedule ≡ faulty_after schedule.runs f = schedule_by_fault schedule (Some f) (end_with_fault told schedule f is enough answer) in (
-      sound,
-      (
-        bytes,
-        (
-          schedule.runs,
-          (
-            is_other,
-            consumed,
-            (bytes, ([], (sym (append-nil bytes), omega arith, up.free))),
-            inl (end, by_fault),
-            added-writes told (open_schedule bytes) schedule first before was old known new start runs empty enough adds up.plays writes,
-          ),
-        ),
-      ),
-    )
-end-stops fault.Memory told bytes first before was schedule_before schedule_after old known new failed other start runs now
-    empty up consumed end sound adds answer writes =
-    let schedule = finished_schedule bytes in (
-      sound,
-      (
-        bytes,
-        (
-          schedule,
-          (
-            consumed,
-            inr (end, refl),
-            added-writes_part told (open_schedule bytes) schedule first before was old known new start runs empty adds up.plays writes,
-          ),
-        ),
-      ),
-    )
-end-stops fault.Write told bytes first before was schedule_before schedule_after old known new failed other start runs now
-    empty up consumed end sound adds answer writes = writes
-end-stops fault.Read told bytes first before was schedule_before schedule_after old known new failed other start runs now
-    empty up consumed end sound adds answer never = absurd never
-end-stops (fault.Load f) told bytes first before was schedule_before schedule_after old known new failed other start runs now
-    empty up consumed end sound adds answer never = absurd never
-
 pub end-stopped : {A : Type 0} (result : Result A RunFault) (told : Result (Unit {0}) ScheduleFault) (bytes : List ℕ) (first before : World) (was : Bool)
     (schedule_before schedule_after old known new : Option (List ℕ)) (failed other : Bool) (start runs : List Run) (now : Progress)
     → start ≡ [] → IsUpTo first before bytes now was old known → Consumes schedule_before schedule_after bytes → IsAtEnd schedule_after
@@ -275,4 +218,10 @@ end-stopped (Ok x) told bytes first before was schedule_before schedule_after ol
     empty up consumed end sound adds answer stops = stops
 end-stopped (Err f) told bytes first before was schedule_before schedule_after old known new failed other start runs now
     empty up consumed end sound adds answer stops =
-    end-stops f told bytes first before was schedule_before schedule_after old known new failed other start runs now empty up consumed end sound adds answer stops
+    let schedule = finished_schedule bytes in
+    stops-behind f told (open_schedule bytes) schedule bytes first before was schedule_before schedule_after old known new failed other start runs
+    empty up.plays consumed sound adds
+    (λ e is enough. (
+      (bytes, ([], (sym (append-nil bytes), omega arith, up.free))),
+      inl (end, schedule_by_fault schedule (Some e) (end_with_fault told schedule e is enough answer)),
+    )) (inr (end, refl)) stops

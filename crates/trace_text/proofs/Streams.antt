@@ -107,7 +107,7 @@ are_traced (Ok end) first last choices all old between new plays tells appends =
     traced_by end first last choices all old between new plays tells appends
 are_traced (Err e) first last choices all old between new plays tells appends = appends
 
--- the same of a whole schedule
+-- of a whole schedule
 pub ended : {E : Type 0} (result : Result RunEnd E) (first last : World) (all : Bool)
     (schedule_before schedule_after old between new : Option (List ℕ))
     → HasPlayedAll first last all schedule_before schedule_after old between

@@ -1,10 +1,11 @@
 -- Texts of whole lines.
-use Rattle.std.proofs.Common.{◌≡◌, ◌∙◌, ◌+◌, ◌/◌, ◌%◌, ◌≤◌, ◌==◌, not, ℕ, zero, suc, Bool, true, false, List, [], ◌∷◌, ◌++◌, length, take, drop, cond, codes, decimal, refl, ap, sym, subst, arith, append_assoc, length-append, All, flat_map, ℤ, pos, negsuc}
+use Rattle.std.proofs.Common.{◌≡◌, ◌∙◌, ◌+◌, ◌/◌, ◌%◌, ◌<◌, ◌≤◌, ◌==◌, not, ℕ, zero, suc, Bool, true, false, List, [], ◌∷◌, ◌++◌, length, take, drop, cond, codes, decimal, refl, ap, sym, subst, arith, append_assoc, length-append, All, flat_map, ℤ, pos, negsuc}
 use Rattle.std.specs.List.{slice_split, list_all, position_or_len}
+use Rattle.std.specs.Char.{is_ascii_digit}
 use Rattle.std.specs.Fmt.{digits, digits_onto, digit_glyph, signed_decimal}
 use Rattle.std.proofs.lemmas.List.{drop_all}
 use Rattle.std.proofs.lemmas.List.Folds.{list_all-append}
-use Rattle.std.proofs.lemmas.Bool.{and_from, ne_eqb, and_parts, not-true}
+use Rattle.std.proofs.lemmas.Bool.{and_from, ne_eqb, and_parts, le-leb, lt-ltb, not-true}
 use Rattle.std.proofs.lemmas.List.Sums.{AllPass-from_list_all}
 use Rattle.std.proofs.lemmas.List.Splits.{slice_split_at}
 use Rattle.std.proofs.Math.Seq.{take-append_seam, drop-append_seam}
@@ -31,30 +32,56 @@ Part-append m n xs ys p q = record {
   few = let a = p.few in let b = q.few in omega (arith, length-append xs ys, a, b);
 }
 
-glyph-within_by : (small : Bool) (d : ℕ) → is_within (cond small (48 + d) (87 + d)) ≡ true
-glyph-within_by true d = ap not (ne_eqb (48 + d) 10 (λ e. omega (arith, e)))
-glyph-within_by false d = ap not (ne_eqb (87 + d) 10 (λ e. omega (arith, e)))
+pub all_more : (p q : ℕ → Bool) → ((b : ℕ) → p b ≡ true → q b ≡ true) → (xs : List ℕ) → list_all p xs ≡ true → list_all q xs ≡ true
+all_more p q more [] all = refl
+all_more p q more (x ∷ xs) all =
+    and_from _ _ (more x (and_parts _ _ all).0) (all_more p q more xs (and_parts _ _ all).1)
+
+-- the digits of a number, not more than this
+pub record IsNumber (n : ℕ) (text : List ℕ) : Type 0 where
+  pub digits : list_all is_ascii_digit text ≡ true
+  pub few : length text ≤ n
+  pub some : 0 < length text
+
+Number-more : (m n : ℕ) (text : List ℕ) → m ≤ n → IsNumber m text → IsNumber n text
+Number-more m n text more p = record { digits = p.digits; few = let a = p.few in omega (arith, a, more); some = p.some }
+
+glyph-digit : (d : ℕ) → d < 10 → is_ascii_digit (digit_glyph false d) ≡ true
+glyph-digit d small =
+    ap (λ b. is_ascii_digit (cond b (48 + d) (87 + d))) (lt-ltb d 10 small)
+    ∙ and_from _ _ (le-leb 48 (48 + d) (omega arith)) (le-leb (48 + d) 57 (omega (arith, small)))
 
 -- by whether a digit is the last to come
-digits_by : (last : Bool) (k : ℕ) (xs ys : List ℕ) → IsPart k xs → IsPart k ys → IsPart k (cond last xs ys)
-digits_by true k xs ys p q = p
-digits_by false k xs ys p q = q
+number_by : (last : Bool) (k : ℕ) (xs ys : List ℕ) → IsNumber k xs → IsNumber k ys → IsNumber k (cond last xs ys)
+number_by true k xs ys p q = p
+number_by false k xs ys p q = q
 
-digits-part : (k n m : ℕ) (acc : List ℕ) → IsPart m acc → IsPart (k + m) (digits_onto k 10 false n acc)
-digits-part zero n m acc p = record { within = p.within; few = let a = p.few in omega (arith, a) }
-digits-part (suc k) n m acc p =
-    let glyph : ℕ = digit_glyph false (n % 10) in
-    let there : list_all is_within (glyph ∷ acc) ≡ true = and_from _ _ (glyph-within_by _ (n % 10)) p.within in
-    let next : IsPart (m + 1) (glyph ∷ acc) = record { within = there; few = let a = p.few in omega (arith, a) } in
-    let more = digits-part k (n / 10) (m + 1) (glyph ∷ acc) next in
-    digits_by (n / 10 == 0) (suc k + m) (glyph ∷ acc) _
-    (record { within = there; few = let a = p.few in omega (arith, a) })
-    (record { within = more.within; few = let a = more.few in omega (arith, a) })
+digits-number : (k n m : ℕ) (acc : List ℕ) → IsNumber m acc → IsNumber (k + m) (digits_onto k 10 false n acc)
+digits-number zero n m acc p = Number-more m (0 + m) acc (omega arith) p
+digits-number (suc k) n m acc p =
+    let next : IsNumber (m + 1) (digit_glyph false (n % 10) ∷ acc) = record {
+      digits = and_from _ _ (glyph-digit (n % 10) (omega arith)) p.digits;
+      few = let a = p.few in omega (arith, a);
+      some = omega arith;
+    } in
+    let more = digits-number k (n / 10) (m + 1) (digit_glyph false (n % 10) ∷ acc) next in
+    number_by (n / 10 == 0) (suc k + m) (digit_glyph false (n % 10) ∷ acc) _
+    (Number-more (m + 1) (suc k + m) _ (omega arith) next) (Number-more (k + (m + 1)) (suc k + m) _ (omega arith) more)
 
 -- the text of any number
-pub decimal-part : (n : ℕ) → IsPart 64 (decimal n)
+pub decimal-number : (n : ℕ) → IsNumber 64 (decimal n)
 unfolding digits
-decimal-part n = digits-part 64 n 0 [] (record { within = refl; few = omega arith })
+decimal-number n =
+    let one : IsNumber 1 (digit_glyph false (n % 10) ∷ []) =
+    record { digits = and_from _ _ (glyph-digit (n % 10) (omega arith)) refl; few = omega arith; some = omega arith } in
+    number_by (n / 10 == 0) 64 (digit_glyph false (n % 10) ∷ []) (digits_onto 63 10 false (n / 10) (digit_glyph false (n % 10) ∷ []))
+    (Number-more 1 64 _ (omega arith) one) (digits-number 63 (n / 10) 1 (digit_glyph false (n % 10) ∷ []) one)
+
+pub decimal-part : (n : ℕ) → IsPart 64 (decimal n)
+decimal-part n = record {
+  within = all_more is_ascii_digit is_within (λ b digit. ap not (ne_eqb b 10 (λ e. let no : ⊥ = cc in no))) (decimal n) (decimal-number n).digits;
+  few = (decimal-number n).few;
+}
 
 -- the text of any number with a sign
 pub signed-part : (z : ℤ) → IsPart 65 (signed_decimal z)

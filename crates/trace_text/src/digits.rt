@@ -56,7 +56,7 @@ impl Digits {
         self.move_far(number);
     }
 
-    /// The same where more than the last digit changes. Where the number is the next one, the last two are mostly all.
+    /// As `move_to` does, where more than the last digit changes. Where the number is the next one, the last two are mostly all.
     #[inline(never)]
     fn move_far(&mut self, number: u64)
         requires { number + 1 < 2 ^ 64 }

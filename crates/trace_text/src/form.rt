@@ -3,7 +3,7 @@ ghost use Rattle.std.specs.Prelude.{◌≡◌, List, ℕ, option_map};
 ghost use Rattle.std.specs.Borrow.{Bor};
 ghost use Rattle.trace_text.specs.Expectation.{end_words, is_expectation, subject_of, words_of};
 
-use crate::place::length_before;
+use line_reader::words::length_before;
 
 /// What a word for how a run ends wants in the line `state`, with the blank before it.
 pub fn end_words(text: &[u8]) -> Option<&'static [u8]>

@@ -14,7 +14,6 @@ pub mod line_end;
 pub mod form;
 pub mod meeting;
 mod pieces;
-mod place;
 pub mod state;
 pub mod state_line;
 

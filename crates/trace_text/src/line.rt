@@ -137,15 +137,12 @@ pub(super) fn put_played(line: &mut LineEnd, choice: Choice, pc: u16, event: &Ev
     put_thread(line, choice);
 }
 
-/// The line of a choice that was played by a thread at this row. Answers how many digits its number has.
-pub fn put_event(line: &mut LineEnd, step: u64, choice: Choice, pc: u16, event: &Event) -> usize
-    ensures digits { result ≡ length (decimal step) }
-    ensures text { line.new ≡ event_text step choice pc event.now }
-    ensures length { length line.new ≤ result + 100 }
-    ensures few { result ≤ 20 }
+/// The line of a choice that was played by a thread at this row.
+pub fn put_event(line: &mut LineEnd, step: u64, choice: Choice, pc: u16, event: &Event)
+    ensures { line.new ≡ event_text step choice pc event.now }
 {
     put_played(line, choice, pc, event);
-    line.put_count(step)
+    line.put_count(step);
 }
 
 /// The line of a choice that was played by a thread at this row, where the digits of its number are kept.

@@ -39,7 +39,7 @@ impl LineEnd {
         }
     }
 
-    /// The same again, of another line.
+    /// Empties it, for another line.
     pub fn clear(&mut self)
         ensures { self.new ≡ [] }
     {

@@ -3,7 +3,7 @@ ghost use Rattle.std.specs.Prelude.{◌≡◌, List, ℕ, option_map};
 ghost use Rattle.std.specs.Borrow.{Bor};
 ghost use Rattle.trace_text.specs.ExpectedLine.{begins, begins_whole, ends_a_list, ends_a_word, first_line, has_died, has_whole, has_words, later_line, line_of, names_a_list};
 
-use crate::place::length_before;
+use line_reader::words::length_before;
 
 /// Whether a word ends where this follows it.
 fn ends_a_word(rest: &[u8]) -> bool

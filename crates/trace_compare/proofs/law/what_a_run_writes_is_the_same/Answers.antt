@@ -1,4 +1,4 @@
-use Rattle.trace_compare.proofs.OneVerdict.{ended-same, traced-same}
+use Rattle.trace_compare.proofs.OneTrace.{ended-same, traced-same}
 use Rattle.trace_compare.proofs.law.what_a_run_writes_is_the_same.Goals as goal
 
 pub returns-clause-read : goal.returns-clause-read

@@ -7,4 +7,4 @@ returns-in-Ok c =
     let accepted = refusal_of-accepted c.in-Ok.event (world_of c.args.machine.now) c.args.choice
     c.in-Ok.ensures.no_thread c.in-Ok.ensures.limit in
     Plays-played _ _ _ c.in-Ok.event _ _ _ _ accepted
-    c.in-Ok.ensures.played c.choices.ensures.choices c.pc-pc.ensures.row c.put_event.ensures.text
+    c.in-Ok.ensures.played c.choices.ensures.choices c.pc-pc.ensures.row c.put_event.ensures

@@ -1,15 +1,13 @@
-use Rattle.std.proofs.Common.{List, ℕ, ◌≡◌, ◌∙◌, ◌+◌, ◌<◌, ◌≤◌, ◌++◌, [], ap, arith, drop, length, refl, subst, sym, take}
+use Rattle.std.proofs.Common.{List, ℕ, ◌≡◌, ◌∙◌, ◌+◌, ◌<◌, ◌≤◌, ap, arith, length, refl, subst, sym, take}
 use Rattle.thread_machine.specs.World.{world_of}
 use Rattle.trace_compare.specs.declared.comparison.Comparison.{Comparison}
-use Rattle.trace_compare.specs.Comparing.{bytes_left, line_ends}
 use Rattle.trace_text.specs.NumberedLine.{text_of}
 use Rattle.trace_compare.proofs.OwnLines.{met}
 use Rattle.trace_text.proofs.Plays.{Plays-idle_again}
-use Rattle.trace_compare.proofs.LineCounts.{own-ends}
 use Rattle.trace_compare.proofs.comparison.Comparison.take_idle_line.Goals as goal
 
-pub returns-clause-verdict : goal.returns-clause-verdict
-returns-clause-verdict c = λ more.
+pub returns-clause-over : goal.returns-clause-over
+returns-clause-over c =
     let before : Comparison = c.args.self.now in
     let kept = c.put_idle.new.self in
     let after : Comparison = record before { machine = c.idle.new.self; kept = kept; number = before.number + 1 } in
@@ -22,29 +20,9 @@ returns-clause-verdict c = λ more.
     let same : take (length (text_of kept)) bytes ≡ text_of kept =
     subst (λ (line : List ℕ). take (length line) bytes ≡ line) c.as_slice.ensures.text
     (c.begins_with.ensures.same c.if-not-begins_with.false) in
-    met before after before.last (text_of kept) bytes more c.requires.reading.0 c.requires.reading.1
-    c.requires.reading.0 c.requires.reading.1 refl few named
+    let size = ap length c.as_slice-length.ensures.text in
+    met before after before.last (text_of kept) bytes _ c.requires.reading c.requires.reading refl refl refl few named
     (Plays-idle_again (world_of before.machine) (world_of c.idle.new.self) before.last c.idle.result c.pc-pc.result kept
     c.idle.ensures.times c.if-idle-eq0.false c.idle.ensures.played there few c.pc-pc.ensures.row
     (c.put_idle.ensures.step ∙ ap (λ n. n + 1) c.choices.ensures.choices) c.put_idle.ensures.behind) same
-    ∙ ap (λ line. bytes_left after [] (drop (length line) bytes ++ more)) (sym c.as_slice-length.ensures.text)
-
-pub returns-clause-counted : goal.returns-clause-counted
-returns-clause-counted c =
-    let before : Comparison = c.args.self.now in
-    let kept = c.put_idle.new.self in
-    let bytes = c.args.bytes.now in
-    let there : before.last.thread < length before.machine.scene.threads =
-    omega (arith, c.from.ensures, c.thread_count.ensures.count, c.if-from-thread_count.false) in
-    let named : before.last.thread ≤ 63 =
-    omega (arith, c.from.ensures, c.thread_count.ensures.few, c.if-from-thread_count.false) in
-    let few : before.machine.choices ≤ 1000000000000 = subst (λ n. n ≤ 1000000000000) c.choices.ensures.choices c.choices.ensures.within in
-    let same : take (length (text_of kept)) bytes ≡ text_of kept =
-    subst (λ (line : List ℕ). take (length line) bytes ≡ line) c.as_slice.ensures.text
-    (c.begins_with.ensures.same c.if-not-begins_with.false) in
-    let one =
-    own-ends (world_of before.machine) (world_of c.idle.new.self) before.last (text_of kept) few named
-    (Plays-idle_again (world_of before.machine) (world_of c.idle.new.self) before.last c.idle.result c.pc-pc.result kept
-    c.idle.ensures.times c.if-idle-eq0.false c.idle.ensures.played there few c.pc-pc.ensures.row
-    (c.put_idle.ensures.step ∙ ap (λ n. n + 1) c.choices.ensures.choices) c.put_idle.ensures.behind) in
-    omega (arith, ap (λ (line : List ℕ). line_ends (take (length line) bytes)) c.as_slice-length.ensures.text, ap line_ends same, one)
+    (omega (arith, size, c.as_slice-length.ensures.few, c.requires.room)) size

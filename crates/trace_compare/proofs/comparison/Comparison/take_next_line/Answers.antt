@@ -1,12 +1,9 @@
-use Rattle.std.proofs.Common.{◌≡◌, ◌∙◌, ◌++◌, [], ap, arith, drop}
-use Rattle.trace_compare.specs.Comparing.{bytes_left}
-use Rattle.trace_compare.proofs.OwnLines.{prepended}
+use Rattle.std.proofs.Common.{◌≡◌, arith}
+use Rattle.trace_compare.proofs.OwnLines.{Goes-after}
 use Rattle.trace_compare.proofs.comparison.Comparison.take_next_line.Goals as goal
 
-pub returns-clause-verdict : goal.returns-clause-verdict
-returns-clause-verdict c = λ more.
+pub returns : goal.returns
+returns c =
     let none : c.take_line_again-count.result ≡ 0 = omega (arith, c.if-count-gt0.false) in
-    prepended c.take_own_line.result _ _ _
-    (c.take_line_again-count.ensures.verdict more
-    ∙ ap (λ count. bytes_left c.take_line_again-count.new.self [] (drop count c.args.bytes.now ++ more)) none)
-    (c.take_own_line.ensures.verdict more)
+    Goes-after c.take_own_line.result c.args.self.now c.take_line_again-count.new.self c.take_own_line.new.self c.args.bytes.now
+    c.take_line_again-count.result none c.take_line_again-count.ensures.over c.take_own_line.ensures
