@@ -1,6 +1,9 @@
 pub mod Backs
+pub mod Resting
+pub mod TreeCalls
 pub mod BarrierCalls
-pub mod BarrierRows
+pub mod Turns
+pub mod Choices
 pub mod Pasts
 pub mod PhaseEnds
 pub mod Scenes

@@ -1,7 +1,6 @@
 -- The past of each barrier of an accepted program, choice by choice.
-use Rattle.std.proofs.Common.{◌≡◌, ℕ, zero, suc, ◌<◌, Bool, true, false, List, [], ◌∷◌, length, map, refl, sym, subst, arith, if◌then◌else◌}
-use Rattle.std.specs.Prelude.{nat_le, Option, Some, None, slice_index_or}
-use Rattle.std.proofs.lemmas.Bool.Decides.{nat_tests}
+use Rattle.std.proofs.Common.{◌≡◌, ℕ, zero, suc, false, List, [], ◌∷◌, map, refl, sym, subst, arith}
+use Rattle.std.specs.Prelude.{Option, Some, None, slice_index_or}
 use Rattle.tier_tree.specs.Origin.{Origin}
 use Rattle.row_code.specs.declared.image.Image.{Image}
 use Rattle.row_code.specs.declared.barriers.DeclaredBarrier.{DeclaredBarrier}
@@ -11,62 +10,16 @@ use Rattle.cyclic_barrier.specs.PlainBarrier as plain
 use Rattle.cyclic_barrier.specs.PlainBarrier.{PlainBarrier}
 use Rattle.cyclic_barrier.specs.Past.{StandsFor}
 use Rattle.cyclic_barrier.proofs.PastLemmas.{stands-fresh}
-use Rattle.machine_scene.specs.Scene.{Outcome, Scene, barrier_at}
+use Rattle.machine_scene.specs.Scene.{barrier_at}
 use Rattle.thread_machine.specs.declared.choice.Choice.{Choice}
 use Rattle.thread_machine.specs.declared.fault.StepFault.{StepFault}
-use Rattle.thread_machine.specs.declared.fault.StepFault.TheVariants as fault
 use Rattle.thread_machine.specs.World.{World}
-use Rattle.thread_machine.specs.Ready.{outcome_of_choice}
-use Rattle.thread_machine.specs.Step.{played, played_by, refusal_of, is_used_up}
-use Rattle.thread_machine.specs.Execution.{execution, execution_by}
-use Rattle.thread_machine.specs.DirectCounts.{counts_after, counts_by}
-use Rattle.thread_machine.proofs.SafeEnds.{Goes, goes_first, goes_through}
+use Rattle.thread_machine.specs.Step.{played, refusal_of}
+use Rattle.thread_machine.specs.DirectCounts.{counts_after}
+use Rattle.thread_machine.proofs.SafeEnds.{Goes, goes_first}
 use Rattle.headline.specs.Pasts.{IfAccepted, RecordsOnePast}
 use Rattle.headline.specs.Headline.{BarriersHavePasts, start}
-use Rattle.headline.proofs.BarrierCalls.{GoesTo, nowhere}
-use Rattle.headline.proofs.BarrierRows.{GoIf, turn_goes, expiry_goes}
-
--- an accepted choice is one of a thread that is there
-there_by : (absent over : Bool) → (if absent then Some fault.NoSuchThread else (if over then Some fault.StepLimit else None)) ≡ None
-    → absent ≡ false
-there_by true over is = absurd (cc is)
-there_by false over is = refl
-
-less_if : (m n : ℕ) → nat_le m n ≡ false → n < m
-less_if m n is = grind (arith, nat_tests, is)
-
-is_there : (world : World) (choice : Choice) → refusal_of world choice ≡ None → choice.thread < length world.scene.threads
-is_there world choice is =
-    less_if (length world.scene.threads) choice.thread
-    (there_by (nat_le (length world.scene.threads) choice.thread) (is_used_up world choice) is)
-
-by_kind : (expiry : Bool) (scene : Scene) (late turn : Option Outcome) → GoIf scene late → GoIf scene turn
-    → GoIf scene (if expiry then late else turn)
-by_kind true scene late turn a b = a
-by_kind false scene late turn a b = b
-
-by_outcome : (outcome : Option Outcome) (world : World) → GoIf world.scene outcome → (b : ℕ)
-    → GoesTo (barrier_at world.scene b) (barrier_at (played_by outcome world).world.scene b)
-by_outcome (Some outcome) world goes b = goes b
-by_outcome None world goes b = nowhere (barrier_at world.scene b)
-
-choice_goes : (world : World) (choice : Choice) (origin : Origin) → Goes world origin → refusal_of world choice ≡ None → (b : ℕ)
-    → GoesTo (barrier_at world.scene b) (barrier_at (played world choice).world.scene b)
-choice_goes world choice origin goes accepted b =
-    let most = goes.limit in
-    let done = goes.steps in
-    let there = is_there world choice accepted in
-    let t = choice.thread in
-    by_outcome (outcome_of_choice world.program choice world.scene) world
-    (by_kind choice.expiry world.scene _ _ (expiry_goes world.program world.steps t world.scene goes.sound (omega (arith, most, done)) there)
-    (turn_goes world.program world.steps t world.scene goes.sound (omega (arith, most, done)) there)) b
-
-goes_next : (world : World) (choice : Choice) (origin : Origin) → Goes world origin → refusal_of world choice ≡ None
-    → Goes (played world choice).world (counts_after world choice (played world choice).world origin)
-goes_next world choice origin goes accepted =
-    subst (λ why. Goes (execution_by why world choice (λ after. execution after [])).world
-    (counts_by why origin (counts_after world choice (played world choice).world origin))) accepted
-    (goes_through (choice ∷ []) world origin goes)
+use Rattle.headline.proofs.Choices.{choice_goes, goes_next}
 
 if_accepted : (why : Option StepFault) (later : Type 0) → (why ≡ None → later) → IfAccepted why later
 if_accepted None later so = so refl
@@ -78,7 +31,7 @@ records [] b past world origin goes stands = stands
 records (choice ∷ choices) b past world origin goes stands = (
   stands,
   if_accepted (refusal_of world choice) _
-      (λ accepted. let next = choice_goes world choice origin goes accepted b past stands in (
+      (λ accepted. let next = (choice_goes world choice origin goes accepted).0 b past stands in (
         next.0,
         (
           next.1.0,

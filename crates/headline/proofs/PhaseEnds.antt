@@ -1,17 +1,72 @@
--- No phase of an accepted program ends early, and no number of a phase changes but where one ends.
-use Rattle.std.proofs.Common.{arith}
+-- When a phase of an accepted program ends, and when a phaser is terminated.
+use Rattle.std.proofs.Common.{inr, ◌≡◌, ℕ, zero, suc, List, [], ◌∷◌, ap, refl, subst, arith}
+use Rattle.std.specs.Prelude.{Option, Some, None}
+use Rattle.packed_phaser.specs.Flat.{Flat, fresh}
+use Rattle.tier_tree.specs.Declaration.{AreAllFresh}
+use Rattle.tier_tree.specs.Forest.{PhaserState, flat_at, phaser_at}
+use Rattle.tier_tree.specs.Origin.{Origin}
+use Rattle.row_code.specs.declared.image.Image.{Image}
 use Rattle.loader.specs.Declarations.{declared_origin}
-use Rattle.thread_machine.specs.Execution.{execution}
-use Rattle.thread_machine.specs.DirectCounts.{counts_through}
-use Rattle.thread_machine.proofs.SafeEnds.{goes_first, goes_keeps, goes_through, no_early_end_of}
-use Rattle.headline.specs.Headline.{EndsNoPhaseEarly, NumbersChangeAtEnds, start}
+use Rattle.loader.proofs.Images.{all_made}
+use Rattle.thread_machine.specs.declared.choice.Choice.{Choice}
+use Rattle.thread_machine.specs.declared.fault.StepFault.{StepFault}
+use Rattle.thread_machine.specs.World.{World}
+use Rattle.thread_machine.specs.Step.{played, refusal_of}
+use Rattle.thread_machine.specs.Execution.{execution, execution_by}
+use Rattle.thread_machine.specs.DirectCounts.{counts_after, counts_through}
+use Rattle.thread_machine.proofs.SafeEnds.{Goes, goes_first, goes_keeps, goes_through, no_early_end_of}
+use Rattle.headline.specs.Headline.{Accepted, EndsNoPhaseEarly, NumbersChangeAtEnds, PhasesEndInTime, TerminationsAreSaid, start}
+use Rattle.headline.proofs.Choices.{choice_goes, goes_next}
+use Rattle.headline.proofs.Resting.{AreResting, all_done, nobody}
 
 pub no_early_end : EndsNoPhaseEarly
 no_early_end image (within, loads) = no_early_end_of image 1000000000 within loads (omega arith)
 
+-- what holds after some choices
+after_choices : (image : Image) → Accepted image → (choices : List Choice)
+    → Goes (execution (start image) choices).world (counts_through (start image) choices (declared_origin image.phasers))
+after_choices image (within, loads) choices =
+    goes_through choices (start image) (declared_origin image.phasers) (goes_first image 1000000000 within loads (omega arith))
+
 pub numbers_at_ends : NumbersChangeAtEnds
-numbers_at_ends image (within, loads) choices choice accepted =
-    let first = start image in
-    let counts = declared_origin image.phasers in
-    (goes_keeps (execution first choices).world choice (counts_through first choices counts)
-    (goes_through choices first counts (goes_first image 1000000000 within loads (omega arith))) accepted).numbers
+numbers_at_ends image accepted choices choice plays =
+    (goes_keeps (execution (start image) choices).world choice (counts_through (start image) choices (declared_origin image.phasers))
+    (after_choices image accepted choices) plays).numbers
+
+pub terminations_said : TerminationsAreSaid
+terminations_said image accepted choices choice plays =
+    (choice_goes (execution (start image) choices).world choice (counts_through (start image) choices (declared_origin image.phasers))
+    (after_choices image accepted choices) plays).1.said
+
+-- before the first choice nobody has arrived
+fresh_rests : (phasers : List PhaserState) → AreAllFresh phasers → AreResting nobody phasers
+fresh_rests [] are q = ((omega arith, λ live one. absurd (omega (arith, one))), λ turned. absurd (cc turned))
+fresh_rests (phaser ∷ phasers) are zero =
+    let is = are 0 phaser (omega arith) in
+    let none = ap (λ (f : Flat). f.arrived) is in
+    ((omega (arith, none), λ live one all. absurd (omega (arith, none, one, all))),
+    λ turned. (let not_yet = ap (λ (f : Flat). f.turned) is in absurd (cc (not_yet, turned))))
+fresh_rests (phaser ∷ phasers) are (suc q) = fresh_rests phasers (λ k d there. are (suc k) d (omega (arith, there))) q
+
+resting_by : (why : Option StepFault) (world : World) (choice : Choice) (choices : List Choice) → refusal_of world choice ≡ why
+    → AreResting nobody world.scene.phasers
+    → (refusal_of world choice ≡ None → AreResting nobody (execution (played world choice).world choices).world.scene.phasers)
+    → AreResting nobody (execution_by why world choice (λ after. execution after choices)).world.scene.phasers
+resting_by (Some fault) world choice choices is rest later = rest
+resting_by None world choice choices is rest later = later is
+
+resting : (choices : List Choice) (world : World) (origin : Origin) → Goes world origin → AreResting nobody world.scene.phasers
+    → AreResting nobody (execution world choices).world.scene.phasers
+resting [] world origin goes rest = rest
+resting (choice ∷ choices) world origin goes rest =
+    resting_by (refusal_of world choice) world choice choices refl rest (λ accepted.
+    resting choices (played world choice).world (counts_after world choice (played world choice).world origin)
+    (goes_next world choice origin goes accepted) ((choice_goes world choice origin goes accepted).1.rests rest))
+
+pub ends_in_time : PhasesEndInTime
+ends_in_time image (within, loads) choices root there top live clean all =
+    let counts = counts_through (start image) choices (declared_origin image.phasers) in
+    let goes = after_choices image (within, loads) choices in
+    all_done (execution (start image) choices).world.scene.phasers counts root goes.sound.trees.forest goes.stands
+    (resting choices (start image) (declared_origin image.phasers) (goes_first image 1000000000 within loads (omega arith))
+    (fresh_rests (start image).scene.phasers (all_made image loads).fresh)) there top clean live all

@@ -21,7 +21,7 @@ use Rattle.trace_compare.proofs.OneTrace.{trace-first}
 use Rattle.workbench.specs.declared.fault.Fault.{Fault}
 use Rattle.workbench.specs.declared.done.Done.{Done}
 use Rattle.workbench.specs.declared.done.Done.TheVariants as done
-use Rattle.workbench.specs.Debug.{Debugs, DebugsAt}
+use Rattle.workbench.specs.Debug.{Debugs, DebugsAt, IsBegun}
 use Rattle.workbench.specs.Live.{Lives}
 use Rattle.workbench.specs.Outcome.{PlaysFile, PlaysText}
 use Rattle.workbench.specs.ProgramFile.{IsProgramFile}
@@ -100,8 +100,24 @@ pub file-debugged : (result : Result (Unit {0}) Fault) (runs : Option (List Run)
     → Debugs runs file result commands_before commands_after commands_failed before after failed
     → OnOk result (HasDebuggedFile runs file commands_before commands_after before after)
 file-debugged (Ok done) runs file commands_before commands_after commands_failed before after failed
-    (image, (world, (now, (output_then, (is, (loads, first), begun, held))))) =
-    (image, (world, (now, (output_then, ((is, (file_image file image is, loads)), first, begun, held)))))
+    (session, (now, (output_then, ((image, (world, (is, (loads, first), same))), begun, held)))) = (
+      image,
+      (
+        world,
+        (
+          now,
+          (
+            output_then,
+            (
+              (is, (file_image file image is, loads)),
+              first,
+              subst (λ s. IsBegun runs s now before output_then) same begun,
+              held,
+            ),
+          ),
+        ),
+      ),
+    )
 file-debugged (Err f) runs file commands_before commands_after commands_failed before after failed debugs = tt
 
 pub file-debugged-at : (result : Result Done Fault) (file : List ℕ) (trace_before trace_after : Option (List ℕ)) (trace_failed : Bool)

@@ -3,8 +3,11 @@
 --      phasers, barriers, exceptions and waiting threads, its counts of choices and of steps, and its limit (GivesTheRows);
 --   2. no phase ends while a registered party has neither arrived nor left, unless an unregistered party has ever arrived in
 --      that tree of phasers; a forced termination ends no phase (EndsNoPhaseEarly). Parties have no names, as in Java: who
---      arrives at a phaser is unregistered where none of those registered with it is left to arrive. A phaser comes into the
---      phase of another number only where a phase of its tree ends (NumbersChangeAtEnds);
+--      arrives at a phaser is unregistered where none of those registered with it is left to arrive. And with the same
+--      exception, once every registered party has arrived the phase has ended, but where the tree's routine is to answer
+--      first, which it never does once it has thrown (PhasesEndInTime). A phaser is terminated only by force, or as a phase of
+--      its tree ends and `onAdvance` answers so, for Java's default as no party is left (TerminationsAreSaid). It comes into
+--      the phase of another number only where a phase of its tree ends (NumbersChangeAtEnds);
 --   3. each step back restores the state before (BackRestores);
 --   4. each barrier has one past, of which each state of the run is the record, so that whoever waits there meets the end of
 --      its own generation (BarriersHavePasts).
@@ -15,23 +18,27 @@
 --
 -- The program calls none of these four functions, but those of src/shown.rt. Its runs step by `Machine::step` and `Machine::idle`, its debugger by
 -- `Machine::step_into` and `Debugger::back`: their contracts say the same of each choice (thread_machine/src/machine.rt, debugger/src/session.rt).
+-- A session begins in a world whose phasers may be stored otherwise than those of `start`, which makes no difference (StoredAlike).
+-- That its world is at each moment that of the choices played and not taken back, is a law of the debugger (debugger/src/law.rt).
 --
 -- Trusted are Rattle's checker and its two compilers, LLVM, the C library and the system below them.
-use Rattle.std.specs.Prelude.{◌≡◌, ℕ, List, None, ◌++◌}
+use Rattle.std.specs.Prelude.{◌≡◌, ◌<◌, ℕ, List, None, ◌++◌, length}
 use Rattle.row_code.specs.declared.image.Image.{Image}
 use Rattle.row_code.specs.Image.{IsImage}
+use Rattle.tier_tree.specs.Forest.{PhaserState, root_at}
 use Rattle.loader.specs.Declarations.{declared_origin}
 use Rattle.loader.specs.Fault.{first_fault}
 use Rattle.loader.specs.Program.{without_words}
 use Rattle.cyclic_barrier.specs.Barrier.{BarrierState}
 use Rattle.cyclic_barrier.specs.PlainBarrier.{fresh}
-use Rattle.machine_scene.specs.Scene.{barrier_at}
+use Rattle.machine_scene.specs.Scene.{barrier_at, thread_at}
 use Rattle.thread_state.specs.declared.event.Event.{Event}
 use Rattle.thread_machine.specs.declared.choice.Choice.{Choice}
-use Rattle.thread_machine.specs.World.{World, StoredWorld, first_of, world_of}
+use Rattle.thread_machine.specs.World.{World, StoredWorld, IsFirstOf, first_of, world_of}
 use Rattle.thread_machine.specs.Step.{played, refusal_of}
 use Rattle.thread_machine.specs.Execution.{Execution, execution}
-use Rattle.thread_machine.specs.DirectCounts.{NoPhaseEndsEarlyFrom, NumbersStay}
+use Rattle.thread_machine.specs.DirectCounts.{NoPhaseEndsEarlyFrom, NumbersStay, counts_through}
+use Rattle.trace_text.specs.State.{state_text}
 use Rattle.shared_phaser.specs.declared.history.Call.{Call}
 use Rattle.shared_phaser.specs.declared.history.Answer.{Answer}
 use Rattle.shared_phaser.specs.declared.history.Entry.{Entry}
@@ -39,6 +46,7 @@ use Rattle.shared_phaser.specs.declared.history.Known.{Known}
 use Rattle.shared_phaser.specs.History.{IsLegal}
 use Rattle.shared_phaser.specs.Known.{Owns, making}
 use Rattle.headline.specs.Pasts.{RecordsOnePast}
+use Rattle.headline.specs.PhaseEnds.{HasEndedInTime, TerminateAsSaid, row_of}
 
 -- accepted: each list of the program is within its limits, and no check of the loader finds a fault in it
 abbrev pub Accepted : Image → Type 0
@@ -59,6 +67,22 @@ GivesTheRows image choices left =
 -- declared with is registered with it and has not arrived; from there on the rows count who is registered and has arrived.
 abbrev pub EndsNoPhaseEarly : Type 0
 EndsNoPhaseEarly = (image : Image) → Accepted image → NoPhaseEndsEarlyFrom (start image) (declared_origin image.phasers)
+
+-- And once everybody who registered with a tree has arrived, its phase has ended, whatever is chosen.
+abbrev pub PhasesEndInTime : Type 0
+PhasesEndInTime =
+    (image : Image) → Accepted image → (choices : List Choice) (root : ℕ)
+    → let phasers : List PhaserState = (execution (start image) choices).world.scene.phasers in
+    root < length phasers → root_at phasers root ≡ root
+    → HasEndedInTime (counts_through (start image) choices (declared_origin image.phasers)) phasers root
+
+-- A choice terminates a phaser only by force, or as a phase of its tree ends and `onAdvance` answers so.
+abbrev pub TerminationsAreSaid : Type 0
+TerminationsAreSaid =
+    (image : Image) → Accepted image → (choices : List Choice) (choice : Choice)
+    → let now : World = (execution (start image) choices).world in
+    refusal_of now choice ≡ None
+    → TerminateAsSaid (row_of now choice) (thread_at now.scene choice.thread) now.scene.phasers (played now choice).world.scene.phasers
 
 -- Nor does any bring a phaser into the phase of another number where it ends no phase of the phaser's tree.
 abbrev pub NumbersChangeAtEnds : Type 0
@@ -85,6 +109,16 @@ BarriersHavePasts =
 -- what the row gives in that state.
 abbrev pub StepGivesTheRow : StoredWorld → Choice → Event → StoredWorld → Type 0
 StepGivesTheRow before choice event after = record { world = world_of after; event = event } ≡ played (world_of before) choice
+
+-- Below: how the phasers of a program are stored at first makes no difference to an execution: it leaves the same world, but for
+-- that, the same events, the same refusal, and the same state text.
+abbrev pub StoredAlike : Type 0
+StoredAlike =
+    (image : Image) (first : World) → IsFirstOf image 1000000000 first → (choices : List Choice)
+    → let shown : Execution = execution first choices in
+    let rows : Execution = execution (start image) choices in
+    GivesTheRows image choices shown.world × (shown.events ≡ rows.events) × (shown.refusal ≡ rows.refusal)
+    × (state_text shown.world ≡ state_text rows.world)
 
 -- Below: what a caller of the word that threads share knows after a call. There are calls of others, perhaps, such that all
 -- that it had seen, then these, then its own call are one legal history (linearizable), which has of its own calls just those

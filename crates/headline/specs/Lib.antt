@@ -1,4 +1,5 @@
 pub mod Headline
 pub mod Pasts
+pub mod PhaseEnds
 pub mod Playing
 pub mod EndToEnd

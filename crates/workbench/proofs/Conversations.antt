@@ -1,5 +1,5 @@
 -- Exchanges that are held after other exchanges.
-use Rattle.std.proofs.Common.{◌≡◌, ◌≢◌, ◌≤◌, ◌+◌, ◌∙◌, ◌⊎◌, inl, inr, ℕ, Bool, true, false, List, [], ◌∷◌, ◌++◌, Option, refl, ap, sym, subst, length, append_assoc, length-append, arith}
+use Rattle.std.proofs.Common.{◌≡◌, ◌≢◌, ◌≤◌, ◌+◌, ◌∙◌, ◌⊎◌, inl, inr, ℕ, Bool, true, false, List, [], ◌∷◌, ◌++◌, Option, Result, Ok, Err, IsTrue, refl, ap, sym, subst, length, append_assoc, length-append, arith}
 use Rattle.std.proofs.KnownBytes.{Appends-nil, Appends-trans, Consumes-nil, Consumes-trans}
 use Rattle.std.proofs.lemmas.Grind.{flat_map-append}
 use Rattle.std.proofs.lemmas.List.{flat_map_more}
@@ -10,7 +10,9 @@ use Rattle.trace_text.specs.RunText.{GivesOnAndOn}
 use Rattle.debugger.specs.Session.{Session}
 use Rattle.debugger.specs.Command.{Order, Step, Go, Back, Break, Clear, Print, Quit, Unknown, goes_on, line_order}
 use Rattle.debugger.specs.Reply.{Replies}
-use Rattle.workbench.specs.Debug.{Cut, Ending, Ends, Exchange, Finished, GivesFew, HasConversed, HasNoEnd, HasReadLines, IsDialogue, Unanswered, bytes_of}
+use Rattle.workbench.specs.declared.fault.Fault.{Fault}
+use Rattle.workbench.specs.declared.fault.Fault.TheVariants as fault
+use Rattle.workbench.specs.Debug.{Converses, Cut, Ending, Ends, Exchange, Finished, GivesFew, HasConversed, HasNoEnd, HasReadLines, IsDialogue, Unanswered, bytes_of}
 use Rattle.workbench.specs.Input.{GivesInEach, IsCounted}
 
 -- what is read in some exchanges
@@ -43,43 +45,41 @@ dialogue_after (x ∷ xs) ys before middle after held more = (
   (held.2.0, (held.2.1.0, dialogue_after xs ys held.2.0 middle after held.2.1.1 more)),
 )
 
--- a dialogue was held, and the session goes on
-pub record HasGoneOn (before now : Session) (commands_before commands_now output_before output_now : Option (List ℕ))
+-- a dialogue was held, a read for each byte, and the session goes on with so many reads
+pub record HasGoneOn (before now : Session) (commands_before commands_now output_before output_now : Option (List ℕ)) (reads : ℕ)
     : Type 0 where
   pub exchanges : List Exchange
   pub held : IsDialogue before exchanges now
   pub given : Consumes commands_before commands_now (lines_of exchanges)
   pub written : Appends output_before output_now (replies_of exchanges)
+  pub counted : length (lines_of exchanges) + reads ≡ 1000000000
 
 -- nothing was read yet
-pub not_yet : (session : Session) (a x : Option (List ℕ))
-    → (on : HasGoneOn session session a a x x) × (length (lines_of on.exchanges) + 1000000000 ≡ 1000000000)
-not_yet session a x = (
-  record { exchanges = []; held = refl; given = Consumes-nil a; written = Appends-nil x },
-  omega arith,
-)
+pub not_yet : (session : Session) (a x : Option (List ℕ)) → HasGoneOn session session a a x x 1000000000
+not_yet session a x =
+    record { exchanges = []; held = refl; given = Consumes-nil a; written = Appends-nil x; counted = omega arith }
 
 -- an exchange more, in a read for each byte of its line
-pub gone_on : (before now after : Session) (a b c x y z : Option (List ℕ)) (exchange : Exchange) (n m : ℕ) → (on : HasGoneOn before now a b x y)
-    → length (lines_of on.exchanges) + n ≡ 1000000000 → IsDialogue now (exchange ∷ []) after
+pub gone_on : (before now after : Session) (a b c x y z : Option (List ℕ)) (exchange : Exchange) (n m : ℕ)
+    → HasGoneOn before now a b x y n → IsDialogue now (exchange ∷ []) after
     → Consumes b c (bytes_of exchange.line true) → Appends y z exchange.reply → length exchange.line + 1 + m ≡ n
-    → (more : HasGoneOn before after a c x z) × (length (lines_of more.exchanges) + m ≡ 1000000000)
-gone_on before now after a b c x y z exchange n m on counted held given written read = (
-  record {
-    exchanges = on.exchanges ++ exchange ∷ [];
-    held = dialogue_after on.exchanges (exchange ∷ []) before now after on.held held;
-    given = subst (Consumes a c) (flat_map_more (λ (e : Exchange). bytes_of e.line true) [] on.exchanges exchange)
-        (Consumes-trans a b c (lines_of on.exchanges) (bytes_of exchange.line true) on.given given);
-    written = subst (Appends x z) (flat_map_more (λ (e : Exchange). e.reply) [] on.exchanges exchange)
-        (Appends-trans x y z (replies_of on.exchanges) exchange.reply on.written written);
-  },
-  omega (arith, counted, read, lines-push on.exchanges exchange),
-)
+    → HasGoneOn before after a c x z m
+gone_on before now after a b c x y z exchange n m on held given written read =
+    let counted = on.counted in
+    record {
+      exchanges = on.exchanges ++ exchange ∷ [];
+      held = dialogue_after on.exchanges (exchange ∷ []) before now after on.held held;
+      given = subst (Consumes a c) (flat_map_more (λ (e : Exchange). bytes_of e.line true) [] on.exchanges exchange)
+          (Consumes-trans a b c (lines_of on.exchanges) (bytes_of exchange.line true) on.given given);
+      written = subst (Appends x z) (flat_map_more (λ (e : Exchange). e.reply) [] on.exchanges exchange)
+          (Appends-trans x y z (replies_of on.exchanges) exchange.reply on.written written);
+      counted = omega (arith, counted, read, lines-push on.exchanges exchange);
+    }
 
 -- what comes after a dialogue
-pub conversed_after : (ending : Ending) (before now : Session) (a b c x y z : Option (List ℕ)) → HasGoneOn before now a b x y
+conversed_after : (ending : Ending) (before now : Session) (a b c x y z : Option (List ℕ)) (n : ℕ) → HasGoneOn before now a b x y n
     → HasConversed ending now b c y z → HasConversed ending before a c x z
-conversed_after ending before now a b c x y z on (exchanges, (after, (last, (is_ended, all)))) = (
+conversed_after ending before now a b c x y z n on (exchanges, (after, (last, (is_ended, all)))) = (
   on.exchanges ++ exchanges,
   (
     after,
@@ -112,16 +112,11 @@ ends_here ending session a b x y line is_ended text no_end ends given written =
 unchanged : (x y : Option (List ℕ)) → y ≡ x → Appends x y []
 unchanged x y same = subst (λ z. Appends x z []) (sym same) (Appends-nil x)
 
-pub stands_so_far : (before now : Session) (a b x y : Option (List ℕ)) → HasGoneOn before now a b x y → HasConversed Cut before a b x y
-stands_so_far before now a b x y on =
-    conversed_after Cut before now a b b x y y on
-    (ends_here Cut now b b y y [] false [] (All-nil (λ byte. byte ≢ 10)) (refl, refl) (Consumes-nil b) (Appends-nil y))
-
-pub read_after : (before now : Session) (a b c x y : Option (List ℕ)) → HasGoneOn before now a b x y → HasReadLines b c
+read_after : (before now : Session) (a b c x y : Option (List ℕ)) (n : ℕ) → HasGoneOn before now a b x y n → HasReadLines b c
     → HasReadLines a c
-read_after before now a b c x y on (bytes, (given, inl end)) =
+read_after before now a b c x y n on (bytes, (given, inl end)) =
     (lines_of on.exchanges ++ bytes, (Consumes-trans a b c (lines_of on.exchanges) bytes on.given given, inl end))
-read_after before now a b c x y on (bytes, (given, inr (front, is))) = (
+read_after before now a b c x y n on (bytes, (given, inr (front, is))) = (
   lines_of on.exchanges ++ bytes,
   (
     Consumes-trans a b c (lines_of on.exchanges) bytes on.given given,
@@ -132,48 +127,51 @@ read_after before now a b c x y on (bytes, (given, inr (front, is))) = (
   ),
 )
 
-on_and_on_after : (before now : Session) (a b c x y : Option (List ℕ)) (n : ℕ) → (on : HasGoneOn before now a b x y)
-    → length (lines_of on.exchanges) + n ≡ 1000000000 → GivesInEach n b c → GivesOnAndOn a c
-on_and_on_after before now a b c x y n on counted more =
-    let bytes = lines_of on.exchanges in (
+-- all reads were used, in bytes of the lines before or of the last
+on_and_on_after : (before now : Session) (a b c x y : Option (List ℕ)) (n : ℕ) → HasGoneOn before now a b x y n → GivesInEach n b c
+    → GivesOnAndOn a c
+on_and_on_after before now a b c x y n on more =
+    let bytes = lines_of on.exchanges in
+    let counted = on.counted in (
       bytes ++ more.0,
-      (
-        Consumes-trans a b c bytes more.0 on.given more.1.0,
-        omega (arith, counted, more.1.1, length-append bytes more.0),
-      ),
+      (Consumes-trans a b c bytes more.0 on.given more.1.0, omega (arith, counted, more.1.1, length-append bytes more.0)),
     )
 
-pub failed_after : (before now : Session) (a b c x y : Option (List ℕ)) (F : Type 0) (n : ℕ) → (on : HasGoneOn before now a b x y)
-    → length (lines_of on.exchanges) + n ≡ 1000000000 → F ⊎ GivesInEach n b c → F ⊎ GivesOnAndOn a c
-failed_after before now a b c x y F n on counted (inl failed) = inl failed
-failed_after before now a b c x y F n on counted (inr more) = inr (on_and_on_after before now a b c x y n on counted more)
+-- what a session comes to after a dialogue
+pub converses_after : (answer : Result (Unit {0}) Fault) (before now : Session) (a b c x y z : Option (List ℕ)) (n : ℕ) (cf of : Bool)
+    → HasGoneOn before now a b x y n → Converses (GivesInEach n b c) answer now b c cf y z of
+    → Converses (GivesOnAndOn a c) answer before a c cf x z of
+converses_after (Ok done) before now a b c x y z n cf of on came = conversed_after Finished before now a b c x y z n on came
+converses_after (Err fault.Read) before now a b c x y z n cf of on (inl failed, came) =
+    (inl failed, conversed_after Cut before now a b c x y z n on came)
+converses_after (Err fault.Read) before now a b c x y z n cf of on (inr more, came) =
+    (inr (on_and_on_after before now a b c x y n on more), conversed_after Cut before now a b c x y z n on came)
+converses_after (Err fault.Memory) before now a b c x y z n cf of on came = conversed_after Unanswered before now a b c x y z n on came
+converses_after (Err fault.Write) before now a b c x y z n cf of on (failed, lines) = (failed, read_after before now a b c x y n on lines)
+converses_after (Err _) before now a b c x y z n cf of on came = absurd came
 
--- a byte for each of the reads
-pub on_and_on : (before now : Session) (a b x y : Option (List ℕ)) (n : ℕ) → n ≤ 0 → (on : HasGoneOn before now a b x y)
-    → length (lines_of on.exchanges) + n ≡ 1000000000 → GivesOnAndOn a b
-on_and_on before now a b x y n none on counted = (lines_of on.exchanges, (on.given, omega (arith, none, counted)))
+-- no read is left
+pub reads_used : (before now : Session) (a b x y : Option (List ℕ)) (n : ℕ) (cf of : Bool) → n ≤ 0 → HasGoneOn before now a b x y n
+    → Converses (GivesOnAndOn a b) (Err fault.Read) before a b cf x y of
+reads_used before now a b x y n cf of none on =
+    let counted = on.counted in (
+      inr (lines_of on.exchanges, (on.given, omega (arith, none, counted))),
+      conversed_after Cut before now a b b x y y n on
+          (ends_here Cut now b b y y [] false [] (All-nil (λ byte. byte ≢ 10)) (refl, refl) (Consumes-nil b) (Appends-nil y)),
+    )
 
 -- no more than the reads
-pub few_after : (before now : Session) (a b c x y : Option (List ℕ)) (n m : ℕ) → (on : HasGoneOn before now a b x y)
-    → length (lines_of on.exchanges) + n ≡ 1000000000 → IsCounted n m b c → GivesFew a c
-few_after before now a b c x y n m on counted more =
-    let bytes = lines_of on.exchanges in (
+pub few_after : (before now : Session) (a b c x y : Option (List ℕ)) (n m : ℕ) → HasGoneOn before now a b x y n → IsCounted n m b c
+    → GivesFew a c
+few_after before now a b c x y n m on more =
+    let bytes = lines_of on.exchanges in
+    let counted = on.counted in (
       bytes ++ more.0,
-      (
-        Consumes-trans a b c bytes more.0 on.given more.1.0,
-        omega (arith, counted, more.1.1, length-append bytes more.0),
-      ),
+      (Consumes-trans a b c bytes more.0 on.given more.1.0, omega (arith, counted, more.1.1, length-append bytes more.0)),
     )
 
-pub few_so_far : (before now : Session) (a b x y : Option (List ℕ)) (n : ℕ) → (on : HasGoneOn before now a b x y)
-    → length (lines_of on.exchanges) + n ≡ 1000000000 → GivesFew a b
-few_so_far before now a b x y n on counted = (lines_of on.exchanges, (on.given, omega (arith, counted)))
-
--- a line that all the reads were used for
-pub each_given : (F : Type 0) (n : ℕ) (a b : Option (List ℕ)) (line : List ℕ) → F ⊎ (n ≤ length line) → Consumes a b line
-    → F ⊎ GivesInEach n a b
-each_given F n a b line (inl failed) given = inl failed
-each_given F n a b line (inr many) given = inr (line, (given, many))
+pub few_so_far : (before now : Session) (a b x y : Option (List ℕ)) (n : ℕ) → HasGoneOn before now a b x y n → GivesFew a b
+few_so_far before now a b x y n on = let counted = on.counted in (lines_of on.exchanges, (on.given, omega (arith, counted)))
 
 pub none_given : (a b : Option (List ℕ)) → b ≡ a → GivesFew a b
 none_given a b same = ([], (subst (λ c. Consumes a c []) (sym same) (Consumes-nil a), omega arith))
@@ -226,15 +224,22 @@ quits before after a b x y line text given no_end ends replies written =
     ends_here Finished before a b x y line true text no_end
     (quit_line_ends before b line text (no_reply before after (line_order line) text quit replies) quit) given written
 
-pub is_cut : (session : Session) (a b x y : Option (List ℕ)) (part : List ℕ) → Consumes a b part → HasNoEnd part → y ≡ x
-    → HasConversed Cut session a b x y
-is_cut session a b x y part given no_end same =
-    ends_here Cut session a b x y part false [] no_end (refl, refl) given (unchanged x y same)
-
-pub is_left : (session : Session) (a b x y : Option (List ℕ)) (part : List ℕ) → Consumes a b part → HasNoEnd part → y ≡ x
-    → HasConversed Unanswered session a b x y
-is_left session a b x y part given no_end same =
-    ends_here Unanswered session a b x y part false [] no_end refl given (unchanged x y same)
+-- the commands couldn't be read further, or there was no memory for them
+pub cut_off : (f : Fault) (session : Session) (a b x y : Option (List ℕ)) (line : List ℕ) (n : ℕ) (cf of : Bool)
+    → (f ≡ fault.Memory) ⊎ (f ≡ fault.Read) → HasNoEnd line → y ≡ x
+    → (f ≡ fault.Memory → (part : List ℕ) × (HasNoEnd part × Consumes a b part))
+    → (f ≡ fault.Read → (IsTrue cf ⊎ (n ≤ length line)) × Consumes a b line)
+    → Converses (GivesInEach n a b) (Err f) session a b cf x y of
+cut_off f session a b x y line n cf of (inl is) no_end same memory read =
+    let (part, (none, given)) = memory is in
+    subst (λ e. Converses (GivesInEach n a b) (Err e) session a b cf x y of) (sym is)
+    (ends_here Unanswered session a b x y part false [] none refl given (unchanged x y same))
+cut_off f session a b x y line n cf of (inr is) no_end same memory read =
+    let (why, given) = read is in
+    subst (λ e. Converses (GivesInEach n a b) (Err e) session a b cf x y of) (sym is) (
+      elim why as (λ _. IsTrue cf ⊎ GivesInEach n a b) [ | inl failed ↦ inl failed | inr many ↦ inr (line, (given, many)) ],
+      ends_here Cut session a b x y line false [] no_end (refl, refl) given (unchanged x y same),
+    )
 
 -- one byte more
 pub given_on : (a b c : Option (List ℕ)) (bytes : List ℕ) (byte : ℕ) → Consumes a b bytes → Consumes b c (byte ∷ [])
@@ -245,15 +250,22 @@ pub one_more : (bytes : List ℕ) (byte : ℕ) → HasNoEnd bytes → byte ≢ 1
 one_more bytes byte none other =
     All-append (λ b. b ≢ 10) bytes (byte ∷ []) none (All-cons (λ b. b ≢ 10) byte [] other (All-nil (λ b. b ≢ 10)))
 
-pub left_unanswered : (session : Session) (a b x y : Option (List ℕ)) (line : List ℕ) (is_ended : Bool)
-    → (is_ended ≡ true → Consumes a b (line ++ 10 ∷ [])) → (is_ended ≡ false → Consumes a b line × IsAtEnd b) → HasNoEnd line → y ≡ x
-    → HasConversed Unanswered session a b x y
-left_unanswered session a b x y line true whole last no_end same =
-    ends_here Unanswered session a b x y line true [] no_end refl (whole refl) (unchanged x y same)
-left_unanswered session a b x y line false whole last no_end same =
-    ends_here Unanswered session a b x y line false [] no_end refl (last refl).0 (unchanged x y same)
-
-pub was_read : (a b : Option (List ℕ)) (line : List ℕ) (is_ended : Bool)
-    → (is_ended ≡ true → Consumes a b (line ++ 10 ∷ [])) → (is_ended ≡ false → Consumes a b line × IsAtEnd b) → HasReadLines a b
-was_read a b line true whole last = (line ++ 10 ∷ [], (whole refl, inr (line, refl)))
-was_read a b line false whole last = (line, ((last refl).0, inl (last refl).1))
+-- a line was read whose reply wasn't written
+pub unanswered : (f : Fault) (session : Session) (a b x y : Option (List ℕ)) (line : List ℕ) (is_ended : Bool) (n : ℕ) (cf of : Bool)
+    → ((f ≡ fault.Memory) × (y ≡ x)) ⊎ ((f ≡ fault.Write) × IsTrue of)
+    → (is_ended ≡ true → Consumes a b (line ++ 10 ∷ [])) → (is_ended ≡ false → Consumes a b line × IsAtEnd b) → HasNoEnd line
+    → Converses (GivesInEach n a b) (Err f) session a b cf x y of
+unanswered f session a b x y line is_ended n cf of (inl (is, same)) whole last no_end =
+    subst (λ e. Converses (GivesInEach n a b) (Err e) session a b cf x y of) (sym is) (left is_ended whole last)
+  where
+    left : (is_ended : Bool) → (is_ended ≡ true → Consumes a b (line ++ 10 ∷ [])) → (is_ended ≡ false → Consumes a b line × IsAtEnd b)
+        → HasConversed Unanswered session a b x y
+    left true whole last = ends_here Unanswered session a b x y line true [] no_end refl (whole refl) (unchanged x y same)
+    left false whole last = ends_here Unanswered session a b x y line false [] no_end refl (last refl).0 (unchanged x y same)
+unanswered f session a b x y line is_ended n cf of (inr (is, failed)) whole last no_end =
+    subst (λ e. Converses (GivesInEach n a b) (Err e) session a b cf x y of) (sym is) (failed, was_read is_ended whole last)
+  where
+    was_read : (is_ended : Bool) → (is_ended ≡ true → Consumes a b (line ++ 10 ∷ [])) → (is_ended ≡ false → Consumes a b line × IsAtEnd b)
+        → HasReadLines a b
+    was_read true whole last = (line ++ 10 ∷ [], (whole refl, inr (line, refl)))
+    was_read false whole last = (line, ((last refl).0, inl (last refl).1))

@@ -1,21 +1,11 @@
 -- Lines that are written piece by piece.
-use Rattle.std.proofs.Common.{◌≡◌, ◌++◌, ℕ, List, sym, subst, append_assoc}
+use Rattle.std.proofs.Common.{◌≡◌, ◌++◌, ℕ, List, sym, subst}
 use Rattle.std.proofs.KnownBytes.{Appends-trans}
 use Rattle.std.specs.Prelude.{Option, Some, Result, Ok, Err, OnOk, codes}
 use Rattle.std.specs.Fmt.{decimal}
 use Rattle.std.specs.Io.KnownBytes.{Appends}
-use Rattle.workbench.specs.Fault.{refusal_line, text_line}
-
--- the three pieces of the line of a text's fault, of which the last may fail
-pub text_line-pushed : {X E : Type 0} (last : Result X E) (a b c d : Option (List ℕ))
-    (line : ℕ) (kind : Option ℕ) (number : ℕ) → kind ≡ Some number
-    → Appends a b (codes "refused asm " ++ decimal line) → Appends b c (codes " " ++ decimal number)
-    → OnOk last (Appends c d (codes "\n")) → OnOk last (Appends a d (text_line line kind))
-text_line-pushed (Ok x) a b c d line kind number is first second third =
-    subst (λ k. Appends a d (text_line line k)) (sym is)
-    (Appends-trans a b d (codes "refused asm " ++ decimal line) _ first
-    (Appends-trans b c d (codes " " ++ decimal number) (codes "\n") second third))
-text_line-pushed (Err e) a b c d line kind number is first second third = third
+use Rattle.workbench.specs.declared.fault.Fault.{Fault}
+use Rattle.workbench.specs.Fault.{refusal_line, word_of}
 
 -- two pieces, of which the last may fail
 pub pushed-after : {X E : Type 0} (last : Result X E) (a b c : Option (List ℕ)) (front rest : List ℕ)
@@ -23,14 +13,17 @@ pub pushed-after : {X E : Type 0} (last : Result X E) (a b c : Option (List ℕ)
 pushed-after (Ok x) a b c front rest first second = Appends-trans a b c front rest first second
 pushed-after (Err e) a b c front rest first second = second
 
--- the three pieces of the line of another refusal, of which the last may fail
-pub refusal_line-pushed : {X E : Type 0} (last : Result X E) (a b c d : Option (List ℕ))
+-- the four pieces of a refusal's line, of which the last may fail
+pub refusal_line-pushed : {X E : Type 0} (last : Result X E) (a b c d e : Option (List ℕ))
     (word : List ℕ) (kind : Option ℕ) (number : ℕ) (place : List ℕ) → kind ≡ Some number
-    → Appends a b (word ++ decimal number) → Appends b c place
-    → OnOk last (Appends c d (codes "\n")) → OnOk last (Appends a d (refusal_line word kind place))
-refusal_line-pushed (Ok x) a b c d word kind number place is first second third =
-    let end = place ++ codes "\n" in
-    let whole = Appends-trans a b d (word ++ decimal number) end first (Appends-trans b c d place (codes "\n") second third) in
-    subst (λ k. Appends a d (refusal_line word k place)) (sym is)
-    (subst (λ (text : List ℕ). Appends a d text) (append_assoc word (decimal number) end) whole)
-refusal_line-pushed (Err e) a b c d word kind number place is first second third = third
+    → Appends a b word → Appends b c (decimal number) → Appends c d place
+    → OnOk last (Appends d e (codes "\n")) → OnOk last (Appends a e (refusal_line word kind place))
+refusal_line-pushed (Ok x) a b c d e word kind number place is first second third fourth =
+    subst (λ k. Appends a e (refusal_line word k place)) (sym is)
+    (Appends-trans a b e word _ first (Appends-trans b c e (decimal number) _ second (Appends-trans c d e place (codes "\n") third fourth)))
+refusal_line-pushed (Err f) a b c d e word kind number place is first second third fourth = fourth
+
+-- the word of a refusal that is known
+pub same_word : {X E : Type 0} (last : Result X E) (a b : Option (List ℕ)) (f known : Fault) → f ≡ known
+    → OnOk last (Appends a b (word_of known)) → OnOk last (Appends a b (word_of f))
+same_word last a b f known is pushed = subst (λ x. OnOk last (Appends a b (word_of x))) (sym is) pushed

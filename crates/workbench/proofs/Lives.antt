@@ -1,5 +1,5 @@
 -- What becomes of a run that was recorded.
-use Rattle.std.proofs.Common.{◌≡◌, ◌∙◌, ℕ, All, List, Ok, Result, Option, Some, None, inl, inr, sym}
+use Rattle.std.proofs.Common.{◌≡◌, ◌∙◌, ℕ, All, List, Ok, Result, Option, Some, None, inl, inr, subst, sym}
 use Rattle.row_code.specs.declared.image.Image.{Image}
 use Rattle.loader.specs.Fault.{first_fault}
 use Rattle.loader.specs.Program.{IsProgramOf, Program}
@@ -7,11 +7,7 @@ use Rattle.assembler.proofs.ReadLines.{one_image}
 use Rattle.schedule_reader.specs.declared.run.Run.{Run}
 use Rattle.schedule_reader.specs.Schedule.{IsRun, choices_of}
 use Rattle.thread_machine.proofs.Firsts.{is_first}
-use Rattle.thread_machine.specs.declared.choice.Choice.{Choice}
-use Rattle.thread_machine.specs.World.{World, first_world}
-use Rattle.thread_runner.specs.declared.ending.Ending.{Ending}
-use Rattle.thread_runner.specs.Endings.{ending_of}
-use Rattle.thread_runner.specs.Replay.{IsReplay}
+use Rattle.thread_machine.specs.World.{first_world}
 use Rattle.trace_text.specs.declared.run_end.RunEnd.{RunEnd}
 use Rattle.trace_text.specs.RunText.{AreTraced}
 use Rattle.trace_text.specs.Trace.{AppendsPartOf, lines_of}
@@ -28,61 +24,47 @@ one_program file a b (inl (is, first, fits)) (inr (other, second)) = absurd (cc 
 one_program file a b (inr (is, first)) (inl (other, second, fit)) = absurd (cc (is, other))
 one_program file a b (inr (is, first)) (inr (too, second)) = one_image file a b first second
 
--- what is known of a run that was recorded
-pub record Known (limit : ℕ) (file : List ℕ) (program : Program) (choices : List Choice) : Type 0 where
-  pub image : Image
-  pub world : World
-  pub ending : Ending
-  pub is_file : IsProgramFile file image
-  pub none : first_fault image ≡ None
-  pub loaded : IsProgramOf image program
-  pub replay : IsReplay (record { first = first_world program limit; choices = choices }) world
-  pub over : ending_of world ≡ Some ending
-
-is_recorded : (limit : ℕ) (file : List ℕ) (program : Program) (choices : List Choice) (known : Known limit file program choices)
-    → IsRecorded known.image limit choices
-is_recorded limit file program choices known = (
-  first_world program limit,
-  (known.world, (known.ending, (known.none, is_first known.image program limit known.loaded, known.replay, known.over))),
-)
-
--- its trace was written
-pub lived : (limit : ℕ) (file : List ℕ) (program : Program) (runs : List Run) (end : RunEnd) (old new : Option (List ℕ))
-    → Known limit file program (choices_of runs) → All IsRun runs → AreTraced (first_world program 1000000000) (choices_of runs) end old new
+-- a run that was recorded had its trace written, of a copy of its program
+pub lived : (limit : ℕ) (file : List ℕ) (image : Image) (program again : Program) (runs given : List Run) (end : RunEnd) (old new : Option (List ℕ))
+    → given ≡ runs → again ≡ program → IsProgramFile file image → first_fault image ≡ None → IsProgramOf image program → All IsRun runs
+    → IsRecorded image limit (choices_of runs) → AreTraced (first_world again 1000000000) (choices_of given) end old new
     → IsLived limit file end old new
-lived limit file program runs end old new known are traced = (
-  known.image,
+lived limit file image program again runs given end old new same copied is none loaded are recorded traced = (
+  image,
   (
     runs,
     (
       first_world program 1000000000,
       (
-        known.is_file,
+        is,
         are,
-        is_recorded limit file program (choices_of runs) known,
-        (known.none, is_first known.image program 1000000000 known.loaded),
-        traced,
+        recorded,
+        (none, is_first image program 1000000000 loaded),
+        subst (λ p. AreTraced (first_world p 1000000000) (choices_of runs) end old new) copied
+            (subst (λ rs. AreTraced (first_world again 1000000000) (choices_of rs) end old new) same traced),
       ),
     ),
   ),
 )
 
--- a part of its lines was
-pub lived_in_part : (limit : ℕ) (file : List ℕ) (program : Program) (choices : List Choice) (old new : Option (List ℕ))
-    → Known limit file program choices → AppendsPartOf old new (lines_of (first_world program 1000000000) choices)
+-- or a part of its lines
+pub lived_in_part : (limit : ℕ) (file : List ℕ) (image : Image) (program again : Program) (runs given : List Run) (old new : Option (List ℕ))
+    → given ≡ runs → again ≡ program → IsProgramFile file image → first_fault image ≡ None → IsProgramOf image program
+    → IsRecorded image limit (choices_of runs) → AppendsPartOf old new (lines_of (first_world again 1000000000) (choices_of given))
     → IsLivedAtMost limit file old new
-lived_in_part limit file program choices old new known part =
+lived_in_part limit file image program again runs given old new same copied is none loaded recorded part =
     inr (
-      known.image,
+      image,
       (
-        choices,
+        choices_of runs,
         (
           first_world program 1000000000,
           (
-            known.is_file,
-            is_recorded limit file program choices known,
-            (known.none, is_first known.image program 1000000000 known.loaded),
-            part,
+            is,
+            recorded,
+            (none, is_first image program 1000000000 loaded),
+            subst (λ p. AppendsPartOf old new (lines_of (first_world p 1000000000) (choices_of runs))) copied
+                (subst (λ rs. AppendsPartOf old new (lines_of (first_world again 1000000000) (choices_of rs))) same part),
           ),
         ),
       ),

@@ -2,11 +2,12 @@
 use Rattle.std.proofs.Common.{◌≡◌, ◌∙◌, ◌⊎◌, inl, inr, sym, ℕ, Bool, List, [], ◌∷◌, Option, Some, Result, Ok, Err, IsTrue, refl, ap, subst}
 use Rattle.std.specs.Prelude.{IfErr, IfOk, OnOk}
 use Rattle.std.specs.Io.KnownBytes.{Appends}
-use Rattle.row_code.specs.declared.image.Image.{Image}
 use Rattle.thread_machine.specs.declared.choice.Choice.{Choice}
 use Rattle.schedule_reader.specs.declared.run.Run.{Run}
 use Rattle.schedule_reader.specs.Schedule.{choices_of, run_of}
 use Rattle.trace_compare.specs.Naming.{HasNamed}
+use Rattle.trace_text.specs.Outcome.{IsUntouched}
+use Rattle.trace_text.specs.RunText.{GivesOnAndOn}
 use Rattle.trace_compare.specs.declared.comparison.Verdict.TheVariants as verdict
 use Rattle.debugger.specs.Session.{Session}
 use Rattle.debugger.specs.declared.stop.Stop.{Stop}
@@ -17,9 +18,7 @@ use Rattle.workbench.specs.declared.done.Done.TheVariants as done
 use Rattle.workbench.specs.declared.fault.Fault.{Fault}
 use Rattle.workbench.specs.declared.fault.Fault.TheVariants as fault
 use Rattle.workbench.specs.Compare.{verdict_line}
-use Rattle.workbench.specs.Debug.{Debugs, DebugsAt, IsBegun, IsLoaded, StopsDebugging, StopsDebuggingAt}
-use Rattle.workbench.specs.ProgramFile.{IsProgramFile}
-use Rattle.workbench.proofs.Debugged.{IsFirst}
+use Rattle.workbench.specs.Debug.{Converses, DebugsAt, HasNoSession, IsBegun, IsFirstSession, IsNotBegunAt}
 
 -- each choice is a run
 pub runs_of : List Choice → List Run
@@ -37,37 +36,45 @@ pub begun_at : (stop : Stop) (session now : Session) (choices : List Choice) (x 
 begun_at stop session now choices x y stops written =
     (stop_text stop, ((stop, subst (λ cs. Stops session cs stop now) (sym (their_choices choices)) stops, refl), written))
 
-pub named_at : (choices : List Choice) (t u : Option (List ℕ)) → HasNamed t u (Ok choices) → HasNamed t u (Ok (choices_of (runs_of choices)))
+named_at : (choices : List Choice) (t u : Option (List ℕ)) → HasNamed t u (Ok choices) → HasNamed t u (Ok (choices_of (runs_of choices)))
 named_at choices t u named = subst (λ cs. HasNamed t u (Ok cs)) (sym (their_choices choices)) named
 
-pub is_loaded : (file : List ℕ) (image : Image) (session : Session) → IsFirst image session → IsProgramFile file image → IsLoaded file
-is_loaded file image session (world, (begins, is)) program = (image, (world, (program, begins)))
-
 -- the trace is none, and that was told, or couldn't be
-pub untraced_at : (result : Result Done Fault) (file : List ℕ) (line : ℕ) (t0 t1 c0 c1 o0 o1 : Option (List ℕ)) (tf cf of : Bool)
+pub untraced_at : (result : Result Done Fault) (file : List ℕ) (session : Session) (line : ℕ) (t0 t1 c0 c1 o0 o1 : Option (List ℕ)) (tf cf of : Bool)
     → OnOk result (Appends o0 o1 (verdict_line (verdict.NotATrace line))) → IfOk result (λ d. d ≡ done.Unlike)
-    → IfErr result (λ f. (f ≡ fault.Write) × IsTrue of) → IsLoaded file → HasNamed t0 t1 (Err line) → c1 ≡ c0
+    → IfErr result (λ f. (f ≡ fault.Write) × IsTrue of) → IsFirstSession file session → HasNamed t0 t1 (Err line) → c1 ≡ c0
     → DebugsAt file result t0 t1 tf c0 c1 cf o0 o1 of
-untraced_at (Ok d) file line t0 t1 c0 c1 o0 o1 tf cf of told unlike failed loaded named same =
-    subst (λ e. DebugsAt file (Ok e) t0 t1 tf c0 c1 cf o0 o1 of) (sym unlike) (line, (named, loaded, same, told))
-untraced_at (Err f) file line t0 t1 c0 c1 o0 o1 tf cf of told unlike failed loaded named same =
-    subst (λ e. StopsDebuggingAt e file t0 t1 tf c0 c1 cf o0 o1 of) (sym failed.0) (inl (loaded, failed.1, same, (line, named)))
+untraced_at (Ok d) file session line t0 t1 c0 c1 o0 o1 tf cf of told unlike failed first named same =
+    subst (λ e. DebugsAt file (Ok e) t0 t1 tf c0 c1 cf o0 o1 of) (sym unlike) (line, (named, (session, first), same, told))
+untraced_at (Err f) file session line t0 t1 c0 c1 o0 o1 tf cf of told unlike failed first named same =
+    subst (λ e. DebugsAt file (Err e) t0 t1 tf c0 c1 cf o0 o1 of) (sym failed.0)
+    (inr ((session, first), (Err line, named), failed.1, same))
 
 -- a session was held behind the trace, and came to this
-pub answered_at : (answer : Result (Unit {0}) Fault) (result : Result Done Fault) (file : List ℕ) (runs : List Run)
-    (t0 t1 c0 c1 o0 o1 : Option (List ℕ)) (tf cf of : Bool)
-    → OnOk answer (result ≡ Ok done.AsAsked) → IfErr answer (λ f. result ≡ Err f)
-    → IfErr answer (λ f. (f ≡ fault.Memory) ⊎ ((f ≡ fault.Read) ⊎ (f ≡ fault.Write)))
-    → IsLoaded file → HasNamed t0 t1 (Ok (choices_of runs)) → Debugs (Some runs) file answer c0 c1 cf o0 o1 of
-    → DebugsAt file result t0 t1 tf c0 c1 cf o0 o1 of
-answered_at (Ok x) result file runs t0 t1 c0 c1 o0 o1 tf cf of asked told which loaded named debugs =
-    subst (λ r. DebugsAt file r t0 t1 tf c0 c1 cf o0 o1 of) (sym asked) (runs, (named, debugs))
-answered_at (Err f) result file runs t0 t1 c0 c1 o0 o1 tf cf of asked told (inl is) loaded named debugs =
-    subst (λ r. DebugsAt file r t0 t1 tf c0 c1 cf o0 o1 of) (sym (told ∙ ap Err is))
-    (inr (runs, (named, subst (λ e. StopsDebugging e (Some runs) file c0 c1 cf o0 o1 of) is debugs)))
-answered_at (Err f) result file runs t0 t1 c0 c1 o0 o1 tf cf of asked told (inr (inl is)) loaded named debugs =
-    subst (λ r. DebugsAt file r t0 t1 tf c0 c1 cf o0 o1 of) (sym (told ∙ ap Err is))
-    (inr (runs, (named, subst (λ e. StopsDebugging e (Some runs) file c0 c1 cf o0 o1 of) is debugs)))
-answered_at (Err f) result file runs t0 t1 c0 c1 o0 o1 tf cf of asked told (inr (inr is)) loaded named debugs =
-    subst (λ r. DebugsAt file r t0 t1 tf c0 c1 cf o0 o1 of) (sym (told ∙ ap Err is))
-    (inr (runs, (named, (loaded, subst (λ e. StopsDebugging e (Some runs) file c0 c1 cf o0 o1 of) is debugs))))
+pub answered_at : (answer : Result (Unit {0}) Fault) (result : Result Done Fault) (file : List ℕ) (session now : Session) (choices : List Choice)
+    (t0 t1 c0 c1 o0 om o1 : Option (List ℕ)) (tf cf of : Bool)
+    → OnOk answer (result ≡ Ok done.AsAsked) → IfErr answer (λ f. result ≡ Err f) → IsFirstSession file session
+    → HasNamed t0 t1 (Ok choices) → IsBegun (Some (runs_of choices)) session now o0 om
+    → Converses (GivesOnAndOn c0 c1) answer now c0 c1 cf om o1 of → DebugsAt file result t0 t1 tf c0 c1 cf o0 o1 of
+answered_at (Ok tt) result file session now choices t0 t1 c0 c1 o0 om o1 tf cf of asked told first named begun came =
+    subst (λ r. DebugsAt file r t0 t1 tf c0 c1 cf o0 o1 of) (sym asked)
+    (runs_of choices, (named_at choices t0 t1 named, (session, (now, (om, (first, begun, came))))))
+answered_at (Err f) result file session now choices t0 t1 c0 c1 o0 om o1 tf cf of asked told first named begun came =
+    subst (λ r. DebugsAt file r t0 t1 tf c0 c1 cf o0 o1 of) (sym told)
+    (inl (runs_of choices, (named_at choices t0 t1 named, (session, (now, (om, (first, begun, came)))))))
+
+-- there is no session, and nothing was looked at
+pub not_begun_at : (f : Fault) (file : List ℕ) (t0 t1 c0 c1 o0 o1 : Option (List ℕ)) (tf of : Bool) → HasNoSession f file → t1 ≡ t0
+    → IsUntouched c0 c1 o0 o1 → IsNotBegunAt f file t0 t1 tf c0 c1 o0 o1 of
+not_begun_at fault.Write file t0 t1 c0 c1 o0 o1 tf of none same untouched = absurd none
+not_begun_at fault.Read file t0 t1 c0 c1 o0 o1 tf of none same untouched = absurd none
+not_begun_at _ file t0 t1 c0 c1 o0 o1 tf of none same untouched = (none, same, untouched)
+
+-- the trace couldn't be read
+pub unread_at : (f : Fault) (file : List ℕ) (session : Session) (t0 t1 c0 c1 o0 o1 : Option (List ℕ)) (tf of : Bool)
+    → ((f ≡ fault.Memory) × (t1 ≡ t0)) ⊎ ((f ≡ fault.Read) × (IsTrue tf ⊎ GivesOnAndOn t0 t1)) → IsFirstSession file session
+    → IsUntouched c0 c1 o0 o1 → IsNotBegunAt f file t0 t1 tf c0 c1 o0 o1 of
+unread_at f file session t0 t1 c0 c1 o0 o1 tf of (inl (is, same)) first untouched =
+    subst (λ e. IsNotBegunAt e file t0 t1 tf c0 c1 o0 o1 of) (sym is) (tt, same, untouched)
+unread_at f file session t0 t1 c0 c1 o0 o1 tf of (inr (is, why)) first untouched =
+    subst (λ e. IsNotBegunAt e file t0 t1 tf c0 c1 o0 o1 of) (sym is) ((session, first), why, untouched)

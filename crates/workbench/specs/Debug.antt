@@ -1,5 +1,5 @@
 -- What `debug` makes of a program's file and of lines of commands, by its answer.
-use Rattle.std.specs.Prelude.{◌≡◌, ◌≢◌, ◌≤◌, ◌⊎◌, ℕ, Bool, true, false, IsTrue, All, List, [], ◌∷◌, ◌++◌, length, replicate, Option, Some, None, is_some, Result, Ok, Err}
+use Rattle.std.specs.Prelude.{◌≡◌, ◌≢◌, ◌≤◌, ◌⊎◌, ℕ, Bool, true, false, IsTrue, All, List, [], ◌∷◌, ◌++◌, length, replicate, Option, Some, None, Result, Ok, Err}
 use Rattle.std.specs.List.{flat_map}
 use Rattle.std.specs.Io.KnownBytes.{Appends, Consumes, IsAtEnd}
 use Rattle.row_code.specs.declared.image.Image.{Image}
@@ -77,21 +77,6 @@ HasConversed ending session commands_before commands_after output_before output_
     × Consumes commands_before commands_after (flat_map (λ e. bytes_of e.line true) exchanges ++ bytes_of last.line is_ended)
     × Appends output_before output_after (flat_map (λ e. e.reply) exchanges ++ last.reply)))))
 
--- a session begins as it is; or behind runs, which were played first and told as `g` tells them
-abbrev pub IsBegun : Option (List Run) → Session → Session → (output_before output_after : Option (List ℕ)) → Type 0
-IsBegun None session now output_before output_after = (now ≡ session) × (output_after ≡ output_before)
-IsBegun (Some runs) session now output_before output_after =
-    (reply : List ℕ) × (Replies session (Go runs) now reply × Appends output_before output_after reply)
-
--- a session of a file's program was held, and ended so
-abbrev pub HasDebugged : Ending → Option (List Run) → (file : List ℕ)
-    (commands_before commands_after output_before output_after : Option (List ℕ)) → Type 0
-HasDebugged ending runs file commands_before commands_after output_before output_after =
-    (image : Image) × ((world : StoredWorld) × ((now : Session) × ((output_then : Option (List ℕ))
-    × (IsProgramFile file image × Begins image (world_of world)
-    × IsBegun runs (first_session world) now output_before output_then
-    × HasConversed ending now commands_before commands_after output_then output_after))))
-
 -- what was read of the commands ends with an LF, or with the commands
 abbrev pub HasReadLines : (commands_before commands_after : Option (List ℕ)) → Type 0
 HasReadLines commands_before commands_after =
@@ -102,37 +87,66 @@ HasReadLines commands_before commands_after =
 abbrev pub GivesFew : Option (List ℕ) → Option (List ℕ) → Type 0
 GivesFew before after = (bytes : List ℕ) × (Consumes before after bytes × (length bytes ≤ 1000000000))
 
--- why a session wasn't held to its end: the output failed, and what was read of the commands are whole lines, or nothing at the
--- reply to the runs; or they
--- couldn't be read; or there was no memory for a line, or for the machine; or the program isn't loaded, or the file is none
-abbrev pub StopsDebugging : Fault → Option (List Run) → (file : List ℕ) (commands_before commands_after : Option (List ℕ)) (commands_failed : Bool)
+-- what a session comes to, by its answer: all is answered; or the commands couldn't be read, since they failed or gave too much; or
+-- there was no memory for a line; or the output failed, and what was read of the commands are whole lines
+abbrev pub Converses : (TooMuch : Type 0) → Result (Unit {0}) Fault → Session
+    → (commands_before commands_after : Option (List ℕ)) (commands_failed : Bool)
     (output_before output_after : Option (List ℕ)) (output_failed : Bool) → Type 0
-StopsDebugging fault.Write runs file commands_before commands_after commands_failed output_before output_after output_failed =
-    IsTrue output_failed
-    × (((is_some runs ≡ true) × (commands_after ≡ commands_before)) ⊎ HasReadLines commands_before commands_after)
-StopsDebugging fault.Read runs file commands_before commands_after commands_failed output_before output_after output_failed =
-    (IsTrue commands_failed ⊎ GivesOnAndOn commands_before commands_after)
-    × HasDebugged Cut runs file commands_before commands_after output_before output_after
-StopsDebugging fault.Memory runs file commands_before commands_after commands_failed output_before output_after output_failed =
-    IsUntouched commands_before commands_after output_before output_after
-    ⊎ HasDebugged Unanswered runs file commands_before commands_after output_before output_after
-StopsDebugging (fault.Load f) runs file commands_before commands_after commands_failed output_before output_after output_failed =
-    IsUnloadedFor f file × IsUntouched commands_before commands_after output_before output_after
-StopsDebugging f runs file commands_before commands_after commands_failed output_before output_after output_failed =
-    IsNoProgramFor f file × IsUntouched commands_before commands_after output_before output_after
+Converses TooMuch (Ok done) session commands_before commands_after commands_failed output_before output_after output_failed =
+    HasConversed Finished session commands_before commands_after output_before output_after
+Converses TooMuch (Err fault.Read) session commands_before commands_after commands_failed output_before output_after output_failed =
+    (IsTrue commands_failed ⊎ TooMuch) × HasConversed Cut session commands_before commands_after output_before output_after
+Converses TooMuch (Err fault.Memory) session commands_before commands_after commands_failed output_before output_after output_failed =
+    HasConversed Unanswered session commands_before commands_after output_before output_after
+Converses TooMuch (Err fault.Write) session commands_before commands_after commands_failed output_before output_after output_failed =
+    IsTrue output_failed × HasReadLines commands_before commands_after
+Converses TooMuch (Err f) session commands_before commands_after commands_failed output_before output_after output_failed = ⊥
 
--- a session was held to its end, or why not
+-- the session of a file's program before anything is done
+abbrev pub IsFirstSession : (file : List ℕ) → Session → Type 0
+IsFirstSession file session =
+    (image : Image) × ((world : StoredWorld) × (IsProgramFile file image × Begins image (world_of world)
+    × (session ≡ first_session world)))
+
+-- why there is none: no memory for it; or the program isn't loaded, or the file is none
+abbrev pub HasNoSession : Fault → (file : List ℕ) → Type 0
+HasNoSession fault.Memory file = Unit {0}
+HasNoSession (fault.Load f) file = IsUnloadedFor f file
+HasNoSession f file = IsNoProgramFor f file
+
+-- a session begins as it is; or behind runs, which were played first and told as `g` tells them
+abbrev pub IsBegun : Option (List Run) → Session → Session → (output_before output_after : Option (List ℕ)) → Type 0
+IsBegun None session now output_before output_after = (now ≡ session) × (output_after ≡ output_before)
+IsBegun (Some runs) session now output_before output_after =
+    (reply : List ℕ) × (Replies session (Go runs) now reply × Appends output_before output_after reply)
+
+-- a session of a file's program was held, and came to this
+abbrev pub HasDebugged : Result (Unit {0}) Fault → Option (List Run) → (file : List ℕ)
+    (commands_before commands_after : Option (List ℕ)) (commands_failed : Bool)
+    (output_before output_after : Option (List ℕ)) (output_failed : Bool) → Type 0
+HasDebugged answer runs file commands_before commands_after commands_failed output_before output_after output_failed =
+    (session : Session) × ((now : Session) × ((output_then : Option (List ℕ))
+    × (IsFirstSession file session × IsBegun runs session now output_before output_then
+    × Converses (GivesOnAndOn commands_before commands_after) answer now commands_before commands_after commands_failed
+    output_then output_after output_failed)))
+
+-- why none was held, and no command read: the reply to the runs couldn't be written; or there is none, and nothing was written
+abbrev pub IsNotBegun : Fault → Option (List Run) → (file : List ℕ)
+    (commands_before commands_after output_before output_after : Option (List ℕ)) (output_failed : Bool) → Type 0
+IsNotBegun fault.Write (Some runs) file commands_before commands_after output_before output_after output_failed =
+    IsTrue output_failed × (commands_after ≡ commands_before)
+IsNotBegun f runs file commands_before commands_after output_before output_after output_failed =
+    HasNoSession f file × IsUntouched commands_before commands_after output_before output_after
+
+-- a session was held to its end; or it wasn't, or none was begun
 abbrev pub Debugs : Option (List Run) → (file : List ℕ) → Result (Unit {0}) Fault
     → (commands_before commands_after : Option (List ℕ)) (commands_failed : Bool)
     (output_before output_after : Option (List ℕ)) (output_failed : Bool) → Type 0
 Debugs runs file (Ok done) commands_before commands_after commands_failed output_before output_after output_failed =
-    HasDebugged Finished runs file commands_before commands_after output_before output_after
+    HasDebugged (Ok done) runs file commands_before commands_after commands_failed output_before output_after output_failed
 Debugs runs file (Err f) commands_before commands_after commands_failed output_before output_after output_failed =
-    StopsDebugging f runs file commands_before commands_after commands_failed output_before output_after output_failed
-
--- a file's program is loaded
-abbrev pub IsLoaded : (file : List ℕ) → Type 0
-IsLoaded file = (image : Image) × ((world : StoredWorld) × (IsProgramFile file image × Begins image (world_of world)))
+    HasDebugged (Err f) runs file commands_before commands_after commands_failed output_before output_after output_failed
+    ⊎ IsNotBegun f runs file commands_before commands_after output_before output_after output_failed
 
 -- choices were played up to where they stopped: all that a trace names, which was read up to its state
 abbrev pub IsPlayedTo : Stop → (session now : Session) (trace_before trace_after : Option (List ℕ)) → Type 0
@@ -144,39 +158,32 @@ abbrev pub IsBehindTrace : (List Run → Type 0) → (trace_before trace_after :
 IsBehindTrace Holds trace_before trace_after =
     (runs : List Run) × (HasNamed trace_before trace_after (Ok (choices_of runs)) × Holds runs)
 
--- why a session behind a trace wasn't held to its end: as one behind runs of its choices; or the line that tells that it is none
--- couldn't be written; or it couldn't be read; or there was no memory for it; or there is no program: then it wasn't looked at
-abbrev pub StopsDebuggingAt : Fault → (file : List ℕ) (trace_before trace_after : Option (List ℕ)) (trace_failed : Bool)
-    (commands_before commands_after : Option (List ℕ)) (commands_failed : Bool)
-    (output_before output_after : Option (List ℕ)) (output_failed : Bool) → Type 0
-StopsDebuggingAt fault.Write file trace_before trace_after trace_failed commands_before commands_after commands_failed output_before output_after output_failed =
-    (IsLoaded file × IsTrue output_failed × (commands_after ≡ commands_before)
-    × ((line : ℕ) × HasNamed trace_before trace_after (Err line)))
-    ⊎ IsBehindTrace (λ runs. IsLoaded file
-    × StopsDebugging fault.Write (Some runs) file commands_before commands_after commands_failed output_before output_after output_failed)
-    trace_before trace_after
-StopsDebuggingAt fault.Read file trace_before trace_after trace_failed commands_before commands_after commands_failed output_before output_after output_failed =
-    (IsLoaded file × (IsTrue trace_failed ⊎ GivesOnAndOn trace_before trace_after)
-    × IsUntouched commands_before commands_after output_before output_after)
-    ⊎ IsBehindTrace (λ runs. StopsDebugging fault.Read (Some runs) file commands_before commands_after commands_failed output_before output_after output_failed)
-    trace_before trace_after
-StopsDebuggingAt fault.Memory file trace_before trace_after trace_failed commands_before commands_after commands_failed output_before output_after output_failed =
-    IsUntouched commands_before commands_after output_before output_after
-    ⊎ IsBehindTrace (λ runs. StopsDebugging fault.Memory (Some runs) file commands_before commands_after commands_failed output_before output_after output_failed)
-    trace_before trace_after
-StopsDebuggingAt f file trace_before trace_after trace_failed commands_before commands_after commands_failed output_before output_after output_failed =
-    StopsDebugging f None file commands_before commands_after commands_failed output_before output_after output_failed
-    × (trace_after ≡ trace_before)
+-- why no session was held behind a trace, and no command read: what was to be told of the trace couldn't be written; or it couldn't
+-- be read; or there is no session, and then it wasn't looked at
+abbrev pub IsNotBegunAt : Fault → (file : List ℕ) (trace_before trace_after : Option (List ℕ)) (trace_failed : Bool)
+    (commands_before commands_after output_before output_after : Option (List ℕ)) (output_failed : Bool) → Type 0
+IsNotBegunAt fault.Write file trace_before trace_after trace_failed commands_before commands_after output_before output_after output_failed =
+    ((session : Session) × IsFirstSession file session)
+    × ((named : Result (List Choice) ℕ) × HasNamed trace_before trace_after named)
+    × IsTrue output_failed × (commands_after ≡ commands_before)
+IsNotBegunAt fault.Read file trace_before trace_after trace_failed commands_before commands_after output_before output_after output_failed =
+    ((session : Session) × IsFirstSession file session) × (IsTrue trace_failed ⊎ GivesOnAndOn trace_before trace_after)
+    × IsUntouched commands_before commands_after output_before output_after
+IsNotBegunAt f file trace_before trace_after trace_failed commands_before commands_after output_before output_after output_failed =
+    HasNoSession f file × (trace_after ≡ trace_before) × IsUntouched commands_before commands_after output_before output_after
 
--- a session was held to its end behind a trace; or it is none, and its line was told and no command read; or why not
+-- a session was held to its end behind a trace; or it is none, and its line was told and no command read; or the session wasn't
+-- held to its end, or none was begun
 abbrev pub DebugsAt : (file : List ℕ) → Result Done Fault → (trace_before trace_after : Option (List ℕ)) (trace_failed : Bool)
     (commands_before commands_after : Option (List ℕ)) (commands_failed : Bool)
     (output_before output_after : Option (List ℕ)) (output_failed : Bool) → Type 0
 DebugsAt file (Ok done.AsAsked) trace_before trace_after trace_failed commands_before commands_after commands_failed output_before output_after output_failed =
-    IsBehindTrace (λ runs. HasDebugged Finished (Some runs) file commands_before commands_after output_before output_after)
+    IsBehindTrace (λ runs. HasDebugged (Ok tt) (Some runs) file commands_before commands_after commands_failed output_before output_after output_failed)
     trace_before trace_after
 DebugsAt file (Ok done.Unlike) trace_before trace_after trace_failed commands_before commands_after commands_failed output_before output_after output_failed =
-    (line : ℕ) × (HasNamed trace_before trace_after (Err line) × IsLoaded file × (commands_after ≡ commands_before)
-    × Appends output_before output_after (verdict_line (verdict.NotATrace line)))
+    (line : ℕ) × (HasNamed trace_before trace_after (Err line) × ((session : Session) × IsFirstSession file session)
+    × (commands_after ≡ commands_before) × Appends output_before output_after (verdict_line (verdict.NotATrace line)))
 DebugsAt file (Err f) trace_before trace_after trace_failed commands_before commands_after commands_failed output_before output_after output_failed =
-    StopsDebuggingAt f file trace_before trace_after trace_failed commands_before commands_after commands_failed output_before output_after output_failed
+    IsBehindTrace (λ runs. HasDebugged (Err f) (Some runs) file commands_before commands_after commands_failed output_before output_after output_failed)
+    trace_before trace_after
+    ⊎ IsNotBegunAt f file trace_before trace_after trace_failed commands_before commands_after output_before output_after output_failed

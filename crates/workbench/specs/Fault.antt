@@ -6,13 +6,9 @@ use Rattle.line_reader.specs.FaultNumber.{asm_number}
 use Rattle.row_code.specs.FaultNumber.{image_number}
 use Rattle.loader.specs.FaultNumber.{load_number}
 use Rattle.schedule_reader.specs.FaultNumber.{schedule_number}
-use Rattle.row_code.specs.declared.image_fault.ImageFault.{ImageFault}
 use Rattle.row_code.specs.declared.image_fault.ImageFault.TheVariants as image
-use Rattle.loader.specs.declared.load_fault.LoadFault.{LoadFault}
 use Rattle.loader.specs.declared.load_fault.LoadFault.TheVariants as load
-use Rattle.loader.specs.declared.load_fault.Place.{Place}
 use Rattle.loader.specs.declared.load_fault.Place.TheVariants as place
-use Rattle.schedule_reader.specs.declared.fault.ScheduleFault.{ScheduleFault}
 use Rattle.schedule_reader.specs.declared.fault.ScheduleFault.TheVariants as schedule
 use Rattle.tier_tree.specs.Declaration.{fault_number}
 use Rattle.workbench.specs.declared.fault.Fault.{Fault}
@@ -20,22 +16,27 @@ use Rattle.workbench.specs.declared.fault.Fault.TheVariants as fault
 use Rattle.workbench.specs.declared.fault.PictureKind.{PictureKind}
 use Rattle.workbench.specs.declared.fault.PictureKind.TheVariants as picture
 
--- the exit status of a refusal by the number of its kind: missing memory has none
+-- the number of a refusal's kind; missing memory has none
+abbrev pub number_of : Fault → Option ℕ
+number_of (fault.Asm f) = asm_number f.kind
+number_of (fault.Image f) = image_number f
+number_of (fault.Load f) = load_number f
+number_of (fault.Schedule f) = schedule_number f
+number_of _ = None
+
+-- the exit status of a refusal
 abbrev pub refusal_status : Option ℕ → ℕ
 refusal_status (Some number) = 3
 refusal_status None = 4
 
 -- the exit status
 abbrev pub status_of : Fault → ℕ
-status_of (fault.Asm f) = refusal_status (asm_number f.kind)
-status_of (fault.Image f) = refusal_status (image_number f)
-status_of (fault.Load f) = refusal_status (load_number f)
-status_of (fault.Schedule f) = refusal_status (schedule_number f)
 status_of (fault.TooLong kind) = 3
 status_of fault.Memory = 4
 status_of fault.Spawn = 4
 status_of fault.Read = 5
 status_of fault.Write = 5
+status_of f = refusal_status (number_of f)
 
 -- a word, and a number behind it; the same as a line
 abbrev pub counted : List ℕ → ℕ → List ℕ
@@ -44,47 +45,38 @@ counted word n = word ++ decimal n
 abbrev pub counted_line : List ℕ → ℕ → List ℕ
 counted_line word n = word ++ (decimal n ++ codes "\n")
 
--- the line on standard error for a text's fault at this line of the text; missing memory is told as such
-abbrev pub text_line : ℕ → Option ℕ → List ℕ
-text_line line (Some number) =
-    codes "refused asm " ++ (decimal line ++ (codes " " ++ (decimal number ++ codes "\n")))
-text_line line None = codes "memory\n"
+-- what stands before the number: the word of the refusal's group, and of a text the line
+abbrev pub word_of : Fault → List ℕ
+word_of (fault.Asm f) = counted (codes "refused asm ") f.line ++ codes " "
+word_of (fault.Image f) = codes "refused image "
+word_of (fault.Load f) = codes "refused load "
+word_of (fault.Schedule f) = codes "refused schedule "
+word_of _ = []
 
--- the line of any other refusal: the word of its group, the number of its kind, and where it is
+-- where it is, behind the number: where in the image or in the schedule; the row that names a missing thing; the phaser, and why it
+-- can't be declared; or the barrier
+abbrev pub place_of : Fault → List ℕ
+place_of (fault.Image (image.Field at)) = counted (codes " ") at
+place_of (fault.Image (image.Row n)) = counted (codes " ") n
+place_of (fault.Load (load.Target (place.Row n))) = counted (codes " row ") n
+place_of (fault.Load (load.Target (place.Thread n))) = counted (codes " thread ") n
+place_of (fault.Load (load.Target (place.Phaser n))) = counted (codes " phaser ") n
+place_of (fault.Load (load.Target (place.Barrier n))) = counted (codes " barrier ") n
+place_of (fault.Load (load.NoSuchPhaser row)) = counted (codes " ") row
+place_of (fault.Load (load.NoSuchBarrier row)) = counted (codes " ") row
+place_of (fault.Load (load.NoSuchThread row)) = counted (codes " ") row
+place_of (fault.Load (load.NoSuchCell row)) = counted (codes " ") row
+place_of (fault.Load (load.Declare phaser why)) = counted (codes " ") phaser ++ counted (codes " ") (fault_number why)
+place_of (fault.Load (load.BarrierParties barrier)) = counted (codes " ") barrier
+place_of (fault.Schedule (schedule.Byte at)) = counted (codes " ") at
+place_of (fault.Schedule (schedule.Number at)) = counted (codes " ") at
+place_of (fault.Schedule (schedule.Repeat at)) = counted (codes " ") at
+place_of _ = []
+
+-- the line of a refusal; missing memory is told as such
 abbrev pub refusal_line : List ℕ → Option ℕ → List ℕ → List ℕ
 refusal_line word (Some number) place = word ++ (decimal number ++ (place ++ codes "\n"))
 refusal_line word None place = codes "memory\n"
-
--- where an image's fault is, if it has a place
-abbrev pub image_place : ImageFault → List ℕ
-image_place (image.Field at) = counted (codes " ") at
-image_place (image.Row n) = counted (codes " ") n
-image_place _ = []
-
--- what names a row that isn't there
-abbrev pub target_place : Place → List ℕ
-target_place (place.Row n) = counted (codes " row ") n
-target_place (place.Thread n) = counted (codes " thread ") n
-target_place (place.Phaser n) = counted (codes " phaser ") n
-target_place (place.Barrier n) = counted (codes " barrier ") n
-
--- where the loader's fault is: the row that names a missing thing, the phaser and why it can't be declared, or the barrier
-abbrev pub load_place : LoadFault → List ℕ
-load_place (load.Target place) = target_place place
-load_place (load.NoSuchPhaser row) = counted (codes " ") row
-load_place (load.NoSuchBarrier row) = counted (codes " ") row
-load_place (load.NoSuchThread row) = counted (codes " ") row
-load_place (load.NoSuchCell row) = counted (codes " ") row
-load_place (load.Declare phaser why) = counted (codes " ") phaser ++ counted (codes " ") (fault_number why)
-load_place (load.BarrierParties barrier) = counted (codes " ") barrier
-load_place _ = []
-
--- the offset of a schedule's fault
-abbrev pub schedule_place : ScheduleFault → List ℕ
-schedule_place (schedule.Byte at) = counted (codes " ") at
-schedule_place (schedule.Number at) = counted (codes " ") at
-schedule_place (schedule.Repeat at) = counted (codes " ") at
-schedule_place schedule.Memory = []
 
 -- the line of more choices than a picture shows
 abbrev pub too_long : PictureKind → List ℕ
@@ -93,15 +85,12 @@ too_long picture.Drawing = codes "refused draw 2000\n"
 
 -- the line on standard error
 abbrev pub line_of : Fault → List ℕ
-line_of (fault.Asm f) = text_line f.line (asm_number f.kind)
-line_of (fault.Image f) = refusal_line (codes "refused image ") (image_number f) (image_place f)
-line_of (fault.Load f) = refusal_line (codes "refused load ") (load_number f) (load_place f)
-line_of (fault.Schedule f) = refusal_line (codes "refused schedule ") (schedule_number f) (schedule_place f)
 line_of (fault.TooLong kind) = too_long kind
 line_of fault.Memory = codes "memory\n"
 line_of fault.Spawn = codes "spawn\n"
 line_of fault.Read = codes "read\n"
 line_of fault.Write = codes "write\n"
+line_of f = refusal_line (word_of f) (number_of f) (place_of f)
 
 -- the line of a fault was written, unless the port failed
 abbrev pub HasTold : Fault → Bool → Option (List ℕ) → Option (List ℕ) → Type 0

@@ -1,17 +1,14 @@
 ghost use Rattle.std.specs.Prelude.{◌≡◌, ◌⊎◌, ◌+◌, ◌∷◌, [], true, false, List, ℕ, length, None, Some, Ok, Err, IsTrue, IfOk, IfErr, OnOk, Result};
 ghost use Rattle.std.specs.Io.KnownBytes.{Appends, Consumes};
-ghost use Rattle.loader.specs.declared.load_fault.LoadFault.{LoadFault};
-ghost use Rattle.thread_machine.specs.World.{StoredWorld, world_of};
 ghost use Rattle.trace_compare.specs.Naming.{HasNamed};
 ghost use Rattle.trace_text.specs.Outcome.{IsUntouched};
 ghost use Rattle.trace_text.specs.RunText.{GivesOnAndOn};
-ghost use Rattle.trace_text.specs.Start.{Begins, IsRefused};
 ghost use Rattle.debugger.specs.Command.{goes_on, line_order};
 ghost use Rattle.debugger.specs.Reply.{Replies};
 ghost use Rattle.debugger.specs.declared.stop.Stop.{Stop};
 ghost use Rattle.workbench.specs.declared.debug.PlayedTrace.TheVariants as played;
 ghost use Rattle.workbench.specs.declared.fault.Fault.{Fault};
-ghost use Rattle.workbench.specs.Debug.{Cut, Debugs, DebugsAt, Exchange, Finished, GivesFew, HasConversed, HasReadLines, IsDialogue, IsPlayedTo, Unanswered, bytes_of, first_session};
+ghost use Rattle.workbench.specs.Debug.{Converses, Debugs, DebugsAt, Exchange, Finished, GivesFew, HasConversed, HasNoSession, IsDialogue, IsFirstSession, IsPlayedTo, bytes_of};
 ghost use Rattle.workbench.specs.Compare.{verdict_line};
 ghost use Rattle.trace_compare.specs.declared.comparison.Verdict.TheVariants as verdict;
 ghost use Rattle.workbench.specs.Done.{IsSettledBy, as_asked};
@@ -26,7 +23,6 @@ use crate::input::read_all;
 use crate::program_file::program_in;
 use byte_ports::{Sink, Source, SourceLines};
 use debugger::{CommandFault, Debugger, Stop, say_stop};
-use row_code::Image;
 use schedule_reader::Run;
 use std::alloc::Global;
 use trace_compare::Verdict;
@@ -79,11 +75,7 @@ pub fn debug<C: Companion, K: Sink>(
         (K.written output.old) (K.written output.new) (K.has_failed output.new) }
     ensures few { GivesFew (C.left commands.old) (C.left commands.new) }
 {
-    let image = match program_in(alloc, program) {
-        Ok(image) => image,
-        Err(fault) => return Err(fault),
-    };
-    let mut debugger = match first_debugger(alloc, image) {
+    let mut debugger = match first_debugger(alloc, program) {
         Ok(debugger) => debugger,
         Err(fault) => return Err(fault),
     };
@@ -103,11 +95,7 @@ pub fn debug_behind<C: Companion, K: Sink>(
         (K.written output.old) (K.written output.new) (K.has_failed output.new) }
     ensures few { GivesFew (C.left commands.old) (C.left commands.new) }
 {
-    let image = match program_in(alloc, program) {
-        Ok(image) => image,
-        Err(fault) => return Err(fault),
-    };
-    let mut debugger = match first_debugger(alloc, image) {
+    let mut debugger = match first_debugger(alloc, program) {
         Ok(debugger) => debugger,
         Err(fault) => return Err(fault),
     };
@@ -132,11 +120,7 @@ pub fn debug_at<T: Source, C: Companion, K: Sink>(
         (K.written output.old) (K.written output.new) (K.has_failed output.new) }
     ensures few { GivesFew (C.left commands.old) (C.left commands.new) }
 {
-    let image = match program_in(alloc, program) {
-        Ok(image) => image,
-        Err(fault) => return Err(fault),
-    };
-    let mut debugger = match first_debugger(alloc, image) {
+    let mut debugger = match first_debugger(alloc, program) {
         Ok(debugger) => debugger,
         Err(fault) => return Err(fault),
     };
@@ -169,9 +153,9 @@ fn play_trace<T: Source>(
         → IsPlayedTo stop debugger.old debugger.new (T.left trace.old) (T.left trace.new) }
     ensures none { (line : ℕ) → result ≡ Ok (played.NotATrace line)
         → HasNamed (T.left trace.old) (T.left trace.new) (Err line) }
-    ensures read { result ≡ Err Fault.Read → IsTrue (T.has_failed trace.new)
-        ⊎ GivesOnAndOn (T.left trace.old) (T.left trace.new) }
-    ensures fault { IfErr result (λ fault. (fault ≡ Fault.Memory) ⊎ (fault ≡ Fault.Read)) }
+    ensures fault { IfErr result (λ fault. ((fault ≡ Fault.Memory) × (T.left trace.new ≡ T.left trace.old))
+        ⊎ ((fault ≡ Fault.Read) × (IsTrue (T.has_failed trace.new)
+        ⊎ GivesOnAndOn (T.left trace.old) (T.left trace.new)))) }
 {
     let Ok(mut lines) = SourceLines::new(alloc) else {
         return Err(Fault::Memory);
@@ -202,13 +186,15 @@ fn not_a_trace<K: Sink>(output: &mut K, line: u64) -> Result<Done, Fault>
     }
 }
 
-/// A debugger of an image's program before its first choice.
-fn first_debugger(alloc: Global, image: Image) -> Result<Debugger, Fault>
-    ensures first { IfOk result (λ debugger. (world : StoredWorld) × (Begins image (world_of world)
-        × (debugger ≡ first_session world))) }
-    ensures fault { IfErr result (λ told. (told ≡ Fault.Memory)
-        ⊎ ((fault : LoadFault) × ((told ≡ Fault.Load fault) × IsRefused fault image))) }
+/// A debugger of a file's program before its first choice.
+fn first_debugger(alloc: Global, program: &[u8]) -> Result<Debugger, Fault>
+    ensures first { IfOk result (λ debugger. IsFirstSession program.now debugger) }
+    ensures none { IfErr result (λ fault. HasNoSession fault program.now) }
 {
+    let image = match program_in(alloc, program) {
+        Ok(image) => image,
+        Err(fault) => return Err(fault),
+    };
     let machine = match first_machine(alloc, image) {
         Ok(machine) => machine,
         Err(StartFault::Load(fault)) => return Err(Fault::Load(fault)),
@@ -227,17 +213,9 @@ fn converse<C: Companion, K: Sink>(
     commands: &mut C,
     output: &mut K,
 ) -> Result<(), Fault>
-    ensures done { OnOk result (HasConversed Finished debugger.old
-        (C.left commands.old) (C.left commands.new) (K.written output.old) (K.written output.new)) }
-    ensures memory { result ≡ Err Fault.Memory → HasConversed Unanswered debugger.old
-        (C.left commands.old) (C.left commands.new) (K.written output.old) (K.written output.new) }
-    ensures read { result ≡ Err Fault.Read
-        → (IsTrue (C.has_failed commands.new) ⊎ GivesOnAndOn (C.left commands.old) (C.left commands.new))
-        × HasConversed Cut debugger.old
-        (C.left commands.old) (C.left commands.new) (K.written output.old) (K.written output.new) }
-    ensures write { result ≡ Err Fault.Write
-        → IsTrue (K.has_failed output.new) × HasReadLines (C.left commands.old) (C.left commands.new) }
-    ensures fault { IfErr result (λ fault. (fault ≡ Fault.Memory) ⊎ ((fault ≡ Fault.Read) ⊎ (fault ≡ Fault.Write))) }
+    ensures outcome { Converses (GivesOnAndOn (C.left commands.old) (C.left commands.new)) result debugger.old
+        (C.left commands.old) (C.left commands.new) (C.has_failed commands.new)
+        (K.written output.old) (K.written output.new) (K.has_failed output.new) }
     ensures few { GivesFew (C.left commands.old) (C.left commands.new) }
 {
     let mut line = Vec::new(alloc);
@@ -267,16 +245,10 @@ fn take_turn<C: Companion, K: Sink>(
         × (length exchange.line + 1 + reads.new ≡ reads.old)) }
     ensures last { result ≡ Ok false → HasConversed Finished debugger.old
         (C.left commands.old) (C.left commands.new) (K.written output.old) (K.written output.new) }
-    ensures memory { result ≡ Err Fault.Memory → HasConversed Unanswered debugger.old
-        (C.left commands.old) (C.left commands.new) (K.written output.old) (K.written output.new) }
-    ensures read { result ≡ Err Fault.Read
-        → (IsTrue (C.has_failed commands.new)
-        ⊎ GivesInEach reads.old (C.left commands.old) (C.left commands.new))
-        × HasConversed Cut debugger.old
-        (C.left commands.old) (C.left commands.new) (K.written output.old) (K.written output.new) }
-    ensures write { result ≡ Err Fault.Write
-        → IsTrue (K.has_failed output.new) × HasReadLines (C.left commands.old) (C.left commands.new) }
-    ensures fault { IfErr result (λ fault. (fault ≡ Fault.Memory) ⊎ ((fault ≡ Fault.Read) ⊎ (fault ≡ Fault.Write))) }
+    ensures fault { IfErr result (λ fault.
+        Converses (GivesInEach reads.old (C.left commands.old) (C.left commands.new)) (Err fault) debugger.old
+        (C.left commands.old) (C.left commands.new) (C.has_failed commands.new)
+        (K.written output.old) (K.written output.new) (K.has_failed output.new)) }
     ensures few { IsCounted reads.old reads.new (C.left commands.old) (C.left commands.new) }
 {
     let is_ended = match commands.next_line(debugger, reads, line) {
@@ -298,10 +270,8 @@ fn answer<K: Sink>(debugger: &mut Debugger, line: &[u8], output: &mut K) -> Resu
         × (Replies debugger.old (line_order line.now) debugger.new text
         × Appends (K.written output.old) (K.written output.new) text)) }
     ensures goes_on { IfOk result (λ more. more ≡ goes_on (line_order line.now)) }
-    ensures memory { result ≡ Err Fault.Memory
-        → (debugger.new ≡ debugger.old) × (K.written output.new ≡ K.written output.old) }
-    ensures write { result ≡ Err Fault.Write → IsTrue (K.has_failed output.new) }
-    ensures fault { IfErr result (λ fault. (fault ≡ Fault.Memory) ⊎ (fault ≡ Fault.Write)) }
+    ensures fault { IfErr result (λ fault. ((fault ≡ Fault.Memory) × (K.written output.new ≡ K.written output.old))
+        ⊎ ((fault ≡ Fault.Write) × IsTrue (K.has_failed output.new))) }
 {
     match debugger.command(line, output) {
         Ok(goes_on) => Ok(goes_on),

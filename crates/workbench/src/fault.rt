@@ -1,10 +1,7 @@
 ghost use Rattle.std.specs.Prelude.{◌≡◌, ◌++◌, IsTrue, OnErr, OnOk, codes};
 ghost use Rattle.std.specs.Io.KnownBytes.{Appends};
-ghost use Rattle.loader.specs.FaultNumber.{load_number};
-ghost use Rattle.row_code.specs.FaultNumber.{image_number};
-ghost use Rattle.schedule_reader.specs.FaultNumber.{schedule_number};
 ghost use Rattle.workbench.specs.Outcome.{told_as};
-ghost use Rattle.workbench.specs.Fault.{counted, counted_line, image_place, line_of, load_place, refusal_line, refusal_status, schedule_place, status_of, target_place, text_line, too_long};
+ghost use Rattle.workbench.specs.Fault.{counted, counted_line, line_of, number_of, place_of, refusal_line, refusal_status, status_of, too_long, word_of};
 
 use assembler::AsmFault;
 use byte_ports::{Failed, Sink};
@@ -103,65 +100,6 @@ pub fn push_counted_line<E: Sink>(errors: &mut E, word: &[u8], count: u64) -> Re
     errors.push(b"\n")
 }
 
-/// The line of a text's fault at this line of the text, by the kind's number.
-fn push_text_line<E: Sink>(errors: &mut E, line: u64, number: Option<u8>) -> Result<(), Failed>
-    ensures bytes { OnOk result (Appends (E.written errors.old) (E.written errors.new)
-        (text_line line number)) }
-    ensures failed { OnErr result (IsTrue (E.has_failed errors.new)) }
-{
-    match number {
-        Some(number) => {
-            push_with_count(errors, b"refused asm ", line)?;
-            push_with_count(errors, b" ", u64::from(number))?;
-            errors.push(b"\n")
-        }
-        None => errors.push(b"memory\n"),
-    }
-}
-
-/// Where an image's fault is, if it has a place.
-fn push_image_place<E: Sink>(errors: &mut E, fault: ImageFault) -> Result<(), Failed>
-    ensures bytes { OnOk result (Appends (E.written errors.old) (E.written errors.new)
-        (image_place fault)) }
-    ensures failed { OnErr result (IsTrue (E.has_failed errors.new)) }
-{
-    match fault {
-        ImageFault::Field(at) => push_with_count(errors, b" ", at as u64),
-        ImageFault::Row(number) => push_with_count(errors, b" ", u64::from(number)),
-        _ => errors.push(b""),
-    }
-}
-
-/// The line of an image's fault.
-fn push_image_line<E: Sink>(errors: &mut E, fault: ImageFault) -> Result<(), Failed>
-    ensures bytes { OnOk result (Appends (E.written errors.old) (E.written errors.new)
-        (refusal_line (codes "refused image ") (image_number fault) (image_place fault))) }
-    ensures failed { OnErr result (IsTrue (E.has_failed errors.new)) }
-{
-    match fault.number() {
-        Some(number) => {
-            push_with_count(errors, b"refused image ", u64::from(number))?;
-            push_image_place(errors, fault)?;
-            errors.push(b"\n")
-        }
-        None => errors.push(b"memory\n"),
-    }
-}
-
-/// What names a row that isn't there.
-fn push_target_place<E: Sink>(errors: &mut E, place: Place) -> Result<(), Failed>
-    ensures bytes { OnOk result (Appends (E.written errors.old) (E.written errors.new)
-        (target_place place)) }
-    ensures failed { OnErr result (IsTrue (E.has_failed errors.new)) }
-{
-    match place {
-        Place::Row(n) => push_with_count(errors, b" row ", u64::from(n)),
-        Place::Thread(n) => push_with_count(errors, b" thread ", u64::from(n)),
-        Place::Phaser(n) => push_with_count(errors, b" phaser ", u64::from(n)),
-        Place::Barrier(n) => push_with_count(errors, b" barrier ", u64::from(n)),
-    }
-}
-
 /// A phaser that can't be declared, and the number of why.
 fn push_declare_place<E: Sink>(errors: &mut E, phaser: u8, why: u8) -> Result<(), Failed>
     ensures bytes { OnOk result (Appends (E.written errors.old) (E.written errors.new)
@@ -172,83 +110,102 @@ fn push_declare_place<E: Sink>(errors: &mut E, phaser: u8, why: u8) -> Result<()
     push_with_count(errors, b" ", u64::from(why))
 }
 
-/// Where the loader's fault is, if it has a place.
-fn push_load_place<E: Sink>(errors: &mut E, fault: LoadFault) -> Result<(), Failed>
-    ensures bytes { OnOk result (Appends (E.written errors.old) (E.written errors.new)
-        (load_place fault)) }
-    ensures failed { OnErr result (IsTrue (E.has_failed errors.new)) }
-{
-    match fault {
-        LoadFault::Target(place) => push_target_place(errors, place),
-        LoadFault::NoSuchPhaser(row) => push_with_count(errors, b" ", u64::from(row)),
-        LoadFault::NoSuchBarrier(row) => push_with_count(errors, b" ", u64::from(row)),
-        LoadFault::NoSuchThread(row) => push_with_count(errors, b" ", u64::from(row)),
-        LoadFault::NoSuchCell(row) => push_with_count(errors, b" ", u64::from(row)),
-        LoadFault::Declare(phaser, why) => push_declare_place(errors, phaser, why.number()),
-        LoadFault::BarrierParties(barrier) => push_with_count(errors, b" ", u64::from(barrier)),
-        LoadFault::FallsOff | LoadFault::NoThread | LoadFault::Memory => errors.push(b""),
-    }
-}
-
-/// The line of a program that isn't loaded.
-fn push_load_line<E: Sink>(errors: &mut E, fault: LoadFault) -> Result<(), Failed>
-    ensures bytes { OnOk result (Appends (E.written errors.old) (E.written errors.new)
-        (refusal_line (codes "refused load ") (load_number fault) (load_place fault))) }
-    ensures failed { OnErr result (IsTrue (E.has_failed errors.new)) }
-{
-    match fault.number() {
-        Some(number) => {
-            push_with_count(errors, b"refused load ", u64::from(number))?;
-            push_load_place(errors, fault)?;
-            errors.push(b"\n")
-        }
-        None => errors.push(b"memory\n"),
-    }
-}
-
-/// The offset of a schedule's fault.
-fn push_schedule_place<E: Sink>(errors: &mut E, fault: ScheduleFault) -> Result<(), Failed>
-    ensures bytes { OnOk result (Appends (E.written errors.old) (E.written errors.new)
-        (schedule_place fault)) }
-    ensures failed { OnErr result (IsTrue (E.has_failed errors.new)) }
-{
-    match fault {
-        ScheduleFault::Byte(at) => push_with_count(errors, b" ", at),
-        ScheduleFault::Number(at) => push_with_count(errors, b" ", at),
-        ScheduleFault::Repeat(at) => push_with_count(errors, b" ", at),
-        ScheduleFault::Memory => errors.push(b""),
-    }
-}
-
-/// The line of a schedule's fault.
-fn push_schedule_line<E: Sink>(errors: &mut E, fault: ScheduleFault) -> Result<(), Failed>
-    ensures bytes { OnOk result (Appends (E.written errors.old) (E.written errors.new)
-        (refusal_line (codes "refused schedule ") (schedule_number fault) (schedule_place fault))) }
-    ensures failed { OnErr result (IsTrue (E.has_failed errors.new)) }
-{
-    match fault.number() {
-        Some(number) => {
-            push_with_count(errors, b"refused schedule ", u64::from(number))?;
-            push_schedule_place(errors, fault)?;
-            errors.push(b"\n")
-        }
-        None => errors.push(b"memory\n"),
-    }
-}
-
 impl Fault {
+    /// The number of a refusal's kind; missing memory has none.
+    fn number(self) -> Option<u8>
+        ensures { result ≡ number_of self }
+    {
+        match self {
+            Fault::Asm(fault) => fault.kind.number(),
+            Fault::Image(fault) => fault.number(),
+            Fault::Load(fault) => fault.number(),
+            Fault::Schedule(fault) => fault.number(),
+            _ => None,
+        }
+    }
+
+    /// What stands before the number.
+    fn push_word<E: Sink>(self, errors: &mut E) -> Result<(), Failed>
+        ensures bytes { OnOk result (Appends (E.written errors.old) (E.written errors.new) (word_of self)) }
+        ensures failed { OnErr result (IsTrue (E.has_failed errors.new)) }
+    {
+        match self {
+            Fault::Asm(fault) => {
+                push_with_count(errors, b"refused asm ", fault.line)?;
+                errors.push(b" ")
+            }
+            Fault::Image(_) => errors.push(b"refused image "),
+            Fault::Load(_) => errors.push(b"refused load "),
+            Fault::Schedule(_) => errors.push(b"refused schedule "),
+            _ => errors.push(b""),
+        }
+    }
+
+    /// What stands behind it.
+    fn push_place<E: Sink>(self, errors: &mut E) -> Result<(), Failed>
+        ensures bytes { OnOk result (Appends (E.written errors.old) (E.written errors.new) (place_of self)) }
+        ensures failed { OnErr result (IsTrue (E.has_failed errors.new)) }
+    {
+        match self {
+            Fault::Image(ImageFault::Field(at)) => push_with_count(errors, b" ", at as u64),
+            Fault::Image(ImageFault::Row(n)) => push_with_count(errors, b" ", u64::from(n)),
+            Fault::Load(LoadFault::Target(Place::Row(n))) => {
+                push_with_count(errors, b" row ", u64::from(n))
+            }
+            Fault::Load(LoadFault::Target(Place::Thread(n))) => {
+                push_with_count(errors, b" thread ", u64::from(n))
+            }
+            Fault::Load(LoadFault::Target(Place::Phaser(n))) => {
+                push_with_count(errors, b" phaser ", u64::from(n))
+            }
+            Fault::Load(LoadFault::Target(Place::Barrier(n))) => {
+                push_with_count(errors, b" barrier ", u64::from(n))
+            }
+            Fault::Load(
+                LoadFault::NoSuchPhaser(row)
+                | LoadFault::NoSuchBarrier(row)
+                | LoadFault::NoSuchThread(row)
+                | LoadFault::NoSuchCell(row),
+            ) => push_with_count(errors, b" ", u64::from(row)),
+            Fault::Load(LoadFault::Declare(phaser, why)) => {
+                push_declare_place(errors, phaser, why.number())
+            }
+            Fault::Load(LoadFault::BarrierParties(n)) => {
+                push_with_count(errors, b" ", u64::from(n))
+            }
+            Fault::Schedule(
+                ScheduleFault::Byte(at) | ScheduleFault::Number(at) | ScheduleFault::Repeat(at),
+            ) => push_with_count(errors, b" ", at),
+            _ => errors.push(b""),
+        }
+    }
+
+    /// The line of a refusal; missing memory is told as such.
+    fn push_refusal<E: Sink>(self, errors: &mut E) -> Result<(), Failed>
+        ensures bytes { OnOk result (Appends (E.written errors.old) (E.written errors.new)
+            (refusal_line (word_of self) (number_of self) (place_of self))) }
+        ensures failed { OnErr result (IsTrue (E.has_failed errors.new)) }
+    {
+        match self.number() {
+            Some(number) => {
+                self.push_word(errors)?;
+                errors.push(Buffer::new().format(number).as_bytes())?;
+                self.push_place(errors)?;
+                errors.push(b"\n")
+            }
+            None => errors.push(b"memory\n"),
+        }
+    }
+
     /// The program's exit status.
     pub fn status(self) -> u8
         ensures { result ≡ status_of self }
     {
         match self {
-            Fault::Asm(fault) => refusal_status(fault.kind.number()),
-            Fault::Image(fault) => refusal_status(fault.number()),
-            Fault::Load(fault) => refusal_status(fault.number()),
-            Fault::Schedule(fault) => refusal_status(fault.number()),
             Fault::TooLong(_) => 3,
             Fault::Memory | Fault::Spawn => 4,
             Fault::Read | Fault::Write => 5,
+            _ => refusal_status(self.number()),
         }
     }
 
@@ -259,15 +216,12 @@ impl Fault {
         ensures failed { OnErr result (IsTrue (E.has_failed errors.new)) }
     {
         match self {
-            Fault::Asm(fault) => push_text_line(errors, fault.line, fault.kind.number()),
-            Fault::Image(fault) => push_image_line(errors, fault),
-            Fault::Load(fault) => push_load_line(errors, fault),
-            Fault::Schedule(fault) => push_schedule_line(errors, fault),
             Fault::TooLong(kind) => errors.push(kind.too_long()),
             Fault::Memory => errors.push(b"memory\n"),
             Fault::Spawn => errors.push(b"spawn\n"),
             Fault::Read => errors.push(b"read\n"),
             Fault::Write => errors.push(b"write\n"),
+            _ => self.push_refusal(errors),
         }
     }
 }

@@ -47,6 +47,7 @@ pub fn read_all<S: Source>(alloc: Global, source: &mut S) -> Result<Vec<u8>, Fau
     ensures read { result ≡ Err Fault.Read → IsTrue (S.has_failed source.new)
         ⊎ GivesTooMuch (S.left source.old) (S.left source.new) }
     ensures fault { IfErr result (λ fault. ((fault ≡ Fault.Memory) × (S.has_failed source.new ≡ false)) ⊎ (fault ≡ Fault.Read)) }
+    ensures sound { OnOk result (S.has_failed source.new ≡ false) }
 {
     let mut bytes = Vec::new(alloc);
     let mut piece = [0u8; PIECE];

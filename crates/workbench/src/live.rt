@@ -1,18 +1,14 @@
-ghost use Rattle.std.specs.Prelude.{◌≡◌, ◌⊎◌, ◌≤◌, All, None, Some, IfOk, IfErr, OnOk, Result};
+ghost use Rattle.std.specs.Prelude.{◌≡◌, ◌⊎◌, ◌≤◌, All, None, IfOk, IfErr, OnOk, Result};
 ghost use Rattle.row_code.specs.declared.image.Image.{Image};
 ghost use Rattle.loader.specs.Fault.{first_fault};
 ghost use Rattle.loader.specs.Program.{IsProgramOf};
 ghost use Rattle.loader.specs.declared.load_fault.LoadFault.{LoadFault};
 ghost use Rattle.schedule_reader.specs.Schedule.{IsRun, choices_of};
-ghost use Rattle.thread_machine.specs.World.{World, first_world};
-ghost use Rattle.thread_runner.specs.declared.ending.Ending.{Ending};
-ghost use Rattle.thread_runner.specs.Endings.{ending_of};
-ghost use Rattle.thread_runner.specs.Replay.{IsReplay};
 ghost use Rattle.trace_text.specs.Start.{IsRefused};
 ghost use Rattle.trace_text.specs.declared.run_end.RunEnd.{RunEnd};
 ghost use Rattle.workbench.specs.declared.fault.Fault.{Fault};
 ghost use Rattle.workbench.specs.Done.{IsSettledBy, as_asked};
-ghost use Rattle.workbench.specs.Live.{Lives};
+ghost use Rattle.workbench.specs.Live.{IsRecorded, Lives};
 ghost use Rattle.workbench.specs.Outcome.{ComesOf};
 
 use crate::done::{settled, settled_as_asked};
@@ -118,10 +114,8 @@ fn recorded<R: Threads + Wait + Sync, G: Gate + Sync>(
     program: Loaded,
 ) -> Result<Vec<Run>, Fault>
     requires { limit ≤ 1000000000 }
-    ensures replay { IfOk result (λ runs. (world : World) × ((ending : Ending) × (IsReplay (record {
-      first = first_world program limit;
-      choices = choices_of runs.items;
-    }) world × (ending_of world ≡ Some ending)))) }
+    ensures recorded { IfOk result (λ runs. (image : Image) → first_fault image ≡ None → IsProgramOf image program
+        → IsRecorded image limit (choices_of runs.items)) }
     ensures runs { IfOk result (λ runs. All IsRun runs.items) }
     ensures fault { IfErr result (λ fault. (fault ≡ Fault.Memory) ⊎ (fault ≡ Fault.Spawn)) }
 {

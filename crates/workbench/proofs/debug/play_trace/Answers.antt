@@ -1,4 +1,4 @@
-use Rattle.std.proofs.Common.{◌≡◌, ◌+◌, ◌++◌, ◌∷◌, [], Ok, Err, ap, arith, append-nil, inr, subst}
+use Rattle.std.proofs.Common.{◌≡◌, ◌+◌, ◌++◌, ◌∷◌, [], Ok, Err, ap, arith, append-nil, inr, refl, subst}
 use Rattle.std.proofs.lemmas.List.{length-append}
 use Rattle.trace_compare.specs.NamedLines.{none_read}
 use Rattle.trace_compare.specs.declared.naming.NextName.TheVariants as next
@@ -44,13 +44,13 @@ returns-in-Ok-CutOff-clause-none g c = λ line same.
     (Err line) taken
     (c.next_name.ensures.last (next.CutOff last) is (λ choice e. cc) (c.loop-before.before + 1)) (ap Err number)
 
-pub returns-in-Err-clause-read : goal.returns-in-Err-clause-read
-returns-in-Err-clause-read g c = λ _.
+pub returns-in-Err-clause-fault : goal.returns-in-Err-clause-fault
+returns-in-Err-clause-fault g c =
     let (choices, (taken, stops, count)) = c.loop-before.invariant in
-    or_else c.in-Err.ensures.failed (λ p.
+    inr (refl, or_else c.in-Err.ensures.failed (λ p.
     taken-on (c.loop-before.before + 1) choices c.loop-before.lines c.next_name.new.lines
     (g.T.Source.left c.args.trace.now) (g.T.Source.left c.loop-before.trace) (g.T.Source.left c.next_name.new.trace)
-    taken p.1 p.0)
+    taken p.1 p.0))
 
 pub loop-before-preserved : goal.loop-before-preserved
 loop-before-preserved g c =
@@ -68,9 +68,9 @@ loop-before-preserved g c =
       ),
     )
 
-pub returns-clause-read : goal.returns-clause-read
-returns-clause-read g c = λ _.
+pub returns-clause-fault : goal.returns-clause-fault
+returns-clause-fault g c =
     let (choices, (taken, stops, count)) = c.loop-before.invariant in
-    inr (taken-lines (c.loop-before.before + 1) choices c.loop-before.lines
+    inr (refl, inr (taken-lines (c.loop-before.before + 1) choices c.loop-before.lines
     (g.T.Source.left c.args.trace.now) (g.T.Source.left c.loop-before.trace) taken
-    (omega (arith, c.loop-before-test.false)))
+    (omega (arith, c.loop-before-test.false))))

@@ -1,20 +1,15 @@
-use Rattle.std.proofs.Common.{◌≡◌, ◌≢◌, ◌∙◌, ◌+◌, ◌++◌, [], ◌∷◌, true, false, length, Ok, ap, refl, sym, subst, rules}
+use Rattle.std.proofs.Common.{◌≡◌, ◌≢◌, ◌∙◌, ◌+◌, ◌++◌, [], ◌∷◌, true, false, length, Ok, Err, ap, refl, sym, subst, rules}
 use Rattle.std.proofs.lemmas.List.{nil_from_length}
 use Rattle.std.specs.Io.KnownBytes.{Consumes}
 use Rattle.workbench.specs.Debug.{HasNoEnd}
-use Rattle.workbench.proofs.Conversations.{each_given, ends_with_a_line, ends_without_a_line, is_cut, is_left, is_no_quit, left_unanswered, quits, was_read}
+use Rattle.workbench.proofs.Conversations.{cut_off, ends_with_a_line, ends_without_a_line, is_no_quit, quits, unanswered}
 use Rattle.workbench.proofs.debug.take_turn.Goals as goal
 use Rattle.workbench.proofs.debug.take_turn.Goals.{else-not-is_ended-via-then-not-is_ended+else-is_empty, else-not-is_ended-via-else-not-is_ended}
 
-pub returns-in-Err-clause-memory : goal.returns-in-Err-clause-memory
-returns-in-Err-clause-memory g c = λ is.
-    let e = c.in-Err.ensures.memory is in
-    is_left c.args.debugger.now _ _ _ _ e.0 e.1.1 e.1.0 refl
-
-pub returns-in-Err-clause-read : goal.returns-in-Err-clause-read
-returns-in-Err-clause-read g c = λ is.
-    let e = c.in-Err.ensures.read is in
-    (each_given _ _ _ _ c.next_line.new.line.items e.0 e.1, is_cut c.args.debugger.now _ _ _ _ c.next_line.new.line.items e.1 c.in-Err.ensures.line refl)
+pub returns-in-Err-clause-fault : goal.returns-in-Err-clause-fault
+returns-in-Err-clause-fault g c =
+    cut_off c.in-Err.fault c.args.debugger.now _ _ _ _ c.next_line.new.line.items c.args.reads.now _ _ c.in-Err.ensures.fault
+    c.in-Err.ensures.line refl (λ is. c.in-Err.ensures.memory (ap Err is)) (λ is. c.in-Err.ensures.read (ap Err is))
 
 pub returns-then-is_empty-clause-last : goal.returns-then-is_empty-clause-last
 returns-then-is_empty-clause-last g c = λ _.
@@ -65,15 +60,7 @@ returns-then-is_ended-clause-next g c = λ is.
       ),
     )
 
-pub returns-in-Err-answer-clause-memory : goal.returns-in-Err-answer-clause-memory
-returns-in-Err-answer-clause-memory g c = λ is.
-    left_unanswered c.args.debugger.now _ _ _ _ c.next_line.new.line.items c.in-Ok.is_ended
-    (λ e. (c.in-Ok.ensures.ended (ap Ok e)).0) (λ e. c.in-Ok.ensures.last (ap Ok e)) c.in-Ok.ensures.line
-    (c.in-Err-answer.ensures.memory is).1
-
-pub returns-in-Err-answer-clause-write : goal.returns-in-Err-answer-clause-write
-returns-in-Err-answer-clause-write g c = λ is. (
-  c.in-Err-answer.ensures.write is,
-  was_read _ _ c.next_line.new.line.items c.in-Ok.is_ended
-      (λ e. (c.in-Ok.ensures.ended (ap Ok e)).0) (λ e. c.in-Ok.ensures.last (ap Ok e)),
-)
+pub returns-in-Err-answer-clause-fault : goal.returns-in-Err-answer-clause-fault
+returns-in-Err-answer-clause-fault g c =
+    unanswered c.in-Err-answer.fault c.args.debugger.now _ _ _ _ c.next_line.new.line.items c.in-Ok.is_ended c.args.reads.now _ _
+    c.in-Err-answer.ensures.fault (λ e. (c.in-Ok.ensures.ended (ap Ok e)).0) (λ e. c.in-Ok.ensures.last (ap Ok e)) c.in-Ok.ensures.line

@@ -1,0 +1,68 @@
+-- What an accepted choice makes of the barriers and of the trees.
+use Rattle.std.proofs.Common.{◌≡◌, ℕ, ◌<◌, Bool, true, false, [], ◌∷◌, length, refl, subst, arith, if◌then◌else◌}
+use Rattle.std.specs.Prelude.{nat_le, Option, Some, None}
+use Rattle.std.proofs.lemmas.Bool.Decides.{nat_tests}
+use Rattle.instruction_table.specs.declared.row.Row.{Row}
+use Rattle.tier_tree.specs.Origin.{Origin}
+use Rattle.machine_scene.specs.Scene.{Outcome, Scene, barrier_at, thread_at}
+use Rattle.thread_machine.specs.declared.choice.Choice.{Choice}
+use Rattle.thread_machine.specs.declared.fault.StepFault.TheVariants as fault
+use Rattle.thread_machine.specs.World.{World}
+use Rattle.thread_machine.specs.Ready.{outcome_of_choice}
+use Rattle.thread_machine.specs.Step.{played, played_by, refusal_of, is_used_up}
+use Rattle.thread_machine.specs.Execution.{execution, execution_by}
+use Rattle.thread_machine.specs.DirectCounts.{counts_after, counts_by}
+use Rattle.thread_machine.proofs.SafeEnds.{Goes, goes_through}
+use Rattle.headline.specs.PhaseEnds.{row_of}
+use Rattle.headline.proofs.BarrierCalls.{GoesTo}
+use Rattle.headline.proofs.Turns.{GoIf, turn_goes, expiry_goes}
+use Rattle.headline.proofs.TreeCalls.{TreesGo}
+
+-- an accepted choice is one of a thread that is there
+there_by : (absent over : Bool) → (if absent then Some fault.NoSuchThread else (if over then Some fault.StepLimit else None)) ≡ None
+    → absent ≡ false
+there_by true over is = absurd (cc is)
+there_by false over is = refl
+
+less_if : (m n : ℕ) → nat_le m n ≡ false → n < m
+less_if m n is = grind (arith, nat_tests, is)
+
+is_there : (world : World) (choice : Choice) → refusal_of world choice ≡ None → choice.thread < length world.scene.threads
+is_there world choice is =
+    less_if (length world.scene.threads) choice.thread
+    (there_by (nat_le (length world.scene.threads) choice.thread) (is_used_up world choice) is)
+
+by_kind : (expiry : Bool) (row : Option Row) (t : ℕ) (scene : Scene) (late turn : Option Outcome) → GoIf None t scene late
+    → GoIf row t scene turn → GoIf (if expiry then None else row) t scene (if expiry then late else turn)
+by_kind true row t scene late turn a b = a
+by_kind false row t scene late turn a b = b
+
+-- what a choice makes of the barriers and of the trees
+abbrev pub ChoiceGoes : Option Row → ℕ → World → World → Type 0
+ChoiceGoes row t before after =
+    ((b : ℕ) → GoesTo (barrier_at before.scene b) (barrier_at after.scene b))
+    × TreesGo row (thread_at before.scene t) before.scene.phasers after.scene.phasers
+
+by_outcome : (outcome : Option Outcome) (row : Option Row) (t : ℕ) (world : World) → GoIf row t world.scene outcome
+    → ChoiceGoes row t world (played_by outcome world).world
+by_outcome (Some outcome) row t world goes = goes
+by_outcome None row t world goes = goes
+
+pub choice_goes : (world : World) (choice : Choice) (origin : Origin) → Goes world origin → refusal_of world choice ≡ None
+    → ChoiceGoes (row_of world choice) choice.thread world (played world choice).world
+choice_goes world choice origin goes accepted =
+    let most = goes.limit in
+    let done = goes.steps in
+    let there = is_there world choice accepted in
+    let t = choice.thread in
+    by_outcome (outcome_of_choice world.program choice world.scene) (row_of world choice) t world
+    (by_kind choice.expiry _ t world.scene _ _
+    (expiry_goes world.program world.steps t world.scene goes.sound (omega (arith, most, done)) there)
+    (turn_goes world.program world.steps t world.scene goes.sound (omega (arith, most, done)) there))
+
+pub goes_next : (world : World) (choice : Choice) (origin : Origin) → Goes world origin → refusal_of world choice ≡ None
+    → Goes (played world choice).world (counts_after world choice (played world choice).world origin)
+goes_next world choice origin goes accepted =
+    subst (λ why. Goes (execution_by why world choice (λ after. execution after [])).world
+    (counts_by why origin (counts_after world choice (played world choice).world origin))) accepted
+    (goes_through (choice ∷ []) world origin goes)

@@ -1,0 +1,225 @@
+-- What each call of the trees makes of them in a turn.
+use Rattle.std.proofs.Common.{inl, inr, ◌≡◌, ◌≢◌, ◌∙◌, ℕ, ℤ, zero, suc, ◌+◌, ◌<◌, ◌==◌, Bool, true, false, List, [], ◌∷◌, length, map, ap, refl, sym, subst, arith, if◌then◌else◌}
+use Rattle.std.specs.Prelude.{◌⊎◌, ◌||◌, not, Option, Some, None}
+use Rattle.std.proofs.lemmas.Bool.{cases_eq}
+use Rattle.std.proofs.lemmas.List.{length-map, get_or-set_same, get_or-set_other}
+use Rattle.instruction_table.specs.declared.row.Row.{Row}
+use Rattle.instruction_table.specs.declared.row.Row.TheVariants.{Pforce}
+use Rattle.packed_phaser.specs.declared.policy.Policy.{Policy}
+use Rattle.packed_phaser.specs.declared.policy.Policy.TheVariants as policy
+use Rattle.packed_phaser.specs.Flat.{Flat, advance}
+use Rattle.packed_phaser.specs.Policy.{ends}
+use Rattle.tier_tree.specs.declared.id.PhaserId.{PhaserId}
+use Rattle.tier_tree.specs.declared.arrived.Arrived.{Arrived}
+use Rattle.tier_tree.specs.declared.arrived.Arrived.TheVariants as arrived
+use Rattle.tier_tree.specs.Answer.{KeepsEnds}
+use Rattle.tier_tree.specs.Forest.{PhaserState, no_phaser, phaser_at, flat_at, root_of, root_at}
+use Rattle.tier_tree.specs.Registration.{registration, joins, after_registration}
+use Rattle.tier_tree.specs.Arrival.{Arrives, arrival}
+use Rattle.tier_tree.specs.PhaseEnd.{follow, in_step, after_phase_end, after_force}
+use Rattle.tier_tree.specs.Sound.{IsForest}
+use Rattle.tier_tree.specs.Trees.{AreTrees}
+use Rattle.tier_tree.proofs.Kept.{registration-ends, arrival-ends, force-ends}
+use Rattle.tier_tree.proofs.Stands.{same-is, other-is}
+use Rattle.tier_tree.proofs.Trees.{CanEnd, trees_arrived, policy_same}
+use Rattle.tier_tree.proofs.Turned.{turn_change, force_change, root-root}
+use Rattle.thread_state.specs.Thread.{ThreadState}
+use Rattle.machine_scene.specs.PhaserRows.{is_routine_policy}
+use Rattle.machine_scene.proofs.Routines.{turning_root}
+use Rattle.machine_scene.proofs.Standings.{Standing, registration-standings, arrival-standings}
+use Rattle.thread_machine.specs.DirectCounts.{has_ended_phase}
+use Rattle.headline.specs.PhaseEnds.{is_force, is_yes, on_advance, TerminateAsSaid}
+use Rattle.headline.proofs.Resting.{AreResting, nobody, may_wait, Pending, registration_rests, arrival_rests, change_rests, routine_waits, weaker_at}
+
+-- what a turn at this row may make of the trees
+pub record TreesGo (row : Option Row) (thread : ThreadState) (before after : List PhaserState) : Type 0 where
+  pub said : TerminateAsSaid row thread before after
+  pub rests : AreResting nobody before → AreResting nobody after
+
+none_ended : (before after : List PhaserState) → KeepsEnds before after → (root : ℕ) → has_ended_phase root before after ≡ false
+none_ended before after kept root =
+    ap (λ (n : ℕ). not (n == (phaser_at before root).ends)) (kept root) ∙ ap not (same-is (phaser_at before root).ends)
+
+-- no phase ends, and no tree is terminated
+kept_on : (row : Option Row) (thread : ThreadState) (before after : List PhaserState) → KeepsEnds before after
+    → ((id : ℕ) → (flat_at after id).ended ≡ (flat_at before id).ended) → (AreResting nobody before → AreResting nobody after)
+    → TreesGo row thread before after
+kept_on row thread before after kept same rests = record {
+  said = λ id there. (
+    λ ended. (let none = none_ended before after kept (root_at before id) in absurd (cc (none, ended))),
+    λ none is. inl (sym (same id) ∙ is),
+  );
+  rests = rests;
+}
+
+pub trees_stay : (row : Option Row) (thread : ThreadState) (phasers : List PhaserState) → TreesGo row thread phasers phasers
+trees_stay row thread phasers = kept_on row thread phasers phasers (λ id. refl) (λ id. refl) (λ rest. rest)
+
+pub trees_registered : (row : Option Row) (thread : ThreadState) (id count : ℕ) (phasers : List PhaserState)
+    → TreesGo row thread phasers (after_registration id count phasers)
+trees_registered row thread id count phasers =
+    kept_on row thread phasers (after_registration id count phasers) (registration-ends id count phasers)
+    (λ n. ap (λ (s : Standing). s.ended) (registration-standings id count phasers n))
+    (registration_rests (registration id count phasers) (joins id count phasers) phasers)
+
+-- a termination by force
+pub trees_forced : (thread : ThreadState) (p : ℕ) (phasers : List PhaserState) → IsForest phasers → p < length phasers
+    → TreesGo (Some (Pforce p)) thread phasers (after_force p phasers)
+trees_forced thread p phasers forest there_p =
+    let top = (root-root phasers (phaser_at phasers p).line p forest there_p refl).0 in
+    let after = after_force p phasers in
+    let root = root_at phasers p in
+    let change = force_change p phasers in
+    record {
+      said = λ id there. (
+        λ ended. (let none = none_ended phasers after (force-ends p phasers) (root_at phasers id) in absurd (cc (none, ended))),
+        λ none is. elim (cases_eq root (root_at phasers id)) as (λ _. ((flat_at phasers id).ended ≡ true) ⊎ (is_force (Some (Pforce p)) (root_at phasers id) phasers ≡ true)) [
+          | inl same ↦ inr (ap (λ n. root == n) (sym same) ∙ same-is root)
+          | inr apart ↦ inl (ap (λ (f : Flat). f.ended) (sym (change.apart id there (λ same. apart (sym same)))) ∙ is)
+        ],
+      );
+      rests = λ rest. change_rests root true phasers after change top (weaker_at root phasers rest);
+    }
+
+-- the count of phase ends grows at the root alone
+if-ends : (here : Bool) (x : PhaserState) (flat : Flat) → (if here then record x { flat = flat } else x).ends ≡ x.ends
+if-ends true x flat = refl
+if-ends false x flat = refl
+
+in_step-ends : (root phase : ℕ) (ended : Bool) (phasers : List PhaserState) (n : ℕ)
+    → (phaser_at (map (in_step root phase ended) phasers) n).ends ≡ (phaser_at phasers n).ends
+in_step-ends root phase ended [] n = refl
+in_step-ends root phase ended (x ∷ phasers) zero = if-ends (root_of x == root) x (follow phase ended x.flat)
+in_step-ends root phase ended (x ∷ phasers) (suc n) = in_step-ends root phase ended phasers n
+
+root_ended : (root : ℕ) (ends : Bool) (before mid : List PhaserState) → KeepsEnds before mid → root < length mid
+    → has_ended_phase root before (after_phase_end root ends mid) ≡ true
+root_ended root ends before mid kept within =
+    let own = phaser_at mid root in
+    let flat = advance ends own.flat in
+    let moved = map (in_step root flat.phase flat.ended) mid in
+    let many = length-map mid (in_step root flat.phase flat.ended) in
+    let up = ap (λ (p : PhaserState). p.ends)
+    (get_or-set_same moved root (record own { flat = flat; ends = own.ends + 1 }) no_phaser (omega (arith, many, within))) in
+    let was = kept root in
+    ap not (other-is (phaser_at (after_phase_end root ends mid) root).ends (phaser_at before root).ends (λ same. omega (arith, up, was, same)))
+
+others_ended : (root : ℕ) (ends : Bool) (before mid : List PhaserState) → KeepsEnds before mid → (r : ℕ) → r ≢ root
+    → has_ended_phase r before (after_phase_end root ends mid) ≡ false
+others_ended root ends before mid kept r apart =
+    let own = phaser_at mid root in
+    let flat = advance ends own.flat in
+    let stays = ap (λ (p : PhaserState). p.ends)
+    (get_or-set_other (map (in_step root flat.phase flat.ended) mid) root r (record own { flat = flat; ends = own.ends + 1 }) no_phaser apart)
+    ∙ in_step-ends root flat.phase flat.ended mid r ∙ kept r in
+    ap (λ (n : ℕ). not (n == (phaser_at before r).ends)) stays ∙ ap not (same-is (phaser_at before r).ends)
+
+follow_keeps : (phase : ℕ) (ends : Bool) (f : Flat) → ((follow phase ends f).ended ≡ ends) × ((follow phase ends f).parties ≡ f.parties)
+follow_keeps phase true f = (refl, refl)
+follow_keeps phase false f = (refl, refl)
+
+-- a phase of this root ends
+pub trees_ended : (row : Option Row) (thread : ThreadState) (root : ℕ) (ends : Bool) (before mid : List PhaserState) → CanEnd root mid
+    → length mid ≡ length before → ((id : ℕ) → root_at mid id ≡ root_at before id) → KeepsEnds before mid
+    → ((id : ℕ) → (flat_at mid id).ended ≡ (flat_at before id).ended)
+    → ends ≡ on_advance row thread (phaser_at before root).policy (flat_at before root).phase (flat_at mid root).parties
+    → (AreResting nobody before → AreResting (λ q. q ≡ root) mid) → TreesGo row thread before (after_phase_end root ends mid)
+trees_ended row thread root ends before mid can many roots kept same says rests =
+    let after = after_phase_end root ends mid in
+    let change = turn_change root ends mid can.there can.top in
+    let own = change.inside root can.there can.top in
+    let left : (flat_at after root).parties ≡ (flat_at mid root).parties =
+    ap (λ (f : Flat). f.parties) own.1 ∙ (follow_keeps own.0 ends (flat_at mid root)).1 in
+    record {
+      said = λ id there.
+          let inside_mid : id < length mid = omega (arith, many, there) in
+          elim (cases_eq (root_at before id) root) as (λ _. (has_ended_phase (root_at before id) before after ≡ true
+          → (flat_at after id).ended ≡ on_advance row thread (phaser_at before (root_at before id)).policy (flat_at before (root_at before id)).phase (flat_at after (root_at before id)).parties)
+          × (has_ended_phase (root_at before id) before after ≡ false → (flat_at after id).ended ≡ true → ((flat_at before id).ended ≡ true) ⊎ (is_force row (root_at before id) before ≡ true))) [
+            | inl inside ↦
+                let now = change.inside id inside_mid (roots id ∙ inside) in
+                let yes = root_ended root ends before mid kept can.there in (
+                  λ ended. ap (λ (f : Flat). f.ended) now.1 ∙ (follow_keeps now.0 ends (flat_at mid id)).0 ∙ says
+                      ∙ ap (λ n. on_advance row thread (phaser_at before root).policy (flat_at before root).phase n) (sym left)
+                      ∙ ap (λ r. on_advance row thread (phaser_at before r).policy (flat_at before r).phase (flat_at after r).parties) (sym inside),
+                  λ none. absurd (cc (yes, none, ap (λ r. has_ended_phase r before after) inside)),
+                )
+            | inr outside ↦
+                let no = others_ended root ends before mid kept (root_at before id) outside in (
+                  λ ended. absurd (cc (no, ended)),
+                  λ none is. inl (sym (same id) ∙ ap (λ (f : Flat). f.ended) (sym (change.apart id inside_mid (λ is_root. outside (sym (roots id) ∙ is_root)))) ∙ is),
+                )
+          ];
+      rests = λ rest. change_rests root ends mid after change can.top (rests rest);
+    }
+
+-- an arrival
+abbrev pub arrived_at : ℕ → Bool → List PhaserState → List PhaserState
+arrived_at id leave phasers = (arrival id leave phasers).phasers
+
+arrival_same : (id : ℕ) (leave : Bool) (phasers : List PhaserState) (n : ℕ)
+    → (flat_at (arrived_at id leave phasers) n).ended ≡ (flat_at phasers n).ended
+arrival_same id leave phasers n = ap (λ (s : Standing). s.ended) (arrival-standings id leave phasers n)
+
+rests_by : (steps id : ℕ) (leave : Bool) (phasers : List PhaserState) (answer : Arrived) → AreTrees steps phasers → id < length phasers
+    → (arrival id leave phasers).answer ≡ answer → AreResting nobody phasers → AreResting (Pending answer) (arrived_at id leave phasers)
+rests_by steps id leave phasers answer trees there is rest =
+    subst (λ a. AreResting (Pending a) (arrived_at id leave phasers)) is (arrival_rests id leave phasers trees.forest there rest)
+
+-- one that wasn't the last
+pub trees_counted : (row : Option Row) (thread : ThreadState) (steps id : ℕ) (leave : Bool) (phasers : List PhaserState) (answer : Arrived)
+    → AreTrees steps phasers → id < length phasers → (arrival id leave phasers).answer ≡ answer → ((q : ℕ) → Pending answer q → ⊥)
+    → TreesGo row thread phasers (arrived_at id leave phasers)
+trees_counted row thread steps id leave phasers answer trees there is none =
+    kept_on row thread phasers (arrived_at id leave phasers) (arrival-ends id leave phasers) (arrival_same id leave phasers)
+    (λ rest q. let new = rests_by steps id leave phasers answer trees there is rest q in
+    (new.0, λ turned. elim (new.1 turned) as (λ _. nobody q ⊎ (may_wait (phaser_at (arrived_at id leave phasers) q) ≡ true)) [
+      | inl pending ↦ absurd (none q pending)
+      | inr waits ↦ inr waits
+    ]))
+
+no_answer : (own : Policy) (phase parties : ℕ) → ends own phase parties ≡ None → is_routine_policy own ≡ true
+no_answer policy.Routine phase parties is = refl
+no_answer policy.Default phase parties is = absurd (cc is)
+no_answer policy.Never phase parties is = absurd (cc is)
+no_answer (policy.Until k) phase parties is = absurd (cc is)
+
+-- the last, where a routine is to answer
+pub trees_pending : (row : Option Row) (thread : ThreadState) (steps id : ℕ) (leave : Bool) (phasers : List PhaserState) (root : PhaserId)
+    (phase : ℤ) (parties : ℕ) → AreTrees steps phasers → id < length phasers
+    → (arrival id leave phasers).answer ≡ arrived.Turning root phase parties
+    → let mid = arrived_at id leave phasers in
+    ends (phaser_at mid root.0).policy (flat_at mid root.0).phase (flat_at mid root.0).parties ≡ None → TreesGo row thread phasers mid
+trees_pending row thread steps id leave phasers root phase parties trees there is none =
+    let mid = arrived_at id leave phasers in
+    let routine = no_answer (phaser_at mid root.0).policy (flat_at mid root.0).phase (flat_at mid root.0).parties none in
+    kept_on row thread phasers mid (arrival-ends id leave phasers) (arrival_same id leave phasers)
+    (λ rest q. let new = rests_by steps id leave phasers (arrived.Turning root phase parties) trees there is rest q in
+    (new.0, λ turned. elim (new.1 turned) as (λ _. nobody q ⊎ (may_wait (phaser_at mid q) ≡ true)) [
+      | inl own ↦ inr (ap (λ n. may_wait (phaser_at mid n)) own ∙ routine_waits (phaser_at mid root.0) routine)
+      | inr waits ↦ inr waits
+    ]))
+
+-- a policy answers at this row, and no routine
+abbrev pub AsksPolicy : Option Row → ThreadState → Type 0
+AsksPolicy row thread =
+    (own : Policy) (phase parties : ℕ) → on_advance row thread own phase parties ≡ is_yes (ends own phase parties)
+
+-- the last, where the policy answers
+pub trees_advanced : (row : Option Row) (thread : ThreadState) (steps id : ℕ) (leave : Bool) (phasers : List PhaserState) (root : PhaserId)
+    (phase : ℤ) (parties : ℕ) (over : Bool) → AsksPolicy row thread → AreTrees steps phasers → steps < 2147483647 → id < length phasers
+    → (arrival id leave phasers).answer ≡ arrived.Turning root phase parties
+    → let mid = arrived_at id leave phasers in
+    ends (phaser_at mid root.0).policy (flat_at mid root.0).phase (flat_at mid root.0).parties ≡ Some over
+    → TreesGo row thread phasers (after_phase_end root.0 over mid)
+trees_advanced row thread steps id leave phasers root phase parties over asks trees few there is says =
+    let mid = arrived_at id leave phasers in
+    let kept = trees_arrived steps id leave phasers trees there in
+    trees_ended row thread root.0 over phasers mid (turning_root steps id leave phasers root phase parties trees few there is).2 kept.many
+    kept.places.roots (arrival-ends id leave phasers) (arrival_same id leave phasers)
+    (ap is_yes (sym says)
+    ∙ ap (λ own. is_yes (ends own (flat_at mid root.0).phase (flat_at mid root.0).parties)) (policy_same phasers mid kept.places root.0)
+    ∙ ap (λ n. is_yes (ends (phaser_at phasers root.0).policy n (flat_at mid root.0).parties))
+    (ap (λ (s : Standing). s.phase) (arrival-standings id leave phasers root.0))
+    ∙ sym (asks (phaser_at phasers root.0).policy (flat_at phasers root.0).phase (flat_at mid root.0).parties))
+    (rests_by steps id leave phasers (arrived.Turning root phase parties) trees there is)
