@@ -76,6 +76,7 @@ impl Debugger {
     }
 
     /// Plays one choice, and keeps what is needed to take it back.
+    #[inline(always)]
     pub fn step(&mut self, choice: Choice) -> Result<Event, StepFault>
         ensures played { IfOk result (λ event. record { world = world_of (self.new).machine; event = event }
             ≡ played (world_of (self.old).machine) choice) }

@@ -83,6 +83,7 @@ impl Debugger {
     }
 
     /// Plays one choice. Where the count of steps is the same afterwards, it was idle.
+    #[inline(always)]
     fn pass(&mut self, choice: Choice) -> Went
         ensures { Goes self.old (choice ∷ []) result self.new }
     {
