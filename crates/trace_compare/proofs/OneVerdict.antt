@@ -1,5 +1,5 @@
 -- How the phasers of a program are stored makes no difference to a choice, nor to what is shown of the state.
-use Rattle.std.proofs.Common.{◌≡◌, ◌∙◌, ◌==◌, ◌&&◌, ◌||◌, ◌++◌, not, nat_le, codes, decimal, length, is_some, ℕ, Bool, List, cond, Option, Some, None, refl, ap}
+use Rattle.std.proofs.Common.{◌≡◌, ◌==◌, ◌&&◌, ◌||◌, ◌++◌, not, nat_le, codes, decimal, length, is_some, ℕ, Bool, List, cond, Option, Some, None, refl, ap}
 use Rattle.row_code.specs.declared.image.Image.{Image}
 use Rattle.tier_tree.specs.Stored.{Stored}
 use Rattle.machine_scene.specs.Scene.{Outcome}
@@ -9,7 +9,7 @@ use Rattle.thread_machine.specs.World.{World, IsFirstOf, first_of}
 use Rattle.thread_machine.specs.Standing.{name_of}
 use Rattle.thread_machine.specs.declared.standing.Standing.TheVariants as standing
 use Rattle.thread_machine.specs.Ready.{all_finished, has_ended, outcome_of_choice}
-use Rattle.thread_machine.specs.Step.{Played, played, played_by, refusal_of}
+use Rattle.thread_machine.specs.Step.{played, played_by, refusal_of}
 use Rattle.trace_text.specs.State.{state_text}
 use Rattle.trace_text.proofs.StateLines.{parts_text}
 use Rattle.trace_compare.proofs.StoredOtherwise.{outcome-same, some_ready-same, stored_in}

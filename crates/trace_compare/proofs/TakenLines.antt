@@ -1,5 +1,5 @@
 -- A comparison behind the lines of a trace that were taken.
-use Rattle.std.proofs.Common.{◌≡◌, ◌≢◌, ◌∙◌, ◌+◌, ◌<◌, ◌≤◌, ◌⊎◌, ℕ, List, [], ◌∷◌, ◌++◌, length, drop, take, Option, Some, None, Ok, refl, ap, sym, subst, arith, append_assoc, append-nil, length-append, take-append-drop, inl, inr}
+use Rattle.std.proofs.Common.{◌≡◌, ◌≢◌, ◌∙◌, ◌+◌, ◌≤◌, ◌⊎◌, ℕ, List, [], ◌∷◌, ◌++◌, length, drop, take, Option, Some, None, Ok, refl, ap, sym, subst, arith, append_assoc, append-nil, length-append, take-append-drop, inl, inr}
 use Rattle.std.specs.Io.KnownBytes.{Consumes, IsAtEnd, prepend_known}
 use Rattle.std.proofs.KnownBytes.{Consumes-nil, Consumes-trans, prepend_known-nil}
 use Rattle.byte_ports.specs.SourceLines.{EndsInAPiece, Gave, HasCome, IsOneLine, Lines, taken}
@@ -9,7 +9,7 @@ use Rattle.trace_compare.specs.declared.comparison.Comparison.{Comparison}
 use Rattle.trace_compare.specs.declared.comparison.Verdict.{Verdict}
 use Rattle.trace_compare.specs.declared.comparison.Verdict.TheVariants as verdict
 use Rattle.trace_compare.specs.Compare.{IsReadNoFurther, IsReadUpTo}
-use Rattle.trace_compare.specs.Comparing.{GoesOver, HasComeTo, HasJudged, HasLeft, StandsFrom, bytes_left, line_ends}
+use Rattle.trace_compare.specs.Comparing.{GoesOver, HasComeTo, HasJudged, HasLeft, StandsFrom, bytes_left}
 use Rattle.trace_compare.specs.NamedLines.{none_read}
 use Rattle.trace_compare.proofs.NamedLines.{unread}
 use Rattle.trace_compare.proofs.OwnLines.{ends-append, ends-behind, ends-line}

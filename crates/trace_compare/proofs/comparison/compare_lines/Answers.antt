@@ -1,4 +1,4 @@
-use Rattle.std.proofs.Common.{◌≡◌, ◌+◌, ◌≤◌, List, ℕ, Ok, None, ap, arith, inr, length, subst, sym}
+use Rattle.std.proofs.Common.{◌≡◌, ◌+◌, List, ℕ, Ok, ap, arith, inr, subst, sym}
 use Rattle.std.specs.Prelude.{Option}
 use Rattle.byte_ports.specs.SourceLines.{Lines}
 use Rattle.trace_compare.specs.declared.comparison.Verdict.{Verdict}
