@@ -1,5 +1,5 @@
 //! The schedule of a plan.
-ghost use Rattle.std.specs.Prelude.{◌≡◌, ◌≢◌, ◌⊎◌, ◌≤◌, Err, IfErr, IfOk, IsTrue, Ok, length, map};
+ghost use Rattle.std.specs.Prelude.{◌≡◌, ◌≢◌, ◌⊎◌, ◌≤◌, Err, IfErr, IfOk, IsTrue, Ok, false, length, map};
 ghost use Rattle.std.specs.Io.KnownBytes.{Appends};
 ghost use Rattle.commands.specs.Choices.{schedule_line};
 ghost use Rattle.commands.specs.Planning.{HasNoProgram, HasNoSchedule, HasNone, HasPlanned, HasThreads, Plays, thread_name, thread_names};
@@ -159,6 +159,8 @@ pub fn plan<F: Source, S: Source, K: Sink>(
         ⊎ GivesTooMuch (F.left file.old) (F.left file.new))
         ⊎ (IsTrue (S.has_failed plan.new)
         ⊎ GivesTooMuch (S.left plan.old) (S.left plan.new)) }
+    ensures memory { result ≡ Err (why.Fault Fault.Memory) → (F.has_failed file.new ≡ false)
+        × ((S.left plan.new ≡ S.left plan.old) ⊎ (S.has_failed plan.new ≡ false)) }
     ensures spawn { result ≢ Err (why.Fault Fault.Spawn) }
     ensures write { result ≡ Err (why.Fault Fault.Write) → IsTrue (K.has_failed output.new) }
 {
