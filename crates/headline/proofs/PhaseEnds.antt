@@ -1,9 +1,9 @@
 -- When a phase of an accepted program ends, and when a phaser is terminated.
-use Rattle.std.proofs.Common.{inr, ◌≡◌, ℕ, zero, suc, List, [], ◌∷◌, ap, refl, subst, arith}
+use Rattle.std.proofs.Common.{◌≡◌, zero, suc, List, [], ◌∷◌, ap, refl, arith}
 use Rattle.std.specs.Prelude.{Option, Some, None}
-use Rattle.packed_phaser.specs.Flat.{Flat, fresh}
+use Rattle.packed_phaser.specs.Flat.{Flat}
 use Rattle.tier_tree.specs.Declaration.{AreAllFresh}
-use Rattle.tier_tree.specs.Forest.{PhaserState, flat_at, phaser_at}
+use Rattle.tier_tree.specs.Forest.{PhaserState}
 use Rattle.tier_tree.specs.Origin.{Origin}
 use Rattle.row_code.specs.declared.image.Image.{Image}
 use Rattle.loader.specs.Declarations.{declared_origin}
@@ -43,9 +43,10 @@ fresh_rests : (phasers : List PhaserState) → AreAllFresh phasers → AreRestin
 fresh_rests [] are q = ((omega arith, λ live one. absurd (omega (arith, one))), λ turned. absurd (cc turned))
 fresh_rests (phaser ∷ phasers) are zero =
     let is = are 0 phaser (omega arith) in
-    let none = ap (λ (f : Flat). f.arrived) is in
-    ((omega (arith, none), λ live one all. absurd (omega (arith, none, one, all))),
-    λ turned. (let not_yet = ap (λ (f : Flat). f.turned) is in absurd (cc (not_yet, turned))))
+    let none = ap (λ (f : Flat). f.arrived) is in (
+      (omega (arith, none), λ live one all. absurd (omega (arith, none, one, all))),
+      λ turned. (let not_yet = ap (λ (f : Flat). f.turned) is in absurd (cc (not_yet, turned))),
+    )
 fresh_rests (phaser ∷ phasers) are (suc q) = fresh_rests phasers (λ k d there. are (suc k) d (omega (arith, there))) q
 
 resting_by : (why : Option StepFault) (world : World) (choice : Choice) (choices : List Choice) → refusal_of world choice ≡ why

@@ -1,6 +1,6 @@
 -- Trees of phasers at rest: where all parties of a phaser have arrived its phase is about to end, and that of a tree waits for
 -- nothing but a routine.
-use Rattle.std.proofs.Common.{inl, inr, ◌≡◌, ◌≢◌, ◌∙◌, ℕ, zero, suc, ◌+◌, ◌-◌, ◌<◌, ◌≤◌, ◌==◌, Bool, true, false, List, [], ◌∷◌, length, ap, refl, sym, subst, arith, if◌then◌else◌}
+use Rattle.std.proofs.Common.{inl, inr, ◌≡◌, ◌∙◌, ℕ, zero, suc, ◌+◌, ◌-◌, ◌<◌, ◌≤◌, ◌==◌, Bool, true, false, List, [], ◌∷◌, length, ap, refl, sym, subst, arith, if◌then◌else◌}
 use Rattle.std.specs.Prelude.{◌⊎◌, ◌||◌, ◌&&◌, not, slice_index_or, slice_set}
 use Rattle.std.proofs.lemmas.Bool.{cases_eq, cases_lt}
 use Rattle.std.proofs.lemmas.Bool.Decides.{nat_tests}
@@ -12,8 +12,8 @@ use Rattle.tier_tree.specs.declared.registered.Registered.{Registered}
 use Rattle.tier_tree.specs.declared.registered.Registered.TheVariants as registered
 use Rattle.tier_tree.specs.declared.arrived.Arrived.{Arrived}
 use Rattle.tier_tree.specs.declared.arrived.Arrived.TheVariants as arrived
-use Rattle.tier_tree.specs.Forest.{PhaserState, no_phaser, phaser_at, flat_at, root_of, root_at, with_flat}
-use Rattle.tier_tree.specs.Registration.{Join, joins, joined, flat_by, registration, registered_by, after_registration}
+use Rattle.tier_tree.specs.Forest.{PhaserState, no_phaser, phaser_at, flat_at, root_at}
+use Rattle.tier_tree.specs.Registration.{Join, joined, flat_by, registered_by}
 use Rattle.tier_tree.specs.Arrival.{Arrives, Climbed, is_top, passed_on, with_child, climbed_by, climbed, arrival_by, arrival}
 use Rattle.tier_tree.specs.PhaseEnd.{follow}
 use Rattle.tier_tree.specs.Sound.{Place, place_of, places_of, IsForest}
@@ -119,10 +119,13 @@ Turned climb.Counted root q = ⊥
 Turned climb.Refused root q = ⊥
 
 weaker : (c : Climb) (root : ℕ) (phasers : List PhaserState) → AreResting nobody phasers → AreResting (Turned c root) phasers
-weaker c root phasers rest q = ((rest q).0, λ turned. elim ((rest q).1 turned) as (λ _. Turned c root q ⊎ (may_wait (phaser_at phasers q) ≡ true)) [
-  | inl none ↦ absurd none
-  | inr waits ↦ inr waits
-])
+weaker c root phasers rest q = (
+  (rest q).0,
+  λ turned. elim ((rest q).1 turned) as (λ _. Turned c root q ⊎ (may_wait (phaser_at phasers q) ≡ true)) [
+    | inl none ↦ absurd none
+    | inr waits ↦ inr waits
+  ],
+)
 
 pub weaker_at : (root : ℕ) (phasers : List PhaserState) → AreResting nobody phasers → AreResting (λ q. q ≡ root) phasers
 weaker_at root phasers rest = weaker climb.Turned root phasers rest
@@ -227,16 +230,18 @@ change_rests root ends before after change top rest q =
       | inl there ↦ elim (cases_eq (root_at before q) root) as (λ _. Rests nobody q (phaser_at after q)) [
         | inl inside ↦
             let now = change.inside q there inside in
-            let new = follow_prompt now.0 ends (flat_at before q) in
-            (subst IsPrompt (sym now.1) new.0,
-            λ turned. absurd (cc (new.1, ap (λ (f : Flat). f.turned) now.1, turned)))
+            let new = follow_prompt now.0 ends (flat_at before q) in (
+              subst IsPrompt (sym now.1) new.0,
+              λ turned. absurd (cc (new.1, ap (λ (f : Flat). f.turned) now.1, turned)),
+            )
         | inr outside ↦
-            let same = change.apart q there outside in
-            (subst IsPrompt (sym same) old.0,
-            λ turned. elim (old.1 (ap (λ (f : Flat). f.turned) (sym same) ∙ turned)) as (λ _. nobody q ⊎ (may_wait (phaser_at after q) ≡ true)) [
-              | inl is ↦ absurd (outside (ap (root_at before) is ∙ top))
-              | inr waits ↦ inr (may ∙ waits)
-            ])
+            let same = change.apart q there outside in (
+              subst IsPrompt (sym same) old.0,
+              λ turned. elim (old.1 (ap (λ (f : Flat). f.turned) (sym same) ∙ turned)) as (λ _. nobody q ⊎ (may_wait (phaser_at after q) ≡ true)) [
+                | inl is ↦ absurd (outside (ap (root_at before) is ∙ top))
+                | inr waits ↦ inr (may ∙ waits)
+              ],
+            )
       ]
       | inr past ↦
           let none : phaser_at after q ≡ no_phaser = get_or_past after q no_phaser (omega (arith, many, past)) in
@@ -279,12 +284,12 @@ all_come : (n : ℕ) (phasers : List PhaserState) (origin : Origin) (root : ℕ)
 all_come zero phasers origin root forest stands rest clean live all id most there tree = absurd (omega (arith, most, there))
 all_come (suc n) phasers origin root forest stands rest clean live all id most there tree =
     let awaited : children is_awaited id phasers ≡ 0 = no_children is_awaited id phasers (λ k here under.
-        let up = child-tree phasers k id forest here under in
-        let below = up.0 in
-        let inside : root_at phasers k ≡ root = up.1 ∙ tree in
-        not_awaited (flat_at phasers k) (is_empty (flat_at phasers k)) (flat_at phasers k).turned refl refl (rest k).0
-        ((stands.steady k here).tree ∙ ap (λ r. (flat_at phasers r).ended) inside ∙ live)
-        (all_come n phasers origin root forest stands rest clean live all k (omega (arith, most, below)) here inside)) in
+    let up = child-tree phasers k id forest here under in
+    let below = up.0 in
+    let inside : root_at phasers k ≡ root = up.1 ∙ tree in
+    not_awaited (flat_at phasers k) (is_empty (flat_at phasers k)) (flat_at phasers k).turned refl refl (rest k).0
+    ((stands.steady k here).tree ∙ ap (λ r. (flat_at phasers r).ended) inside ∙ live)
+    (all_come n phasers origin root forest stands rest clean live all k (omega (arith, most, below)) here inside)) in
     let tally = (stands.tallied id there (ap origin.stray tree ∙ clean)
     ((stands.steady id there).tree ∙ ap (λ r. (flat_at phasers r).ended) tree ∙ live)).unarrived in
     let own = all id there tree in
@@ -324,10 +329,13 @@ all_done phasers origin root forest stands rest there top clean live all =
       | inl left ↦ inl left
       | inr some ↦
           let turned = (rest root).0.1 live (omega (arith, some)) (omega (arith, few, none)) in
-          inr (turned, elim ((rest root).1 turned) as (λ _. is_routine_policy own ≡ true) [
-            | inl nobody_does ↦ absurd nobody_does
-            | inr waits ↦
-                routine_or (is_routine_policy own)
-                (subst (λ line. (is_routine_policy own || not (is_top (above_of line))) ≡ true) (root_line phasers root forest there top) waits)
-          ])
+          inr (
+            turned,
+            elim ((rest root).1 turned) as (λ _. is_routine_policy own ≡ true) [
+              | inl nobody_does ↦ absurd nobody_does
+              | inr waits ↦
+                  routine_or (is_routine_policy own)
+                  (subst (λ line. (is_routine_policy own || not (is_top (above_of line))) ≡ true) (root_line phasers root forest there top) waits)
+            ],
+          )
     ]

@@ -1,6 +1,6 @@
 -- What each call of the trees makes of them in a turn.
 use Rattle.std.proofs.Common.{inl, inr, ◌≡◌, ◌≢◌, ◌∙◌, ℕ, ℤ, zero, suc, ◌+◌, ◌<◌, ◌==◌, Bool, true, false, List, [], ◌∷◌, length, map, ap, refl, sym, subst, arith, if◌then◌else◌}
-use Rattle.std.specs.Prelude.{◌⊎◌, ◌||◌, not, Option, Some, None}
+use Rattle.std.specs.Prelude.{◌⊎◌, not, Option, Some, None}
 use Rattle.std.proofs.lemmas.Bool.{cases_eq}
 use Rattle.std.proofs.lemmas.List.{length-map, get_or-set_same, get_or-set_other}
 use Rattle.instruction_table.specs.declared.row.Row.{Row}
@@ -15,7 +15,7 @@ use Rattle.tier_tree.specs.declared.arrived.Arrived.TheVariants as arrived
 use Rattle.tier_tree.specs.Answer.{KeepsEnds}
 use Rattle.tier_tree.specs.Forest.{PhaserState, no_phaser, phaser_at, flat_at, root_of, root_at}
 use Rattle.tier_tree.specs.Registration.{registration, joins, after_registration}
-use Rattle.tier_tree.specs.Arrival.{Arrives, arrival}
+use Rattle.tier_tree.specs.Arrival.{arrival}
 use Rattle.tier_tree.specs.PhaseEnd.{follow, in_step, after_phase_end, after_force}
 use Rattle.tier_tree.specs.Sound.{IsForest}
 use Rattle.tier_tree.specs.Trees.{AreTrees}
@@ -172,11 +172,13 @@ pub trees_counted : (row : Option Row) (thread : ThreadState) (steps id : ℕ) (
     → TreesGo row thread phasers (arrived_at id leave phasers)
 trees_counted row thread steps id leave phasers answer trees there is none =
     kept_on row thread phasers (arrived_at id leave phasers) (arrival-ends id leave phasers) (arrival_same id leave phasers)
-    (λ rest q. let new = rests_by steps id leave phasers answer trees there is rest q in
-    (new.0, λ turned. elim (new.1 turned) as (λ _. nobody q ⊎ (may_wait (phaser_at (arrived_at id leave phasers) q) ≡ true)) [
-      | inl pending ↦ absurd (none q pending)
-      | inr waits ↦ inr waits
-    ]))
+    (λ rest q. let new = rests_by steps id leave phasers answer trees there is rest q in (
+      new.0,
+      λ turned. elim (new.1 turned) as (λ _. nobody q ⊎ (may_wait (phaser_at (arrived_at id leave phasers) q) ≡ true)) [
+        | inl pending ↦ absurd (none q pending)
+        | inr waits ↦ inr waits
+      ],
+    ))
 
 no_answer : (own : Policy) (phase parties : ℕ) → ends own phase parties ≡ None → is_routine_policy own ≡ true
 no_answer policy.Routine phase parties is = refl
@@ -194,11 +196,13 @@ trees_pending row thread steps id leave phasers root phase parties trees there i
     let mid = arrived_at id leave phasers in
     let routine = no_answer (phaser_at mid root.0).policy (flat_at mid root.0).phase (flat_at mid root.0).parties none in
     kept_on row thread phasers mid (arrival-ends id leave phasers) (arrival_same id leave phasers)
-    (λ rest q. let new = rests_by steps id leave phasers (arrived.Turning root phase parties) trees there is rest q in
-    (new.0, λ turned. elim (new.1 turned) as (λ _. nobody q ⊎ (may_wait (phaser_at mid q) ≡ true)) [
-      | inl own ↦ inr (ap (λ n. may_wait (phaser_at mid n)) own ∙ routine_waits (phaser_at mid root.0) routine)
-      | inr waits ↦ inr waits
-    ]))
+    (λ rest q. let new = rests_by steps id leave phasers (arrived.Turning root phase parties) trees there is rest q in (
+      new.0,
+      λ turned. elim (new.1 turned) as (λ _. nobody q ⊎ (may_wait (phaser_at mid q) ≡ true)) [
+        | inl own ↦ inr (ap (λ n. may_wait (phaser_at mid n)) own ∙ routine_waits (phaser_at mid root.0) routine)
+        | inr waits ↦ inr waits
+      ],
+    ))
 
 -- a policy answers at this row, and no routine
 abbrev pub AsksPolicy : Option Row → ThreadState → Type 0

@@ -3,7 +3,7 @@ use Rattle.std.proofs.Common.{◌≡◌, ◌≢◌, ◌∙◌, ℕ, ℤ, pos, ze
 use Rattle.std.specs.Ordering.{int_eq}
 use Rattle.std.specs.Prelude.{nat_abs, int_lt, is_some, length, Option, Some, None, slice_set, slice_index_or}
 use Rattle.instruction_table.specs.declared.row.Row.{Row}
-use Rattle.instruction_table.specs.declared.row.Row.TheVariants.{Halt, Ldi, Mov, Add, Sub, Jmp, Beq, Bne, Blt, Call, Ret, Try, Endtry, Throw, Out, Lds, Sts, SelfNumber, Intr, Intrd, Preg, Pbulk, Parr, Pdereg, Paaa, Pawait, Pawaiti, Pforce, Pphase, Pparties, Parrived, Punarr, Pterm, Pparent, Proot, Cawait, Creset, Cbroken, Cwaiting, Cparties, Pawaitt, Cawaitt}
+use Rattle.instruction_table.specs.declared.row.Row.TheVariants.{Halt, Ret, Out, Preg, Pbulk, Parr, Pdereg, Paaa, Pawait, Pawaiti, Pforce, Pphase, Cawait, Creset, Cbroken, Cwaiting, Pawaitt, Cawaitt}
 use Rattle.instruction_table.specs.declared.register.Reg.{Reg}
 use Rattle.instruction_table.specs.declared.register.Reg.TheVariants.{R0}
 use Rattle.instruction_table.specs.Registers.{value_in}
@@ -14,7 +14,7 @@ use Rattle.tier_tree.specs.declared.arrived.Arrived.TheVariants as arrived
 use Rattle.tier_tree.specs.declared.id.PhaserId.{PhaserId}
 use Rattle.tier_tree.specs.Forest.{PhaserState, flat_at}
 use Rattle.tier_tree.specs.Registration.{registration, after_registration}
-use Rattle.tier_tree.specs.Arrival.{Arrives, arrival}
+use Rattle.tier_tree.specs.Arrival.{arrival}
 use Rattle.cyclic_barrier.specs.declared.answer.Entered.{Entered}
 use Rattle.cyclic_barrier.specs.declared.answer.Entered.TheVariants as entered
 use Rattle.cyclic_barrier.specs.declared.answer.WaitState.{WaitState}

@@ -1,6 +1,11 @@
 // What holds of every accepted program: laws, each the contract of a function that does nothing.
 ghost use Rattle.headline.specs.Headline.{
-    BarriersHavePasts, EndsNoPhaseEarly, NumbersChangeAtEnds, PhasesEndInTime, StoredAlike, TerminationsAreSaid,
+  BarriersHavePasts,
+  EndsNoPhaseEarly,
+  NumbersChangeAtEnds,
+  PhasesEndInTime,
+  StoredAlike,
+  TerminationsAreSaid,
 };
 
 /// No phase of an accepted program ends early, whatever is chosen.

@@ -237,7 +237,7 @@ cut_off f session a b x y line n cf of (inl is) no_end same memory read =
 cut_off f session a b x y line n cf of (inr is) no_end same memory read =
     let (why, given) = read is in
     subst (λ e. Converses (GivesInEach n a b) (Err e) session a b cf x y of) (sym is) (
-      elim why as (λ _. IsTrue cf ⊎ GivesInEach n a b) [ | inl failed ↦ inl failed | inr many ↦ inr (line, (given, many)) ],
+      elim why as (λ _. IsTrue cf ⊎ GivesInEach n a b) [ inl failed ↦ inl failed | inr many ↦ inr (line, (given, many)) ],
       ends_here Cut session a b x y line false [] no_end (refl, refl) given (unchanged x y same),
     )
 

@@ -1,5 +1,5 @@
 -- The conversation on a program that was just loaded.
-use Rattle.std.proofs.Common.{◌≡◌, inl, inr, Bool, List, ℕ, Option, Result, Ok, Err}
+use Rattle.std.proofs.Common.{inl, Bool, List, ℕ, Option, Result, Ok, Err}
 use Rattle.trace_text.specs.Outcome.{IsUntouched}
 use Rattle.trace_text.specs.RunText.{GivesOnAndOn}
 use Rattle.debugger.specs.Session.{Session}

@@ -1,5 +1,5 @@
 -- A session behind the choices of a trace.
-use Rattle.std.proofs.Common.{◌≡◌, ◌∙◌, ◌⊎◌, inl, inr, sym, ℕ, Bool, List, [], ◌∷◌, Option, Some, Result, Ok, Err, IsTrue, refl, ap, subst}
+use Rattle.std.proofs.Common.{◌≡◌, ◌⊎◌, inl, inr, sym, ℕ, Bool, List, [], ◌∷◌, Option, Some, Result, Ok, Err, IsTrue, refl, ap, subst}
 use Rattle.std.specs.Prelude.{IfErr, IfOk, OnOk}
 use Rattle.std.specs.Io.KnownBytes.{Appends}
 use Rattle.thread_machine.specs.declared.choice.Choice.{Choice}

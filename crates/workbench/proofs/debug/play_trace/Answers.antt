@@ -47,10 +47,13 @@ returns-in-Ok-CutOff-clause-none g c = λ line same.
 pub returns-in-Err-clause-fault : goal.returns-in-Err-clause-fault
 returns-in-Err-clause-fault g c =
     let (choices, (taken, stops, count)) = c.loop-before.invariant in
-    inr (refl, or_else c.in-Err.ensures.failed (λ p.
-    taken-on (c.loop-before.before + 1) choices c.loop-before.lines c.next_name.new.lines
-    (g.T.Source.left c.args.trace.now) (g.T.Source.left c.loop-before.trace) (g.T.Source.left c.next_name.new.trace)
-    taken p.1 p.0))
+    inr (
+      refl,
+      or_else c.in-Err.ensures.failed (λ p.
+          taken-on (c.loop-before.before + 1) choices c.loop-before.lines c.next_name.new.lines
+          (g.T.Source.left c.args.trace.now) (g.T.Source.left c.loop-before.trace) (g.T.Source.left c.next_name.new.trace)
+          taken p.1 p.0),
+    )
 
 pub loop-before-preserved : goal.loop-before-preserved
 loop-before-preserved g c =
@@ -71,6 +74,9 @@ loop-before-preserved g c =
 pub returns-clause-fault : goal.returns-clause-fault
 returns-clause-fault g c =
     let (choices, (taken, stops, count)) = c.loop-before.invariant in
-    inr (refl, inr (taken-lines (c.loop-before.before + 1) choices c.loop-before.lines
-    (g.T.Source.left c.args.trace.now) (g.T.Source.left c.loop-before.trace) taken
-    (omega (arith, c.loop-before-test.false))))
+    inr (
+      refl,
+      inr (taken-lines (c.loop-before.before + 1) choices c.loop-before.lines
+          (g.T.Source.left c.args.trace.now) (g.T.Source.left c.loop-before.trace) taken
+          (omega (arith, c.loop-before-test.false))),
+    )
