@@ -1,5 +1,5 @@
 // The choices of a trace that comes as a stream.
-ghost use Rattle.std.specs.Prelude.{◌≡◌, ◌≢◌, ◌⊎◌, ◌≤◌, ◌+◌, ◌∷◌, [], ℕ, Ok, Err, IsTrue, IfOk, OnErr};
+ghost use Rattle.std.specs.Prelude.{◌≡◌, ◌≢◌, ◌⊎◌, ◌≤◌, ◌+◌, ◌∷◌, [], ℕ, Ok, Err, IsTrue, IfOk, OnErr, OnOk, false};
 ghost use Rattle.std.specs.Io.KnownBytes.{Consumes, prepend_known};
 ghost use Rattle.thread_machine.specs.declared.choice.Choice.{Choice};
 ghost use Rattle.trace_text.specs.RunText.{GivesOnAndOn};
@@ -73,6 +73,7 @@ pub fn next_name<S: Source>(lines: &mut SourceLines, trace: &mut S) -> Result<Ne
         × HasGone [] lines.old lines.new (S.left trace.old) (S.left trace.new))) }
     ensures kept { OnErr result (Consumes (prepend_known lines.old.held (S.left trace.old))
         (prepend_known lines.new.held (S.left trace.new)) []) }
+    ensures sound { OnOk result (S.has_failed trace.old ≡ false → S.has_failed trace.new ≡ false) }
 {
     let ended = lines.read_line(trace)?;
     Ok(next_by(line_names(lines.line()), ended))
@@ -85,6 +86,7 @@ pub fn choices_in<S: Source>(alloc: Global, trace: &mut S) -> Result<Named, Nami
     ensures runs { IfOk result (λ named. AreRuns named) }
     ensures read { result ≡ Err NamingFault.Read → IsTrue (S.has_failed trace.new)
         ⊎ GivesOnAndOn (S.left trace.old) (S.left trace.new) }
+    ensures sound { result ≢ Err NamingFault.Read → S.has_failed trace.old ≡ false → S.has_failed trace.new ≡ false }
 {
     let Ok(mut lines) = SourceLines::new(alloc) else {
         return Err(NamingFault::Memory);

@@ -61,6 +61,7 @@ loop-before-preserved g c =
           c.loop-before.invariant.taken (c.next_name.ensures.made choice is n));
       runs = c.push_joined.ensures.runs;
       joined = c.push_joined.ensures.joined (subst AreJoined (sym c.reserve.ensures.items) c.loop-before.invariant.joined);
+      sound = λ sound. c.in-Ok-Made.ensures.sound (c.loop-before.invariant.sound sound);
     }
 
 pub returns-clause-read : goal.returns-clause-read

@@ -1,4 +1,4 @@
-use Rattle.std.proofs.Common.{◌+◌}
+use Rattle.std.proofs.Common.{◌≡◌, ◌+◌, false}
 use Rattle.std.specs.Prelude.{All}
 use Rattle.schedule_reader.specs.Joined.{AreJoined}
 use Rattle.schedule_reader.specs.Schedule.{IsRun, choices_of}
@@ -12,4 +12,5 @@ invariant-loop-before g l = record {
       (g.S.Source.left l.fn.trace) (g.S.Source.left l.trace);
   runs : All IsRun l.runs.items;
   joined : AreJoined l.runs.items;
+  sound : g.S.Source.has_failed l.fn.trace ≡ false → g.S.Source.has_failed l.trace ≡ false;
 }
