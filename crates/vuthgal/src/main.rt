@@ -29,7 +29,6 @@ mod standings;
 mod texts;
 mod traces;
 mod trouble;
-mod until_failure;
 mod usage;
 mod words;
 
