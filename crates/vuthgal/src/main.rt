@@ -25,7 +25,6 @@ mod printable;
 mod progress;
 mod running;
 mod short_schedule;
-mod standings;
 mod texts;
 mod traces;
 mod trouble;
