@@ -1,14 +1,15 @@
 -- What a command line asks for, by the subcommand that its words name and by that one's matches.
-use Rattle.std.specs.Prelude.{◌≡◌, ◌≢◌, ◌≤◌, ◌<◌, ◌+◌, ◌++◌, ◌⊎◌, ℕ, List, [], ◌∷◌, Option, Some, None, length, map}
+use Rattle.std.specs.Prelude.{◌≡◌, ◌≢◌, ◌≤◌, ◌<◌, ◌+◌, ◌++◌, ◌⊎◌, ℕ, List, [], Option, Some, None, Result, Ok, Err, length, map}
 use Rattle.std.specs.Prelude.{All, IfSome, codes, option_map, true, false, Bool, unwrap_or}
 use Rattle.std.specs.Borrow.{Bor}
 use Rattle.std.specs.Global.{Vec}
 use Rattle.std.specs.List.{list_all}
 use Rattle.std.specs.Str.Parse.{IsNumeral, digits_value}
-use Rattle.clap.specs.Words.{Row, Text, all_of, first_of, kind_of, matches_of, subcommand_of, takes}
+use Rattle.clap.specs.Words.{Row, Shape, Text, all_of, first_of, found_of, kind_of, matches_of, rows_of, subcommand_of, takes}
 use Rattle.clap.specs.declared.error.Error.{Error}
+use Rattle.clap.specs.declared.parser.matches.ArgMatches.{ArgMatches}
 use Rattle.clap.specs.declared.error.kind.ErrorKind.TheVariants.{OutOfMemory, ValueValidation}
-use Rattle.command_line.specs.Commands.{vuthgal}
+use Rattle.command_line.specs.Commands.{commands, vuthgal}
 use Rattle.trace_text.specs.Expectation.{is_expectation}
 use Rattle.command_line.specs.declared.refusal.Refusal.{Refusal}
 use Rattle.command_line.specs.declared.refusal.Refusal.TheVariants as refusal
@@ -25,6 +26,10 @@ IsInRange (request.Draw file schedule width plan) = (60 ≤ width) × (width ≤
 IsInRange (request.Plan file plan seeds) = IfSome seeds (λ s. (s.first ≤ s.last) × (s.last < s.first + 100000))
 IsInRange (request.Race parties rounds) = ((1 ≤ parties) × (parties ≤ 16)) × ((1 ≤ rounds) × (rounds ≤ 1000000))
 IsInRange _ = Unit {0}
+
+-- the words and options that were matched
+abbrev pub rows_in : ArgMatches → List Row
+rows_in matches = rows_of (found_of matches)
 
 -- the word that stands in this place, empty where there is none
 abbrev pub word_at : Text → List Row → Text
@@ -102,9 +107,7 @@ abbrev pub IsPlan : Option Text → List Row → Option (Bor Text) → Type 0
 IsPlan other rows plan = (option_map (λ s. s.now) plan ≡ word_given (codes "plan") rows) × IsAlone plan other
 
 abbrev pub command_names : List Text
-command_names =
-    codes "asm" ∷ codes "list" ∷ codes "run" ∷ codes "compare" ∷ codes "debug" ∷ codes "show" ∷ codes "draw"
-    ∷ codes "live" ∷ codes "race" ∷ codes "choices" ∷ codes "plan" ∷ codes "explain" ∷ []
+command_names = map (λ (c : Shape). c.name) commands
 
 -- the request is what the subcommand of this name asks for by these matches
 abbrev pub IsAskedBy : Text → List Row → Request → Type 0
@@ -164,12 +167,17 @@ abbrev pub IsRefusedBy : Refusal → Text → List Row → Type 0
 IsRefusedBy refusal.Memory name rows = Unit {0}
 IsRefusedBy (refusal.Wrong option) name rows = IsWrong option name rows
 
+-- what the subcommand of this name comes to by its matches
+abbrev pub ComesToBy : Text → List Row → Result Request Refusal → Type 0
+ComesToBy name rows (Ok request) = IsInRange request × IsAskedBy name rows request
+ComesToBy name rows (Err why) = IsRefusedBy why name rows
+
 -- options `--expect` alone ask for this, and so do no words at all
 abbrev pub IsBoth : List Row → Request → Type 0
 IsBoth rows (request.Both expected) = IsExpected (words_at (codes "expect") rows) expected
 IsBoth rows _ = ⊥
 
--- the same of the words as a whole, by those before a subcommand, and the subcommand: where there is one, nothing stands
+-- the words as a whole ask for this, by those before a subcommand, and the subcommand: where there is one, nothing stands
 -- before it
 abbrev pub IsAsked : List Row → Option (Text × List Row) → Request → Type 0
 IsAsked rows None asked = IsBoth rows asked
@@ -190,7 +198,16 @@ IsRefused rows named refusal.Memory = Unit {0}
 IsRefused rows None (refusal.Wrong option) = IsWrongAlone option rows
 IsRefused rows (Some named) (refusal.Wrong option) = IsWrongWith option rows named
 
--- a command line, whose first word is the program's own name, asks for this
+-- what the words as a whole come to
+abbrev pub ComesToOf : List Row → Option (Text × List Row) → Result Request Refusal → Type 0
+ComesToOf rows named (Ok request) = IsInRange request × IsAsked rows named request
+ComesToOf rows named (Err why) = IsRefused rows named why
+
+-- what a command line comes to, whose first word is the program's own name
+abbrev pub ComesTo : List Text → Result Request Refusal → Type 0
+ComesTo words = ComesToOf (matches_of vuthgal words) (subcommand_of vuthgal words)
+
+-- a command line asks for this
 abbrev pub Asks : List Text → Request → Type 0
 Asks words = IsAsked (matches_of vuthgal words) (subcommand_of vuthgal words)
 

@@ -4,9 +4,8 @@
 //! line of words by it.
 #![tactic(auto)]
 
-// The names of the commands and of their words, the texts of the help, in lines of at most 80 columns, and the table.
+// The table, and the texts of the help, in lines of at most 80 columns.
 pub mod commands;
-pub mod names;
 mod texts;
 
 // What is asked for.

@@ -1,25 +1,19 @@
 //! What the words of a command line ask for.
 ghost use Rattle.std.specs.Prelude.{◌≡◌, ◌≢◌, ◌⊎◌, ◌≤◌, IfErr, IfOk, IfSome, List, MatchOption, None, codes, map, option_map, true, ℕ};
-ghost use Rattle.clap.specs.Words.{app_of, found_of, kind_of, rows_of, subcommand_rows_of, takes};
+ghost use Rattle.clap.specs.Words.{app_of, kind_of, subcommand_rows_of, takes};
 ghost use Rattle.clap.specs.declared.error.kind.ErrorKind.TheVariants.{OutOfMemory};
 ghost use Rattle.std.specs.String.{string_bytes};
 ghost use Rattle.std.specs.Borrow.{Bor};
 ghost use Rattle.std.specs.List.{list_all};
 ghost use Rattle.trace_text.specs.Expectation.{is_expectation};
 ghost use Rattle.command_line.specs.Commands.{vuthgal};
-ghost use Rattle.command_line.specs.Request.{Asks, Fails, Refuses};
-ghost use Rattle.command_line.specs.Request.{IsAsked, IsAskedBy, IsInRange, IsRefused, IsRefusedBy, IsWrong};
+ghost use Rattle.command_line.specs.Request.{Asks, ComesTo, ComesToBy, ComesToOf, Fails, IsInRange, rows_in};
 ghost use Rattle.command_line.specs.Request.{AreBoth, IsExpected, IsFlag, IsPlan, IsNoNumber, IsNoState, IsNumber};
 ghost use Rattle.command_line.specs.Request.{IsSeeds, Spells, SpellsNone, SpellsSeeds, word_at, word_given, words_at};
 ghost use Rattle.command_line.specs.declared.refusal.Refusal.TheVariants as refusal;
 ghost use Rattle.command_line.specs.declared.refusal.WrongOption.TheVariants as option;
 
 use crate::commands::program;
-use crate::names::{
-    ASM, AT, CHOICES, COMPARE, DEBUG, DRAW, EXPECT, EXPLAIN, FILE, LIMIT, LIST, LIVE, OUT, PARTIES,
-    PLAN, RACE, ROUNDS, ROWS, RUN, RUNS, SCHEDULE, SEEDS, SHOW, SRC, STEPS, STIR, TRACE, WIDTH,
-    WORD,
-};
 use crate::refusal::{Refusal, WrongOption};
 use clap::error::ErrorKind;
 use clap::{ArgMatches, Command, Error};
@@ -114,14 +108,14 @@ pub struct Seeds {
 
 /// The word in this place, which is there where the place has to be filled.
 fn word<'a>(matches: &ArgMatches<'a>, place: &str) -> &'a str
-    ensures { result.now ≡ word_at place.now (rows_of (found_of matches.now)) }
+    ensures { result.now ≡ word_at place.now (rows_in matches.now) }
 {
     matches.get_str(place).unwrap_or("")
 }
 
 /// The word in this place, which may be left out.
 fn given<'a>(matches: &ArgMatches<'a>, place: &str) -> Option<&'a str>
-    ensures { option_map (λ s. s.now) result ≡ word_given place.now (rows_of (found_of matches.now)) }
+    ensures { option_map (λ s. s.now) result ≡ word_given place.now (rows_in matches.now) }
 {
     matches.get_str(place)
 }
@@ -132,14 +126,14 @@ fn several<'a>(
     matches: &ArgMatches<'a>,
     place: &str,
 ) -> Result<Vec<&'a str>, AllocError>
-    ensures { IfOk result (λ words. map (λ w. w.now) words.items ≡ words_at place.now (rows_of (found_of matches.now))) }
+    ensures { IfOk result (λ words. map (λ w. w.now) words.items ≡ words_at place.now (rows_in matches.now)) }
 {
     Vec::from_slice(alloc, matches.get_strs(place).unwrap_or(&[]))
 }
 
 /// Whether an option without a value is there.
 fn is_set(matches: &ArgMatches<'_>, flag: &str) -> bool
-    ensures { IsFlag (word_given flag.now (rows_of (found_of matches.now))) result }
+    ensures { IsFlag (word_given flag.now (rows_in matches.now)) result }
 {
     match given(matches, flag) {
         Some("true") => true,
@@ -171,11 +165,11 @@ fn are_expectations(words: &[&str]) -> bool
 /// What is expected of a run's end, where each word expects something.
 #[tactic(auto, using(crate::proofs::Words::expectations_texts))]
 fn expected<'a>(alloc: Global, matches: &ArgMatches<'a>) -> Result<Vec<&'a str>, Refusal>
-    ensures asked { IfOk result (IsExpected (words_at (codes "expect") (rows_of (found_of matches.now)))) }
+    ensures asked { IfOk result (IsExpected (words_at (codes "expect") (rows_in matches.now))) }
     ensures refused { IfErr result (λ why. (why ≡ refusal.Memory) ⊎ ((why ≡ refusal.Wrong option.Expect)
-        × IsNoState (words_at (codes "expect") (rows_of (found_of matches.now))))) }
+        × IsNoState (words_at (codes "expect") (rows_in matches.now)))) }
 {
-    let words = several(alloc, matches, EXPECT)?;
+    let words = several(alloc, matches, "expect")?;
     if are_expectations(words.as_slice()) {
         Ok(words)
     } else {
@@ -192,9 +186,9 @@ fn number_given(
     wrong: WrongOption,
 ) -> Result<Option<u32>, WrongOption>
     ensures range { IfOk result (λ number. IfSome number (λ n. (least ≤ n) × (n ≤ most))) }
-    ensures asked { IfOk result (IsNumber least most (word_given option.now (rows_of (found_of matches.now)))) }
+    ensures asked { IfOk result (IsNumber least most (word_given option.now (rows_in matches.now))) }
     ensures wrong { IfErr result (λ why. (why ≡ wrong)
-        × IsNoNumber least most (word_given option.now (rows_of (found_of matches.now)))) }
+        × IsNoNumber least most (word_given option.now (rows_in matches.now))) }
 {
     let Some(digits) = given(matches, option) else {
         return Ok(None);
@@ -207,155 +201,13 @@ fn number_given(
 
 /// The plan that these matches name, where this other word isn't there too.
 fn plan_alone<'a>(matches: &ArgMatches<'a>, other: &str) -> Result<Option<&'a str>, WrongOption>
-    ensures asked { IfOk result (IsPlan (word_given other.now (rows_of (found_of matches.now))) (rows_of (found_of matches.now))) }
-    ensures wrong { IfErr result (λ why. (why ≡ option.Plan) × AreBoth (word_given (codes "plan") (rows_of (found_of matches.now)))
-        (word_given other.now (rows_of (found_of matches.now)))) }
+    ensures asked { IfOk result (IsPlan (word_given other.now (rows_in matches.now)) (rows_in matches.now)) }
+    ensures wrong { IfErr result (λ why. (why ≡ option.Plan) × AreBoth (word_given (codes "plan") (rows_in matches.now))
+        (word_given other.now (rows_in matches.now))) }
 {
-    match (given(matches, PLAN), given(matches, other)) {
+    match (given(matches, "plan"), given(matches, other)) {
         (Some(_), Some(_)) => Err(WrongOption::Plan),
         (plan, _) => Ok(plan),
-    }
-}
-
-/// The run that these matches ask for, where it may end as it is expected to.
-fn run<'a>(alloc: Global, matches: &ArgMatches<'a>) -> Result<Request<'a>, Refusal>
-    ensures range { IfOk result (λ request. IsInRange request) }
-    ensures asked { IfOk result (IsAskedBy (codes "run") (rows_of (found_of matches.now))) }
-    ensures refused { IfErr result (λ why. IsRefusedBy why (codes "run") (rows_of (found_of matches.now))) }
-{
-    let plan = plan_alone(matches, SCHEDULE)?;
-    let expected = expected(alloc, matches)?;
-    let schedule = given(matches, SCHEDULE);
-    Ok(Request::Run {
-        file: word(matches, FILE),
-        schedule,
-        plan,
-        expected,
-    })
-}
-
-/// The drawing that these matches ask for, where its width is in range.
-fn draw<'a>(matches: &ArgMatches<'a>) -> Result<Request<'a>, Refusal>
-    ensures range { IfOk result (λ request. IsInRange request) }
-    ensures asked { IfOk result (IsAskedBy (codes "draw") (rows_of (found_of matches.now))) }
-    ensures refused { IfErr result (λ why. IsRefusedBy why (codes "draw") (rows_of (found_of matches.now))) }
-{
-    let plan = plan_alone(matches, SCHEDULE)?;
-    match number(word(matches, WIDTH), 60, 1000) {
-        Some(width) => Ok(Request::Draw {
-            file: word(matches, FILE),
-            schedule: given(matches, SCHEDULE),
-            width: width as u16,
-            plan,
-        }),
-        None => Err(Refusal::Wrong(WrongOption::Width)),
-    }
-}
-
-/// The live run that these matches ask for, where its numbers are in range, and it may end as it is expected to.
-fn live<'a>(alloc: Global, matches: &ArgMatches<'a>) -> Result<Request<'a>, Refusal>
-    ensures range { IfOk result (λ request. IsInRange request) }
-    ensures asked { IfOk result (IsAskedBy (codes "live") (rows_of (found_of matches.now))) }
-    ensures refused { IfErr result (λ why. IsRefusedBy why (codes "live") (rows_of (found_of matches.now))) }
-{
-    let Some(limit) = number(word(matches, LIMIT), 1, 1_000_000_000) else {
-        return Err(Refusal::Wrong(WrongOption::Limit));
-    };
-    let seed = number_given(matches, STIR, 0, 4_294_967_295, WrongOption::Stir)?;
-    let runs = number_given(matches, RUNS, 1, 100_000, WrongOption::Runs)?;
-    let expected = expected(alloc, matches)?;
-    Ok(Request::Live {
-        file: word(matches, FILE),
-        limit,
-        seed,
-        runs,
-        expected,
-    })
-}
-
-/// The race that these matches ask for, where both numbers are in range.
-fn race<'a>(matches: &ArgMatches<'a>) -> Result<Request<'a>, Refusal>
-    ensures range { IfOk result (λ request. IsInRange request) }
-    ensures asked { IfOk result (IsAskedBy (codes "race") (rows_of (found_of matches.now))) }
-    ensures refused { IfErr result (λ why. IsRefusedBy why (codes "race") (rows_of (found_of matches.now))) }
-{
-    let Some(parties) = number(word(matches, PARTIES), 1, 16) else {
-        return Err(Refusal::Wrong(WrongOption::Parties));
-    };
-    match number(word(matches, ROUNDS), 1, 1_000_000) {
-        Some(rounds) => Ok(Request::Race {
-            parties: parties as u16,
-            rounds,
-        }),
-        None => Err(Refusal::Wrong(WrongOption::Rounds)),
-    }
-}
-
-/// The image that these matches ask for.
-fn asm<'a>(matches: &ArgMatches<'a>) -> Request<'a>
-    ensures { IsInRange result × IsAskedBy (codes "asm") (rows_of (found_of matches.now)) result }
-{
-    Request::Asm {
-        source: word(matches, SRC),
-        image: word(matches, OUT),
-    }
-}
-
-/// The listing that these matches ask for.
-fn list<'a>(matches: &ArgMatches<'a>) -> Request<'a>
-    ensures { IsInRange result × IsAskedBy (codes "list") (rows_of (found_of matches.now)) result }
-{
-    Request::List {
-        file: word(matches, FILE),
-        has_rows: is_set(matches, ROWS),
-    }
-}
-
-/// The comparison that these matches ask for.
-fn compare<'a>(matches: &ArgMatches<'a>) -> Request<'a>
-    ensures { IsInRange result × IsAskedBy (codes "compare") (rows_of (found_of matches.now)) result }
-{
-    Request::Compare {
-        file: word(matches, FILE),
-        trace: word(matches, TRACE),
-        is_shown: is_set(matches, SHOW),
-    }
-}
-
-/// The session that these matches ask for.
-fn debug<'a>(matches: &ArgMatches<'a>) -> Result<Request<'a>, Refusal>
-    ensures range { IfOk result (λ request. IsInRange request) }
-    ensures asked { IfOk result (IsAskedBy (codes "debug") (rows_of (found_of matches.now))) }
-    ensures refused { IfErr result (λ why. IsRefusedBy why (codes "debug") (rows_of (found_of matches.now))) }
-{
-    let plan = plan_alone(matches, AT)?;
-    Ok(Request::Debug {
-        file: word(matches, FILE),
-        trace: given(matches, AT),
-        plan,
-    })
-}
-
-/// The page that these matches ask for.
-fn show<'a>(matches: &ArgMatches<'a>) -> Result<Request<'a>, Refusal>
-    ensures range { IfOk result (λ request. IsInRange request) }
-    ensures asked { IfOk result (IsAskedBy (codes "show") (rows_of (found_of matches.now))) }
-    ensures refused { IfErr result (λ why. IsRefusedBy why (codes "show") (rows_of (found_of matches.now))) }
-{
-    let plan = plan_alone(matches, SCHEDULE)?;
-    Ok(Request::Show {
-        file: word(matches, FILE),
-        schedule: given(matches, SCHEDULE),
-        plan,
-    })
-}
-
-/// The schedule that these matches ask for.
-fn choices<'a>(matches: &ArgMatches<'a>) -> Request<'a>
-    ensures { IsInRange result × IsAskedBy (codes "choices") (rows_of (found_of matches.now)) result }
-{
-    Request::Choices {
-        trace: word(matches, TRACE),
     }
 }
 
@@ -375,10 +227,10 @@ fn seeds_in(text: &str) -> Option<Seeds>
 
 /// The seeds that these matches name, if they name some.
 fn seeds_given(matches: &ArgMatches<'_>) -> Result<Option<Seeds>, WrongOption>
-    ensures asked { IfOk result (IsSeeds (word_given (codes "seeds") (rows_of (found_of matches.now)))) }
-    ensures wrong { IfErr result (λ why. (why ≡ option.Seeds) × (word_given (codes "seeds") (rows_of (found_of matches.now)) ≢ None)) }
+    ensures asked { IfOk result (IsSeeds (word_given (codes "seeds") (rows_in matches.now))) }
+    ensures wrong { IfErr result (λ why. (why ≡ option.Seeds) × (word_given (codes "seeds") (rows_in matches.now) ≢ None)) }
 {
-    let Some(text) = given(matches, SEEDS) else {
+    let Some(text) = given(matches, "seeds") else {
         return Ok(None);
     };
     match seeds_in(text) {
@@ -387,28 +239,105 @@ fn seeds_given(matches: &ArgMatches<'_>) -> Result<Option<Seeds>, WrongOption>
     }
 }
 
-/// The schedule of a plan that these matches ask for, or what the orders of seeds come to.
-fn plan<'a>(matches: &ArgMatches<'a>) -> Result<Request<'a>, Refusal>
-    ensures range { IfOk result (λ request. IsInRange request) }
-    ensures asked { IfOk result (IsAskedBy (codes "plan") (rows_of (found_of matches.now))) }
-    ensures refused { IfErr result (λ why. IsRefusedBy why (codes "plan") (rows_of (found_of matches.now))) }
+/// The run that these matches ask for, where it may end as it is expected to.
+fn run<'a>(alloc: Global, matches: &ArgMatches<'a>) -> Result<Request<'a>, Refusal>
+    ensures { ComesToBy (codes "run") (rows_in matches.now) result }
 {
-    let seeds = seeds_given(matches)?;
-    Ok(Request::Plan {
-        file: word(matches, FILE),
-        plan: given(matches, STEPS),
-        seeds,
+    let plan = plan_alone(matches, "SCHEDULE")?;
+    let expected = expected(alloc, matches)?;
+    let schedule = given(matches, "SCHEDULE");
+    Ok(Request::Run {
+        file: word(matches, "FILE"),
+        schedule,
+        plan,
+        expected,
     })
 }
 
-/// The words that these matches ask about, where there is memory for them.
-fn explain<'a>(alloc: Global, matches: &ArgMatches<'a>) -> Result<Request<'a>, Refusal>
-    ensures range { IfOk result (λ request. IsInRange request) }
-    ensures asked { IfOk result (IsAskedBy (codes "explain") (rows_of (found_of matches.now))) }
-    ensures refused { IfErr result (λ why. IsRefusedBy why (codes "explain") (rows_of (found_of matches.now))) }
+/// The session that these matches ask for.
+fn debug<'a>(matches: &ArgMatches<'a>) -> Result<Request<'a>, Refusal>
+    ensures { ComesToBy (codes "debug") (rows_in matches.now) result }
 {
-    Ok(Request::Explain {
-        words: several(alloc, matches, WORD)?,
+    let plan = plan_alone(matches, "at")?;
+    Ok(Request::Debug {
+        file: word(matches, "FILE"),
+        trace: given(matches, "at"),
+        plan,
+    })
+}
+
+/// The page that these matches ask for.
+fn show<'a>(matches: &ArgMatches<'a>) -> Result<Request<'a>, Refusal>
+    ensures { ComesToBy (codes "show") (rows_in matches.now) result }
+{
+    let plan = plan_alone(matches, "SCHEDULE")?;
+    Ok(Request::Show {
+        file: word(matches, "FILE"),
+        schedule: given(matches, "SCHEDULE"),
+        plan,
+    })
+}
+
+/// The drawing that these matches ask for, where its width is in range.
+fn draw<'a>(matches: &ArgMatches<'a>) -> Result<Request<'a>, Refusal>
+    ensures { ComesToBy (codes "draw") (rows_in matches.now) result }
+{
+    let plan = plan_alone(matches, "SCHEDULE")?;
+    let Some(width) = number(word(matches, "width"), 60, 1000) else {
+        return Err(Refusal::Wrong(WrongOption::Width));
+    };
+    Ok(Request::Draw {
+        file: word(matches, "FILE"),
+        schedule: given(matches, "SCHEDULE"),
+        width: width as u16,
+        plan,
+    })
+}
+
+/// The live run that these matches ask for, where its numbers are in range, and it may end as it is expected to.
+fn live<'a>(alloc: Global, matches: &ArgMatches<'a>) -> Result<Request<'a>, Refusal>
+    ensures { ComesToBy (codes "live") (rows_in matches.now) result }
+{
+    let Some(limit) = number(word(matches, "limit"), 1, 1_000_000_000) else {
+        return Err(Refusal::Wrong(WrongOption::Limit));
+    };
+    let seed = number_given(matches, "stir", 0, 4_294_967_295, WrongOption::Stir)?;
+    let runs = number_given(matches, "runs", 1, 100_000, WrongOption::Runs)?;
+    let expected = expected(alloc, matches)?;
+    Ok(Request::Live {
+        file: word(matches, "FILE"),
+        limit,
+        seed,
+        runs,
+        expected,
+    })
+}
+
+/// The race that these matches ask for, where both numbers are in range.
+fn race<'a>(matches: &ArgMatches<'a>) -> Result<Request<'a>, Refusal>
+    ensures { ComesToBy (codes "race") (rows_in matches.now) result }
+{
+    let Some(parties) = number(word(matches, "parties"), 1, 16) else {
+        return Err(Refusal::Wrong(WrongOption::Parties));
+    };
+    let Some(rounds) = number(word(matches, "rounds"), 1, 1_000_000) else {
+        return Err(Refusal::Wrong(WrongOption::Rounds));
+    };
+    Ok(Request::Race {
+        parties: parties as u16,
+        rounds,
+    })
+}
+
+/// The schedule of a plan that these matches ask for, or what the orders of seeds come to.
+fn plan<'a>(matches: &ArgMatches<'a>) -> Result<Request<'a>, Refusal>
+    ensures { ComesToBy (codes "plan") (rows_in matches.now) result }
+{
+    let seeds = seeds_given(matches)?;
+    Ok(Request::Plan {
+        file: word(matches, "FILE"),
+        plan: given(matches, "PLAN"),
+        seeds,
     })
 }
 
@@ -418,49 +347,50 @@ fn request_by<'a>(
     name: &str,
     matches: &ArgMatches<'a>,
 ) -> Result<Request<'a>, Refusal>
-    ensures range { IfOk result (λ request. IsInRange request) }
-    ensures asked { IfOk result (IsAskedBy name.now (rows_of (found_of matches.now))) }
-    ensures refused { IfErr result (λ why. IsRefusedBy why name.now (rows_of (found_of matches.now))) }
+    ensures { ComesToBy name.now (rows_in matches.now) result }
 {
     match name {
-        ASM => Ok(asm(matches)),
-        LIST => Ok(list(matches)),
-        RUN => run(alloc, matches),
-        COMPARE => Ok(compare(matches)),
-        DEBUG => debug(matches),
-        SHOW => show(matches),
-        DRAW => draw(matches),
-        LIVE => live(alloc, matches),
-        RACE => race(matches),
-        CHOICES => Ok(choices(matches)),
-        PLAN => plan(matches),
-        EXPLAIN => explain(alloc, matches),
+        "asm" => Ok(Request::Asm {
+            source: word(matches, "SRC"),
+            image: word(matches, "OUT"),
+        }),
+        "list" => Ok(Request::List {
+            file: word(matches, "FILE"),
+            has_rows: is_set(matches, "rows"),
+        }),
+        "run" => run(alloc, matches),
+        "compare" => Ok(Request::Compare {
+            file: word(matches, "FILE"),
+            trace: word(matches, "TRACE"),
+            is_shown: is_set(matches, "show"),
+        }),
+        "debug" => debug(matches),
+        "show" => show(matches),
+        "draw" => draw(matches),
+        "live" => live(alloc, matches),
+        "race" => race(matches),
+        "choices" => Ok(Request::Choices {
+            trace: word(matches, "TRACE"),
+        }),
+        "plan" => plan(matches),
+        "explain" => Ok(Request::Explain {
+            words: several(alloc, matches, "WORD")?,
+        }),
         _ => Ok(Request::Both {
             expected: Vec::new(alloc),
         }),
     }
 }
 
-/// What matches without a subcommand ask for, if no option is wrong.
-fn both<'a>(alloc: Global, matches: &ArgMatches<'a>) -> Result<Request<'a>, Refusal>
-    ensures range { IfOk result (λ request. IsInRange request) }
-    ensures asked { IfOk result (IsAsked (rows_of (found_of matches.now)) None) }
-    ensures refused { IfErr result (IsRefused (rows_of (found_of matches.now)) None) }
-{
-    let expected = expected(alloc, matches)?;
-    Ok(Request::Both { expected })
-}
-
 /// What these matches ask for, if no option is wrong.
 fn request_of<'a>(alloc: Global, matches: &ArgMatches<'a>) -> Result<Request<'a>, Refusal>
-    ensures range { IfOk result (λ request. IsInRange request) }
-    ensures asked { IfOk result (IsAsked (rows_of (found_of matches.now)) (subcommand_rows_of matches.now)) }
-    ensures refused { IfErr result (IsRefused (rows_of (found_of matches.now)) (subcommand_rows_of matches.now)) }
+    ensures { ComesToOf (rows_in matches.now) (subcommand_rows_of matches.now) result }
 {
     let Some((name, of_command)) = matches.subcommand() else {
-        return both(alloc, matches);
+        let expected = expected(alloc, matches)?;
+        return Ok(Request::Both { expected });
     };
-    if given(matches, EXPECT).is_some() {
+    if given(matches, "expect").is_some() {
         return Err(Refusal::Wrong(WrongOption::Early));
     }
     request_by(alloc, name, of_command)
@@ -473,36 +403,12 @@ fn request_in<'a>(
     words: &'a [String],
 ) -> Result<Result<Request<'a>, Refusal>, Error>
     requires { app_of program.old ≡ vuthgal }
-    ensures range { IfOk result (λ asked. IfOk asked (λ request. IsInRange request)) }
-    ensures asked { IfOk result (λ asked. IfOk asked (Asks (map string_bytes words.entry.now))) }
-    ensures refused { IfOk result (λ asked. IfErr asked (Refuses (map string_bytes words.entry.now))) }
+    ensures read { IfOk result (ComesTo (map string_bytes words.entry.now)) }
     ensures failed { let texts = map string_bytes words.entry.now in
         IfErr result (λ error. takes vuthgal texts ≡ true → kind_of error ≡ OutOfMemory) }
 {
     match program.try_get_matches_from_mut(words) {
         Ok(matches) => Ok(request_of(alloc, &matches)),
-        Err(error) => Err(error),
-    }
-}
-
-/// The same, with the error of an option that is wrong.
-fn told_request<'a>(
-    alloc: Global,
-    program: &mut Command<'a>,
-    words: &'a [String],
-) -> Result<Request<'a>, Error>
-    requires { app_of program.old ≡ vuthgal }
-    ensures range { IfOk result (λ request. IsInRange request) }
-    ensures asked { IfOk result (Asks (map string_bytes words.entry.now)) }
-    ensures failed { IfErr result (Fails (map string_bytes words.entry.now)) }
-{
-    match request_in(alloc, program, words) {
-        Ok(Ok(request)) => Ok(request),
-        Ok(Err(Refusal::Wrong(option))) => Err(program.error(
-            ErrorKind::ValueValidation,
-            option.told(),
-        )?),
-        Ok(Err(Refusal::Memory)) => Err(Error::from(AllocError)),
         Err(error) => Err(error),
     }
 }
@@ -515,5 +421,13 @@ pub fn parse<'a>(alloc: Global, words: &'a [String], version: &'a str) -> Result
     ensures failed { IfErr result (Fails (map string_bytes words.entry.now)) }
 {
     let mut program = program(alloc, version)?;
-    told_request(alloc, &mut program, words)
+    match request_in(alloc, &mut program, words) {
+        Ok(Ok(request)) => Ok(request),
+        Ok(Err(Refusal::Wrong(option))) => Err(program.error(
+            ErrorKind::ValueValidation,
+            option.told(),
+        )?),
+        Ok(Err(Refusal::Memory)) => Err(Error::from(AllocError)),
+        Err(error) => Err(error),
+    }
 }

@@ -30,7 +30,7 @@ With `--expect STATE` it answers 1 where the run ends otherwise than STATE says
 
 Example: vuthgal < examples/two-threads-meet.txt";
 
-pub const ASM: &str = "\
+const ASM: &str = "\
 Assembles the program text in SRC and writes its image to OUT.
 
 OUT is made empty first, and is a file of that name also where it is `-`. SRC
@@ -40,7 +40,7 @@ It may tell `refused asm`, `memory`, `read` or `write`.
 
 Example: vuthgal asm examples/meeting.asm meeting.image";
 
-pub const LIST: &str = "\
+const LIST: &str = "\
 Writes the canonical text of the program in FILE, an image or a program text.
 
 FILE is an image where its first four bytes are `PBW1` or `PBW2`, else a text.
@@ -52,7 +52,7 @@ It may tell `refused asm` of a text, `refused image` of an image, `memory`,
 
 Example: vuthgal list meeting.image";
 
-pub const RUN: &str = "\
+const RUN: &str = "\
 Plays the program in FILE under the schedule in SCHEDULE and writes the trace:
 a line for each choice, and then the state.
 
@@ -73,7 +73,7 @@ It may tell `refused asm`, `refused image`, `refused load`, `refused schedule`,
 
 Example: vuthgal run examples/meeting.asm - <<< 't0 t1 t0*3 t1*2'";
 
-pub const COMPARE: &str = "\
+const COMPARE: &str = "\
 Compares the trace in TRACE with the run of the program in FILE under the
 choices that the trace names.
 
@@ -92,7 +92,7 @@ It may tell `refused asm`, `refused image`, `refused load`, `memory`, `read` or
 
 Example: vuthgal compare examples/meeting.asm examples/two-threads-meet.trace";
 
-pub const DEBUG: &str = "\
+const DEBUG: &str = "\
 Plays the program in FILE by the commands on standard input, forwards and
 backwards.
 
@@ -122,7 +122,7 @@ It may tell `refused asm`, `refused image`, `refused load`, `refused plan`,
 
 Example: vuthgal debug examples/meeting.asm <<< 'g t0 t1 t0'";
 
-pub const SHOW: &str = "\
+const SHOW: &str = "\
 Writes a page that shows a run: one HTML file that any browser opens, with no
 network.
 
@@ -137,7 +137,7 @@ It may tell `refused asm`, `refused image`, `refused load`, `refused schedule`,
 
 Example: vuthgal show examples/two-threads-meet.txt > meeting.html";
 
-pub const DRAW: &str = "\
+const DRAW: &str = "\
 Draws a run as text: a column for each thread, a line for each choice.
 
 FILE is an image where its first four bytes are `PBW1` or `PBW2`, else a program
@@ -150,7 +150,7 @@ It may tell `refused asm`, `refused image`, `refused load`, `refused schedule`,
 
 Example: vuthgal draw examples/two-threads-meet.txt";
 
-pub const LIVE: &str = "\
+const LIVE: &str = "\
 Plays the program in FILE on real threads, one for each of its own, and writes
 the trace of the run that came about.
 
@@ -178,7 +178,7 @@ It may tell `refused asm`, `refused image`, `refused load`, `memory`, `spawn`,
 
 Example: vuthgal live examples/meeting.asm";
 
-pub const RACE: &str = "\
+const RACE: &str = "\
 Lets real threads meet at one shared phaser, round after round, and writes the
 word that they leave.
 
@@ -190,7 +190,7 @@ It may tell `memory`, `spawn` or `write`.
 
 Example: vuthgal race --parties 4 --rounds 10000";
 
-pub const CHOICES: &str = "\
+const CHOICES: &str = "\
 Writes the schedule of the trace in TRACE: the choices that its lines name, up
 to its state.
 
@@ -202,7 +202,7 @@ It may tell `memory`, `read` or `write`.
 
 Example: vuthgal choices examples/two-threads-meet.trace";
 
-pub const PLAN: &str = "\
+const PLAN: &str = "\
 Writes the schedule that the plan in PLAN stands for on the program in FILE. It
 is what `run`, `show` and `draw` take as SCHEDULE.
 
@@ -236,7 +236,7 @@ It may tell `refused asm`, `refused image`, `refused load`, `refused plan`,
 
 Example: vuthgal plan examples/meeting.asm - <<< 't0. t1. t0.'";
 
-pub const EXPLAIN: &str = "\
+const EXPLAIN: &str = "\
 Says in words what a line on standard error means: what is wrong, what helps, a
 command that makes it, and where the documents say more. Or what a row of a
 program is, or a word that begins with a dot: its operands, Java's method, what
@@ -250,3 +250,21 @@ is a row, `explain .thread` a directive. Without words it lists what can be
 asked.
 
 Example: vuthgal explain refused asm 2 5";
+
+/// What the help of a command says at length.
+pub fn of(command: &str) -> &'static str {
+    match command {
+        "asm" => ASM,
+        "list" => LIST,
+        "run" => RUN,
+        "compare" => COMPARE,
+        "debug" => DEBUG,
+        "show" => SHOW,
+        "draw" => DRAW,
+        "live" => LIVE,
+        "race" => RACE,
+        "choices" => CHOICES,
+        "plan" => PLAN,
+        _ => EXPLAIN,
+    }
+}

@@ -1,7 +1,7 @@
 -- A picture that was written, by the program and the schedule that were read.
 use Rattle.std.proofs.Common.{◌≡◌, ℕ, List, Option, Result, Ok, Err, OnOk, subst}
 use Rattle.std.specs.Io.KnownBytes.{Appends}
-use Rattle.commands.specs.Pictures.{HasMade, HasMadeOfBoth, HasWritten, program_of, schedule_behind}
+use Rattle.commands.specs.Pictures.{HasMade, HasWritten}
 use Rattle.workbench.specs.Input.{GivesAll}
 
 pub picture_written : (IsPicture : List ℕ → Type 0) (picture bytes : List ℕ) (old new : Option (List ℕ)) → bytes ≡ picture
@@ -26,12 +26,3 @@ pub both_read : {A E : Type 0} (IsPicture : List ℕ → List ℕ → List ℕ �
 both_read IsPicture (Ok x) program schedule file choices fb fa sb sa old new is also gives more written =
     (file, (choices, (gives, more, same_picture IsPicture program schedule file choices old new is also written)))
 both_read IsPicture (Err e) program schedule file choices fb fa sb sa old new is also gives more written = written
-
-pub one_read : {A E : Type 0} (IsPicture : List ℕ → List ℕ → List ℕ → Type 0) (result : Result A E)
-    (program schedule file : List ℕ) (file_before file_after old new : Option (List ℕ))
-    → program ≡ program_of file → schedule ≡ schedule_behind file
-    → GivesAll file_before file_after file → OnOk result (HasWritten (IsPicture program schedule) old new)
-    → OnOk result (HasMadeOfBoth IsPicture file_before file_after old new)
-one_read IsPicture (Ok x) program schedule file fb fa old new is also gives written =
-    (file, (gives, same_picture IsPicture program schedule (program_of file) (schedule_behind file) old new is also written))
-one_read IsPicture (Err e) program schedule file fb fa old new is also gives written = written

@@ -33,15 +33,3 @@ abbrev pub HaveNone : PictureKind → Fault → (file_before file_after schedule
 HaveNone kind fault file_before file_after schedule_before schedule_after =
     (file : List ℕ) × ((schedule : List ℕ) × (GivesAll file_before file_after file
     × GivesAll schedule_before schedule_after schedule × HaveNoPicture kind fault file schedule))
-
--- the same of a file that holds both
-abbrev pub HasMadeOfBoth : (IsPicture : List ℕ → List ℕ → List ℕ → Type 0)
-    → (file_before file_after output_before output_after : Option (List ℕ)) → Type 0
-HasMadeOfBoth IsPicture file_before file_after output_before output_after =
-    (file : List ℕ) × (GivesAll file_before file_after file
-    × HasWritten (IsPicture (program_of file) (schedule_behind file)) output_before output_after)
-
-abbrev pub HaveNoneOfBoth : PictureKind → Fault → (file_before file_after : Option (List ℕ)) → Type 0
-HaveNoneOfBoth kind fault file_before file_after =
-    (file : List ℕ) × (GivesAll file_before file_after file
-    × HaveNoPicture kind fault (program_of file) (schedule_behind file))

@@ -1,8 +1,8 @@
 //! The commands beyond those of `workbench`: pictures of a run, listed rows, schedules of traces and plans, lines that
 //! differ, a debugger for a person, and many live runs of one program.
 //!
-//! `show` and `draw` are `make` and `make_of_both`: a picture is made in memory, and then written at once. `show_comparison`
-//! adds to the verdict of `compare_cmd` the lines that differ. `GuidedCommands` is the person from whom `debug` takes lines.
+//! `show` and `draw` are `make`: a picture is made in memory, and then written at once. `show_comparison` adds to the verdict of
+//! `compare_cmd` the lines that differ. `GuidedCommands` is the person from whom `debug` takes lines.
 //! `report_runs` plays a program on real threads as often as asked, and writes a line for each state that a run ended in; a
 //! `Stirred` gate lets workers pause by a seed, so that rare orders come about, and each run replays all the same.
 #![tactic(auto)]

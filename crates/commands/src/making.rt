@@ -1,6 +1,6 @@
 //! The commands.
 ghost use Rattle.std.specs.Prelude.{◌≡◌, ◌≢◌, ◌⊎◌, ◌≤◌, Err, IfErr, IsTrue, OnOk, length};
-ghost use Rattle.commands.specs.Pictures.{HasMade, HasMadeOfBoth, HasWritten, HaveNone, HaveNoneOfBoth};
+ghost use Rattle.commands.specs.Pictures.{HasMade, HasWritten, HaveNone};
 ghost use Rattle.commands.specs.Pictures.{program_of, schedule_behind};
 ghost use Rattle.commands.specs.Picture.{HaveNoPicture};
 ghost use Rattle.workbench.specs.Fault.{status_of};
@@ -48,30 +48,7 @@ pub fn make<P: Picture, F: Source, S: Source, K: Sink>(
     )
 }
 
-/// Writes the picture of a file that holds program and schedule: a text with its schedule behind a line `.run`. An image has
-/// none, and is shown as it stands before its first choice.
-pub fn make_of_both<P: Picture, F: Source, K: Sink>(
-    alloc: Global,
-    picture: &P,
-    file: &mut F,
-    output: &mut K,
-) -> Result<Option<(u64, Choice)>, Fault>
-    ensures done { OnOk result (HasMadeOfBoth (P.is_picture picture.now) (F.left file.old) (F.left file.new)
-        (K.written output.old) (K.written output.new)) }
-    ensures refused { IfErr result (λ fault. status_of fault ≡ 3
-        → HaveNoneOfBoth P.kind fault (F.left file.old) (F.left file.new)) }
-    ensures unwritten { IfErr result (λ fault. fault ≢ Fault.Write → K.written output.new ≡ K.written output.old) }
-    ensures read { result ≡ Err Fault.Read → IsTrue (F.has_failed file.new)
-        ⊎ GivesTooMuch (F.left file.old) (F.left file.new) }
-    ensures spawn { result ≢ Err Fault.Spawn }
-    ensures write { result ≡ Err Fault.Write → IsTrue (K.has_failed output.new) }
-{
-    let file = read_all(alloc, file)?;
-    let (program, schedule) = parts_of(file.as_slice());
-    write(alloc, picture, program, schedule, output)
-}
-
-/// The program and the schedule of a file that holds both.
+/// The program and the schedule of a file: an image has none, a text has it behind its line `.run`.
 pub fn parts_of(file: &[u8]) -> (&[u8], &[u8])
     ensures program { result.0.now ≡ program_of file.now }
     ensures schedule { result.1.now ≡ schedule_behind file.now }

@@ -11,10 +11,9 @@ ghost use Rattle.tier_tree.specs.Stored.{phasers_of};
 use crate::caption::push_called;
 use crate::fitting::{kept_behind, push_count, push_value, shortened};
 use crate::line::{push_line, row_of};
-use crate::sheet::Sheet;
-use assembler::Symbols;
+use crate::pen::Pen;
 use instruction_table::{OperandKind, Row};
-use std::alloc::{AllocError, Global};
+use std::alloc::AllocError;
 use thread_machine::{Machine, Status};
 use tier_tree::{Forest, PhaserId};
 
@@ -69,17 +68,15 @@ fn missing_for(forest: &Forest, id: PhaserId) -> PhaserId
 /// Adds who has arrived at a phaser that is there, where somebody is missing at that one, else the name of this one, and behind
 /// it who has arrived there.
 fn push_arrived_at(
-    alloc: Global,
+    pen: &Pen<'_, '_>,
     front: &mut Vec<u8>,
     back: &mut Vec<u8>,
-    sheet: Sheet,
-    symbols: &Symbols,
     forest: &Forest,
     id: PhaserId,
 ) -> Result<(), AllocError>
     requires { id.0 < length forest.now }
     ensures front { let phasers = phasers_of forest.now in
-        OnOk result (front.new.items ≡ front.old.items ++ arrived_at sheet symbols.now phasers id.0 (missing_for phasers id.0)) }
+        OnOk result (front.new.items ≡ front.old.items ++ arrived_at pen.now.sheet pen.now.symbols.now phasers id.0 (missing_for phasers id.0)) }
     ensures back { let phasers = phasers_of forest.now in
         OnOk result (back.new.items ≡ back.old.items ++ arrived_above phasers id.0 (missing_for phasers id.0)) }
 {
@@ -88,52 +85,28 @@ fn push_arrived_at(
         return push_arrived(front, forest.arrived(id), forest.parties(id));
     }
     front.extend_from_slice(b" (arrived at ")?;
-    push_name(
-        alloc,
-        front,
-        sheet,
-        symbols,
-        OperandKind::Phaser,
-        u32::from(at.0),
-    )?;
+    push_name(pen, front, OperandKind::Phaser, u32::from(at.0))?;
     push_arrived_above(back, forest.arrived(at), forest.parties(at))
 }
 
 /// Adds a phaser and who has arrived there, or further up.
 fn push_phaser(
-    alloc: Global,
+    pen: &Pen<'_, '_>,
     front: &mut Vec<u8>,
     back: &mut Vec<u8>,
-    sheet: Sheet,
-    symbols: &Symbols,
     forest: &Forest,
     number: u16,
 ) -> Result<(), AllocError>
     ensures front { OnOk result (front.new.items
-        ≡ front.old.items ++ at_phaser sheet symbols.now (phasers_of forest.now) number) }
+        ≡ front.old.items ++ at_phaser pen.now.sheet pen.now.symbols.now (phasers_of forest.now) number) }
     ensures back { OnOk result (back.new.items ≡ back.old.items ++ behind_phaser (phasers_of forest.now) number) }
 {
-    push_name(
-        alloc,
-        front,
-        sheet,
-        symbols,
-        OperandKind::Phaser,
-        u32::from(number),
-    )?;
+    push_name(pen, front, OperandKind::Phaser, u32::from(number))?;
     if usize::from(number) >= forest.len() {
         return Ok(());
     }
     forest.is_forest();
-    push_arrived_at(
-        alloc,
-        front,
-        back,
-        sheet,
-        symbols,
-        forest,
-        PhaserId(number as u8),
-    )
+    push_arrived_at(pen, front, back, forest, PhaserId(number as u8))
 }
 
 /// Adds how many have arrived at a barrier, of how many.
@@ -154,58 +127,39 @@ fn push_barrier_arrived(
 
 /// Adds what a thing is called, in the room of a name.
 fn push_name(
-    alloc: Global,
+    pen: &Pen<'_, '_>,
     text: &mut Vec<u8>,
-    sheet: Sheet,
-    symbols: &Symbols,
     kind: OperandKind,
     number: u32,
 ) -> Result<(), AllocError>
     ensures { OnOk result (text.new.items
-        ≡ text.old.items ++ shortened (name_room sheet) (called symbols.now kind number)) }
+        ≡ text.old.items ++ shortened (name_room pen.now.sheet) (called pen.now.symbols.now kind number)) }
 {
-    let mut name = Vec::new(alloc);
-    push_called(&mut name, symbols, kind, number)?;
-    let name = shortened(alloc, sheet.name_room(), name.as_slice())?;
+    let mut name = Vec::new(pen.alloc);
+    push_called(&mut name, pen.symbols, kind, number)?;
+    let name = shortened(pen.alloc, pen.sheet.name_room(), name.as_slice())?;
     text.extend_from_slice(name.as_slice())
 }
 
 /// Adds what a thread waits at that stands at this row, and behind it how many have arrived further up.
 fn push_awaited(
-    alloc: Global,
+    pen: &Pen<'_, '_>,
     front: &mut Vec<u8>,
     back: &mut Vec<u8>,
-    sheet: Sheet,
-    symbols: &Symbols,
     machine: &Machine,
     row: Row,
 ) -> Result<(), AllocError>
     ensures front { OnOk result (front.new.items
-        ≡ front.old.items ++ awaited_text sheet symbols.now (scene_of machine.now.scene) row) }
+        ≡ front.old.items ++ awaited_text pen.now.sheet pen.now.symbols.now (scene_of machine.now.scene) row) }
     ensures back { OnOk result (back.new.items ≡ back.old.items ++ behind_text (scene_of machine.now.scene) row) }
 {
     match row {
         Row::Paaa { phaser, .. }
         | Row::Pawait { phaser, .. }
         | Row::Pawaiti { phaser, .. }
-        | Row::Pawaitt { phaser, .. } => push_phaser(
-            alloc,
-            front,
-            back,
-            sheet,
-            symbols,
-            machine.forest(),
-            phaser,
-        ),
+        | Row::Pawaitt { phaser, .. } => push_phaser(pen, front, back, machine.forest(), phaser),
         Row::Cawait { barrier, .. } | Row::Cawaitt { barrier, .. } => {
-            push_name(
-                alloc,
-                front,
-                sheet,
-                symbols,
-                OperandKind::Barrier,
-                u32::from(barrier),
-            )?;
+            push_name(pen, front, OperandKind::Barrier, u32::from(barrier))?;
             push_barrier_arrived(front, machine, barrier)
         }
         _ => Ok(()),
@@ -229,57 +183,31 @@ fn hope(machine: &Machine, thread: u8) -> &'static [u8]
 }
 
 /// The line of a thread that waits.
-fn waiting_line(
-    alloc: Global,
-    sheet: Sheet,
-    symbols: &Symbols,
-    machine: &Machine,
-    thread: u8,
-) -> Result<Vec<u8>, AllocError>
+fn waiting_line(pen: &Pen<'_, '_>, machine: &Machine, thread: u8) -> Result<Vec<u8>, AllocError>
     requires { thread < length machine.now.scene.threads }
-    ensures { IfOk result (λ line. line.items ≡ waiting_line sheet symbols.now (world_of machine.now) thread) }
+    ensures { IfOk result (λ line. line.items ≡ waiting_line pen.now.sheet pen.now.symbols.now (world_of machine.now) thread) }
 {
-    let mut front = Vec::new(alloc);
-    let mut back = Vec::new(alloc);
+    let mut front = Vec::new(pen.alloc);
+    let mut back = Vec::new(pen.alloc);
     let row = row_of(machine, thread);
-    push_name(
-        alloc,
-        &mut front,
-        sheet,
-        symbols,
-        OperandKind::Thread,
-        u32::from(thread),
-    )?;
+    push_name(pen, &mut front, OperandKind::Thread, u32::from(thread))?;
     front.extend_from_slice(b" waits at ")?;
-    push_awaited(alloc, &mut front, &mut back, sheet, symbols, machine, row)?;
+    push_awaited(pen, &mut front, &mut back, machine, row)?;
     back.extend_from_slice(hope(machine, thread))?;
     kept_behind(
-        alloc,
-        usize::from(sheet.width),
+        pen.alloc,
+        usize::from(pen.sheet.width),
         front.as_slice(),
         back.as_slice(),
     )
 }
 
 /// The line of a thread that died of an exception.
-fn dead_line(
-    alloc: Global,
-    sheet: Sheet,
-    symbols: &Symbols,
-    thread: u8,
-    code: i32,
-) -> Result<Vec<u8>, AllocError>
-    ensures { IfOk result (λ line. line.items ≡ dead_line sheet symbols.now thread code) }
+fn dead_line(pen: &Pen<'_, '_>, thread: u8, code: i32) -> Result<Vec<u8>, AllocError>
+    ensures { IfOk result (λ line. line.items ≡ dead_line pen.now.sheet pen.now.symbols.now thread code) }
 {
-    let mut line = Vec::new(alloc);
-    push_name(
-        alloc,
-        &mut line,
-        sheet,
-        symbols,
-        OperandKind::Thread,
-        u32::from(thread),
-    )?;
+    let mut line = Vec::new(pen.alloc);
+    push_name(pen, &mut line, OperandKind::Thread, u32::from(thread))?;
     line.extend_from_slice(b" died of exception ")?;
     push_value(&mut line, b"", code)?;
     Ok(line)
@@ -287,25 +215,23 @@ fn dead_line(
 
 /// Adds the line of a thread, where it waits or died.
 fn push_closing(
-    alloc: Global,
+    pen: &Pen<'_, '_>,
     text: &mut Vec<u8>,
-    sheet: Sheet,
-    symbols: &Symbols,
     machine: &Machine,
     thread: u8,
 ) -> Result<(), AllocError>
     requires { thread < length machine.now.scene.threads }
     ensures { OnOk result (text.new.items ≡ text.old.items
-        ++ lines_text sheet.width (closing_of sheet symbols.now (world_of machine.now) thread)) }
+        ++ lines_text pen.now.sheet.width (closing_of pen.now.sheet pen.now.symbols.now (world_of machine.now) thread)) }
 {
     match machine.status(thread) {
         Status::AwaitsPhase(_) | Status::AwaitsBarrier(_) => {
-            let line = waiting_line(alloc, sheet, symbols, machine, thread)?;
-            push_line(text, sheet.width, line.as_slice())
+            let line = waiting_line(pen, machine, thread)?;
+            push_line(text, pen.sheet.width, line.as_slice())
         }
         Status::Died(code) => {
-            let line = dead_line(alloc, sheet, symbols, thread, code)?;
-            push_line(text, sheet.width, line.as_slice())
+            let line = dead_line(pen, thread, code)?;
+            push_line(text, pen.sheet.width, line.as_slice())
         }
         _ => Ok(()),
     }
@@ -314,17 +240,15 @@ fn push_closing(
 /// Adds the lines of the threads that wait or died.
 #[tactic(auto, using(crate::proofs::Cells::closing_steps))]
 pub fn push_closings(
-    alloc: Global,
+    pen: &Pen<'_, '_>,
     text: &mut Vec<u8>,
-    sheet: Sheet,
-    symbols: &Symbols,
     machine: &Machine,
 ) -> Result<(), AllocError>
     ensures { OnOk result (text.new.items ≡ text.old.items
-        ++ lines_text sheet.width (closing_lines sheet symbols.now (world_of machine.now))) }
+        ++ lines_text pen.now.sheet.width (closing_lines pen.now.sheet pen.now.symbols.now (world_of machine.now))) }
 {
     for thread in 0..machine.thread_count() {
-        push_closing(alloc, text, sheet, symbols, machine, thread as u8)?;
+        push_closing(pen, text, machine, thread as u8)?;
     }
     Ok(())
 }

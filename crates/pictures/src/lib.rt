@@ -23,6 +23,7 @@ mod closing;
 mod fitting;
 mod law;
 pub mod line;
+mod pen;
 pub mod picture;
 mod sheet;
 mod turn;

@@ -7,11 +7,10 @@ ghost use Rattle.pictures.specs.Picture.{block_line, cell_in, choice_line, name_
 
 use crate::caption::push_called;
 use crate::fitting::{push_number, put_at, shortened};
-use crate::sheet::Sheet;
+use crate::pen::Pen;
 use crate::turn::standing;
-use assembler::Symbols;
 use instruction_table::{OperandKind, Row};
-use std::alloc::{AllocError, Global};
+use std::alloc::AllocError;
 use thread_machine::Machine;
 
 /// The row that a thread stands at.
@@ -47,28 +46,27 @@ fn cell<'a>(machine: &Machine, turn: u8, did: &'a [u8], thread: u8) -> &'a [u8]
 /// Puts the cells of a block behind what a line begins with.
 #[tactic(auto, using(crate::proofs::Cells::cell_steps))]
 fn put_cells(
+    pen: &Pen<'_, '_>,
     line: &mut Vec<u8>,
     machine: &Machine,
-    sheet: Sheet,
     first: usize,
     turn: u8,
     did: &[u8],
 ) -> Result<(), AllocError>
-    ensures { OnOk result (line.new.items ≡ block_line sheet (length machine.now.scene.threads) first
+    ensures { OnOk result (line.new.items ≡ block_line pen.now.sheet (length machine.now.scene.threads) first
         (cell_in (world_of machine.now) turn did.now) line.old.items) }
 {
-    for n in 0..sheet.in_block(machine.thread_count(), first) {
+    for n in 0..pen.sheet.in_block(machine.thread_count(), first) {
         let text = cell(machine, turn, did, (first + n) as u8);
-        put_at(line, 8 + n * usize::from(sheet.column), text)?;
+        put_at(line, 8 + n * usize::from(pen.sheet.column), text)?;
     }
     Ok(())
 }
 
 /// The line of a choice of this number behind which the machine stands so.
 pub(crate) fn choice_line(
-    alloc: Global,
+    pen: &Pen<'_, '_>,
     machine: &Machine,
-    sheet: Sheet,
     first: usize,
     number: u64,
     turn: u8,
@@ -76,48 +74,41 @@ pub(crate) fn choice_line(
     told: &[u8],
 ) -> Result<Vec<u8>, AllocError>
     ensures { IfOk result (λ line. line.items
-        ≡ choice_line sheet first (world_of machine.now) number turn did.now told.now) }
+        ≡ choice_line pen.now.sheet first (world_of machine.now) number turn did.now told.now) }
 {
-    let mut line = Vec::with_capacity(alloc, usize::from(sheet.width))?;
+    let mut line = Vec::with_capacity(pen.alloc, usize::from(pen.sheet.width))?;
     push_number(&mut line, number)?;
-    put_cells(&mut line, machine, sheet, first, turn, did)?;
-    put_at(&mut line, sheet.mark_column(), told)?;
+    put_cells(pen, &mut line, machine, first, turn, did)?;
+    put_at(&mut line, pen.sheet.mark_column(), told)?;
     Ok(line)
 }
 
 /// The name of a thread in its column.
-fn name_cell(
-    alloc: Global,
-    sheet: Sheet,
-    symbols: &Symbols,
-    thread: u32,
-) -> Result<Vec<u8>, AllocError>
-    ensures { IfOk result (λ text. text.items ≡ name_cell sheet symbols.now thread) }
+fn name_cell(pen: &Pen<'_, '_>, thread: u32) -> Result<Vec<u8>, AllocError>
+    ensures { IfOk result (λ text. text.items ≡ name_cell pen.now.sheet pen.now.symbols.now thread) }
 {
-    let mut name = Vec::new(alloc);
-    push_called(&mut name, symbols, OperandKind::Thread, thread)?;
-    shortened(alloc, sheet.column_room(), name.as_slice())
+    let mut name = Vec::new(pen.alloc);
+    push_called(&mut name, pen.symbols, OperandKind::Thread, thread)?;
+    shortened(pen.alloc, pen.sheet.column_room(), name.as_slice())
 }
 
 /// The names of a block's threads.
 #[tactic(auto, using(crate::proofs::Cells::cell_steps))]
 pub(crate) fn names_line(
-    alloc: Global,
-    sheet: Sheet,
-    symbols: &Symbols,
+    pen: &Pen<'_, '_>,
     threads: usize,
     first: usize,
 ) -> Result<Vec<u8>, AllocError>
     requires { threads ≤ 64 }
     ensures { IfOk result (λ line. line.items
-        ≡ block_line sheet threads first (name_cell sheet symbols.now) (codes "choice")) }
+        ≡ block_line pen.now.sheet threads first (name_cell pen.now.sheet pen.now.symbols.now) (codes "choice")) }
 {
-    let mut line = Vec::from_slice(alloc, b"choice")?;
-    for n in 0..sheet.in_block(threads, first) {
-        let name = name_cell(alloc, sheet, symbols, (first + n) as u32)?;
+    let mut line = Vec::from_slice(pen.alloc, b"choice")?;
+    for n in 0..pen.sheet.in_block(threads, first) {
+        let name = name_cell(pen, (first + n) as u32)?;
         put_at(
             &mut line,
-            8 + n * usize::from(sheet.column),
+            8 + n * usize::from(pen.sheet.column),
             name.as_slice(),
         )?;
     }

@@ -5,6 +5,7 @@ ghost use Rattle.thread_machine.specs.World.{world_of};
 use crate::block::draw_block;
 use crate::closing::push_closings;
 use crate::line::push_line;
+use crate::pen::Pen;
 use crate::sheet::Sheet;
 use assembler::Symbols;
 use std::alloc::{AllocError, Global};
@@ -12,61 +13,55 @@ use thread_machine::{Choice, Machine};
 
 /// Draws the block of this number, and an empty line behind it.
 fn draw_other(
-    alloc: Global,
+    pen: &Pen<'_, '_>,
     text: &mut Vec<u8>,
     machine: &Machine,
-    sheet: Sheet,
-    symbols: &Symbols,
     choices: &[Choice],
     number: u16,
 ) -> Result<(), AllocError>
     ensures { OnOk result (text.new.items ≡ text.old.items
-        ++ lines_text sheet.width (other_block sheet symbols.now (world_of machine.now) choices.now number)) }
+        ++ lines_text pen.now.sheet.width (other_block pen.now.sheet pen.now.symbols.now (world_of machine.now) choices.now number)) }
 {
-    let first = usize::from(number) * usize::from(sheet.beside);
-    let mut copy = machine.copy(alloc)?;
-    draw_block(alloc, text, &mut copy, sheet, symbols, first, choices)?;
-    push_line(text, sheet.width, b"")
+    let first = usize::from(number) * usize::from(pen.sheet.beside);
+    let mut copy = machine.copy(pen.alloc)?;
+    draw_block(pen, text, &mut copy, first, choices)?;
+    push_line(text, pen.sheet.width, b"")
 }
 
 /// Draws so many blocks, from the first on, an empty line behind each.
 #[tactic(auto, using(crate::proofs::Cells::closing_steps))]
 fn draw_others(
-    alloc: Global,
+    pen: &Pen<'_, '_>,
     text: &mut Vec<u8>,
     machine: &Machine,
-    sheet: Sheet,
-    symbols: &Symbols,
     choices: &[Choice],
     count: u16,
 ) -> Result<(), AllocError>
-    ensures { OnOk result (text.new.items ≡ text.old.items ++ lines_text sheet.width
-        (each_from (other_block sheet symbols.now (world_of machine.now) choices.now) 0 count)) }
+    ensures { OnOk result (text.new.items ≡ text.old.items ++ lines_text pen.now.sheet.width
+        (each_from (other_block pen.now.sheet pen.now.symbols.now (world_of machine.now) choices.now) 0 count)) }
 {
     for number in 0..count {
-        draw_other(alloc, text, machine, sheet, symbols, choices, number)?;
+        draw_other(pen, text, machine, choices, number)?;
     }
     Ok(())
 }
 
 /// Draws all blocks, and the lines at the end.
 fn draw_all(
-    alloc: Global,
+    pen: &Pen<'_, '_>,
     text: &mut Vec<u8>,
     machine: &mut Machine,
-    sheet: Sheet,
-    symbols: &Symbols,
     choices: &[Choice],
 ) -> Result<(), AllocError>
-    requires { 0 < sheet.beside }
+    requires { 0 < pen.now.sheet.beside }
     ensures { OnOk result (text.new.items ≡ text.old.items
-        ++ lines_text sheet.width (lines_on sheet symbols.now (world_of machine.old) choices.now)) }
+        ++ lines_text pen.now.sheet.width (lines_on pen.now.sheet pen.now.symbols.now (world_of machine.old) choices.now)) }
 {
-    let others = sheet.other_blocks(machine.thread_count() as u16);
-    draw_others(alloc, text, machine, sheet, symbols, choices, others)?;
-    let first = usize::from(others) * usize::from(sheet.beside);
-    draw_block(alloc, text, machine, sheet, symbols, first, choices)?;
-    push_closings(alloc, text, sheet, symbols, machine)
+    let others = pen.sheet.other_blocks(machine.thread_count() as u16);
+    draw_others(pen, text, machine, choices, others)?;
+    let first = usize::from(others) * usize::from(pen.sheet.beside);
+    draw_block(pen, text, machine, first, choices)?;
+    push_closings(pen, text, machine)
 }
 
 /// The picture of a machine's run under these choices, no wider than this, its things called by these names. It takes time in
@@ -81,7 +76,12 @@ pub fn picture(
     ensures { IfOk result (λ text. text.items ≡ picture width symbols.now (world_of machine.old) choices.now) }
 {
     let sheet = Sheet::new(width, machine.thread_count() as u16);
+    let pen = Pen {
+        alloc,
+        sheet,
+        symbols,
+    };
     let mut text = Vec::new(alloc);
-    draw_all(alloc, &mut text, machine, sheet, symbols, choices)?;
+    draw_all(&pen, &mut text, machine, choices)?;
     Ok(text)
 }

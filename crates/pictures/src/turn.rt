@@ -6,8 +6,7 @@ ghost use Rattle.pictures.specs.Turn.{answer_text, mark_words, marked, shows_row
 
 use crate::caption::push_called;
 use crate::fitting::{kept_behind, push_count, push_value, shortened};
-use crate::sheet::Sheet;
-use assembler::Symbols;
+use crate::pen::Pen;
 use instruction_table::OperandKind;
 use std::alloc::{AllocError, Global};
 use thread_machine::{Mark, Status, What};
@@ -87,17 +86,22 @@ pub fn standing(ready: bool, status: Status) -> &'static [u8]
 }
 
 /// What a mark is of.
-fn marked(alloc: Global, symbols: &Symbols, mark: Mark) -> Result<Vec<u8>, AllocError>
-    ensures { IfOk result (λ text. text.items ≡ marked symbols.now mark) }
+fn marked(pen: &Pen<'_, '_>, mark: Mark) -> Result<Vec<u8>, AllocError>
+    ensures { IfOk result (λ text. text.items ≡ marked pen.now.symbols.now mark) }
 {
-    let mut text = Vec::new(alloc);
+    let mut text = Vec::new(pen.alloc);
     match mark {
         Mark::Nothing => {}
         Mark::Phase { root, .. } => {
-            push_called(&mut text, symbols, OperandKind::Phaser, u32::from(root))?
+            push_called(&mut text, pen.symbols, OperandKind::Phaser, u32::from(root))?
         }
         Mark::Tripped(barrier) | Mark::Broke(barrier) => {
-            push_called(&mut text, symbols, OperandKind::Barrier, u32::from(barrier))?
+            push_called(
+                &mut text,
+                pen.symbols,
+                OperandKind::Barrier,
+                u32::from(barrier),
+            )?
         }
     }
     Ok(text)
@@ -129,16 +133,16 @@ fn mark_words(alloc: Global, mark: Mark) -> Result<Vec<u8>, AllocError>
 }
 
 /// What a choice did beside its own thread.
-pub fn told(
-    alloc: Global,
-    sheet: Sheet,
-    symbols: &Symbols,
-    mark: Mark,
-) -> Result<Vec<u8>, AllocError>
+pub fn told(pen: &Pen<'_, '_>, mark: Mark) -> Result<Vec<u8>, AllocError>
     ensures { IfOk result (λ text. text.items
-        ≡ kept_behind (mark_room sheet) (marked symbols.now mark) (mark_words mark)) }
+        ≡ kept_behind (mark_room pen.now.sheet) (marked pen.now.symbols.now mark) (mark_words mark)) }
 {
-    let front = marked(alloc, symbols, mark)?;
-    let back = mark_words(alloc, mark)?;
-    kept_behind(alloc, sheet.mark_room(), front.as_slice(), back.as_slice())
+    let front = marked(pen, mark)?;
+    let back = mark_words(pen.alloc, mark)?;
+    kept_behind(
+        pen.alloc,
+        pen.sheet.mark_room(),
+        front.as_slice(),
+        back.as_slice(),
+    )
 }

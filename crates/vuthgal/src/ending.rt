@@ -27,7 +27,7 @@ pub fn flushed<T: Drop, W: Write>(
     unless_lost(answer, output.finish().is_ok())
 }
 
-/// The same of a command that wrote blocks, once the last is handed on too.
+/// What a command came to that wrote blocks, once the last is handed on and its output flushed.
 pub fn handed_on<T: Drop, W: Write + Drop>(
     answer: Result<T, Fault>,
     output: BlockPort<WritePort<W>>,

@@ -1,13 +1,10 @@
 //! Whether a run ended as it was expected to.
 
-ghost use Rattle.std.specs.Prelude.{◌≡◌, ◌≢◌, None, [], false, true};
-ghost use Rattle.trace_text.specs.Expectation.{are_met};
-ghost use Rattle.vuthgal.specs.Standings.{all_allow};
-ghost use Rattle.workbench.specs.declared.done.Done.TheVariants as done;
+ghost use Rattle.std.specs.Prelude.{◌≡◌};
+ghost use Rattle.vuthgal.specs.Expectation.{allows, are_as_expected, done_by, is_as_expected};
 
 use crate::explaining::is_explained;
 use crate::printable;
-use crate::standings::all_allow;
 use assembler::{Symbols, assemble_named};
 use byte_ports::{Failed, Sink, WritePort};
 use instruction_table::OperandKind;
@@ -16,9 +13,10 @@ use line_reader::asm_fault::{AsmFault, AsmFaultKind};
 use refusals::nearest_name;
 use row_code::is_image_file;
 use std::alloc::{AllocError, Global};
+use thread_machine::Standing;
 use trace_text::RunEnd;
 use trace_text::form::{end_words, subject_of, words_of};
-use trace_text::meeting::{are_met, is_met};
+use trace_text::meeting::is_met;
 use trace_text::state_line::{has_died, line_of};
 use workbench::done::Done;
 
@@ -79,7 +77,7 @@ fn names_of(alloc: Global, program: &[u8]) -> Result<Symbols<'_>, AllocError> {
     }
 }
 
-/// The same of all that is expected of a run of a program.
+/// What is expected of a run of a program, by the numbers of its things.
 pub fn expectations(
     alloc: Global,
     program: &[u8],
@@ -96,23 +94,41 @@ pub fn expectations(
     Ok(expected)
 }
 
-/// What a command comes to whose run ended so: as asked where nothing is expected, or where no choice was refused, and how the
-/// program stands and its state are as all of it expects.
-pub fn as_expected(expected: &[Vec<u8>], end: &RunEnd) -> Done
-    ensures open { expected.now ≡ [] → result ≡ done.AsAsked }
-    ensures met { end.now.refused ≡ None → all_allow expected.now end.now.standing ≡ true
-        → are_met end.now.state.items expected.now ≡ true → result ≡ done.AsAsked }
-    ensures standing { all_allow expected.now end.now.standing ≡ false → result ≡ done.AsAsked → expected.now ≡ [] }
-    ensures refused { end.now.refused ≢ None → result ≡ done.AsAsked → expected.now ≡ [] }
-    ensures unlike { are_met end.now.state.items expected.now ≡ false → result ≡ done.AsAsked → expected.now ≡ [] }
+/// Whether a text lets the program stand so in the end: it is the word for no other end.
+fn allows(text: &[u8], standing: Standing) -> bool
+    ensures { result ≡ allows text.now standing }
 {
-    if expected.is_empty() {
-        Done::AsAsked
-    } else if end.refused.is_some() {
-        Done::Unlike
-    } else if !all_allow(expected, end.standing) {
-        Done::Unlike
-    } else if are_met(end.state.as_slice(), expected) {
+    let wants_all = text == b"all".as_slice() || text == b"ended".as_slice();
+    let wants_stuck = text == b"stuck".as_slice();
+    let wants_live = text == b"live".as_slice();
+    match standing {
+        Standing::All => !(wants_stuck || wants_live),
+        Standing::Stuck => !(wants_all || wants_live),
+        Standing::Live => !(wants_all || wants_stuck),
+    }
+}
+
+/// Whether a run ended as a text expects: no choice was refused, and how the program stands and its state are so.
+fn is_as_expected(end: &RunEnd, text: &[u8]) -> bool
+    ensures { result ≡ is_as_expected end.now text.now }
+{
+    end.refused.is_none() && allows(text, end.standing) && is_met(end.state.as_slice(), text)
+}
+
+/// Whether it ended as all of these texts expect.
+fn are_as_expected(expected: &[Vec<u8>], end: &RunEnd) -> bool
+    ensures { result ≡ are_as_expected expected.now end.now }
+{
+    expected
+        .iter()
+        .all(|text| is_as_expected(end, text.as_slice()))
+}
+
+/// What a command comes to whose run ended so.
+pub fn as_expected(expected: &[Vec<u8>], end: &RunEnd) -> Done
+    ensures { result ≡ done_by (are_as_expected expected.now end.now) }
+{
+    if are_as_expected(expected, end) {
         Done::AsAsked
     } else {
         Done::Unlike
@@ -155,24 +171,22 @@ pub fn without_end(line: &[u8]) -> &[u8] {
     line.strip_suffix(b"\n").unwrap_or(line)
 }
 
-/// The same of each text whose line stands otherwise.
+/// Adds each text that isn't met, with the line that says otherwise.
 fn push_all_unmet<E: Sink>(
     errors: &mut E,
     expected: &[Vec<u8>],
     end: &RunEnd,
 ) -> Result<(), Failed> {
-    let state = end.state.as_slice();
     for text in expected {
         let text = text.as_slice();
-        if let Some(refused) = &end.refused {
-            push_unmet(errors, text, without_end(refused.as_slice()))?;
-        } else if !is_met(state, text) {
-            push_unmet(
-                errors,
-                text,
-                line_against(state, text).unwrap_or(b"no such line"),
-            )?;
+        if is_as_expected(end, text) {
+            continue;
         }
+        let line = match &end.refused {
+            Some(refused) => without_end(refused.as_slice()),
+            None => line_against(end.state.as_slice(), text).unwrap_or(b"no such line"),
+        };
+        push_unmet(errors, text, line)?;
     }
     Ok(())
 }

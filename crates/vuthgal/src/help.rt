@@ -77,7 +77,7 @@ impl<'a> Files<'a> {
         }
     }
 
-    /// The same where so much was read of standard input.
+    /// They, where so much was read of standard input.
     pub fn with_input(self, input: &'a [u8]) -> Files<'a> {
         Files {
             input: Some(input),
@@ -138,36 +138,37 @@ pub fn push_help(rt: &HostRuntime, fault: Fault, files: Files<'_>) {
     }
     let program = contents(rt, files.program);
     let program = program_file(files.program, program.as_slice());
-    let mut errors = WritePort::new(printable::errors(rt));
-    let _ = match (files.input, files.schedule) {
-        (Some(bytes), _) => {
-            let schedule = Named {
-                name: "standard input",
-                bytes,
-            };
-            push_place(rt.alloc(), fault, program, Some(schedule), &mut errors)
-        }
-        (None, None) => push_place(rt.alloc(), fault, program, None, &mut errors),
-        (None, Some(name)) => {
-            let schedule = contents(rt, name);
-            let schedule = Named {
-                name,
-                bytes: schedule.as_slice(),
-            };
-            push_place(rt.alloc(), fault, program, Some(schedule), &mut errors)
-        }
+    let bytes = match (files.input, files.schedule) {
+        (None, Some(name)) => contents(rt, name),
+        _ => Vec::new(rt.alloc()),
     };
+    let schedule = match files.input {
+        Some(bytes) => Some(Named {
+            name: "standard input",
+            bytes,
+        }),
+        None => files.schedule.map(|name| Named {
+            name,
+            bytes: bytes.as_slice(),
+        }),
+    };
+    let mut errors = WritePort::new(printable::errors(rt));
+    let _ = push_place(rt.alloc(), fault, program, schedule, &mut errors);
 }
 
-/// The same of a plan's fault.
+/// Shows where a plan's fault is, and says what it means.
 pub fn push_plan_help(rt: &HostRuntime, fault: PlanFault, files: Files<'_>) {
     if !is_explained(rt) {
         return;
     }
     let program = contents(rt, files.program);
     let program = program_file(files.program, program.as_slice());
-    let mut errors = WritePort::new(printable::errors(rt));
-    let _ = match files.plan {
+    let name = files.schedule.unwrap_or(INPUT);
+    let bytes = match files.plan {
+        Some(_) => Vec::new(rt.alloc()),
+        None => contents(rt, name),
+    };
+    let plan = match files.plan {
         Some(plan) => {
             if fs::metadata(rt, plan).is_ok() {
                 push_text(
@@ -177,22 +178,18 @@ pub fn push_plan_help(rt: &HostRuntime, fault: PlanFault, files: Files<'_>) {
                     ),
                 );
             }
-            let plan = Named {
+            Named {
                 name: "--plan",
                 bytes: plan.as_bytes(),
-            };
-            push_plan_place(rt.alloc(), fault, program, plan, &mut errors)
+            }
         }
-        None => {
-            let name = files.schedule.unwrap_or(INPUT);
-            let plan = contents(rt, name);
-            let plan = Named {
-                name,
-                bytes: plan.as_slice(),
-            };
-            push_plan_place(rt.alloc(), fault, program, plan, &mut errors)
-        }
+        None => Named {
+            name,
+            bytes: bytes.as_slice(),
+        },
     };
+    let mut errors = WritePort::new(printable::errors(rt));
+    let _ = push_plan_place(rt.alloc(), fault, program, plan, &mut errors);
 }
 
 /// Tells of a choice of a thread that isn't there, where one ended the run that was shown.

@@ -1,4 +1,4 @@
-//! What is read: a file, or standard input.
+//! What is read: a file, standard input, or a text that is there.
 
 ghost use Rattle.std.specs.Io.{ReadsAtMost};
 ghost use Rattle.std.specs.Io.KnownBytes.{ReadConsumes};
@@ -10,16 +10,17 @@ use std::fs::File;
 use std::io;
 use std::io::{Read, Stdin};
 
-/// A file that a word names, or standard input.
+/// A file that a word names, standard input, or what is left of a text.
 #[derive(Drop)]
-pub enum Input {
+pub enum Input<'a> {
     File(File),
     Standard(Stdin),
+    Text(&'a [u8]),
 }
 
-impl Input {
+impl<'a> Input<'a> {
     /// What a word names: standard input where it is `-`.
-    pub fn named<'a>(rt: &HostRuntime, word: &'a str) -> Result<Input, NoCommand<'a>> {
+    pub fn named<'b>(rt: &HostRuntime, word: &'b str) -> Result<Input<'a>, NoCommand<'b>> {
         if word == "-" {
             return Ok(Input::Standard(rt.stdin()));
         }
@@ -30,12 +31,12 @@ impl Input {
     pub fn size(&self) -> u64 {
         match self {
             Input::File(file) => files::size(file),
-            Input::Standard(_) => 0,
+            Input::Standard(_) | Input::Text(_) => 0,
         }
     }
 }
 
-impl Read for Input {
+impl<'a> Read for Input<'a> {
     fn read(&mut self, buffer: &mut [u8]) -> io::Result<usize>
         ensures bound { ReadsAtMost result buffer.new }
         ensures bytes { ReadConsumes None None result buffer.new }
@@ -43,6 +44,12 @@ impl Read for Input {
         match self {
             Input::File(file) => file.read(buffer),
             Input::Standard(input) => input.read(buffer),
+            Input::Text(text) => {
+                let count = buffer.len().min(text.len());
+                buffer[..count].copy_from_slice(&text[..count]);
+                *text = &text[count..];
+                Ok(count)
+            }
         }
     }
 }

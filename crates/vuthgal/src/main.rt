@@ -1,8 +1,9 @@
 //! The program: finds the command that its words ask for, opens the files, and hands them to the command.
 //!
 //! Each command is a function of a library, over ports. Here stands what meets the world: which ports a command gets (`running`,
-//! `drawing`, `living`, `texts`, `traces`, `planning`, `debugging`), files and streams (`files`, `input`), the last flush and the
-//! status (`ending`, `trouble`), and what a person is told (`notes`, `progress`, `printable`, `help`, `explaining`).
+//! `drawing`, `living`, `texts`, `traces`, `planning`, `debugging`), files and streams (`files`, `input`, `steps`, `schedule`),
+//! the last flush and the status (`ending`, `trouble`), and what a person is told (`notes`, `progress`, `printable`, `help`,
+//! `explaining`).
 #![tactic(auto)]
 
 ghost use Rattle.command_line.specs.Request.{IsInRange};
@@ -15,7 +16,6 @@ mod explaining;
 mod files;
 mod help;
 mod input;
-mod kept_source;
 mod living;
 mod no_command;
 mod notes;
@@ -24,12 +24,11 @@ mod planning;
 mod printable;
 mod progress;
 mod running;
-mod short_schedule;
-mod standings;
+mod schedule;
+mod steps;
 mod texts;
 mod traces;
 mod trouble;
-mod until_failure;
 mod usage;
 mod words;
 
@@ -42,11 +41,12 @@ use debugging::debug;
 use drawing::draw;
 use help::Files;
 use living::{meet, play_live};
-use planning::{Steps, count_orders, write_plan};
+use planning::{count_orders, write_plan};
 use running::{play_both, run};
 use std::process::ExitCode;
 use std::sync::Wait;
 use std::thread::Threads;
+use steps::Steps;
 use texts::{explain_words, write_image, write_list};
 use traces::{compare, write_choices};
 use trouble::Answer;
@@ -75,7 +75,7 @@ fn done<'a, R: Threads + Wait + Sync>(
             trace,
             is_shown,
         } => compare(rt, file, trace, is_shown),
-        Request::Debug { file, trace, plan } => debug(rt, file, Steps::of(trace, plan)),
+        Request::Debug { file, trace, plan } => debug(rt, file, Steps::behind(trace, plan)),
         Request::Show {
             file,
             schedule,

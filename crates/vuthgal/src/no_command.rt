@@ -5,7 +5,6 @@ use crate::usage;
 use byte_ports::WritePort;
 use clap::Error as WordsError;
 use clap::error::ErrorKind;
-use command_line::names::{DEBUG, LIVE};
 use std::alloc::AllocError;
 use std::io;
 use thiserror::Error;
@@ -149,9 +148,9 @@ fn is_for_output(word: &str) -> bool {
 fn push_other_way(rt: &HostRuntime, command: &str, words: &[String]) {
     let way = if words.iter().any(|word| is_for_output(word.as_str())) {
         "`> FILE` writes it to a file"
-    } else if command == LIVE {
+    } else if command == "live" {
         "`run FILE SCHEDULE` plays a schedule; `live` lets the threads choose"
-    } else if command == DEBUG {
+    } else if command == "debug" {
         "`--at TRACE` begins behind a trace, `--at NAME.plan` behind a plan; a schedule is a command, `g t0 t1`"
     } else {
         return;

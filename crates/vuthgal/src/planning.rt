@@ -12,38 +12,9 @@ use command_line::request::Seeds;
 use commands::making::parts_of;
 use commands::plan::{plan, planned_in};
 use commands::seeds::{self, report_seeds};
-use schedule_reader::{Run, write_schedule};
+use schedule_reader::Run;
 use workbench::done::{Done, as_asked};
-use workbench::fault::Fault;
 use workbench::input::read_all;
-
-/// What ends the name of a file that holds a plan.
-const PLAN_FILE: &str = ".plan";
-
-/// What is played.
-#[derive(Clone, Copy)]
-pub enum Steps<'a> {
-    /// What stands in the program's own file.
-    Beside,
-    /// What the file of this name holds, a schedule, or behind `--at` a trace.
-    Named(&'a str),
-    /// The choices of this plan.
-    Plan(&'a str),
-    /// The choices of the plan in the file of this name.
-    PlanIn(&'a str),
-}
-
-impl<'a> Steps<'a> {
-    /// What the words name, of which one is there at most.
-    pub fn of(named: Option<&'a str>, plan: Option<&'a str>) -> Steps<'a> {
-        match (named, plan) {
-            (_, Some(plan)) => Steps::Plan(plan),
-            (Some(name), None) if name.ends_with(PLAN_FILE) => Steps::PlanIn(name),
-            (Some(name), None) => Steps::Named(name),
-            (None, None) => Steps::Beside,
-        }
-    }
-}
 
 /// Tells that a plan wanted one more choice than it may make.
 fn push_stopped(rt: &HostRuntime) {
@@ -63,19 +34,6 @@ pub fn runs_of_plan<'a>(
         push_stopped(rt);
     }
     Ok(planned.runs)
-}
-
-/// The same as the text of a schedule.
-pub fn schedule_of_plan<'a>(
-    rt: &HostRuntime,
-    program: &[u8],
-    plan: &[u8],
-) -> Result<String, Trouble<'a>> {
-    let runs = runs_of_plan(rt, program, plan)?;
-    match write_schedule(rt.alloc(), runs.as_slice()) {
-        Ok(text) => Ok(text),
-        Err(_) => Err(Trouble::Fault(Fault::Memory)),
-    }
 }
 
 /// Writes the schedule that a plan stands for on the program in a file. The plan is standard input where no other is named.

@@ -27,8 +27,8 @@ fn began(rt: &HostRuntime) -> Option<Instant> {
     Instant::now(rt).ok()
 }
 
-/// The same where standard output goes elsewhere, so that what is shown doesn't stand among it, nor over what another program
-/// makes of it.
+/// The time, where somebody sees standard error, and standard output goes elsewhere: what is shown doesn't stand among it, nor
+/// over what another program makes of it.
 fn began_beside_output(rt: &HostRuntime) -> Option<Instant> {
     if rt.stdout().is_terminal() || writes_to_pipe(rt) {
         return None;
@@ -77,7 +77,7 @@ impl<'a> Meter<'a> {
         Meter::new(rt, began_beside_output(rt), ("about ", "choices"))
     }
 
-    /// The same of many runs, behind which alone something goes to standard output.
+    /// Of the choices of many runs, behind which alone something goes to standard output.
     pub fn of_runs(rt: &'a HostRuntime) -> Meter<'a> {
         Meter::new(rt, began(rt), ("about ", "choices"))
     }

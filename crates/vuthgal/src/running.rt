@@ -2,14 +2,12 @@
 
 use crate::ending::handed_on;
 use crate::expectation::{as_expected, expectations, tell_unmet};
-use crate::input::Input;
-use crate::kept_source::KeptSource;
-use crate::planning::{Steps, schedule_of_plan};
 use crate::progress::{ShownWriter, trace_port};
-use crate::trouble::{Answer, Trouble};
-use crate::{files, help, notes};
-use byte_ports::{BlockPort, ReadPort, Source, WritePort};
-use commands::making::parts_of;
+use crate::schedule::Schedule;
+use crate::steps::{Steps, opened};
+use crate::trouble::Answer;
+use crate::{help, notes};
+use byte_ports::{BlockPort, ReadPort, WritePort};
 use headline::shown;
 use std::io::Stdout;
 use thread_machine::Standing;
@@ -18,7 +16,6 @@ use workbench::done::Done;
 use workbench::fault::Fault;
 use workbench::input::read_all;
 use workbench::run_line::split_at_run;
-use workbench::slice_source::SliceSource;
 
 /// Where the trace of a run goes.
 pub type TracePort<'a> = BlockPort<WritePort<ShownWriter<'a, Stdout>>>;
@@ -73,85 +70,21 @@ pub fn play_both<'a>(rt: &HostRuntime, expected: &[&str]) -> Answer<'a> {
     )
 }
 
-/// Plays a program under a schedule.
-fn play<'a, S: Source>(
-    rt: &HostRuntime,
-    program: &[u8],
-    schedule: &mut S,
-    expected: &[&str],
-) -> Answer<'a> {
+/// Plays the program in a file.
+pub fn run<'a>(rt: &HostRuntime, file: &'a str, steps: Steps<'a>, expected: &[&str]) -> Answer<'a> {
+    let (file, steps) = opened(rt, file, steps)?;
+    let planned = steps.planned(rt, file.as_slice())?;
+    let (program, schedule) = steps.on(rt, file.as_slice(), planned.as_str());
+    let mut schedule = Schedule::whole(rt.alloc(), schedule);
     let expected = expectations(rt.alloc(), program, expected)?;
     let mut output = trace_port(rt)?;
-    let answer = shown::run(rt.alloc(), program, schedule, &mut output);
-    ended(
+    let answer = shown::run(rt.alloc(), program, &mut schedule, &mut output);
+    schedule.told(ended(
         rt,
         answer,
         output,
         program,
         expected.as_slice(),
         SCHEDULE_ENDS,
-    )
-}
-
-/// Plays a file that holds a program and its schedule.
-fn play_parts<'a>(rt: &HostRuntime, file: &[u8], expected: &[&str]) -> Answer<'a> {
-    let (program, schedule) = parts_of(file);
-    if program.len() == file.len() {
-        notes::push_no_schedule(rt);
-    }
-    play(rt, program, &mut SliceSource::new(schedule), expected)
-}
-
-/// Plays what a plan stands for.
-fn play_plan<'a>(rt: &HostRuntime, file: &[u8], plan: &[u8], expected: &[&str]) -> Answer<'a> {
-    let (program, _) = parts_of(file);
-    let schedule = schedule_of_plan(rt, program, plan)?;
-    play(
-        rt,
-        program,
-        &mut SliceSource::new(schedule.as_bytes()),
-        expected,
-    )
-}
-
-/// An answer, with what was read of a schedule that is refused, where that was standard input.
-pub fn with_input<'a, A: Drop>(
-    answer: Result<A, Trouble<'a>>,
-    word: &str,
-    kept: Vec<u8>,
-) -> Result<A, Trouble<'a>> {
-    match answer {
-        Err(Trouble::Fault(fault @ Fault::Schedule(_))) if word == "-" => Err(Trouble::OfInput(
-            fault, kept,
-        )),
-        answer => answer,
-    }
-}
-
-/// Plays the program in a file.
-pub fn run<'a>(rt: &HostRuntime, file: &'a str, steps: Steps<'a>, expected: &[&str]) -> Answer<'a> {
-    let program = files::read(rt, file)?;
-    match steps {
-        Steps::Beside => {
-            let file = read_all(rt.alloc(), &mut ReadPort::new(program))?;
-            play_parts(rt, file.as_slice(), expected)
-        }
-        Steps::Named(word) => {
-            notes::push_schedule_waited_for(rt, word);
-            let schedule = ReadPort::new(Input::named(rt, word)?);
-            let mut schedule = KeptSource::new(rt.alloc(), schedule);
-            let program = read_all(rt.alloc(), &mut ReadPort::new(program))?;
-            let answer = play(rt, program.as_slice(), &mut schedule, expected);
-            with_input(answer, word, schedule.into_kept())
-        }
-        Steps::Plan(plan) => {
-            let file = read_all(rt.alloc(), &mut ReadPort::new(program))?;
-            play_plan(rt, file.as_slice(), plan.as_bytes(), expected)
-        }
-        Steps::PlanIn(word) => {
-            let plan = files::contents(rt, word)?;
-            let file = read_all(rt.alloc(), &mut ReadPort::new(program))?;
-            play_plan(rt, file.as_slice(), plan.as_slice(), expected)
-        }
-    }
+    ))
 }

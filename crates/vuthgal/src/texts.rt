@@ -1,34 +1,25 @@
 //! What is written of a program's text, of its image, and of the words of a line.
 
-use crate::ending::flushed;
+use crate::ending::{flushed, handed_on};
 use crate::trouble::{Answer, Trouble};
-use crate::until_failure::UntilFailure;
 use crate::{files, printable};
-use byte_ports::{ReadPort, WritePort};
+use byte_ports::{BlockPort, ReadPort, WritePort};
 use commands::list_rows;
 use refusals::entries::tables;
 use refusals::explain::explain;
-use std::io::BufWriter;
 use workbench::asm::asm;
 use workbench::done::as_asked;
-use workbench::fault::Fault;
 use workbench::input::read_all;
 use workbench::list::list;
-
-/// How many bytes are written at a time.
-const BUFFER: usize = 65_536;
 
 /// Writes the image of the text in one file to another.
 pub fn write_image<'a>(rt: &HostRuntime, source: &'a str, image: &'a str) -> Answer<'a> {
     let input = files::read(rt, source)?;
     let file = files::write(rt, image, &input)?;
     let text = read_all(rt.alloc(), &mut ReadPort::new(input))?;
-    let Ok(writer) = BufWriter::with_capacity(rt.alloc(), BUFFER, UntilFailure::new(file)) else {
-        return Err(Trouble::Fault(Fault::Memory));
-    };
-    let mut output = WritePort::new(writer);
+    let mut output = BlockPort::new(rt.alloc(), WritePort::new(file))?;
     let answer = asm(rt.alloc(), text.as_slice(), &mut output);
-    Ok(as_asked(flushed(answer, &mut output))?)
+    Ok(as_asked(handed_on(answer, output))?)
 }
 
 /// Writes the canonical text of the program in a file, or its rows.

@@ -3,8 +3,7 @@
 use crate::origin::VERSION;
 use clap::Error as WordsError;
 use clap::error::ErrorKind;
-use command_line::commands::program;
-use command_line::names::EXPECT;
+use command_line::commands::{commands, program};
 use std::alloc::AllocError;
 use std::env::{Env, FillError};
 use strsim::osa_distance;
@@ -14,47 +13,38 @@ const LONGEST_WORD: usize = 64;
 
 /// Whether a word's next is its value, also where no command stands before it.
 fn is_option_with_value(word: &[u8]) -> bool {
-    match word.strip_prefix(b"--".as_slice()) {
-        Some(name) => name == EXPECT.as_bytes() || name == b"explain".as_slice(),
-        None => false,
-    }
+    word == b"--expect".as_slice() || word == b"--explain".as_slice()
 }
 
-/// The first word that is no option, and not the value of `--expect`, where it is a command's name: the command that was meant.
-fn meant(rt: &HostRuntime) -> Result<Option<&'static str>, AllocError> {
-    let program = program(rt.alloc(), VERSION)?;
+/// The first word that is no option, and not the value of one, where it is a command's name: the command that was meant.
+fn meant(rt: &HostRuntime) -> Option<&'static str> {
     let mut room = [0u8; LONGEST_WORD];
     let mut is_value = false;
     for number in 1..usize::MAX {
         let word = match rt.arg(number, &mut room) {
             Ok(length) => &room[..length],
             Err(FillError::TooLong) => &[],
-            Err(FillError::NotPresent) => return Ok(None),
+            Err(FillError::NotPresent) => return None,
         };
         if !is_value && !word.starts_with(b"-") {
-            return Ok(
-                program
-                    .get_subcommands()
-                    .iter()
-                    .map(|command| command.get_name())
-                    .find(|name| name.as_bytes() == word),
-            );
+            return commands()
+                .iter()
+                .map(|command| command.name)
+                .find(|name| name.as_bytes() == word);
         }
         is_value = !is_value && is_option_with_value(word);
     }
-    Ok(None)
+    None
 }
 
 /// The command whose name is nearest to a word, where it is near at all: less than half of its letters are wrong or turned round.
 pub fn nearest_command(rt: &HostRuntime, word: &str) -> Result<Option<&'static str>, AllocError> {
-    let program = program(rt.alloc(), VERSION)?;
     let mut nearest = None;
     let mut far = word.len().div_ceil(2).min(3);
-    for command in program.get_subcommands() {
-        let name = command.get_name();
-        let distance = osa_distance(rt.alloc(), name, word)?;
+    for command in commands() {
+        let distance = osa_distance(rt.alloc(), command.name, word)?;
         if distance < far {
-            nearest = Some(name);
+            nearest = Some(command.name);
             far = distance;
         }
     }
@@ -78,7 +68,7 @@ fn text_of(rt: &HostRuntime, help: &WordsError) -> Result<String, AllocError> {
 
 /// Why the words ask for nothing, the usage of the command that was meant, and where more is told.
 pub fn with_usage(rt: &HostRuntime, why: &str) -> Result<String, AllocError> {
-    let words = match meant(rt)? {
+    let words = match meant(rt) {
         Some(command) => ["vuthgal", command, "--help"],
         None => ["vuthgal", "--help", "--help"],
     };

@@ -5,5 +5,5 @@ use Rattle.pictures.proofs.block.draw_choices.Given as goal
 
 abbrev pub invariant-loop-choice : goal.invariant-loop-choice
 invariant-loop-choice l =
-    IsDrawing l.sheet l.symbols l.first (world_of l.initial.machine) (world_of l.machine) l.choices
+    IsDrawing l.pen.sheet l.pen.symbols.now l.first (world_of l.initial.machine) (world_of l.machine) l.choices
     (drop l.choice-index l.choices) l.initial.text.items l.text.items

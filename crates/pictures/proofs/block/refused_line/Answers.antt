@@ -6,7 +6,7 @@ use Rattle.pictures.proofs.block.refused_line.Goals as goal
 
 pub returns : goal.returns
 returns c =
-    let sheet = c.args.sheet in
+    let sheet = c.args.pen.now.sheet in
     let world = world_of c.args.machine.now in
     let t = c.args.choice.thread in
     let did : c.as_slice-2.result.now ≡ refused_did sheet =

@@ -8,8 +8,8 @@ use Rattle.pictures.proofs.closing.dead_line.Goals as goal
 
 pub returns : goal.returns
 returns c =
-    let sheet = c.args.sheet in
-    let symbols = c.args.symbols.now in
+    let sheet = c.args.pen.now.sheet in
+    let symbols = c.args.pen.now.symbols.now in
     let name = thread_caption sheet symbols c.args.thread in
     let words = codes " died of exception " in
     let number = signed_decimal c.args.code in

@@ -8,8 +8,8 @@ use Rattle.pictures.proofs.closing.push_awaited.Goals as goal
 
 pub returns-in-Paaa-clause-front : goal.returns-in-Paaa-clause-front
 returns-in-Paaa-clause-front c =
-    let sheet = c.args.sheet in
-    let symbols = c.args.symbols.now in
+    let sheet = c.args.pen.now.sheet in
+    let symbols = c.args.pen.now.symbols.now in
     let scene = scene_of c.args.machine.now.scene in
     let p = c.in-Paaa.phaser in
     let same : at_phaser sheet symbols (phasers_of c.forest.result.now) p ≡ awaited_text sheet symbols scene c.args.row =

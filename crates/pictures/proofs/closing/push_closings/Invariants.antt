@@ -6,6 +6,6 @@ use Rattle.pictures.proofs.closing.push_closings.Given as goal
 abbrev pub invariant-loop-thread : goal.invariant-loop-thread
 invariant-loop-thread l =
     let world = world_of l.machine in
-    l.text.items ++ lines_text l.sheet.width (each_from (closing_of l.sheet l.symbols world) l.thread
+    l.text.items ++ lines_text l.pen.sheet.width (each_from (closing_of l.pen.sheet l.pen.symbols.now world) l.thread
     (length l.machine.scene.threads - l.thread))
-    ≡ l.initial.text.items ++ lines_text l.sheet.width (closing_lines l.sheet l.symbols world)
+    ≡ l.initial.text.items ++ lines_text l.pen.sheet.width (closing_lines l.pen.sheet l.pen.symbols.now world)

@@ -1,0 +1,155 @@
+//! The schedule of a run, as it is read.
+
+ghost use Rattle.std.specs.Prelude.{◌≤◌, ◌+◌, if◌then◌else◌, false, IfOk, IfSome, None, length};
+ghost use Rattle.std.specs.Io.KnownBytes.{ReadConsumes};
+ghost use Rattle.byte_ports.specs.Port.{FailsForGood};
+
+use crate::input::Input;
+use crate::trouble::Trouble;
+use byte_ports::{Failed, ReadPort, Source};
+use line_reader::words::is_blank;
+use pictures::choices::MOST_CHOICES;
+use schedule_reader::{Reader, Run};
+use std::alloc::{AllocError, Global};
+use workbench::fault::Fault;
+
+/// How many bytes of standard input are kept at most.
+const MOST_KEPT: usize = 65_536;
+
+/// How long a schedule is that a picture takes.
+const LONGEST: u64 = 16_777_216;
+
+/// What was seen of a schedule: whether a picture needs more of it.
+#[derive(Drop)]
+struct Seen {
+    reader: Reader,
+    /// The run that the last byte ended, if any: there is room for it, so none is lost.
+    ended: Vec<Run>,
+    choices: u64,
+    /// Whether the last byte was a blank, or none has come.
+    is_between: bool,
+}
+
+impl Seen {
+    /// Nothing so far.
+    fn new(alloc: Global) -> Result<Seen, AllocError> {
+        Ok(Seen {
+            reader: Reader::new(),
+            ended: Vec::with_capacity(alloc, 1)?,
+            choices: 0,
+            is_between: true,
+        })
+    }
+
+    /// Whether a picture needs nothing behind this byte: it makes the schedule's fault, or ends a choice too many.
+    fn is_enough_with(&mut self, byte: u8) -> bool {
+        let was_between = self.is_between;
+        self.is_between = byte == b'\n' || is_blank(byte);
+        if was_between && self.is_between || self.reader.bytes_read() > LONGEST {
+            return false;
+        }
+        self.ended.clear();
+        let told = self.reader.feed(&[byte], &mut self.ended);
+        for run in self.ended.as_slice() {
+            self.choices = self.choices.saturating_add(u64::from(run.times));
+        }
+        told.is_err() || self.choices > MOST_CHOICES as u64
+    }
+
+    /// How many of these bytes a picture needs, where it needs nothing behind one of them.
+    fn needed(&mut self, bytes: &[u8]) -> Option<usize>
+        ensures { IfSome result (λ n. n ≤ length bytes.now) }
+    {
+        for (at, byte) in bytes.iter().enumerate() {
+            if self.is_enough_with(*byte) {
+                return Some(at + 1);
+            }
+        }
+        None
+    }
+}
+
+/// A schedule. What came by standard input is kept for a person, since it can't be read twice.
+#[derive(Drop)]
+pub struct Schedule<'a> {
+    source: ReadPort<Input<'a>>,
+    is_kept: bool,
+    kept: Vec<u8>,
+    /// What a picture has seen of it, where it is for one.
+    seen: Option<Seen>,
+    is_over: bool,
+}
+
+/// Keeps as many of these bytes as there is room for.
+fn keep(kept: &mut Vec<u8>, bytes: &[u8]) {
+    let room = MOST_KEPT.saturating_sub(kept.len());
+    let _ = kept.extend_from_slice(bytes.get(..room).unwrap_or(bytes));
+}
+
+impl<'a> Schedule<'a> {
+    /// All that an input holds.
+    pub fn whole(alloc: Global, input: Input<'a>) -> Schedule<'a> {
+        Schedule {
+            is_kept: matches!(input, Input::Standard(_)),
+            source: ReadPort::new(input),
+            kept: Vec::new(alloc),
+            seen: None,
+            is_over: false,
+        }
+    }
+
+    /// As much as a picture needs of what isn't there yet: it ends behind the byte that makes the schedule's fault, or a choice
+    /// more than a picture shows. What stands there is refused as the whole schedule would be: nothing behind it is waited for.
+    pub fn for_picture(alloc: Global, input: Input<'a>) -> Result<Schedule<'a>, AllocError> {
+        let is_text = matches!(input, Input::Text(_));
+        let mut schedule = Schedule::whole(alloc, input);
+        if !is_text {
+            schedule.seen = Some(Seen::new(alloc)?);
+        }
+        Ok(schedule)
+    }
+
+    /// An answer, with what was read of a schedule that is refused, where that was standard input.
+    pub fn told<'b, A: Drop>(self, answer: Result<A, Trouble<'b>>) -> Result<A, Trouble<'b>> {
+        match answer {
+            Err(Trouble::Fault(fault @ Fault::Schedule(_))) if self.is_kept => Err(Trouble::OfInput(
+                fault, self.kept,
+            )),
+            answer => answer,
+        }
+    }
+}
+
+impl<'a> Source for Schedule<'a> {
+    ghost left = { λ _. None };
+
+    ghost has_failed = { λ s. if s.is_over then false else s.source.failed };
+
+    ghost reads = { λ _. 0 };
+
+    fn pull(&mut self, buffer: &mut [u8]) -> Result<usize, Failed>
+        ensures failed { FailsForGood (if self.old.is_over then false else self.old.source.failed)
+            (if self.new.is_over then false else self.new.source.failed) result }
+        ensures bound { IfOk result (λ n. n ≤ length buffer.new) }
+        ensures bytes { ReadConsumes None None result buffer.new }
+        ensures reads { 0 ≤ 0 + 1 }
+    {
+        if self.is_over {
+            return Ok(0);
+        }
+        let count = self.source.pull(buffer)?;
+        if self.is_kept {
+            keep(&mut self.kept, &buffer[..count]);
+        }
+        let Some(seen) = &mut self.seen else {
+            return Ok(count);
+        };
+        match seen.needed(&buffer[..count]) {
+            Some(needed) => {
+                self.is_over = true;
+                Ok(needed)
+            }
+            None => Ok(count),
+        }
+    }
+}
