@@ -28,7 +28,6 @@ small_fits n h = record { sfits = omega (arith, ints) }
 
 -- the number in imm is an `int`
 imm_fits : (row : Row) → IsRow row → FitsSigned w32 (fields_of row).imm
-imm_fits (Ldi into value) h = h
 imm_fits row h = grind (arith, ints, small_fits)
 
 -- a row's own fields lead back to it
@@ -37,8 +36,7 @@ likely_back Halt h = refl
 likely_back row h = grind (arith, ints, register_back, object_back)
 
 unsigned_below : (z : ℤ) → FitsSigned w32 z → cast_unsigned w32 z < 2 ^ 32
-unsigned_below (pos n) h = omega (arith, ints, h.sfits)
-unsigned_below (negsuc n) h = omega (arith, ints)
+unsigned_below z h = grind (arith, ints)
 
 -- an `int` is read as it was written
 pub i32_back : (z : ℤ) → FitsSigned w32 z → i32_of (i32_bytes z) ≡ z
