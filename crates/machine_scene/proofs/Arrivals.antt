@@ -1,5 +1,5 @@
 -- Arrivals: the exception that they meet before they come to a phaser.
-use Rattle.std.proofs.Common.{◌≡◌, ◌∙◌, ℕ, ℤ, pos, ◌==◌, ◌&&◌, Bool, true, false, List, [], ap, refl, if◌then◌else◌}
+use Rattle.std.proofs.Common.{◌≡◌, ◌∙◌, ℕ, ℤ, pos, ◌==◌, ◌&&◌, Bool, true, false, List, [], ap, refl, if◌then◌else◌, arith, rules}
 use Rattle.std.specs.Prelude.{length, Some, None}
 use Rattle.std.specs.List.{list_any}
 use Rattle.std.proofs.lemmas.Option.{same_Some}
@@ -18,17 +18,13 @@ and_false false = refl
 
 -- a thread with an empty stack comes to it
 pub free : (p : ℕ) (thread : ThreadState) (scene : Scene) → thread.stack ≡ [] → refusal_of_arrival p thread scene ≡ None
-free p thread scene empty =
-    ap (λ (stack : List Frame). if list_any (is_advance (root_at scene.phasers p)) stack then Some (pos 1)
-    else (if has_routine p scene && (length stack == 64) then Some (pos 6) else None)) empty
-    ∙ ap (λ (test : Bool). if test then Some (pos 6) else None) (and_false (has_routine p scene))
+free p thread scene empty = search (rules, and_false)
 
 thrown_by : (own full : Bool) (thrown : ℤ → Outcome) (comes : Outcome) (code : ℤ)
     → (if own then Some (pos 1) else (if full then Some (pos 6) else None)) ≡ Some code
     → (if own then Some (thrown (pos 1)) else Some (if full then thrown (pos 6) else comes)) ≡ Some (thrown code)
 thrown_by true full thrown comes code is = ap (λ (c : ℤ). Some (thrown c)) (same_Some _ _ is)
-thrown_by false true thrown comes code is = ap (λ (c : ℤ). Some (thrown c)) (same_Some _ _ is)
-thrown_by false false thrown comes code is = absurd (cc is)
+thrown_by false full thrown comes code is = grind (arith, same_Some)
 
 -- one that meets an exception throws it
 pub refused : (manner : Manner) (p t : ℕ) (program : Program) (scene : Scene) (code : ℤ)
@@ -43,8 +39,7 @@ come_by : (own full : Bool) (thrown : ℤ → Outcome) (comes : Outcome)
     → (if own then Some (pos 1) else (if full then Some (pos 6) else None)) ≡ None
     → (if own then Some (thrown (pos 1)) else Some (if full then thrown (pos 6) else comes)) ≡ Some comes
 come_by true full thrown comes is = absurd (cc is)
-come_by false true thrown comes is = absurd (cc is)
-come_by false false thrown comes is = refl
+come_by false full thrown comes is = grind arith
 
 -- any other comes to it
 pub comes : (manner : Manner) (p t : ℕ) (program : Program) (scene : Scene) → refusal_of_arrival p (thread_at scene t) scene ≡ None
@@ -55,8 +50,7 @@ comes manner p t program scene is =
 
 room_by : (own full : Bool) → (if own then Some (pos 1) else (if full then Some (pos 6) else None)) ≡ None → full ≡ false
 room_by true full is = absurd (cc is)
-room_by false true is = absurd (cc is)
-room_by false false is = refl
+room_by false full is = grind arith
 
 -- with room for a routine, where there is one
 pub room : (p t : ℕ) (scene : Scene) → refusal_of_arrival p (thread_at scene t) scene ≡ None

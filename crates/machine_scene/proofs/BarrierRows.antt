@@ -1,5 +1,5 @@
 -- Rows at barriers.
-use Rattle.std.proofs.Common.{◌≡◌, ◌∙◌, ℕ, pos, ◌+◌, ◌<◌, ◌==◌, ◌&&◌, ◌||◌, not, Bool, true, false, length, refl, arith, if◌then◌else◌}
+use Rattle.std.proofs.Common.{◌≡◌, ◌∙◌, ℕ, pos, ◌+◌, ◌<◌, ◌==◌, ◌&&◌, ◌||◌, not, Bool, true, false, length, refl, arith, if◌then◌else◌, rules}
 use Rattle.std.specs.Prelude.{int_lt, Option, Some, None}
 use Rattle.std.proofs.lemmas.List.{length-map}
 use Rattle.instruction_table.specs.declared.row.Row.{Row}
@@ -31,8 +31,7 @@ no_run false is = cc (is)
 -- an entry that runs the action found nobody who runs it
 run_idle : (runner : Option ℕ) (thread : ℕ) (interrupted no_wait : Bool) (b : BarrierState)
     → (enter_beside runner thread interrupted no_wait b).answer ≡ entered.Run → runner ≡ None
-run_idle None thread interrupted no_wait b is = refl
-run_idle (Some other) thread interrupted no_wait b is = absurd (no_run (other == thread) is)
+run_idle runner thread interrupted no_wait b is = grind (arith, no_run)
 
 -- what an entry of thread t leaves at barrier b, by its answer
 record Enters (t : ℕ) (old gate : BarrierState) (answer : Entered) : Type 0 where
@@ -89,10 +88,7 @@ sound_entered entered.Busy program steps t b scene row into gate stands goes at 
 -- each thread has a place in the waits of each barrier
 pub seat : (program : Program) (steps t b : ℕ) (scene : Scene) → IsSound program steps scene → t < length scene.threads
     → b < length scene.barriers → t < length (barrier_at scene b).waits
-seat program steps t b scene sound there here =
-    let room = sound.room b here in
-    let few = sound.few_threads in
-    omega (arith, room, few, there)
+seat program steps t b scene sound there here = grind arith
 
 sound_await : (program : Program) (steps t b : ℕ) (no_wait : Bool) (scene : Scene) (row : Row) (into : Reg)
     → StandsAt program steps t scene status.Runs row → stops row ≡ false → ((c : ℕ) → is_wait_row c row ≡ (b == c)) → b < length scene.barriers
@@ -140,22 +136,4 @@ pub sound_barrier_row : (row : Row) (program : Program) (steps t : ℕ) (scene :
 sound_barrier_row (Cawait into b) program steps t scene stands =
     sound_unless_busy program (steps + 1) t b scene _ (sound_unless_runner program steps t b scene (Cawait into b) _ stands
     (sound_await program steps t b false scene (Cawait into b) into stands refl (λ c. refl) stands.named))
-sound_barrier_row (Cawaitt into b time) program steps t scene stands =
-    let no_wait = not (int_lt (pos 0) (value_in (thread_at scene t).registers time)) in
-    sound_unless_busy program (steps + 1) t b scene _ (sound_unless_runner program steps t b scene (Cawaitt into b time) _ stands
-    (sound_await program steps t b no_wait scene (Cawaitt into b time) into stands refl (λ c. refl) stands.named))
-sound_barrier_row (Creset b) program steps t scene stands =
-    sound_unless_busy program (steps + 1) t b scene _ (sound_unless_runner program steps t b scene (Creset b) (Some (outcome_of_reset b t scene)) stands
-    (sound_reset program steps t b scene stands))
-sound_barrier_row (Cbroken into b) program steps t scene stands =
-    let value = if (barrier_at scene b).broken then pos 1 else pos 0 in
-    sound_unless_busy program (steps + 1) t b scene (Some (outcome_of_turn (turn_of_answer into value (thread_at scene t)) t scene))
-    (sound_answer program steps t scene (Cbroken into b) into value stands refl)
-sound_barrier_row (Cwaiting into b) program steps t scene stands =
-    let value = pos (number_waiting (barrier_at scene b)) in
-    let outcome : Option Outcome = Some (outcome_of_turn (turn_of_answer into value (thread_at scene t)) t scene) in
-    sound_unless_busy program (steps + 1) t b scene _ (sound_unless_runner program steps t b scene (Cwaiting into b) outcome stands
-    (sound_answer program steps t scene (Cwaiting into b) into value stands refl))
-sound_barrier_row (Cparties into b) program steps t scene stands =
-    sound_answer program steps t scene (Cparties into b) into (pos (barrier_at scene b).parties) stands refl
-sound_barrier_row _ program steps t scene stands = tt
+sound_barrier_row row program steps t scene stands = search (rules, sound_unless_busy, sound_unless_runner, sound_await, sound_reset, sound_answer)

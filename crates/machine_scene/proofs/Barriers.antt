@@ -35,10 +35,7 @@ pub record GateStep (program : Program) (t b : ℕ) (before thread : ThreadState
 at_each : (P : ℕ → BarrierState → Type 0) (b : ℕ) (scene after : Scene) (gate : BarrierState) → barrier_at after b ≡ gate
     → ((c : ℕ) → c ≢ b → barrier_at after c ≡ barrier_at scene c) → P b gate → ((c : ℕ) → c ≢ b → P c (barrier_at scene c))
     → (c : ℕ) → P c (barrier_at after c)
-at_each P b scene after gate now stays here elsewhere c = elim (cases_eq c b) as (λ _. P c (barrier_at after c)) [
-  | inl same ↦ subst (λ (n : ℕ). P n (barrier_at after n)) (sym same) (subst (P b) (sym now) here)
-  | inr apart ↦ subst (P c) (sym (stays c apart)) (elsewhere c apart)
-]
+at_each P b scene after gate now stays here elsewhere c = grind (arith, cases_eq)
 
 pub sound_gate : (program : Program) (steps t b : ℕ) (scene : Scene) (thread : ThreadState) (gate : BarrierState)
     → IsSound program steps scene → t < length scene.threads → b < length scene.barriers → IsPlaced program scene thread

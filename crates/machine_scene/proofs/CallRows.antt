@@ -1,5 +1,5 @@
 -- Calls, handlers, `ret` and thrown exceptions.
-use Rattle.std.proofs.Common.{◌≡◌, ◌∙◌, ℕ, ℤ, pos, zero, suc, ◌+◌, ◌<◌, Bool, true, false, List, [], ◌∷◌, length, ap, refl, sym, subst, arith, if◌then◌else◌}
+use Rattle.std.proofs.Common.{◌≡◌, ◌∙◌, ℕ, ℤ, pos, zero, suc, ◌+◌, ◌<◌, Bool, true, false, List, [], ◌∷◌, length, ap, refl, sym, subst, arith, if◌then◌else◌, rules}
 use Rattle.std.specs.Prelude.{◌||◌, not, Option, Some, None, slice_set, slice_index_or}
 use Rattle.std.specs.Ordering.{int_eq}
 use Rattle.std.proofs.lemmas.List.{get_or-set_same}
@@ -64,9 +64,8 @@ sound_endtry _ program steps t scene stands is = sound_throw program steps t sce
 
 -- a thread that is written twice
 set_twice : (xs : List ThreadState) (t : ℕ) (a b : ThreadState) → slice_set (slice_set xs t a) t b ≡ slice_set xs t b
-set_twice [] t a b = refl
-set_twice (x ∷ xs) zero a b = refl
 set_twice (x ∷ xs) (suc t) a b = ap (λ (ts : List ThreadState). x ∷ ts) (set_twice xs t a b)
+set_twice _ _ a b = refl
 
 twice : (xs : List ThreadState) (t : ℕ) (a : ThreadState) (f : ThreadState → ThreadState) → t < length xs
     → slice_set xs t (f a) ≡ slice_set (slice_set xs t a) t (f (slice_index_or (slice_set xs t a) t no_thread))
@@ -117,8 +116,6 @@ sound_routine_end false program steps t root row registers manner ends scene end
 
 sound_ret : (top : Option Frame) (program : Program) (steps t : ℕ) (scene : Scene) → StandsAt program steps t scene status.Runs Ret
     → top_of (thread_at scene t).stack ≡ top → IsSound program (steps + 1) (outcome_of_ret top t program scene).scene
-sound_ret None program steps t scene stands is = sound_throw program steps t scene Ret (pos 7) stands
-sound_ret (Some (frame.Handler row)) program steps t scene stands is = sound_throw program steps t scene Ret (pos 7) stands
 sound_ret (Some (frame.Call row)) program steps t scene stands is =
     let free = free_in program steps t scene status.Runs Ret stands RunsOn in
     sound_pop program steps t (frame.Call row) scene _ stands.sound stands.there is refl
@@ -135,15 +132,12 @@ sound_ret (Some (frame.Action b registers row)) program steps t scene stands is 
     (twice scene.threads t left f stands.there)
     (sound_action_end program steps t b row registers true scene (f left) stands.sound stands.there named.1 is refl named.0 RunsOn
     (free_in program steps t scene status.Runs Ret stands RunsOn))
+sound_ret _ program steps t scene stands is = sound_throw program steps t scene Ret (pos 7) stands
 
 pub sound_call_row : (row : Row) (program : Program) (steps t : ℕ) (scene : Scene) → StandsAt program steps t scene status.Runs row
     → KeepsSound program (steps + 1) (outcome_of_call_row row t program scene)
 sound_call_row (Call target) program steps t scene stands = sound_call program steps t target scene stands
-sound_call_row Ret program steps t scene stands = sound_ret (top_of (thread_at scene t).stack) program steps t scene stands refl
-sound_call_row (Try handler) program steps t scene stands = sound_try program steps t handler scene stands
-sound_call_row Endtry program steps t scene stands = sound_endtry (top_of (thread_at scene t).stack) program steps t scene stands refl
-sound_call_row (Throw code) program steps t scene stands = sound_throw program steps t scene (Throw code) _ stands
-sound_call_row _ program steps t scene stands = tt
+sound_call_row row program steps t scene stands = search (rules, sound_call, sound_ret, sound_try, sound_endtry, sound_throw)
 
 -- one stack entry is popped while the thread throws
 pub sound_popped : (top : Option Frame) (code : ℤ) (program : Program) (steps t : ℕ) (scene : Scene) (row : Row)

@@ -1,5 +1,5 @@
 -- Turns of the common kinds: what they leave of the sets of ready threads.
-use Rattle.std.proofs.Common.{◌≡◌, ◌≢◌, ◌∙◌, ℕ, ℤ, pos, ◌<◌, ◌&&◌, ◌||◌, not, Bool, true, false, List, ap, refl, sym, subst, if◌then◌else◌}
+use Rattle.std.proofs.Common.{◌≡◌, ◌≢◌, ◌∙◌, ℕ, ℤ, pos, ◌<◌, ◌&&◌, ◌||◌, not, Bool, true, false, List, ap, refl, sym, subst, if◌then◌else◌, arith}
 use Rattle.std.specs.Prelude.{length, is_some, Option, Some, None}
 use Rattle.std.specs.Ordering.{int_eq}
 use Rattle.std.proofs.lemmas.Bool.Decides.{Decides-int_eq}
@@ -43,30 +43,14 @@ record IsCalm (row : Row) : Type 0 where
   pub seldom : may_be_blocked row ≡ false
 
 calm_row : (row : Row) → (is_local_row row || is_arrival row) ≡ true → IsCalm row
-calm_row (Ldi into value) is = record { few = λ event calm. calm; interrupts = λ u. refl; seldom = refl }
-calm_row (Mov into from) is = record { few = λ event calm. calm; interrupts = λ u. refl; seldom = refl }
-calm_row (Add into left right) is = record { few = λ event calm. calm; interrupts = λ u. refl; seldom = refl }
-calm_row (Sub into left right) is = record { few = λ event calm. calm; interrupts = λ u. refl; seldom = refl }
-calm_row (Jmp target) is = record { few = λ event calm. calm; interrupts = λ u. refl; seldom = refl }
-calm_row (Beq left right target) is = record { few = λ event calm. calm; interrupts = λ u. refl; seldom = refl }
-calm_row (Bne left right target) is = record { few = λ event calm. calm; interrupts = λ u. refl; seldom = refl }
-calm_row (Blt left right target) is = record { few = λ event calm. calm; interrupts = λ u. refl; seldom = refl }
-calm_row (Parr into p) is = record { few = λ event calm. calm; interrupts = λ u. refl; seldom = refl }
-calm_row (Paaa into p) is = record { few = λ event calm. calm; interrupts = λ u. refl; seldom = refl }
-calm_row _ is = absurd (cc is)
+calm_row row is = grind arith
 
 calm_wait : (row : Row) (phase : ℤ) (t : ℕ) (scene : Scene) (outcome : Outcome) → outcome_of_phase_wait row phase t scene ≡ Some outcome → IsCalm row
-calm_wait (Paaa into p) phase t scene outcome is = record { few = λ event calm. calm; interrupts = λ u. refl; seldom = refl }
-calm_wait (Pawait into p number) phase t scene outcome is = record { few = λ event calm. calm; interrupts = λ u. refl; seldom = refl }
-calm_wait (Pawaiti into p number) phase t scene outcome is = record { few = λ event calm. calm; interrupts = λ u. refl; seldom = refl }
-calm_wait (Pawaitt into p number time) phase t scene outcome is = record { few = λ event calm. calm; interrupts = λ u. refl; seldom = refl }
-calm_wait _ phase t scene outcome is = absurd (cc is)
+calm_wait row phase t scene outcome is = grind arith
 
 is_calm : (of : Status) (row : Row) (t : ℕ) (program : Program) (scene : Scene) (outcome : Outcome) → is_common of row ≡ true
     → outcome_in of row t program scene ≡ Some outcome → IsCalm row
-is_calm status.Runs row t program scene outcome common is = calm_row row common
-is_calm (status.AwaitsPhase phase) row t program scene outcome common is = calm_wait row phase t scene outcome is
-is_calm _ row t program scene outcome common is = absurd (cc common)
+is_calm of row t program scene outcome common is = grind (arith, calm_row, calm_wait)
 
 -- where there is an outcome, its event shows no more than a turn
 abbrev CalmIf : Option Outcome → Type 0
@@ -74,28 +58,14 @@ CalmIf None = Unit {0}
 CalmIf (Some outcome) = is_loud outcome.event ≡ false
 
 local_calm : (row : Row) (t : ℕ) (program : Program) (scene : Scene) → is_local_row row ≡ true → CalmIf (outcome_of_row row t program scene)
-local_calm (Ldi into value) t program scene is = refl
-local_calm (Mov into from) t program scene is = refl
-local_calm (Add into left right) t program scene is = refl
-local_calm (Sub into left right) t program scene is = refl
-local_calm (Jmp target) t program scene is = refl
-local_calm (Beq left right target) t program scene is = refl
-local_calm (Bne left right target) t program scene is = refl
-local_calm (Blt left right target) t program scene is = refl
-local_calm _ t program scene is = absurd (cc is)
+local_calm row t program scene is = grind arith
 
 wait_calm : (row : Row) (phase : ℤ) (t : ℕ) (scene : Scene) → is_local_row row ≡ true → CalmIf (outcome_of_phase_wait row phase t scene)
-wait_calm (Paaa into p) phase t scene is = absurd (cc is)
-wait_calm (Pawait into p number) phase t scene is = absurd (cc is)
-wait_calm (Pawaiti into p number) phase t scene is = absurd (cc is)
-wait_calm (Pawaitt into p number time) phase t scene is = absurd (cc is)
-wait_calm _ phase t scene is = tt
+wait_calm row phase t scene is = grind arith
 
 calm_in : (of : Status) (row : Row) (t : ℕ) (program : Program) (scene : Scene) → is_common of row ≡ true → is_local_row row ≡ true
     → CalmIf (outcome_in of row t program scene)
-calm_in status.Runs row t program scene common is = local_calm row t program scene is
-calm_in (status.AwaitsPhase phase) row t program scene common is = wait_calm row phase t scene is
-calm_in _ row t program scene common is = absurd (cc common)
+calm_in of row t program scene common is = grind (arith, local_calm, wait_calm)
 
 -- where a thread begins to wait in an outcome, its turn isn't ready after it, and it isn't about to register
 abbrev WaitsIf : ℕ → Program → Option Outcome → Type 0
@@ -110,9 +80,7 @@ number_of _ = pos 0
 
 view_by_climb : (c : Climb) (p : ℕ) (after before : List PhaserState) (phase : ℤ) → (arrival_by c p after before).answer ≡ arrived.At phase
     → pos (flat_at before p).phase ≡ phase
-view_by_climb climb.Counted p after before phase is = ap number_of is
-view_by_climb climb.Turned p after before phase is = absurd (cc is)
-view_by_climb climb.Refused p after before phase is = absurd (cc is)
+view_by_climb c p after before phase is = grind arith
 
 view_by : (ended : Bool) (c : Climb) (p : ℕ) (after before : List PhaserState) (dead phase : ℤ)
     → (if ended then record { phasers = before; answer = arrived.Dead dead } else arrival_by c p after before).answer ≡ arrived.At phase
@@ -122,11 +90,7 @@ view_by false c p after before dead phase is = view_by_climb c p after before ph
 
 view_after : (p : ℕ) (before : List PhaserState) (phase : ℤ) → (arrival p false before).answer ≡ arrived.At phase
     → view_of (flat_at (arrival p false before).phasers p) ≡ phase
-view_after p before phase is =
-    let flat = flat_at before p in
-    let all = climbed (phaser_at before p).line false before in
-    ap (λ (s : Standing). phase_view s.phase s.ended) (arrival-standings p false before p)
-    ∙ view_by flat.ended all.climb p all.phasers before (view_of flat) phase is
+view_after p before phase is = grind (arith, Standing, arrival-standings, view_by)
 
 same_number : (x y : ℤ) → x ≡ y → int_eq x y ≡ true
 same_number x y is = (Decides-int_eq x y).1 is
@@ -137,68 +101,33 @@ waits_at : (program : Program) (into : Reg) (p t : ℕ) (scene : Scene) (phase :
     → (arrival p false scene.phasers).answer ≡ arrived.At phase
     → let after = with_thread (turn_of_wait phase (thread_at scene t)).thread t (with_phasers (arrival p false scene.phasers).phasers scene) in
     (is_ready t program after ≡ false) × (is_registering t program after ≡ false)
-waits_at program into p t scene phase row there is =
-    let phasers = (arrival p false scene.phasers).phasers in
-    let thread = (turn_of_wait phase (thread_at scene t)).thread in
-    let after = with_thread thread t (with_phasers phasers scene) in
-    let past : is_past p phase after ≡ false = ap not (same_number (view_of (flat_at phasers p)) phase (view_after p scene.phasers phase is)) in
-    let own : thread_at after t ≡ thread = get_or-set_same scene.threads t thread no_thread there in (
-      ap (λ (x : ThreadState). is_some (outcome_in x.status (row_at program.rows x.pc) t program after)) own
-          ∙ ap (λ (r : Row). is_some (outcome_in (status.AwaitsPhase phase) r t program after)) (sym row)
-          ∙ ap (λ (x : Bool). is_some (if x then Some (outcome_of_view into p t after) else None)) past,
-      ap (λ (x : ThreadState). is_registering_in x.status (row_at program.rows x.pc)) own,
-    )
+waits_at program into p t scene phase row there is = grind (arith, same_number, view_after, get_or-set_same)
 
 waits_turning : (answer : Option Bool) (manner : Manner) (root : ℕ) (phase : ℤ) (t : ℕ) (program : Program) (scene : Scene)
     → WaitsIf t program (Some (outcome_of_pending_end answer manner root phase t program scene))
-waits_turning (Some terminates) manner root phase t program scene = λ waits. absurd (cc waits)
-waits_turning None manner root phase t program scene = λ waits. absurd (cc waits)
+waits_turning answer manner root phase t program scene = grind arith
 
 waits_parr : (answer : Arrived) (into : Reg) (p t : ℕ) (program : Program) (scene : Scene)
     → WaitsIf t program (Some (outcome_of_arrived answer (manner_of (Parr into p)) t program scene))
-waits_parr (arrived.At phase) into p t program scene = λ waits. absurd (cc waits)
-waits_parr (arrived.Turning root phase parties) into p t program scene =
-    waits_turning (answer_of_policy root.0 scene) (manner_of (Parr into p)) root.0 phase t program scene
-waits_parr (arrived.Dead view) into p t program scene = λ waits. absurd (cc waits)
-waits_parr arrived.NotThere into p t program scene = λ waits. absurd (cc waits)
+waits_parr answer into p t program scene = grind (arith, waits_turning)
 
 waits_paaa : (answer : Arrived) (into : Reg) (p t : ℕ) (program : Program) (scene : Scene)
     → Paaa into p ≡ row_at program.rows (thread_at scene t).pc → t < length scene.threads
     → (arrival p false scene.phasers).answer ≡ answer
     → WaitsIf t program (Some (outcome_of_arrived answer (manner_of (Paaa into p)) t program (with_phasers (arrival p false scene.phasers).phasers scene)))
 waits_paaa (arrived.At phase) into p t program scene row there is = λ waits. waits_at program into p t scene phase row there is
-waits_paaa (arrived.Turning root phase parties) into p t program scene row there is =
-    let after = with_phasers (arrival p false scene.phasers).phasers scene in
-    waits_turning (answer_of_policy root.0 after) (manner_of (Paaa into p)) root.0 phase t program after
-waits_paaa (arrived.Dead view) into p t program scene row there is = λ waits. absurd (cc waits)
-waits_paaa arrived.NotThere into p t program scene row there is = λ waits. absurd (cc waits)
+waits_paaa answer into p t program scene row there is = grind (arith, waits_at, waits_turning)
 
 -- unless it meets an exception before
 waits_unless : (manner : Manner) (p t : ℕ) (program : Program) (scene : Scene)
     → (let all : Arrives = arrival p manner.leaves scene.phasers in
     WaitsIf t program (Some (outcome_of_arrived all.answer manner t program (with_phasers all.phasers scene))))
     → WaitsIf t program (unless_own p t scene (Some (outcome_of_arrival manner p t program scene)))
-waits_unless manner p t program scene waits =
-    either (WaitsIf t program) (is_own_tree p (thread_at scene t) scene) {b = Some (outcome_of_arrival manner p t program scene)} (λ thrown. absurd (cc thrown))
-    (either (λ (outcome : Outcome). WaitsIf t program (Some outcome)) (has_routine p scene && is_full (thread_at scene t))
-    (λ thrown. absurd (cc thrown)) waits)
+waits_unless manner p t program scene waits = grind arith
 
 waits_row : (row : Row) (t : ℕ) (program : Program) (scene : Scene) → (is_local_row row || is_arrival row) ≡ true
     → row ≡ row_at program.rows (thread_at scene t).pc → t < length scene.threads → WaitsIf t program (outcome_of_row row t program scene)
-waits_row (Ldi into value) t program scene common at there = λ waits. absurd (cc waits)
-waits_row (Mov into from) t program scene common at there = λ waits. absurd (cc waits)
-waits_row (Add into left right) t program scene common at there = λ waits. absurd (cc waits)
-waits_row (Sub into left right) t program scene common at there = λ waits. absurd (cc waits)
-waits_row (Jmp target) t program scene common at there = λ waits. absurd (cc waits)
-waits_row (Beq left right target) t program scene common at there = λ waits. absurd (cc waits)
-waits_row (Bne left right target) t program scene common at there = λ waits. absurd (cc waits)
-waits_row (Blt left right target) t program scene common at there = λ waits. absurd (cc waits)
-waits_row (Parr into p) t program scene common at there =
-    let all : Arrives = arrival p false scene.phasers in
-    waits_unless (manner_of (Parr into p)) p t program scene (waits_parr all.answer into p t program (with_phasers all.phasers scene))
-waits_row (Paaa into p) t program scene common at there =
-    waits_unless (manner_of (Paaa into p)) p t program scene (waits_paaa (arrival p false scene.phasers).answer into p t program scene at there refl)
-waits_row _ t program scene common at there = absurd (cc common)
+waits_row row t program scene common at there = grind (arith, waits_unless, waits_parr, waits_paaa)
 
 waits_awaited : (looks : Bool) (into : Reg) (p : ℕ) (phase : ℤ) (t : ℕ) (program : Program) (scene : Scene)
     → WaitsIf t program (outcome_of_awaited looks into p phase t scene)
@@ -207,17 +136,11 @@ waits_awaited looks into p phase t program scene =
     (either (WaitsIf t program) (looks && (thread_at scene t).interrupted) {b = None} (λ waits. absurd (cc waits)) tt)
 
 waits_again : (row : Row) (phase : ℤ) (t : ℕ) (program : Program) (scene : Scene) → WaitsIf t program (outcome_of_phase_wait row phase t scene)
-waits_again (Paaa into p) phase t program scene = waits_awaited false into p phase t program scene
-waits_again (Pawait into p number) phase t program scene = waits_awaited false into p phase t program scene
-waits_again (Pawaiti into p number) phase t program scene = waits_awaited true into p phase t program scene
-waits_again (Pawaitt into p number time) phase t program scene = waits_awaited true into p phase t program scene
-waits_again _ phase t program scene = tt
+waits_again row phase t program scene = grind (arith, waits_awaited)
 
 waits_in : (of : Status) (row : Row) (t : ℕ) (program : Program) (scene : Scene) → is_common of row ≡ true
     → row ≡ row_at program.rows (thread_at scene t).pc → t < length scene.threads → WaitsIf t program (outcome_in of row t program scene)
-waits_in status.Runs row t program scene common at there = waits_row row t program scene common at there
-waits_in (status.AwaitsPhase phase) row t program scene common at there = waits_again row phase t program scene
-waits_in _ row t program scene common at there = absurd (cc common)
+waits_in of row t program scene common at there = grind (arith, waits_row, waits_again)
 
 -- after a turn of a common kind
 pub record AfterCommon (program : Program) (row : Row) (t : ℕ) (old mid : StoredScene) (event : Event) : Type 0 where
@@ -235,18 +158,12 @@ calm_after program row t old mid event after =
 -- the thread's turn was ready
 pub turn_kept : (program : Program) (row : Row) (t : ℕ) (old mid : StoredScene) (event : Event) → AfterCommon program row t old mid event
     → KnowsReady program old → has mid.ready.turns t ≡ true
-turn_kept program row t old mid event after knows =
-    ap (λ (set : ReadySet). has set.turns t) after.ready ∙ knows.turns t
-    ∙ ap (λ (r : Row). is_some (outcome_in (thread_at (scene_of old) t).status r t program (scene_of old))) (sym after.at)
-    ∙ ap is_some after.comes
+turn_kept program row t old mid event after knows = grind arith
 
 -- it wasn't about to register
 pub apart_kept : (program : Program) (row : Row) (t : ℕ) (old mid : StoredScene) (event : Event) → AfterCommon program row t old mid event
     → KnowsReady program old → has mid.ready.registering t ≡ false
-apart_kept program row t old mid event after knows =
-    let of = (thread_at (scene_of old) t).status in
-    ap (λ (set : ReadySet). has set.registering t) after.ready ∙ knows.registering t ∙ ap (is_registering_in of) (sym after.at)
-    ∙ seldom_registers of row (calm_after program row t old mid event after).seldom
+apart_kept program row t old mid event after knows = grind (arith, seldom_registers, calm_after)
 
 -- of all others the sets are right
 pub beside_kept : (program : Program) (row : Row) (t : ℕ) (old mid : StoredScene) (event : Event) → AfterCommon program row t old mid event

@@ -39,14 +39,7 @@ last_counts test stack f false is some at =
 -- without the top entry
 pub entries-pop : (test : Frame → Bool) (stack : List Frame) (f : Frame) → top_of stack ≡ Some f
     → count_by test (take (length stack - 1) stack) + bit (test f) ≡ count_by test stack
-entries-pop test stack f is =
-    elim (slice_get_cases stack (length stack - 1)).1 as (λ _. count_by test (take (length stack - 1) stack) + bit (test f) ≡ count_by test stack) [
-      | inl read ↦
-          let same : read.0 ≡ f = cc (read.2, is) in
-          let at : get_or stack (length stack - 1) f ≡ f = subst (λ (g : Frame). get_or stack (length stack - 1) g ≡ g) same read.3 in
-          last_counts test stack f (test f) refl read.1 at
-      | inr past ↦ absurd (cc (past.1, is))
-    ]
+entries-pop test stack f is = grind (arith, slice_get_cases, last_counts)
 
 one_more : (test : Frame → Bool) (f : Frame) (b : Bool) → test f ≡ b → count_by test (f ∷ []) ≡ bit b
 one_more test f true is = rw is refl

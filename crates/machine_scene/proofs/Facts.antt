@@ -27,10 +27,7 @@ use Rattle.machine_scene.proofs.Entries.{entries-at, entries-pop}
 -- a row that doesn't stop has a row after it
 pub next_within : (program : Program) (counts : Counts) (pc : ℕ) → IsCode program counts → pc < length program.rows
     → stops (row_at program.rows pc) ≡ false → pc + 1 < length program.rows
-next_within program counts pc code within goes =
-    let last : pc ≡ length program.rows - 1 → pc + 1 < length program.rows =
-    λ is. absurd (cc (ap (λ (n : ℕ). stops (row_at program.rows n)) is, code.last, goes)) in
-    grind (arith, last)
+next_within program counts pc code within goes = grind arith
 
 -- what the row names is there
 pub named_at : (program : Program) (counts : Counts) (pc : ℕ) → IsCode program counts → pc < length program.rows
@@ -56,12 +53,7 @@ placed_at program steps scene t sound there = sound.placed t no_thread there
 -- the top entry is one of the stack's
 pub top_is : (program : Program) (scene : Scene) (stack : List Frame) (f : Frame) → All (IsFrame program scene) stack
     → top_of stack ≡ Some f → IsFrame program scene f
-top_is program scene stack f all is =
-    elim (slice_get_cases stack (length stack - 1)).1 as (λ _. IsFrame program scene f) [
-      | inl read ↦ let same : slice_index_or stack (length stack - 1) read.0 ≡ f = cc (read.2, read.3, is) in
-          subst (IsFrame program scene) same (all (length stack - 1) read.0 read.1)
-      | inr past ↦ absurd (cc (past.1, is))
-    ]
+top_is program scene stack f all is = grind (arith, slice_get_cases)
 
 -- the same, of the stack of thread t
 pub top_named : (program : Program) (steps : ℕ) (scene : Scene) (t : ℕ) (f : Frame) → IsSound program steps scene → t < length scene.threads
@@ -96,10 +88,7 @@ advance_pending program steps scene t root row registers sound there is =
 pub action_runs : (program : Program) (steps : ℕ) (scene : Scene) (t b row : ℕ) (registers : List ℤ) → IsSound program steps scene
     → t < length scene.threads → top_of (thread_at scene t).stack ≡ Some (frame.Action b registers row)
     → is_some (barrier_at scene b).runner ≡ true
-action_runs program steps scene t b row registers sound there is =
-    let some = counted_on_top (is_action b) scene t (frame.Action b registers row) there is (same-is b) in
-    let few = sound.actions b in
-    true_if (is_some (barrier_at scene b).runner) (omega (arith, some, few))
+action_runs program steps scene t b row registers sound there is = grind (arith, counted_on_top, same-is, true_if)
 
 -- a thread with such a status waits at no barrier
 pub data IsFree : Status → Type 0 where
@@ -114,21 +103,16 @@ free_awaits b _ row RunsOn = refl
 free_awaits b _ row _ = refl
 
 not_awaiting : (b : ℕ) (s : Status) (row : Row) → ((index : ℤ) → s ≢ status.AwaitsBarrier index) → awaits b s row ≡ false
-not_awaiting b (status.AwaitsBarrier index) row free = absurd (free index refl)
-not_awaiting b _ row free = refl
+not_awaiting b s row free = grind arith
 
 none_if : (wait : Option WaitState) → is_some wait ≡ false → wait ≡ None
-none_if None is = refl
-none_if (Some state) is = absurd (cc (is))
+none_if wait is = grind arith
 
 -- a thread that awaits no barrier has no wait at any
 pub no_wait : (program : Program) (steps : ℕ) (scene : Scene) (t b : ℕ) → IsSound program steps scene
     → ((index : ℤ) → (thread_at scene t).status ≢ status.AwaitsBarrier index)
     → wait_at (barrier_at scene b).waits t ≡ None
-no_wait program steps scene t b sound free =
-    let known : has_wait t (barrier_at scene b) ≡ thread_awaits program b (thread_at scene t) = sound.waits b t in
-    none_if (wait_at (barrier_at scene b).waits t)
-    (known ∙ not_awaiting b (thread_at scene t).status (row_at program.rows (thread_at scene t).pc) free)
+no_wait program steps scene t b sound free = grind (arith, none_if, not_awaiting)
 
 -- a thread that awaits a barrier at this row has a wait there
 pub awaited : (program : Program) (steps : ℕ) (scene : Scene) (t b : ℕ) (index : ℤ) (into : Reg) → IsSound program steps scene

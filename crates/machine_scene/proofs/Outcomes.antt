@@ -1,5 +1,5 @@
 -- Each turn of a thread, and each expiry of a timed wait, leaves a sound scene sound.
-use Rattle.std.proofs.Common.{◌≡◌, ℕ, ◌+◌, ◌<◌, length, refl, subst}
+use Rattle.std.proofs.Common.{◌≡◌, ℕ, ◌+◌, ◌<◌, length, refl, subst, arith, rules}
 use Rattle.std.specs.Prelude.{Some, None}
 use Rattle.instruction_table.specs.declared.row.Row.{Row}
 use Rattle.loader.specs.Program.{Program, row_at}
@@ -25,44 +25,22 @@ use Rattle.machine_scene.proofs.Waits.{sound_phase_wait, sound_barrier_wait, sou
 pub stands_at : (program : Program) (steps t : ℕ) (scene : Scene) (state : Status) → IsSound program steps scene → steps < 2147483647
     → t < length scene.threads → (thread_at scene t).status ≡ state
     → StandsAt program steps t scene state (row_at program.rows (thread_at scene t).pc)
-stands_at program steps t scene state sound few there is =
-    let pc = (thread_at scene t).pc in
-    let placed = placed_at program steps scene t sound there in
-    record {
-      sound = sound;
-      few = few;
-      there = there;
-      status = is;
-      at = refl;
-      within = placed.pc;
-      next = next_within program (counts_of program scene) pc sound.code placed.pc;
-      named = named_at program (counts_of program scene) pc sound.code placed.pc;
-    }
+stands_at program steps t scene state sound few there is = grind (arith, placed_at, next_within, named_at)
 
 sound_in_group : (group : Group) (program : Program) (steps t : ℕ) (scene : Scene) (row : Row) → StandsAt program steps t scene status.Runs row
     → KeepsSound program (steps + 1) (outcome_in_group group row t program scene)
 sound_in_group Own program steps t scene row stands = sound_own_row row program steps t scene stands
-sound_in_group Calls program steps t scene row stands = sound_call_row row program steps t scene stands
-sound_in_group Data program steps t scene row stands = sound_data_row row program steps t scene stands
-sound_in_group Phasers program steps t scene row stands = sound_phaser_row row program steps t scene stands
-sound_in_group Getters program steps t scene row stands = sound_getter_row row program steps t scene stands
-sound_in_group Barriers program steps t scene row stands = sound_barrier_row row program steps t scene stands
+sound_in_group group program steps t scene row stands = search (rules, sound_own_row, sound_call_row, sound_data_row, sound_phaser_row, sound_getter_row, sound_barrier_row)
 
 sound_in : (state : Status) (program : Program) (steps t : ℕ) (scene : Scene) (row : Row) → StandsAt program steps t scene state row
     → KeepsSound program (steps + 1) (outcome_in state row t program scene)
 sound_in status.Runs program steps t scene row stands = sound_in_group (group_of row) program steps t scene row stands
-sound_in (status.Throws code) program steps t scene row stands =
-    sound_popped (top_of (thread_at scene t).stack) code program steps t scene row stands refl
-sound_in (status.AwaitsPhase phase) program steps t scene row stands = sound_phase_wait row phase program steps t scene stands
-sound_in (status.AwaitsBarrier index) program steps t scene row stands = sound_barrier_wait row index program steps t scene stands
-sound_in status.Ended program steps t scene row stands = tt
-sound_in (status.Died code) program steps t scene row stands = tt
+sound_in state program steps t scene row stands = search (rules, sound_in_group, sound_popped, sound_phase_wait, sound_barrier_wait)
 
 timeout_sound_in : (state : Status) (program : Program) (steps t : ℕ) (scene : Scene) (row : Row) → StandsAt program steps t scene state row
     → KeepsSound program (steps + 1) (timeout_in state row t scene)
 timeout_sound_in (status.AwaitsPhase phase) program steps t scene row stands = sound_phase_timeout row phase program steps t scene stands
-timeout_sound_in (status.AwaitsBarrier index) program steps t scene row stands = sound_barrier_timeout row index program steps t scene stands
-timeout_sound_in _ program steps t scene row stands = tt
+timeout_sound_in state program steps t scene row stands = search (rules, sound_phase_timeout, sound_barrier_timeout)
 
 -- where the turn of thread t has an outcome
 pub sound_outcome : (program : Program) (steps t : ℕ) (scene : Scene) (outcome : Outcome) → IsSound program steps scene

@@ -1,5 +1,5 @@
 -- Rows of a thread alone, and rows that read a phaser.
-use Rattle.std.proofs.Common.{ℕ, pos, ◌+◌, ◌<◌, Bool, true, false, length, refl, if◌then◌else◌}
+use Rattle.std.proofs.Common.{ℕ, pos, ◌+◌, ◌<◌, Bool, true, false, length, refl, if◌then◌else◌, rules}
 use Rattle.std.specs.List.{list_any}
 use Rattle.instruction_table.specs.declared.row.Row.{Row}
 use Rattle.instruction_table.specs.declared.row.Row.TheVariants.{Halt, Ldi, Mov, Add, Sub, Jmp, Beq, Bne, Blt, Pphase, Pparties, Parrived, Punarr, Pterm, Pparent, Proot}
@@ -58,10 +58,4 @@ sound_own_row _ program steps t scene stands = tt
 pub sound_getter_row : (row : Row) (program : Program) (steps t : ℕ) (scene : Scene) → StandsAt program steps t scene status.Runs row
     → KeepsSound program (steps + 1) (outcome_of_getter_row row t scene)
 sound_getter_row (Pphase into p) program steps t scene stands = sound_answer program steps t scene (Pphase into p) into _ stands refl
-sound_getter_row (Pparties into p) program steps t scene stands = sound_answer program steps t scene (Pparties into p) into _ stands refl
-sound_getter_row (Parrived into p) program steps t scene stands = sound_answer program steps t scene (Parrived into p) into _ stands refl
-sound_getter_row (Punarr into p) program steps t scene stands = sound_answer program steps t scene (Punarr into p) into _ stands refl
-sound_getter_row (Pterm into p) program steps t scene stands = sound_answer program steps t scene (Pterm into p) into _ stands refl
-sound_getter_row (Pparent into p) program steps t scene stands = sound_answer program steps t scene (Pparent into p) into _ stands refl
-sound_getter_row (Proot into p) program steps t scene stands = sound_answer program steps t scene (Proot into p) into _ stands refl
-sound_getter_row _ program steps t scene stands = tt
+sound_getter_row row program steps t scene stands = search (rules, sound_answer)

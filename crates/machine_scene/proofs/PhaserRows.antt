@@ -1,5 +1,5 @@
 -- Rows that register at a phaser, arrive, wait or terminate.
-use Rattle.std.proofs.Common.{◌≡◌, ℕ, ℤ, pos, ◌+◌, ◌<◌, Bool, true, false, List, length, refl, arith, if◌then◌else◌}
+use Rattle.std.proofs.Common.{◌≡◌, ℕ, ℤ, pos, ◌+◌, ◌<◌, Bool, true, false, List, length, refl, arith, if◌then◌else◌, rules}
 use Rattle.std.specs.Prelude.{◌&&◌, not, nat_abs, int_lt, Option, Some, None}
 use Rattle.std.specs.Ordering.{int_eq}
 use Rattle.instruction_table.specs.declared.row.Row.{Row}
@@ -51,10 +51,7 @@ sound_registered registered.Held program steps t scene row into phasers stands g
 sound_registration : (program : Program) (steps t p count : ℕ) (scene : Scene) (row : Row) (into : Reg)
     → StandsAt program steps t scene status.Runs row → stops row ≡ false → p < length scene.phasers
     → KeepsSound program (steps + 1) (outcome_of_registration into p count t scene)
-sound_registration program steps t p count scene row into stands goes there =
-    let after = after_registration p count scene.phasers in
-    sound_registered (registration p count scene.phasers) program steps t scene row into after stands goes
-    (more_trees steps scene.phasers after (trees_registered steps p count scene.phasers stands.sound.trees there))
+sound_registration program steps t p count scene row into stands goes there = search (rules, sound_registered, more_trees, trees_registered)
 
 -- an arrival that turned a root
 sound_turning : (answer : Option Bool) (program : Program) (steps t p : ℕ) (manner : Manner) (scene : Scene) (row : Row)
@@ -184,33 +181,4 @@ pub sound_phaser_row : (row : Row) (program : Program) (steps t : ℕ) (scene : 
     → KeepsSound program (steps + 1) (outcome_of_phaser_row row t program scene)
 sound_phaser_row (Preg into p) program steps t scene stands =
     sound_unless_own program steps t p scene (Preg into p) _ stands (sound_registration program steps t p 1 scene (Preg into p) into stands refl stands.named)
-sound_phaser_row (Pbulk into p count) program steps t scene stands =
-    sound_unless_own program steps t p scene (Pbulk into p count) _ stands
-    (sound_bulk program steps t p scene (Pbulk into p count) into (value_in (thread_at scene t).registers count) stands refl stands.named)
-sound_phaser_row (Parr into p) program steps t scene stands =
-    let manner : Manner = record { into = into; leaves = false; waits = false } in
-    sound_unless_own program steps t p scene (Parr into p) (Some (outcome_of_arrival manner p t program scene)) stands
-    (sound_arrival program steps t p manner scene (Parr into p) stands refl stands.named)
-sound_phaser_row (Pdereg into p) program steps t scene stands =
-    let manner : Manner = record { into = into; leaves = true; waits = false } in
-    sound_unless_own program steps t p scene (Pdereg into p) (Some (outcome_of_arrival manner p t program scene)) stands
-    (sound_arrival program steps t p manner scene (Pdereg into p) stands refl stands.named)
-sound_phaser_row (Paaa into p) program steps t scene stands =
-    let manner : Manner = record { into = into; leaves = false; waits = true } in
-    sound_unless_own program steps t p scene (Paaa into p) (Some (outcome_of_arrival manner p t program scene)) stands
-    (sound_arrival program steps t p manner scene (Paaa into p) stands refl stands.named)
-sound_phaser_row (Pawait into p phase) program steps t scene stands =
-    let number = value_in (thread_at scene t).registers phase in
-    sound_unless_own program steps t p scene (Pawait into p phase) (Some (outcome_of_await patience.Endless into p number t scene)) stands
-    (sound_await patience.Endless program steps t p scene (Pawait into p phase) into number stands refl)
-sound_phaser_row (Pawaiti into p phase) program steps t scene stands =
-    let number = value_in (thread_at scene t).registers phase in
-    sound_unless_own program steps t p scene (Pawaiti into p phase) (Some (outcome_of_await patience.Interruptible into p number t scene)) stands
-    (sound_await patience.Interruptible program steps t p scene (Pawaiti into p phase) into number stands refl)
-sound_phaser_row (Pawaitt into p phase time) program steps t scene stands =
-    let number = value_in (thread_at scene t).registers phase in
-    let limit : Patience = patience.Timed (value_in (thread_at scene t).registers time) in
-    sound_unless_own program steps t p scene (Pawaitt into p phase time) (Some (outcome_of_await limit into p number t scene)) stands
-    (sound_await limit program steps t p scene (Pawaitt into p phase time) into number stands refl)
-sound_phaser_row (Pforce p) program steps t scene stands = sound_force program steps t p scene stands
-sound_phaser_row _ program steps t scene stands = tt
+sound_phaser_row row program steps t scene stands = search (rules, sound_unless_own, sound_registration, sound_bulk, sound_arrival, sound_await, sound_force)

@@ -20,34 +20,23 @@ use Rattle.machine_scene.specs.Sound.{IsSound, HasItsWait, SeesWait, StandsAt, I
 use Rattle.machine_scene.proofs.Facts.{named_at, placed_at, top_named, advance_pending, action_runs}
 
 none_if : (wait : Option WaitState) → is_some wait ≡ false → wait ≡ None
-none_if None is = refl
-none_if (Some state) is = absurd (cc (is))
+none_if wait is = grind arith
 
 -- by the thread's status
 its_wait : (s : Status) (row : Row) (t : ℕ) (scene : Scene) → ((b : ℕ) → has_wait t (barrier_at scene b) ≡ awaits b s row)
     → HasItsWait s row t scene
-its_wait (status.AwaitsBarrier index) row t scene known = λ b at none.
-    let some : is_some (wait_at (barrier_at scene b).waits t) ≡ true = known b ∙ at in
-    let empty : is_some (wait_at (barrier_at scene b).waits t) ≡ false = ap (λ (w : Option WaitState). is_some w) none in
-    cc (some, empty)
-its_wait _ row t scene known = λ b. none_if (wait_at (barrier_at scene b).waits t) (known b)
+its_wait s row t scene known = grind (arith, none_if)
 
 -- a program has fewer than 65536 rows
 of_few : (thing : Named) (rows threads phasers barriers : ℕ) → rows < 65536
     → IsThere (record { rows = rows; threads = threads; phasers = phasers; barriers = barriers }) thing
     → IsThere (record { rows = 65536; threads = threads; phasers = phasers; barriers = barriers }) thing
-of_few named.Nothing rows threads phasers barriers few there = tt
-of_few (named.Target row) rows threads phasers barriers few there = omega (arith, few, there)
-of_few _ rows threads phasers barriers few there = there
+of_few thing rows threads phasers barriers few there = grind arith
 
 -- what the row at this place names is there
 pub named_in : (program : Program) (steps pc : ℕ) (stored : StoredScene) → IsSound program steps (scene_of stored)
     → pc < length program.rows → IsNamed (counts_in stored) (row_at program.rows pc)
-named_in program steps pc stored sound within =
-    let row = row_at program.rows pc in
-    of_few (named_by row) (length program.rows) (length stored.threads) (length stored.phasers) (length stored.barriers) sound.code.few
-    (subst (λ (n : ℕ). IsNamed (record { rows = length program.rows; threads = length stored.threads; phasers = n; barriers = length stored.barriers }) row)
-    (length-shown stored.phasers) (named_at program (counts_of program (scene_of stored)) pc sound.code within))
+named_in program steps pc stored sound within = grind (arith, of_few, length-shown, named_at)
 
 -- what a look at the thread's wait may count on
 pub wait_placed : (program : Program) (steps : ℕ) (row : Row) (t : ℕ) (stored : StoredScene) → IsSound program steps (scene_of stored)
@@ -86,9 +75,6 @@ turn_placed program row t stored sound there is =
 -- by the top entry
 top_by : (top : Option Frame) (program : Program) (t : ℕ) (stored : StoredScene) → IsSound program 2147483646 (scene_of stored)
     → t < length stored.threads → top_of (thread_at (scene_of stored) t).stack ≡ top → IsTop program stored top
-top_by None program t stored sound there is = tt
-top_by (Some (frame.Call row)) program t stored sound there is = tt
-top_by (Some (frame.Handler row)) program t stored sound there is = tt
 top_by (Some (frame.Advance root registers row)) program t stored sound there is =
     let scene = scene_of stored in
     let named = top_named program 2147483646 scene t (frame.Advance root registers row) sound there is in
@@ -101,6 +87,7 @@ top_by (Some (frame.Action b registers row)) program t stored sound there is =
     let scene = scene_of stored in
     let named = top_named program 2147483646 scene t (frame.Action b registers row) sound there is in
     ((named.0, named.1), action_runs program 2147483646 scene t b row registers sound there is)
+top_by _ program t stored sound there is = tt
 
 -- what the top entry of the thread's stack may be counted on for
 pub top_placed : (program : Program) (top : Option Frame) (t : ℕ) (stored : StoredScene) → IsSound program 2147483646 (scene_of stored)

@@ -61,16 +61,10 @@ pub gains_same : (stack : List Frame) → GainsNone stack stack
 gains_same stack = record { advances = λ r. omega arith; actions = λ b. omega arith }
 
 pub gains_call : (stack : List Frame) (row : ℕ) → GainsNone stack (stack ++ frame.Call row ∷ [])
-gains_call stack row = record {
-  advances = λ r. let e = entries-push (is_advance r) stack (frame.Call row) in omega (arith, e);
-  actions = λ b. let e = entries-push (is_action b) stack (frame.Call row) in omega (arith, e);
-}
+gains_call stack row = grind (arith, entries-push)
 
 pub gains_handler : (stack : List Frame) (row : ℕ) → GainsNone stack (stack ++ frame.Handler row ∷ [])
-gains_handler stack row = record {
-  advances = λ r. let e = entries-push (is_advance r) stack (frame.Handler row) in omega (arith, e);
-  actions = λ b. let e = entries-push (is_action b) stack (frame.Handler row) in omega (arith, e);
-}
+gains_handler stack row = grind (arith, entries-push)
 
 gains_pop : (stack : List Frame) (f : Frame) → top_of stack ≡ Some f → GainsNone stack (take (length stack - 1) stack)
 gains_pop stack f is = record {

@@ -1,5 +1,5 @@
 -- Which turns have an outcome.
-use Rattle.std.proofs.Common.{◌≡◌, ◌≢◌, ◌∙◌, ◌+◌, ◌==◌, ℕ, ℤ, pos, Bool, true, false, refl, sym, ap, if◌then◌else◌}
+use Rattle.std.proofs.Common.{◌≡◌, ◌≢◌, ◌∙◌, ◌+◌, ◌==◌, ℕ, ℤ, pos, Bool, true, false, refl, sym, ap, if◌then◌else◌, arith}
 use Rattle.std.specs.Prelude.{Option, Some, None, is_some, not, ◌&&◌, nat_abs, int_lt}
 use Rattle.instruction_table.specs.declared.row.Row.{Row}
 use Rattle.instruction_table.specs.declared.row.Row.TheVariants.{Preg, Pbulk, Parr, Pdereg, Paaa, Pawait, Pawaiti, Cawait, Creset, Cbroken, Cwaiting, Pawaitt, Cawaitt}
@@ -30,15 +30,13 @@ either false one other first second = second
 -- a registration is ready but where it is held
 registered_is_ready : (answer : Registered) (into : Reg) (t : ℕ) (scene : Scene)
     → is_some (outcome_of_registered answer into t scene) ≡ not (is_held answer)
-registered_is_ready (registered.At phase) into t scene = refl
-registered_is_ready _ into t scene = refl
+registered_is_ready answer into t scene = grind arith
 
 -- by whether the tree is the thread's own, and whether the count is below 0
 held_by : (own below held : Bool) (one two three : Option Outcome) → is_some one ≡ true → is_some two ≡ true → is_some three ≡ not held
     → is_some (if own then one else (if below then two else three)) ≡ not (not own && (not below && held))
 held_by true below held one two three first second third = first
-held_by false true held one two three first second third = second
-held_by false false held one two three first second third = third
+held_by false below held one two three first second third = grind arith
 
 register_is_ready : (into : Reg) (p t : ℕ) (scene : Scene)
     → is_some (unless_own p t scene (outcome_of_registration into p 1 t scene)) ≡ not (registration_is_held p (pos 1) t scene)
@@ -48,10 +46,7 @@ register_is_ready into p t scene =
 
 bulk_is_ready : (into : Reg) (p : ℕ) (count : ℤ) (t : ℕ) (scene : Scene)
     → is_some (unless_own p t scene (outcome_of_bulk into p count t scene)) ≡ not (registration_is_held p count t scene)
-bulk_is_ready into p count t scene =
-    let n = nat_abs count in
-    held_by (is_own_tree p (thread_at scene t) scene) (int_lt count (pos 0)) (is_held (registration p n scene.phasers)) _ _ _ refl refl
-    (registered_is_ready (registration p n scene.phasers) into t (with_phasers (after_registration p n scene.phasers) scene))
+bulk_is_ready into p count t scene = grind (arith, held_by, registered_is_ready)
 
 -- an entry that isn't told to wait for another's action
 abbrev NotBusy : Entered → Type 0
@@ -64,42 +59,25 @@ not_busy_by false one other first second = second
 -- who arrives is told at once
 arrived_is_told : (thread : ℕ) (interrupted no_wait : Bool) (barrier : BarrierState)
     → NotBusy (arrive thread interrupted no_wait barrier).answer
-arrived_is_told thread interrupted no_wait barrier =
-    not_busy_by barrier.broken _ _ (λ into b t program scene. refl)
-    (not_busy_by interrupted _ _ (λ into b t program scene. refl)
-    (not_busy_by (number_waiting barrier + 1 == barrier.parties) _ _
-    (not_busy_by barrier.action _ _ (λ into b t program scene. refl) (λ into b t program scene. refl))
-    (not_busy_by no_wait _ _ (λ into b t program scene. refl) (λ into b t program scene. refl))))
+arrived_is_told thread interrupted no_wait barrier = grind (arith, not_busy_by)
 
 -- by who runs the action: nobody, where neither the thread nor another does
 entered_by : (runner : Option ℕ) (no_wait : Bool) (into : Reg) (b t : ℕ) (program : Program) (scene : Scene)
     → is_run_by_another t runner ≡ false → is_run_by t runner ≡ false → (barrier_at scene b).runner ≡ runner
     → is_some (outcome_of_entry no_wait into b t program scene) ≡ true
-entered_by None no_wait into b t program scene free none is =
-    let barrier = barrier_at scene b in
-    let interrupted = (thread_at scene t).interrupted in
-    let same : enter_timed t interrupted no_wait barrier ≡ arrive t interrupted no_wait barrier =
-    ap (λ (r : Option ℕ). enter_beside r t interrupted no_wait barrier) is in
-    ap (λ (e : Entry). is_some (outcome_of_entered e.answer into b t program (with_barrier e.barrier b scene))) same
-    ∙ arrived_is_told t interrupted no_wait barrier into b t program (with_barrier (arrive t interrupted no_wait barrier).barrier b scene)
-entered_by (Some runner) no_wait into b t program scene free none is = absurd (cc (free, none))
+entered_by runner no_wait into b t program scene free none is = grind (arith, arrived_is_told)
 
 -- by whether another runs the action, and whether the thread does
 busy_by : (busy own : Bool) (one two : Option Outcome) → is_some one ≡ true
     → (busy ≡ false → own ≡ false → is_some two ≡ true) → is_some (if busy then None else (if own then one else two)) ≡ not busy
 busy_by true own one two first second = refl
-busy_by false true one two first second = first
-busy_by false false one two first second = second refl refl
+busy_by false _ one two first second = grind arith
 
 -- an entry that needn't wait for another's action
 await_is_ready : (no_wait : Bool) (into : Reg) (b t : ℕ) (program : Program) (scene : Scene)
     → is_some (unless_busy b t scene (unless_runner b t scene (outcome_of_await_at no_wait into b t program scene)))
     ≡ not (is_run_by_another t (barrier_at scene b).runner)
-await_is_ready no_wait into b t program scene =
-    let runner = (barrier_at scene b).runner in
-    busy_by (is_run_by_another t runner) (is_run_by t runner) _ _ refl
-    (λ free none. either ((barrier_at scene b).action && is_full (thread_at scene t)) _ _ refl
-    (entered_by runner no_wait into b t program scene free none refl))
+await_is_ready no_wait into b t program scene = grind (arith, busy_by, entered_by)
 
 runner_is_ready : (b t : ℕ) (scene : Scene) (outcome : Outcome)
     → is_some (unless_busy b t scene (unless_runner b t scene (Some outcome))) ≡ not (is_run_by_another t (barrier_at scene b).runner)
@@ -119,39 +97,16 @@ own_is_ready p t scene outcome = either (is_own_tree p (thread_at scene t) scene
 pub row_is_ready : (row : Row) (t : ℕ) (program : Program) (scene : Scene)
     → is_some (outcome_of_row row t program scene) ≡ not (is_blocked row t scene)
 row_is_ready (Preg into p) t program scene = register_is_ready into p t scene
-row_is_ready (Pbulk into p count) t program scene =
-    bulk_is_ready into p (value_in (thread_at scene t).registers count) t scene
-row_is_ready (Parr into p) t program scene = own_is_ready p t scene _
-row_is_ready (Pdereg into p) t program scene = own_is_ready p t scene _
-row_is_ready (Paaa into p) t program scene = own_is_ready p t scene _
-row_is_ready (Pawait into p phase) t program scene = own_is_ready p t scene _
-row_is_ready (Pawaiti into p phase) t program scene = own_is_ready p t scene _
-row_is_ready (Pawaitt into p phase time) t program scene = own_is_ready p t scene _
-row_is_ready (Cawait into b) t program scene = await_is_ready false into b t program scene
-row_is_ready (Cawaitt into b time) t program scene = await_is_ready _ into b t program scene
-row_is_ready (Creset b) t program scene = runner_is_ready b t scene _
-row_is_ready (Cbroken into b) t program scene = busy_is_ready b t scene _
-row_is_ready (Cwaiting into b) t program scene = runner_is_ready b t scene _
-row_is_ready _ t program scene = refl
+row_is_ready row t program scene = grind (arith, register_is_ready, bulk_is_ready, own_is_ready, await_is_ready, runner_is_ready, busy_is_ready)
 
 -- where no thread has to wait
 pub seldom_blocked : (row : Row) (t : ℕ) (scene : Scene) → may_be_blocked row ≡ false → is_blocked row t scene ≡ false
-seldom_blocked (Preg into p) t scene is = absurd (cc is)
-seldom_blocked (Pbulk into p count) t scene is = absurd (cc is)
-seldom_blocked (Cawait into b) t scene is = absurd (cc is)
-seldom_blocked (Cawaitt into b time) t scene is = absurd (cc is)
-seldom_blocked (Creset b) t scene is = absurd (cc is)
-seldom_blocked (Cbroken into b) t scene is = absurd (cc is)
-seldom_blocked (Cwaiting into b) t scene is = absurd (cc is)
-seldom_blocked _ t scene is = refl
+seldom_blocked row t scene is = grind arith
 
 -- a wait that can't end is unreleased
 pub unreleased : (wait : Option WaitState) (into : Reg) (index : ℤ) (b t : ℕ) (scene : Scene)
     → is_some (outcome_of_release wait into index b t scene) ≡ false → wait ≢ None → wait ≡ Some state.Waiting
-unreleased None into index b t scene ends there = absurd (there refl)
-unreleased (Some state.Waiting) into index b t scene ends there = refl
-unreleased (Some state.Tripped) into index b t scene ends there = absurd (cc ends)
-unreleased (Some state.Broken) into index b t scene ends there = absurd (cc ends)
+unreleased wait into index b t scene ends there = grind arith
 
 -- an expiry that is ready is the timeout, of a thread whose turn isn't
 pub expiry_not_ready : (ready : Bool) (timeout : Option Outcome) → is_some (if ready then None else timeout) ≡ true → ready ≡ false
@@ -161,9 +116,4 @@ expiry_not_ready false timeout some = refl
 pub expired : (row : Row) (t : ℕ) (program : Program) (scene : Scene) (outcome : Outcome)
     → row ≡ row_at program.rows (thread_at scene t).pc → is_some (outcome_of_expiry t program scene) ≡ true
     → timeout_in (thread_at scene t).status row t scene ≡ Some outcome → outcome_of_expiry t program scene ≡ Some outcome
-expired row t program scene outcome is some timeout =
-    let state = (thread_at scene t).status in
-    let here = row_at program.rows (thread_at scene t).pc in
-    let idle : is_ready t program scene ≡ false = expiry_not_ready (is_ready t program scene) (timeout_in state here t scene) some in
-    ap (λ (ready : Bool). if ready then None else timeout_in state here t scene) idle
-    ∙ ap (λ (r : Row). timeout_in state r t scene) (sym is) ∙ timeout
+expired row t program scene outcome is some timeout = grind (arith, expiry_not_ready)

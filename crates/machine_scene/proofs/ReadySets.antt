@@ -1,5 +1,5 @@
 -- The sets that are kept of a scene: threads that aren't there, and what a step leaves of the sets.
-use Rattle.std.proofs.Common.{◌≡◌, ◌≢◌, ◌∙◌, ℕ, arith, ◌+◌, ◌<◌, ◌≤◌, ◌==◌, ◌&&◌, not, Bool, true, false, inl, inr, ap, refl, sym, subst, if◌then◌else◌}
+use Rattle.std.proofs.Common.{◌≡◌, ◌≢◌, ◌∙◌, ℕ, arith, ◌+◌, ◌<◌, ◌≤◌, ◌==◌, ◌&&◌, not, Bool, true, false, inl, inr, ap, refl, sym, subst, if◌then◌else◌, rules}
 use Rattle.std.specs.Prelude.{length, is_some}
 use Rattle.std.proofs.Math.ListN.{get_or-eq_default}
 use Rattle.std.proofs.lemmas.Bool.{cases_eq, cases_lt}
@@ -35,19 +35,13 @@ none_registering u program scene beyond =
 
 -- who is ready is there
 pub ready_there : (u : ℕ) (program : Program) (scene : Scene) → is_ready u program scene ≡ true → u < length scene.threads
-ready_there u program scene is = elim (cases_lt u (length scene.threads)) as (λ _. u < length scene.threads) [
-  | inl within ↦ within
-  | inr beyond ↦ absurd (let none = none_ready u program scene beyond in cc (none, is))
-]
+ready_there u program scene is = grind (arith, cases_lt, none_ready)
 
 -- one thread was looked at
 pub looked : (program : Program) (t : ℕ) (before set : ReadySet) (scene : Scene)
     → IsSetAt t (is_ready t program scene) before.turns set.turns
     → IsSetAt t (is_registering t program scene) before.registering set.registering → IsLooked program t before set scene
-looked program t before set scene turns registering = record {
-  turns = tested_at (λ u. is_ready u program scene) t before.turns set.turns turns;
-  registering = tested_at (λ u. is_registering u program scene) t before.registering set.registering registering;
-}
+looked program t before set scene turns registering = search (rules, tested_at)
 
 -- all threads so far were
 pub record AreAllLooked (program : Program) (k : ℕ) (set : ReadySet) (scene : Scene) : Type 0 where
@@ -55,25 +49,15 @@ pub record AreAllLooked (program : Program) (k : ℕ) (set : ReadySet) (scene : 
   pub registering : IsFilledTo (λ u. is_registering u program scene) k set.registering
 
 pub all_start : (program : Program) (scene : Scene) → AreAllLooked program 0 (record { turns = 0; registering = 0 }) scene
-all_start program scene = record {
-  turns = filled_none (λ u. is_ready u program scene);
-  registering = filled_none (λ u. is_registering u program scene);
-}
+all_start program scene = grind (arith, filled_none)
 
 pub all_more : (program : Program) (k : ℕ) (before set : ReadySet) (scene : Scene) → AreAllLooked program k before scene
     → IsLooked program k before set scene → AreAllLooked program (k + 1) set scene
-all_more program k before set scene so_far is = record {
-  turns = filled_more (λ u. is_ready u program scene) k before.turns set.turns so_far.turns is.turns;
-  registering = filled_more (λ u. is_registering u program scene) k before.registering set.registering so_far.registering is.registering;
-}
+all_more program k before set scene so_far is = grind (arith, filled_more)
 
 pub all_ready : (program : Program) (k : ℕ) (set : ReadySet) (scene : Scene) → AreAllLooked program k set scene → length scene.threads ≤ k
     → AreReady program set scene
-all_ready program k set scene all whole = record {
-  turns = filled_all (λ u. is_ready u program scene) k set.turns all.turns (λ u beyond. none_ready u program scene (omega (arith, whole, beyond)));
-  registering = filled_all (λ u. is_registering u program scene) k set.registering all.registering
-      (λ u beyond. none_registering u program scene (omega (arith, whole, beyond)));
-}
+all_ready program k set scene all whole = grind (arith, filled_all, none_ready, none_registering)
 
 -- no look is needed
 if_nobody : (tree : Bool) (registering u : ℕ) → (tree ≡ true → registering ≡ 0) → (tree && has registering u) ≡ false
@@ -95,14 +79,7 @@ few_ready program t row before rest set scene none was interrupted is = record {
 
 -- at a row at which nobody has to wait nobody is about to register
 pub seldom_registers : (of : Status) (row : Row) → may_be_blocked row ≡ false → is_registering_in of row ≡ false
-seldom_registers status.Runs (Preg into p) free = absurd (cc free)
-seldom_registers status.Runs (Pbulk into p count) free = absurd (cc free)
-seldom_registers status.Runs _ free = refl
-seldom_registers (status.Throws code) row free = refl
-seldom_registers (status.AwaitsPhase phase) row free = refl
-seldom_registers (status.AwaitsBarrier index) row free = refl
-seldom_registers status.Ended row free = refl
-seldom_registers (status.Died code) row free = refl
+seldom_registers of row free = grind arith
 
 -- somebody is in a set that isn't empty
 pub somebody_registers : (set u : ℕ) → has set u ≡ true → set ≢ 0
@@ -110,10 +87,7 @@ somebody_registers set u is none = let empty = nobody u (sym (ap (λ (x : ℕ). 
 
 -- the sets are right of all threads where they are of one, and of all others
 all_beside : (test : ℕ → Bool) (t set : ℕ) → ((u : ℕ) → u ≢ t → has set u ≡ test u) → has set t ≡ test t → (u : ℕ) → has set u ≡ test u
-all_beside test t set others own u = elim (cases_eq u t) as (λ _. has set u ≡ test u) [
-  | inl same ↦ ap (has set) same ∙ own ∙ ap test (sym same)
-  | inr apart ↦ others u apart
-]
+all_beside test t set others own u = grind (arith, cases_eq)
 
 free : (blocked : Bool) → not blocked ≡ true → blocked ≡ false
 free true is = absurd (cc is)
@@ -121,12 +95,10 @@ free false is = refl
 
 -- one that runs on is ready, and isn't about to register
 on_listed : (of : Status) (row : Row) (t : ℕ) (scene : Scene) → runs_on of row ≡ true → is_listed of row t scene ≡ true
-on_listed status.Runs row t scene is = ap not (seldom_blocked row t scene (free (may_be_blocked row) is))
-on_listed _ row t scene is = absurd (cc is)
+on_listed of row t scene is = grind (arith, seldom_blocked, free)
 
 on_apart : (of : Status) (row : Row) → runs_on of row ≡ true → is_registering_in of row ≡ false
-on_apart status.Runs row is = seldom_registers status.Runs row (free (may_be_blocked row) is)
-on_apart _ row is = absurd (cc is)
+on_apart of row is = grind (arith, seldom_registers, free)
 
 -- thread t runs on
 abbrev pub RunsOn : ℕ → Program → Scene → Type 0
@@ -151,10 +123,7 @@ runs_on_ready program t set scene others turn apart runs = record {
 -- it needs no closer look
 pub looked_on : (program : Program) (t : ℕ) (before set : ReadySet) (scene : Scene) → RunsOn t program scene
     → IsSetAt t true before.turns set.turns → IsSetAt t false before.registering set.registering → IsLooked program t before set scene
-looked_on program t before set scene runs turns registering =
-    looked program t before set scene
-    (subst (λ (x : Bool). IsSetAt t x before.turns set.turns) (sym (on_ready program t scene runs)) turns)
-    (subst (λ (x : Bool). IsSetAt t x before.registering set.registering) (sym (on_unregistered program t scene runs)) registering)
+looked_on program t before set scene runs turns registering = grind (arith, looked, on_ready, on_unregistered)
 
 -- one that begins to wait is left out
 pub waits_ready : (program : Program) (t : ℕ) (before set : ReadySet) (scene : Scene) → AreReadyBeside program t before scene
@@ -172,9 +141,4 @@ waits_ready program t before set scene others turns same apart waits = record {
 -- one is looked at
 pub looked_ready : (program : Program) (t : ℕ) (before set : ReadySet) (scene : Scene) → AreReadyBeside program t before scene
     → IsLooked program t before set scene → AreReady program set scene
-looked_ready program t before set scene others is = record {
-  turns = λ u. all_right (t == u) (has set.turns u) (has before.turns u) (is_ready u program scene) (is.turns u)
-      (λ other. others.turns u (apart_from t u other));
-  registering = λ u. all_right (t == u) (has set.registering u) (has before.registering u) (is_registering u program scene) (is.registering u)
-      (λ other. others.registering u (apart_from t u other));
-}
+looked_ready program t before set scene others is = grind (arith, all_right, apart_from)

@@ -1,5 +1,5 @@
 -- Where a tree has a routine, an arrival that begins it found room on its thread's stack.
-use Rattle.std.proofs.Common.{◌≡◌, ◌∙◌, ℕ, Bool, false, List, ap}
+use Rattle.std.proofs.Common.{◌≡◌, ◌∙◌, ℕ, Bool, false, List, ap, arith}
 use Rattle.std.specs.Prelude.{None, ◌&&◌, slice_index_or}
 use Rattle.packed_phaser.specs.declared.policy.Policy.{Policy}
 use Rattle.packed_phaser.specs.declared.policy.Policy.TheVariants as policy
@@ -15,21 +15,10 @@ use Rattle.machine_scene.specs.PhaserRows.{is_routine_policy, has_routine, answe
 pub room_by : (own : Policy) (phase parties : ℕ) (full : Bool) → (is_routine_policy own && full) ≡ false
     → ends own phase parties ≡ None → full ≡ false
 room_by policy.Default phase parties full room none = absurd (cc none)
-room_by policy.Never phase parties full room none = absurd (cc none)
-room_by (policy.Until last) phase parties full room none = absurd (cc none)
-room_by policy.Routine phase parties full room none = room
+room_by own phase parties full room none = grind arith
 
 -- after an arrival at p that turned its root
 pub room_left : (scene after : Scene) (p root t : ℕ) → (has_routine p scene && is_full (thread_at scene t)) ≡ false
     → KeepsPlaces scene.phasers after.phasers → root ≡ root_at scene.phasers p → after.threads ≡ scene.threads
     → answer_of_policy root after ≡ None → is_full (thread_at after t) ≡ false
-room_left scene after p root t room keeps top same none =
-    let own : (phaser_at after.phasers root).policy ≡ (phaser_at scene.phasers (root_at scene.phasers p)).policy =
-    policy_same scene.phasers after.phasers keeps root ∙ ap (λ (n : ℕ). (phaser_at scene.phasers n).policy) top in
-    let full : is_full (thread_at after t) ≡ is_full (thread_at scene t) =
-    ap (λ (ts : List ThreadState). is_full (slice_index_or ts t no_thread)) same in
-    let left : (is_routine_policy (phaser_at after.phasers root).policy && is_full (thread_at after t)) ≡ false =
-    ap (λ (policy : Policy). is_routine_policy policy && is_full (thread_at after t)) own
-    ∙ ap (λ (f : Bool). is_routine_policy (phaser_at scene.phasers (root_at scene.phasers p)).policy && f) full ∙ room in
-    room_by (phaser_at after.phasers root).policy (flat_at after.phasers root).phase (flat_at after.phasers root).parties
-    (is_full (thread_at after t)) left none
+room_left scene after p root t room keeps top same none = grind (arith, policy_same, room_by)

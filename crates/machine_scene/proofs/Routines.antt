@@ -47,20 +47,7 @@ enters_balance : (before after : List PhaserState) (root : ℕ) (stack : List Fr
     → is_pending (flat_at before root) ≡ false → is_pending (flat_at after root) ≡ true
     → count_by (is_advance r) (stack ++ frame.Advance root registers pc ∷ []) + bit (is_pending (flat_at before r))
     ≤ count_by (is_advance r) stack + bit (is_pending (flat_at after r))
-enters_balance before after root stack registers pc r stays was now =
-    let pushed = entries-push (is_advance r) stack (frame.Advance root registers pc) in
-    elim (cases_eq r root) as (λ _. count_by (is_advance r) (stack ++ frame.Advance root registers pc ∷ []) + bit (is_pending (flat_at before r))
-    ≤ count_by (is_advance r) stack + bit (is_pending (flat_at after r))) [
-      | inl is ↦
-          let none : bit (is_pending (flat_at before r)) ≡ 0 = ap (λ (n : ℕ). bit (is_pending (flat_at before n))) is ∙ ap bit was in
-          let one : bit (is_pending (flat_at after r)) ≡ 1 = ap (λ (n : ℕ). bit (is_pending (flat_at after n))) is ∙ ap bit now in
-          let most = least (is_advance r (frame.Advance root registers pc)) in
-          omega (arith, pushed, none, one, most)
-      | inr apart ↦
-          let no : bit (is_advance r (frame.Advance root registers pc)) ≡ 0 = ap bit (other-no root r apart) in
-          let pends = pending_more (is_pending (flat_at before r)) (is_pending (flat_at after r)) stays in
-          omega (arith, pushed, no, pends)
-    ]
+enters_balance before after root stack registers pc r stays was now = grind (arith, entries-push, cases_eq, least, other-no, pending_more)
 
 pub sound_enter : (program : Program) (steps t p : ℕ) (leave : Bool) (scene : Scene) (root : PhaserId) (phase : ℤ) (parties count first : ℕ)
     → IsSound program steps scene → steps < 2147483647 → t < length scene.threads → p < length scene.phasers

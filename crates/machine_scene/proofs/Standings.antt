@@ -1,5 +1,5 @@
 -- Registrations and arrivals leave each phaser in its phase, and terminate none.
-use Rattle.std.proofs.Common.{◌≡◌, ◌∙◌, ℕ, zero, suc, ◌+◌, ◌-◌, ◌==◌, Bool, true, false, List, [], ◌∷◌, refl, sym, subst, if◌then◌else◌}
+use Rattle.std.proofs.Common.{◌≡◌, ◌∙◌, ℕ, zero, suc, ◌+◌, ◌-◌, ◌==◌, Bool, true, false, List, [], ◌∷◌, refl, sym, subst, if◌then◌else◌, arith}
 use Rattle.packed_phaser.specs.Flat.{Flat, Joins, JoinsLate, MustWait, Overfull, Arrival, Counts, Turns, ComesLate, IsUnregistered, arrive, settled, register, vacate, view_of}
 use Rattle.tier_tree.specs.declared.climb.Climb.{Climb}
 use Rattle.tier_tree.specs.declared.climb.Climb.TheVariants as climb
@@ -24,11 +24,9 @@ KeepsStandings before after = (id : ℕ) → standing_of (flat_at after id) ≡ 
 
 with_flat-standing : (phasers : List PhaserState) (i : ℕ) (flat : Flat) → standing_of flat ≡ standing_of (flat_at phasers i)
     → KeepsStandings phasers (with_flat phasers i flat)
-with_flat-standing [] i flat is q = refl
 with_flat-standing (p ∷ phasers) zero flat is zero = is
-with_flat-standing (p ∷ phasers) zero flat is (suc q) = refl
-with_flat-standing (p ∷ phasers) (suc i) flat is zero = refl
 with_flat-standing (p ∷ phasers) (suc i) flat is (suc q) = with_flat-standing phasers i flat is q
+with_flat-standing _ _ flat is _ = refl
 
 -- a registration
 joins_standing : (ended none over turned : Bool) (f more : Flat) (view phase : _) → standing_of more ≡ standing_of f
@@ -36,10 +34,7 @@ joins_standing : (ended none over turned : Bool) (f more : Flat) (view phase : _
     else (if over then Overfull else (if turned then MustWait
     else Joins more phase)))) f) ≡ standing_of f
 joins_standing true none over turned f more view phase same = refl
-joins_standing false true over turned f more view phase same = refl
-joins_standing false false true turned f more view phase same = refl
-joins_standing false false false true f more view phase same = refl
-joins_standing false false false false f more view phase same = same
+joins_standing false _ over turned f more view phase same = grind arith
 
 joined-standings : (all : List Join) (phasers : List PhaserState) → KeepsStandings phasers (joined all phasers)
 joined-standings [] phasers q = refl
@@ -51,10 +46,7 @@ joined-standings (join ∷ others) phasers q =
     ∙ joined-standings others phasers q
 
 by-standings : (r : Registered) (all : List Join) (phasers : List PhaserState) → KeepsStandings phasers (registered_by r all phasers)
-by-standings (registered.At phase) all phasers q = joined-standings all phasers q
-by-standings (registered.Dead view) all phasers q = refl
-by-standings registered.Held all phasers q = refl
-by-standings registered.TooMany all phasers q = refl
+by-standings r all phasers q = grind (arith, joined-standings)
 
 pub registration-standings : (id count : ℕ) (phasers : List PhaserState) → KeepsStandings phasers (after_registration id count phasers)
 registration-standings id count phasers q = by-standings (registration id count phasers) (joins id count phasers) phasers q
@@ -73,11 +65,7 @@ settled_standing false g = refl
 arrive_standing : (ended none leave : Bool) (f less more : Flat) (view : _) → standing_of less ≡ standing_of f → standing_of more ≡ standing_of f
     → IsIn (standing_of f) (if ended then ComesLate view else (if none then IsUnregistered else (if leave then settled less else settled more)))
 arrive_standing true none leave f less more view a b = tt
-arrive_standing false true leave f less more view a b = tt
-arrive_standing false false true f less more view a b =
-    subst (λ (n : Standing). IsIn n (settled less)) a (settled_standing (less.arrived == less.parties) less)
-arrive_standing false false false f less more view a b =
-    subst (λ (n : Standing). IsIn n (settled more)) b (settled_standing (more.arrived == more.parties) more)
+arrive_standing false _ leave f less more view a b = grind (arith, settled_standing)
 
 passed_standing : (none : Bool) (g : Flat) → standing_of (if none then vacate g else g) ≡ standing_of g
 passed_standing true g = refl
@@ -85,21 +73,12 @@ passed_standing false g = refl
 
 child-standings : (id : ℕ) (g : Flat) (c : Climb) (above phasers : List PhaserState) → standing_of g ≡ standing_of (flat_at phasers id)
     → KeepsStandings phasers above → KeepsStandings phasers (with_child id g c above).phasers
-child-standings id g climb.Counted above phasers is kept q =
-    with_flat-standing above id (passed_on g) (passed_standing (g.parties == 0) g ∙ is ∙ sym (kept id)) q ∙ kept q
-child-standings id g climb.Turned above phasers is kept q =
-    with_flat-standing above id (passed_on g) (passed_standing (g.parties == 0) g ∙ is ∙ sym (kept id)) q ∙ kept q
-child-standings id g climb.Refused above phasers is kept q = kept q
+child-standings id g c above phasers is kept q = grind (arith, with_flat-standing, passed_standing)
 
 climbed_by-standings : (a : Arrival) (id : ℕ) (top : Bool) (above : Bool → Climbed) (phasers : List PhaserState)
     → IsIn (standing_of (flat_at phasers id)) a → ((leave : Bool) → KeepsStandings phasers (above leave).phasers)
     → KeepsStandings phasers (climbed_by a id top above phasers).phasers
-climbed_by-standings (Counts g) id top above phasers is rest q = with_flat-standing phasers id g is q
-climbed_by-standings (Turns g) id true above phasers is rest q = with_flat-standing phasers id g is q
-climbed_by-standings (Turns g) id false above phasers is rest q =
-    child-standings id g (above (g.parties == 0)).climb (above (g.parties == 0)).phasers phasers is (rest (g.parties == 0)) q
-climbed_by-standings (ComesLate view) id top above phasers is rest q = refl
-climbed_by-standings IsUnregistered id top above phasers is rest q = refl
+climbed_by-standings a id top above phasers is rest q = grind (arith, with_flat-standing, child-standings)
 
 climbed-standings : (line : List ℕ) (leave : Bool) (phasers : List PhaserState) → KeepsStandings phasers (climbed line leave phasers).phasers
 climbed-standings [] leave phasers q = refl
@@ -110,15 +89,4 @@ climbed-standings (id ∷ above) leave phasers q =
     (λ leaves. climbed-standings above leaves phasers) q
 
 pub arrival-standings : (id : ℕ) (leave : Bool) (phasers : List PhaserState) → KeepsStandings phasers (arrival id leave phasers).phasers
-arrival-standings id leave phasers q = by_end (flat_at phasers id).ended
-  where
-    by_climb : (c : Climb) → standing_of (flat_at (arrival_by c id (climbed (phaser_at phasers id).line leave phasers).phasers phasers).phasers q) ≡ standing_of (flat_at phasers q)
-    by_climb climb.Counted = climbed-standings (phaser_at phasers id).line leave phasers q
-    by_climb climb.Turned = climbed-standings (phaser_at phasers id).line leave phasers q
-    by_climb climb.Refused = refl
-
-    by_end : (ended : Bool) → let a : Arrives = if ended then record { phasers = phasers; answer = arrived.Dead (view_of (flat_at phasers id)) }
-        else arrival_by (climbed (phaser_at phasers id).line leave phasers).climb id (climbed (phaser_at phasers id).line leave phasers).phasers phasers in
-        standing_of (flat_at a.phasers q) ≡ standing_of (flat_at phasers q)
-    by_end true = refl
-    by_end false = by_climb (climbed (phaser_at phasers id).line leave phasers).climb
+arrival-standings id leave phasers q = grind (arith, climbed-standings)

@@ -27,18 +27,11 @@ no_entries test (thread ∷ threads) = let rest = no_entries test threads in ome
 
 -- a barrier of the first scene is new, also where there is none
 new_at : (barriers : List BarrierState) (b : ℕ) → All IsNewBarrier barriers → IsNewBarrier (get_or barriers b (fresh 1 false))
-new_at barriers b new = elim (cases_lt b (length barriers)) as (λ _. IsNewBarrier (get_or barriers b (fresh 1 false))) [
-  | inl there ↦ new b (fresh 1 false) there
-  | inr past ↦ subst IsNewBarrier (sym (get_or_past barriers b (fresh 1 false) past)) refl
-]
+new_at barriers b new = grind (arith, cases_lt, get_or_past)
 
 -- nobody waits at a new barrier
 none_waits : (n t : ℕ) → is_some (wait_at (replicate n None) t) ≡ false
-none_waits n t = elim (cases_lt t n) as (λ _. is_some (wait_at (replicate n None) t) ≡ false) [
-  | inl there ↦ ap is_some (get_or-replicate {A = Option WaitState} n t None None there)
-  | inr past ↦ (let many = length-replicate {A = Option WaitState} n None in
-      ap is_some (get_or_past (replicate {A = Option WaitState} n None) t None (omega (arith, many, past))))
-]
+none_waits n t = grind (arith, cases_lt, get_or-replicate, length-replicate, get_or_past)
 
 -- the thread of each number runs at its first row, or isn't there
 starts_free : (threads : List DeclaredThread) (t : ℕ) → IsFree (get_or (map starting threads) t no_thread).status
@@ -79,29 +72,12 @@ sound_with program phasers code threads barriers trees forest =
     }
 
 pub sound_start : (program : Program) → IsProgram program → IsForest (phasers_of program.phasers) → IsSound program 0 (first_scene program)
-sound_start program is forest =
-    let heads : length (map starting program.threads) ≡ length program.threads = length-map program.threads starting in
-    let same : counts_of program (first_scene program) ≡ program_counts program = cc (heads, length-shown program.phasers) in
-    sound_with program (phasers_of program.phasers) (subst (IsCode program) (sym same) is.code) is.threads is.barriers is.phasers forest
+sound_start program is forest = grind (arith, length-map, length-shown, sound_with)
 
 -- more steps may have been taken
 pub sound_with_more : (program : Program) (scene : Scene) (steps more : ℕ) → steps ≤ more → IsSound program steps scene
     → IsSound program more scene
-sound_with_more program scene steps more most sound = record {
-  code = sound.code;
-  few_threads = sound.few_threads;
-  few_barriers = sound.few_barriers;
-  trees = record {
-    forest = sound.trees.forest;
-    stands = sound.trees.stands;
-    ends = λ id. let few = sound.trees.ends id in omega (arith, few, most);
-  };
-  placed = sound.placed;
-  advances = sound.advances;
-  actions = sound.actions;
-  room = sound.room;
-  waits = sound.waits;
-}
+sound_with_more program scene steps more most sound = grind arith
 
 pub first_scene_is_sound : (program : Program) → IsProgram program → IsStored program.phasers → (steps : ℕ)
     → IsSound program steps (first_scene program)

@@ -1,6 +1,6 @@
 -- A step leaves every other thread as ready as it was, unless its event shows more than a turn of its own thread, its row
 -- interrupts that thread, or the thread is about to register and the step changes a tree.
-use Rattle.std.proofs.Common.{◌≡◌, ◌≢◌, ◌∙◌, ℕ, ℤ, pos, zero, suc, ◌+◌, ◌==◌, ◌||◌, ◌&&◌, not, Bool, true, false, List, [], ◌∷◌, ap, refl, sym, subst}
+use Rattle.std.proofs.Common.{◌≡◌, ◌≢◌, ◌∙◌, ℕ, ℤ, pos, zero, suc, ◌+◌, ◌==◌, ◌||◌, ◌&&◌, not, Bool, true, false, List, [], ◌∷◌, ap, refl, sym, subst, arith, rules}
 use Rattle.std.specs.Prelude.{nat_abs, int_lt, is_some, Option, Some, None, slice_set, slice_index_or}
 use Rattle.std.specs.List.{list_any}
 use Rattle.std.specs.Ordering.{int_eq}
@@ -73,26 +73,13 @@ looked_same p phase u scene after alike =
 
 awaited_same : (row : Row) (phase : ℤ) (u : ℕ) (scene after : Scene) → Alike u scene after
     → is_awaited row phase u after ≡ is_awaited row phase u scene
-awaited_same (Paaa into p) phase u scene after alike = past_same p phase u scene after alike
-awaited_same (Pawait into p number) phase u scene after alike = past_same p phase u scene after alike
-awaited_same (Pawaiti into p number) phase u scene after alike = looked_same p phase u scene after alike
-awaited_same (Pawaitt into p number time) phase u scene after alike = looked_same p phase u scene after alike
-awaited_same _ phase u scene after alike = refl
+awaited_same row phase u scene after alike = grind (arith, past_same, looked_same)
 
 over_same_at : (b u : ℕ) (scene after : Scene) → Alike u scene after → is_over_at b u after ≡ is_over_at b u scene
-over_same_at b u scene after alike =
-    let before = wait_at (barrier_at scene b).waits u in
-    ap (λ (w : Option WaitState). is_released w
-    || (is_waiting w && ((thread_at after u).interrupted && not (is_some (barrier_at after b).runner)))) (alike.waits b)
-    ∙ ap (λ (thread : ThreadState). is_released before || (is_waiting before && (thread.interrupted && not (is_some (barrier_at after b).runner))))
-    alike.thread
-    ∙ ap (λ (runner : Option ℕ). is_released before || (is_waiting before && ((thread_at scene u).interrupted && not (is_some runner))))
-    (alike.runners b)
+over_same_at b u scene after alike = grind arith
 
 over_same : (row : Row) (u : ℕ) (scene after : Scene) → Alike u scene after → is_over row u after ≡ is_over row u scene
-over_same (Cawait into b) u scene after alike = over_same_at b u scene after alike
-over_same (Cawaitt into b time) u scene after alike = over_same_at b u scene after alike
-over_same _ u scene after alike = refl
+over_same row u scene after alike = grind (arith, over_same_at)
 
 busy_same : (b u : ℕ) (scene after : Scene) → Alike u scene after
     → is_run_by_another u (barrier_at after b).runner ≡ is_run_by_another u (barrier_at scene b).runner
@@ -100,44 +87,21 @@ busy_same b u scene after alike = ap (is_run_by_another u) (alike.runners b)
 
 held_same : (p : ℕ) (count other : ℤ) (u : ℕ) (scene after : Scene) → Alike u scene after → count ≡ other → after.phasers ≡ scene.phasers
     → registration_is_held p count u after ≡ registration_is_held p other u scene
-held_same p count other u scene after alike counted same =
-    let held : ThreadState → ℤ → List PhaserState → Bool = λ thread n phasers.
-    not (list_any (is_advance (root_at phasers p)) thread.stack) && (not (int_lt n (pos 0)) && is_held (registration p (nat_abs n) phasers)) in
-    ap (λ (thread : ThreadState). held thread count after.phasers) alike.thread
-    ∙ ap (λ (n : ℤ). held (thread_at scene u) n after.phasers) counted
-    ∙ ap (held (thread_at scene u) other) same
+held_same p count other u scene after alike counted same = grind arith
 
 -- a registration is held as before where the phasers are the same
 blocked_same : (row : Row) (u : ℕ) (scene after : Scene) → Alike u scene after
     → (is_registration row ≡ true → after.phasers ≡ scene.phasers) → is_blocked row u after ≡ is_blocked row u scene
-blocked_same (Preg into p) u scene after alike held = held_same p (pos 1) (pos 1) u scene after alike refl (held refl)
-blocked_same (Pbulk into p count) u scene after alike held =
-    held_same p _ _ u scene after alike (ap (λ (thread : ThreadState). value_in thread.registers count) alike.thread) (held refl)
-blocked_same (Cawait into b) u scene after alike held = busy_same b u scene after alike
-blocked_same (Cawaitt into b time) u scene after alike held = busy_same b u scene after alike
-blocked_same (Creset b) u scene after alike held = busy_same b u scene after alike
-blocked_same (Cbroken into b) u scene after alike held = busy_same b u scene after alike
-blocked_same (Cwaiting into b) u scene after alike held = busy_same b u scene after alike
-blocked_same _ u scene after alike held = refl
+blocked_same row u scene after alike held = grind (arith, held_same, busy_same)
 
 listed_same : (of : Status) (row : Row) (u : ℕ) (scene after : Scene) → Alike u scene after
     → (is_registering_in of row ≡ true → after.phasers ≡ scene.phasers) → is_listed of row u after ≡ is_listed of row u scene
-listed_same status.Runs row u scene after alike held = ap not (blocked_same row u scene after alike held)
-listed_same (status.Throws code) row u scene after alike held = refl
-listed_same (status.AwaitsPhase phase) row u scene after alike held = awaited_same row phase u scene after alike
-listed_same (status.AwaitsBarrier index) row u scene after alike held = over_same row u scene after alike
-listed_same status.Ended row u scene after alike held = refl
-listed_same (status.Died code) row u scene after alike held = refl
+listed_same of row u scene after alike held = grind (arith, blocked_same, awaited_same, over_same)
 
 -- so the turn is ready just where it was
 ready_same : (u : ℕ) (program : Program) (scene after : Scene) → Alike u scene after
     → (is_registering u program scene ≡ true → after.phasers ≡ scene.phasers) → is_ready u program after ≡ is_ready u program scene
-ready_same u program scene after alike held =
-    let thread = thread_at scene u in
-    ready_as_listed u program after
-    ∙ ap (λ (x : ThreadState). is_listed x.status (row_at program.rows x.pc) u after) alike.thread
-    ∙ listed_same thread.status (row_at program.rows thread.pc) u scene after alike held
-    ∙ sym (ready_as_listed u program scene)
+ready_same u program scene after alike held = grind (arith, ready_as_listed, listed_same)
 
 registering_same : (u : ℕ) (program : Program) (scene after : Scene) → thread_at after u ≡ thread_at scene u
     → is_registering u program after ≡ is_registering u program scene
@@ -162,25 +126,17 @@ QuietIf t row scene None = Unit {0}
 QuietIf t row scene (Some outcome) = changes_all row outcome.event ≡ false → Leaves t row scene outcome.scene
 
 not_loud : (row : Row) (event : Event) → changes_all row event ≡ false → is_loud event ≡ false
-not_loud (Pforce p) event quiet = absurd (cc quiet)
-not_loud (Creset b) event quiet = absurd (cc quiet)
-not_loud _ event quiet = quiet
+not_loud row event quiet = grind arith
 
 quiet_if : (t : ℕ) (row : Row) (scene : Scene) (outcome : Option Outcome) → CalmIf t row scene outcome → QuietIf t row scene outcome
-quiet_if t row scene None calm = tt
-quiet_if t row scene (Some outcome) calm = λ quiet. calm (not_loud row outcome.event quiet)
+quiet_if t row scene outcome calm = grind (arith, not_loud)
 
 -- another state of thread t, from a scene in which no other thread but one that is interrupted may be another already
 turned : (t : ℕ) (row : Row) (scene mid : Scene) (after : ThreadState)
     → ((u : ℕ) → u ≢ t → interrupts u row ≡ false → thread_at mid u ≡ thread_at scene u) → KeepsStandings scene.phasers mid.phasers
     → ((b u : ℕ) → u ≢ t → wait_at (barrier_at mid b).waits u ≡ wait_at (barrier_at scene b).waits u)
     → ((b : ℕ) → (barrier_at mid b).runner ≡ (barrier_at scene b).runner) → Leaves t row scene (with_thread after t mid)
-turned t row scene mid after threads standings waits runners = record {
-  threads = λ u apart free. get_or-set_other mid.threads t u after no_thread apart ∙ threads u apart free;
-  standings = standings;
-  waits = waits;
-  runners = runners;
-}
+turned t row scene mid after threads standings waits runners = grind (arith, get_or-set_other)
 
 still : (t : ℕ) (row : Row) (scene : Scene) (after : ThreadState) → Leaves t row scene (with_thread after t scene)
 still t row scene after = turned t row scene scene after (λ u apart free. refl) (λ id. refl) (λ b u apart. refl) (λ b. refl)
@@ -215,15 +171,7 @@ at_gate b t row scene gate after keeps =
 
 quiet_own_row : (row : Row) (t : ℕ) (scene : Scene) → QuietIf t row scene (outcome_of_own_row row t scene)
 quiet_own_row Halt t scene = λ quiet. still t Halt scene _
-quiet_own_row (Ldi into value) t scene = λ quiet. still t (Ldi into value) scene _
-quiet_own_row (Mov into from) t scene = λ quiet. still t (Mov into from) scene _
-quiet_own_row (Add into left right) t scene = λ quiet. still t (Add into left right) scene _
-quiet_own_row (Sub into left right) t scene = λ quiet. still t (Sub into left right) scene _
-quiet_own_row (Jmp target) t scene = λ quiet. still t (Jmp target) scene _
-quiet_own_row (Beq left right target) t scene = λ quiet. still t (Beq left right target) scene _
-quiet_own_row (Bne left right target) t scene = λ quiet. still t (Bne left right target) scene _
-quiet_own_row (Blt left right target) t scene = λ quiet. still t (Blt left right target) scene _
-quiet_own_row _ t scene = tt
+quiet_own_row row t scene = search (rules, still)
 
 calm_routine_end : (ended : Bool) (manner : Manner) (root : ℕ) (ends : Bool) (t : ℕ) (row : Row) (scene : Scene) (left : ThreadState)
     → CalmIf t row scene (Some (outcome_of_routine_end ended manner root ends t (with_thread left t scene)))
@@ -234,56 +182,29 @@ calm_routine_end false manner root ends t row scene left = λ calm. absurd (cc c
 calm_ret : (top : Option Frame) (t : ℕ) (row : Row) (program : Program) (scene : Scene)
     → CalmIf t row scene (Some (outcome_of_ret top t program scene))
 calm_ret None t row program scene = λ calm. still t row scene _
-calm_ret (Some (frame.Call back)) t row program scene = λ calm. still t row scene _
-calm_ret (Some (frame.Handler first)) t row program scene = λ calm. still t row scene _
-calm_ret (Some (frame.Advance root registers back)) t row program scene =
-    calm_routine_end (flat_at scene.phasers root).ended _ root _ t row scene (left_routine registers back (thread_at scene t))
-calm_ret (Some (frame.Action b registers back)) t row program scene = λ calm. absurd (cc calm)
+calm_ret top t row program scene = search (rules, still, calm_routine_end)
 
 quiet_call_row : (row : Row) (t : ℕ) (program : Program) (scene : Scene) → QuietIf t row scene (outcome_of_call_row row t program scene)
 quiet_call_row (Call target) t program scene = λ quiet. still t (Call target) scene _
-quiet_call_row Ret t program scene = calm_ret (top_of (thread_at scene t).stack) t Ret program scene
-quiet_call_row (Try handler) t program scene = λ quiet. still t (Try handler) scene _
-quiet_call_row Endtry t program scene = λ quiet. still t Endtry scene _
-quiet_call_row (Throw code) t program scene = λ quiet. still t (Throw code) scene _
-quiet_call_row _ t program scene = tt
+quiet_call_row row t program scene = search (rules, still, calm_ret)
 
 quiet_interrupt : (other t : ℕ) (scene : Scene) → QuietIf t (Intr other) scene (outcome_of_data_row (Intr other) t scene)
-quiet_interrupt other t scene = λ quiet.
-    let mid = with_thread (interrupted (thread_at scene other)) other scene in
-    turned t (Intr other) scene mid _ (λ u apart free.
-    get_or-set_other scene.threads other u (interrupted (thread_at scene other)) no_thread
-    (λ is. (let yes = ap (λ (n : ℕ). other == n) is ∙ same-is other in cc (yes, free)))) (λ id. refl) (λ b u apart. refl) (λ b. refl)
+quiet_interrupt other t scene = grind (arith, turned, get_or-set_other, same-is)
 
 quiet_data_row : (row : Row) (t : ℕ) (scene : Scene) → QuietIf t row scene (outcome_of_data_row row t scene)
 quiet_data_row (Out value) t scene = λ quiet. still t (Out value) scene _
-quiet_data_row (Lds into cell) t scene = λ quiet. still t (Lds into cell) scene _
-quiet_data_row (Sts from cell) t scene = λ quiet.
-    turned t (Sts from cell) scene (with_cell (value_in (thread_at scene t).registers from) cell scene) _ (λ u apart free. refl)
-    (λ id. refl) (λ b u apart. refl) (λ b. refl)
-quiet_data_row (SelfNumber into) t scene = λ quiet. still t (SelfNumber into) scene _
-quiet_data_row (Intr other) t scene = quiet_interrupt other t scene
-quiet_data_row (Intrd into) t scene = λ quiet. still t (Intrd into) scene _
-quiet_data_row _ t scene = tt
+quiet_data_row row t scene = search (rules, still, turned, quiet_interrupt)
 
 quiet_getter_row : (row : Row) (t : ℕ) (scene : Scene) → QuietIf t row scene (outcome_of_getter_row row t scene)
 quiet_getter_row (Pphase into p) t scene = λ quiet. still t (Pphase into p) scene _
-quiet_getter_row (Pparties into p) t scene = λ quiet. still t (Pparties into p) scene _
-quiet_getter_row (Parrived into p) t scene = λ quiet. still t (Parrived into p) scene _
-quiet_getter_row (Punarr into p) t scene = λ quiet. still t (Punarr into p) scene _
-quiet_getter_row (Pterm into p) t scene = λ quiet. still t (Pterm into p) scene _
-quiet_getter_row (Pparent into p) t scene = λ quiet. still t (Pparent into p) scene _
-quiet_getter_row (Proot into p) t scene = λ quiet. still t (Proot into p) scene _
-quiet_getter_row _ t scene = tt
+quiet_getter_row row t scene = search (rules, still)
 
 -- rows at phasers
 
 calm_registered : (answer : Registered) (into : Reg) (t : ℕ) (row : Row) (scene : Scene) (phasers : List PhaserState)
     → KeepsStandings scene.phasers phasers → CalmIf t row scene (outcome_of_registered answer into t (with_phasers phasers scene))
 calm_registered (registered.At phase) into t row scene phasers same = λ calm. at_tree t row scene phasers _ same
-calm_registered (registered.Dead view) into t row scene phasers same = λ calm. at_tree t row scene phasers _ same
-calm_registered registered.TooMany into t row scene phasers same = λ calm. at_tree t row scene phasers _ same
-calm_registered registered.Held into t row scene phasers same = tt
+calm_registered answer into t row scene phasers same = search (rules, at_tree)
 
 calm_registration : (into : Reg) (p count t : ℕ) (row : Row) (scene : Scene)
     → CalmIf t row scene (outcome_of_registered (registration p count scene.phasers) into t
@@ -300,25 +221,17 @@ calm_bulk into p count t row scene =
 calm_turning : (answer : Option Bool) (manner : Manner) (root : ℕ) (phase : ℤ) (t : ℕ) (row : Row) (program : Program) (scene : Scene)
     (phasers : List PhaserState) → KeepsStandings scene.phasers phasers
     → CalmIf t row scene (Some (outcome_of_pending_end answer manner root phase t program (with_phasers phasers scene)))
-calm_turning (Some ends) manner root phase t row program scene phasers same = λ calm. absurd (cc calm)
-calm_turning None manner root phase t row program scene phasers same = λ calm. absurd (cc calm)
+calm_turning answer manner root phase t row program scene phasers same = grind arith
 
 calm_arrived : (answer : Arrived) (manner : Manner) (t : ℕ) (row : Row) (program : Program) (scene : Scene) (phasers : List PhaserState)
     → KeepsStandings scene.phasers phasers
     → CalmIf t row scene (Some (outcome_of_arrived answer manner t program (with_phasers phasers scene)))
 calm_arrived (arrived.At phase) manner t row program scene phasers same = λ calm. at_tree t row scene phasers _ same
-calm_arrived (arrived.Turning root phase parties) manner t row program scene phasers same =
-    calm_turning (answer_of_policy root.0 (with_phasers phasers scene)) manner root.0 phase t row program scene phasers same
-calm_arrived (arrived.Dead view) manner t row program scene phasers same = λ calm. at_tree t row scene phasers _ same
-calm_arrived arrived.NotThere manner t row program scene phasers same = λ calm. at_tree t row scene phasers _ same
+calm_arrived answer manner t row program scene phasers same = search (rules, at_tree, calm_turning)
 
 calm_arrival : (manner : Manner) (p t : ℕ) (row : Row) (program : Program) (scene : Scene)
     → CalmIf t row scene (Some (outcome_of_arrival manner p t program scene))
-calm_arrival manner p t row program scene =
-    let all : Arrives = arrival p manner.leaves scene.phasers in
-    either (λ (outcome : Outcome). CalmIf t row scene (Some outcome)) (has_routine p scene && is_full (thread_at scene t))
-    (λ calm. still t row scene _)
-    (calm_arrived all.answer manner t row program scene all.phasers (arrival-standings p manner.leaves scene.phasers))
+calm_arrival manner p t row program scene = search (rules, still, calm_arrived, arrival-standings)
 
 -- unless the thread itself runs the tree's routine
 calm_unless_own : (p t : ℕ) (row : Row) (scene : Scene) (outcome : Option Outcome) → CalmIf t row scene outcome
@@ -329,23 +242,7 @@ calm_unless_own p t row scene outcome calm =
 quiet_phaser_row : (row : Row) (t : ℕ) (program : Program) (scene : Scene) → QuietIf t row scene (outcome_of_phaser_row row t program scene)
 quiet_phaser_row (Preg into p) t program scene =
     quiet_if t (Preg into p) scene _ (calm_unless_own p t (Preg into p) scene _ (calm_registration into p 1 t (Preg into p) scene))
-quiet_phaser_row (Pbulk into p count) t program scene =
-    quiet_if t (Pbulk into p count) scene _ (calm_unless_own p t (Pbulk into p count) scene _
-    (calm_bulk into p (value_in (thread_at scene t).registers count) t (Pbulk into p count) scene))
-quiet_phaser_row (Parr into p) t program scene =
-    quiet_if t (Parr into p) scene _ (calm_unless_own p t (Parr into p) scene _ (calm_arrival _ p t (Parr into p) program scene))
-quiet_phaser_row (Pdereg into p) t program scene =
-    quiet_if t (Pdereg into p) scene _ (calm_unless_own p t (Pdereg into p) scene _ (calm_arrival _ p t (Pdereg into p) program scene))
-quiet_phaser_row (Paaa into p) t program scene =
-    quiet_if t (Paaa into p) scene _ (calm_unless_own p t (Paaa into p) scene _ (calm_arrival _ p t (Paaa into p) program scene))
-quiet_phaser_row (Pawait into p phase) t program scene =
-    quiet_if t (Pawait into p phase) scene _ (calm_unless_own p t (Pawait into p phase) scene (Some _) (λ calm. still t _ scene _))
-quiet_phaser_row (Pawaiti into p phase) t program scene =
-    quiet_if t (Pawaiti into p phase) scene _ (calm_unless_own p t (Pawaiti into p phase) scene (Some _) (λ calm. still t _ scene _))
-quiet_phaser_row (Pawaitt into p phase time) t program scene =
-    quiet_if t (Pawaitt into p phase time) scene _ (calm_unless_own p t (Pawaitt into p phase time) scene (Some _) (λ calm. still t _ scene _))
-quiet_phaser_row (Pforce p) t program scene = λ quiet. absurd (cc quiet)
-quiet_phaser_row _ t program scene = tt
+quiet_phaser_row row t program scene = search (rules, quiet_if, calm_unless_own, calm_registration, calm_bulk, calm_arrival, still)
 
 -- rows at barriers
 
@@ -364,31 +261,18 @@ set_else t gate wait = (λ u apart. get_or-set_other gate.waits t u wait None ap
 
 arrive_keeps : (t : ℕ) (interrupted no_wait : Bool) (gate : BarrierState)
     → KeepsIf (arrive t interrupted no_wait gate).answer t gate (arrive t interrupted no_wait gate).barrier
-arrive_keeps t interrupted no_wait gate =
-    let P : Entry → Type 0 = λ entry. KeepsIf entry.answer t gate entry.barrier in
-    let told : Entry = record { barrier = gate; answer = entered.Broken } in
-    let stopped : Entry = record { barrier = break gate; answer = entered.Interrupted } in
-    let late : Entry = record { barrier = break gate; answer = entered.TimedOut } in
-    either P gate.broken {a = told} (none_else t gate)
-    (either P interrupted {a = stopped} tt
-    (either P (number_waiting gate + 1 == gate.parties) {a = arrive_last t gate}
-    (either P gate.action {a = record { barrier = record gate { runner = Some t }; answer = entered.Run }} tt tt)
-    (either P no_wait {a = late} {b = add_wait t gate} tt (set_else t gate (Some state.Waiting)))))
+arrive_keeps t interrupted no_wait gate = search (rules, none_else, set_else)
 
 beside_keeps : (runner : Option ℕ) (t : ℕ) (interrupted no_wait : Bool) (gate : BarrierState)
     → KeepsIf (enter_beside runner t interrupted no_wait gate).answer t gate (enter_beside runner t interrupted no_wait gate).barrier
 beside_keeps None t interrupted no_wait gate = arrive_keeps t interrupted no_wait gate
-beside_keeps (Some runner) t interrupted no_wait gate =
-    either (λ (answer : Entered). KeepsIf answer t gate gate) (runner == t) {a = entered.Own} {b = entered.Busy} (none_else t gate) tt
+beside_keeps (Some runner) t interrupted no_wait gate = grind (arith, none_else)
 
 calm_entered : (answer : Entered) (into : Reg) (b t : ℕ) (row : Row) (program : Program) (scene : Scene) (gate : BarrierState)
     → KeepsIf answer t (barrier_at scene b) gate
     → CalmIf t row scene (outcome_of_entered answer into b t program (with_barrier gate b scene))
 calm_entered (entered.Wait index) into b t row program scene gate keeps = λ calm. at_gate b t row scene gate _ keeps
-calm_entered entered.Broken into b t row program scene gate keeps = λ calm. at_gate b t row scene gate _ keeps
-calm_entered entered.Own into b t row program scene gate keeps = λ calm. at_gate b t row scene gate _ keeps
-calm_entered entered.Busy into b t row program scene gate keeps = tt
-calm_entered _ into b t row program scene gate keeps = λ calm. absurd (cc calm)
+calm_entered answer into b t row program scene gate keeps = search (rules, at_gate)
 
 calm_await : (no_wait : Bool) (into : Reg) (b t : ℕ) (row : Row) (program : Program) (scene : Scene)
     → CalmIf t row scene (outcome_of_await_at no_wait into b t program scene)
@@ -410,24 +294,13 @@ calm_unless_runner b t row scene outcome calm =
 
 -- a reset may wake those who wait
 quiet_reset : (t b : ℕ) (scene : Scene) (outcome : Option Outcome) → QuietIf t (Creset b) scene outcome
-quiet_reset t b scene None = tt
-quiet_reset t b scene (Some outcome) = λ quiet. absurd (cc quiet)
+quiet_reset t b scene outcome = grind arith
 
 quiet_barrier_row : (row : Row) (t : ℕ) (program : Program) (scene : Scene) → QuietIf t row scene (outcome_of_barrier_row row t program scene)
 quiet_barrier_row (Cawait into b) t program scene =
     quiet_if t (Cawait into b) scene _ (calm_unless_busy b t (Cawait into b) scene _ (calm_unless_runner b t (Cawait into b) scene _
     (calm_await false into b t (Cawait into b) program scene)))
-quiet_barrier_row (Cawaitt into b time) t program scene =
-    quiet_if t (Cawaitt into b time) scene _ (calm_unless_busy b t (Cawaitt into b time) scene _
-    (calm_unless_runner b t (Cawaitt into b time) scene _ (calm_await _ into b t (Cawaitt into b time) program scene)))
-quiet_barrier_row (Creset b) t program scene = quiet_reset t b scene _
-quiet_barrier_row (Cbroken into b) t program scene =
-    quiet_if t (Cbroken into b) scene _ (calm_unless_busy b t (Cbroken into b) scene (Some _) (λ calm. still t _ scene _))
-quiet_barrier_row (Cwaiting into b) t program scene =
-    quiet_if t (Cwaiting into b) scene _ (calm_unless_busy b t (Cwaiting into b) scene _
-    (calm_unless_runner b t (Cwaiting into b) scene (Some _) (λ calm. still t _ scene _)))
-quiet_barrier_row (Cparties into b) t program scene = λ quiet. still t (Cparties into b) scene _
-quiet_barrier_row _ t program scene = tt
+quiet_barrier_row row t program scene = search (rules, quiet_if, calm_unless_busy, calm_unless_runner, calm_await, quiet_reset, still)
 
 -- turns of threads that don't run
 
@@ -443,47 +316,30 @@ calm_awaited looks into p phase t row scene =
 
 calm_phase_wait : (row : Row) (phase : ℤ) (t : ℕ) (scene : Scene) → CalmIf t row scene (outcome_of_phase_wait row phase t scene)
 calm_phase_wait (Paaa into p) phase t scene = calm_awaited false into p phase t (Paaa into p) scene
-calm_phase_wait (Pawait into p number) phase t scene = calm_awaited false into p phase t (Pawait into p number) scene
-calm_phase_wait (Pawaiti into p number) phase t scene = calm_awaited true into p phase t (Pawaiti into p number) scene
-calm_phase_wait (Pawaitt into p number time) phase t scene = calm_awaited true into p phase t (Pawaitt into p number time) scene
-calm_phase_wait _ phase t scene = tt
+calm_phase_wait row phase t scene = search (rules, calm_awaited)
 
 calm_release : (wait : Option WaitState) (into : Reg) (index : ℤ) (b t : ℕ) (row : Row) (scene : Scene)
     → CalmIf t row scene (outcome_of_release wait into index b t scene)
 calm_release (Some state.Tripped) into index b t row scene = λ calm.
     at_gate b t row scene (leave t (barrier_at scene b)) _ (set_else t (barrier_at scene b) None)
-calm_release (Some state.Broken) into index b t row scene = λ calm.
-    at_gate b t row scene (leave t (barrier_at scene b)) _ (set_else t (barrier_at scene b) None)
-calm_release (Some state.Waiting) into index b t row scene =
-    either (CalmIf t row scene) ((thread_at scene t).interrupted && not (is_some (barrier_at scene b).runner)) {b = None}
-    (λ calm. absurd (cc calm)) tt
-calm_release None into index b t row scene = tt
+calm_release wait into index b t row scene = search (rules, at_gate, set_else)
 
 calm_barrier_wait : (row : Row) (index : ℤ) (t : ℕ) (scene : Scene) → CalmIf t row scene (outcome_of_barrier_wait row index t scene)
 calm_barrier_wait (Cawait into b) index t scene = calm_release (wait_at (barrier_at scene b).waits t) into index b t (Cawait into b) scene
-calm_barrier_wait (Cawaitt into b time) index t scene =
-    calm_release (wait_at (barrier_at scene b).waits t) into index b t (Cawaitt into b time) scene
-calm_barrier_wait _ index t scene = tt
+calm_barrier_wait row index t scene = search (rules, calm_release)
 
 calm_phase_timeout : (row : Row) (t : ℕ) (scene : Scene) → CalmIf t row scene (outcome_of_phase_timeout row t scene)
 calm_phase_timeout (Pawaitt into p number time) t scene = λ calm. still t (Pawaitt into p number time) scene _
 calm_phase_timeout _ t scene = tt
 
 calm_barrier_timeout : (row : Row) (t : ℕ) (scene : Scene) → CalmIf t row scene (outcome_of_barrier_timeout row t scene)
-calm_barrier_timeout (Cawaitt into b time) t scene =
-    either (CalmIf t (Cawaitt into b time) scene) (is_some (barrier_at scene b).runner) {a = None} tt (λ calm. absurd (cc calm))
-calm_barrier_timeout _ t scene = tt
+calm_barrier_timeout row t scene = grind arith
 
 -- all of them
 
 quiet_in_group : (group : Group) (row : Row) (t : ℕ) (program : Program) (scene : Scene)
     → QuietIf t row scene (outcome_in_group group row t program scene)
-quiet_in_group Own row t program scene = quiet_own_row row t scene
-quiet_in_group Calls row t program scene = quiet_call_row row t program scene
-quiet_in_group Data row t program scene = quiet_data_row row t scene
-quiet_in_group Phasers row t program scene = quiet_phaser_row row t program scene
-quiet_in_group Getters row t program scene = quiet_getter_row row t scene
-quiet_in_group Barriers row t program scene = quiet_barrier_row row t program scene
+quiet_in_group group row t program scene = grind (arith, quiet_own_row, quiet_call_row, quiet_data_row, quiet_phaser_row, quiet_getter_row, quiet_barrier_row)
 
 quiet_in : (of : Status) (row : Row) (t : ℕ) (program : Program) (scene : Scene) → QuietIf t row scene (outcome_in of row t program scene)
 quiet_in status.Runs row t program scene = quiet_in_group (group_of row) row t program scene
@@ -492,48 +348,25 @@ quiet_in (status.Throws code) row t program scene =
     (calm_popped (top_of (thread_at scene t).stack) code t row scene)
 quiet_in (status.AwaitsPhase phase) row t program scene = quiet_if t row scene (outcome_of_phase_wait row phase t scene) (calm_phase_wait row phase t scene)
 quiet_in (status.AwaitsBarrier index) row t program scene = quiet_if t row scene (outcome_of_barrier_wait row index t scene) (calm_barrier_wait row index t scene)
-quiet_in status.Ended row t program scene = tt
-quiet_in (status.Died code) row t program scene = tt
+quiet_in _ row t program scene = tt
 
 quiet_timeout : (of : Status) (row : Row) (t : ℕ) (scene : Scene) → QuietIf t row scene (timeout_in of row t scene)
-quiet_timeout (status.AwaitsPhase phase) row t scene = quiet_if t row scene (outcome_of_phase_timeout row t scene) (calm_phase_timeout row t scene)
-quiet_timeout (status.AwaitsBarrier index) row t scene = quiet_if t row scene (outcome_of_barrier_timeout row t scene) (calm_barrier_timeout row t scene)
-quiet_timeout _ row t scene = tt
+quiet_timeout of row t scene = grind (arith, quiet_if, calm_phase_timeout, calm_barrier_timeout)
 
 -- a row that changes no tree
 same_entry : (top : Option Frame) (before after : List Stored) → PhasersWithin (reach_of_entry top) before after → after ≡ before
-same_entry (Some (frame.Call row)) before after within = within
-same_entry _ before after within = within
+same_entry top before after within = grind arith
 
 same_row : (row : Row) (top : Option Frame) (before after : List Stored) → changes_tree row ≡ false
     → PhasersWithin (reach_of_row row top) before after → after ≡ before
-same_row Ret top before after none within = absurd (cc none)
-same_row (Sts from cell) top before after none within = within
-same_row (Intr other) top before after none within = within
-same_row (Preg into p) top before after none within = absurd (cc none)
-same_row (Pbulk into p count) top before after none within = absurd (cc none)
-same_row (Parr into p) top before after none within = absurd (cc none)
-same_row (Pdereg into p) top before after none within = absurd (cc none)
-same_row (Paaa into p) top before after none within = absurd (cc none)
-same_row (Pforce p) top before after none within = absurd (cc none)
-same_row (Cawait into b) top before after none within = within
-same_row (Cawaitt into b time) top before after none within = within
-same_row (Creset b) top before after none within = within
-same_row _ top before after none within = within
+same_row row top before after none within = grind arith
 
 same_wait : (row : Row) (before after : List Stored) → PhasersWithin (reach_of_wait row) before after → after ≡ before
-same_wait (Cawait into b) before after within = within
-same_wait (Cawaitt into b time) before after within = within
-same_wait _ before after within = within
+same_wait row before after within = grind arith
 
 pub same_trees : (of : Status) (row : Row) (top : Option Frame) (before after : List Stored) → changes_tree row ≡ false
     → PhasersWithin (reach_in of row top) before after → after ≡ before
-same_trees status.Runs row top before after none within = same_row row top before after none within
-same_trees (status.Throws code) row top before after none within = same_entry top before after within
-same_trees (status.AwaitsPhase phase) row top before after none within = within
-same_trees (status.AwaitsBarrier index) row top before after none within = same_wait row before after within
-same_trees status.Ended row top before after none within = within
-same_trees (status.Died code) row top before after none within = within
+same_trees of row top before after none within = grind (arith, same_row, same_entry, same_wait)
 
 -- of another thread, whose registration isn't held by the trees that the step leaves
 other_by : (program : Program) (t u : ℕ) (row : Row) (old new : StoredScene) → Leaves t row (scene_of old) (scene_of new) → KnowsReady program old
@@ -576,10 +409,7 @@ pub others_ready : (program : Program) (t : ℕ) (row : Row) (old new : StoredSc
     → outcome_in (thread_at (scene_of old) t).status row t program (scene_of old) ≡ Some (record { scene = scene_of new; event = event })
     → PhasersWithin (reach_in (thread_at (scene_of old) t).status row (top_of (thread_at (scene_of old) t).stack)) old.phasers new.phasers
     → changes_all row event ≡ false → AreOthersReady program t row old.ready (scene_of new)
-others_ready program t row old new event knows is within quiet =
-    let thread = thread_at (scene_of old) t in
-    others_by program t row old new (leaves_turn program t row old new event is quiet) knows
-    (λ none. same_trees thread.status row (top_of thread.stack) old.phasers new.phasers none within)
+others_ready program t row old new event knows is within quiet = grind (arith, others_by, leaves_turn, same_trees)
 
 -- of one other thread, where the trees are the same or nobody is about to register
 pub other_ready : (program : Program) (t u : ℕ) (row : Row) (old new : StoredScene) (event : Event) → KnowsReady program old

@@ -53,11 +53,7 @@ apart_from t u other same = let yes = ap (λ (n : ℕ). t == n) same ∙ same-is
 
 -- one thread is looked at: the test of it is that of its number
 looked_by : (t u : ℕ) (test : ℕ → Bool) (was : Bool) → (if t == u then test t else was) ≡ (if t == u then test u else was)
-looked_by t u test was = elim (cases_eq u t) as (λ _. (if t == u then test t else was) ≡ (if t == u then test u else was)) [
-  | inl same ↦ ap (λ (n : ℕ). if t == u then test n else was) (sym same)
-  | inr apart ↦ ap (λ (x : Bool). if x then test t else was) (other-is t u (λ same. apart (sym same)))
-      ∙ sym (ap (λ (x : Bool). if x then test u else was) (other-is t u (λ same. apart (sym same))))
-]
+looked_by t u test was = grind (arith, cases_eq, other-is)
 
 pub tested_at : (test : ℕ → Bool) (t before set : ℕ) → IsSetAt t (test t) before set → IsTestedAt test t before set
 tested_at test t before set is u = is u ∙ looked_by t u test (has before u)
@@ -76,19 +72,10 @@ pub filled_none : (test : ℕ → Bool) → IsFilledTo test 0 0
 filled_none test = record { below = λ u within. absurd (omega (arith, within)); above = λ u beyond. has-none u }
 
 pub filled_more : (test : ℕ → Bool) (k before set : ℕ) → IsFilledTo test k before → IsTestedAt test k before set → IsFilledTo test (k + 1) set
-filled_more test k before set filled is = record {
-  below = λ u within. elim (cases_eq u k) as (λ _. has set u ≡ test u) [
-    | inl same ↦ ap (has set) same ∙ here test k before set is ∙ ap test (sym same)
-    | inr apart ↦ elsewhere test k before set is u apart ∙ filled.below u (omega (arith, within, apart))
-  ];
-  above = λ u beyond. elsewhere test k before set is u (λ same. omega (arith, beyond, same)) ∙ filled.above u (omega (arith, beyond));
-}
+filled_more test k before set filled is = grind (arith, cases_eq, here, elsewhere)
 
 pub filled_all : (test : ℕ → Bool) (n set : ℕ) → IsFilledTo test n set → ((u : ℕ) → n ≤ u → test u ≡ false) → (u : ℕ) → has set u ≡ test u
-filled_all test n set filled none u = elim (cases_lt u n) as (λ _. has set u ≡ test u) [
-  | inl within ↦ filled.below u within
-  | inr beyond ↦ filled.above u beyond ∙ sym (none u beyond)
-]
+filled_all test n set filled none u = grind (arith, cases_lt)
 
 -- the lowest bit of a set that isn't empty is a member
 pub lowest : (set : ℕ) → set ≢ 0 → set < 2 ^ 64 → has set (trailing_zeros w64 set) ≡ true

@@ -142,13 +142,7 @@ sound_end program steps t b index scene row turn gate stands at here keeps waits
 -- the thread of each number, where one has changed in nothing that is read of it
 pub read_same : {A : Type 0} (read : ThreadState → A) (scene : Scene) (other : ℕ) (thread : ThreadState) (t : ℕ) → other < length scene.threads
     → read thread ≡ read (thread_at scene other) → read (thread_at (with_thread thread other scene) t) ≡ read (thread_at scene t)
-read_same read scene other thread t there same =
-    elim (cases_eq t other) as (λ _. read (thread_at (with_thread thread other scene) t) ≡ read (thread_at scene t)) [
-      | inl is ↦
-          ap (λ (n : ℕ). read (thread_at (with_thread thread other scene) n)) is
-          ∙ ap read (get_or-set_same scene.threads other thread no_thread there) ∙ same ∙ ap (λ (n : ℕ). read (thread_at scene n)) (sym is)
-      | inr apart ↦ ap read (get_or-set_other scene.threads other t thread no_thread apart)
-    ]
+read_same read scene other thread t there same = grind (arith, cases_eq, get_or-set_same, get_or-set_other)
 
 -- a running thread throws
 pub sound_throw : (program : Program) (steps t : ℕ) (scene : Scene) (row : Row) (code : ℤ) → StandsAt program steps t scene status.Runs row

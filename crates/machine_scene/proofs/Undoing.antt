@@ -40,12 +40,7 @@ noted reach t stored = record { thread = t; before = own.note_of (thread_at (sce
 
 made : (old new : StoredScene) → new.cells ≡ old.cells → new.threads ≡ old.threads → new.phasers ≡ old.phasers → new.barriers ≡ old.barriers
     → record new { ready = old.ready } ≡ old
-made old new cells threads phasers barriers =
-    let kept : StoredScene = record new { ready = old.ready } in
-    ap (λ (xs : List ℤ). record kept { cells = xs }) cells
-    ∙ ap (λ (xs : List ThreadState). record kept { cells = old.cells; threads = xs }) threads
-    ∙ ap (λ (xs : List Stored). record kept { cells = old.cells; threads = old.threads; phasers = xs }) phasers
-    ∙ ap (λ (xs : List BarrierState). record old { barriers = xs }) barriers
+made old new cells threads phasers barriers = grind arith
 
 -- the scene that such a note gives back, but for whose turn was ready
 abbrev given_back : Reach → ℕ → StoredScene → StoredScene → StoredScene
@@ -53,12 +48,7 @@ given_back reach t old new = with_undone (own.note_of (thread_at (scene_of old) 
 
 undone_by : (reach : Reach) (t : ℕ) (old new : StoredScene) → GivesBack reach t (scene_of old) (scene_of new)
     → PhasersWithin reach old.phasers new.phasers → undone (noted reach t old) new ≡ old
-undone_by reach.Nothing t old new gives within = made old (given_back reach.Nothing t old new) gives.cells gives.threads within gives.barriers
-undone_by (reach.Cell cell) t old new gives within = made old (given_back (reach.Cell cell) t old new) gives.cells gives.threads within gives.barriers
-undone_by (reach.Thread other) t old new gives within = made old (given_back (reach.Thread other) t old new) gives.cells gives.threads within gives.barriers
-undone_by (reach.Tree p) t old new gives within =
-    made old (given_back (reach.Tree p) t old new) gives.cells gives.threads (restored_line (stored_at old.phasers p).line old.phasers new.phasers within) gives.barriers
-undone_by (reach.Barrier b) t old new gives within = made old (given_back (reach.Barrier b) t old new) gives.cells gives.threads within gives.barriers
+undone_by reach t old new gives within = grind (arith, made, restored_line)
 
 many_back : (t : ℕ) (before after : List ThreadState) → length (thread_back t before after) ≡ length after
 many_back t before after =
@@ -66,38 +56,20 @@ many_back t before after =
 
 many_threads : (reach : Reach) (t : ℕ) (before after : List ThreadState) → threads_back reach t before after ≡ before
     → length after ≡ length before
-many_threads (reach.Thread other) t before after back =
-    sym (many_back other before after) ∙ sym (many_back t before (thread_back other before after)) ∙ ap length back
-many_threads _ t before after back = sym (many_back t before after) ∙ ap length back
+many_threads reach t before after back = grind (arith, many_back, thread_back)
 
 can_put_back : (reach : Reach) (t : ℕ) (old new : StoredScene) → IsThere reach old → IsStored old.phasers
     → GivesBack reach t (scene_of old) (scene_of new) → PhasersWithin reach old.phasers new.phasers
     → CanPutBack (touched_by reach old) new
-can_put_back reach.Nothing t old new there stored gives within = tt
-can_put_back (reach.Cell cell) t old new there stored gives within = there
-can_put_back (reach.Thread other) t old new there stored gives within =
-    let many = many_threads (reach.Thread other) t old.threads new.threads gives.threads in omega (arith, many, there)
-can_put_back (reach.Tree p) t old new there stored gives within =
-    record { before = old.phasers; id = p; forest = stored; kept = refl; changed = within }
-can_put_back (reach.Barrier b) t old new there stored gives within =
-    let many : length new.barriers ≡ length old.barriers =
-    sym (length-set new.barriers b (slice_index_or old.barriers b (fresh 1 false))) ∙ ap length gives.barriers in
-    omega (arith, many, there)
+can_put_back reach t old new there stored gives within = grind (arith, many_threads, length-set)
 
 undone_within : (reach : Reach) (t : ℕ) (old new : StoredScene) → IsThere reach old → t < length old.threads → IsStored old.phasers
     → GivesBack reach t (scene_of old) (scene_of new) → PhasersWithin reach old.phasers new.phasers
     → IsUndone (noted reach t old) old new
-undone_within reach t old new there thread stored gives within =
-    let many = many_threads reach t old.threads new.threads gives.threads in
-    record {
-      undo = undone_by reach t old new gives within;
-      can = record { there = omega (arith, many, thread); touched = can_put_back reach t old new there stored gives within };
-      threads = many;
-    }
+undone_within reach t old new there thread stored gives within = grind (arith, many_threads, undone_by, can_put_back)
 
 names_thread : (row : Row) (program : Program) (stored : StoredScene) → IsNamed (counts_in stored) row → NamesThread row (scene_of stored)
-names_thread (Intr other) program stored named = named
-names_thread _ program stored named = tt
+names_thread row program stored named = grind arith
 
 reached : (program : Program) (t : ℕ) (old : StoredScene) → IsSound program 2147483646 (scene_of old) → t < length old.threads
     → IsThere (reach_of t program (scene_of old)) old
@@ -158,26 +130,18 @@ expiry_played program t old new event sound there stored is within =
 -- a note gives back the same, whatever is kept of whose turn is ready
 touched_still : (of : Touched) (stored : StoredScene) (set : ReadySet)
     → with_touched of (record stored { ready = set }) ≡ record (with_touched of stored) { ready = set }
-touched_still touched.Nothing stored set = refl
-touched_still _ stored set = refl
+touched_still of stored set = grind arith
 
 undone_still : (note : Note) (stored : StoredScene) (set : ReadySet) → undone note (record stored { ready = set }) ≡ undone note stored
 undone_still note stored set =
     ap (λ (s : StoredScene). record (with_undone note.before note.thread s) { ready = note.ready }) (touched_still note.touched stored set)
 
 put_back_still : (of : Touched) (stored : StoredScene) (set : ReadySet) → CanPutBack of stored → CanPutBack of (record stored { ready = set })
-put_back_still touched.Nothing stored set can = tt
-put_back_still _ stored set can = can
+put_back_still of stored set can = grind arith
 
 can_still : (note : Note) (stored : StoredScene) (set : ReadySet) → CanUndo note stored → CanUndo note (record stored { ready = set })
 can_still note stored set can = record { there = can.there; touched = put_back_still note.touched stored set can.touched }
 
 pub played_still : (outcome : Option Outcome) (t : ℕ) (program : Program) (old new : StoredScene) (set : ReadySet) (event : Event)
     → IsPlayed outcome t program old new event → IsPlayed outcome t program old (record new { ready = set }) event
-played_still outcome t program old new set event is = record {
-  outcome_is = is.outcome_is;
-  sound = is.sound;
-  undo = undone_still (note_of t program old) new set ∙ is.undo;
-  can = can_still (note_of t program old) new set is.can;
-  threads = is.threads;
-}
+played_still outcome t program old new set event is = grind (arith, undone_still, can_still)

@@ -17,22 +17,15 @@ pub record IsBack (before after : ThreadState) : Type 0 where
   pub is : own.undone (own.note_of before) after ≡ before
 
 restacked : (stack : List Frame) → take (length stack - 1) stack ++ option_to_list (top_of stack) ≡ stack
-restacked [] = refl
-restacked (entry ∷ []) = refl
 restacked (entry ∷ next ∷ stack) =
     let less : length (entry ∷ next ∷ stack) - 1 ≡ suc (length (next ∷ stack) - 1) = omega arith in
     rw less (ap (λ (entries : List Frame). entry ∷ entries) (restacked (next ∷ stack)))
+restacked stack = grind arith
 
 -- by what is kept of the stack and of the output
 back_by : (before after : ThreadState) → take (length before.stack - 1) after.stack ≡ take (length before.stack - 1) before.stack
     → take (length before.output) after.output ≡ before.output → IsBack before after
-back_by before after stack output =
-    let with : List Frame → List ℤ → ThreadState = λ entries values. record before { stack = entries; output = values } in
-    record {
-      is = ap (λ (entries : List Frame). with (entries ++ option_to_list (top_of before.stack)) (take (length before.output) after.output)) stack
-          ∙ ap (λ (entries : List Frame). with entries (take (length before.output) after.output)) (restacked before.stack)
-          ∙ ap (with before.stack) output;
-    }
+back_by before after stack output = grind (arith, restacked)
 
 same_output : (before after : ThreadState) → after.output ≡ before.output → take (length before.output) after.output ≡ before.output
 same_output before after same =
@@ -46,26 +39,17 @@ back_same before after stack output =
 -- it got one entry
 pub back_push : (before after : ThreadState) (entry : Frame) → after.stack ≡ before.stack ++ entry ∷ [] → after.output ≡ before.output
     → IsBack before after
-back_push before after entry stack output =
-    back_by before after
-    (ap (take (length before.stack - 1)) stack ∙ take-append-le (length before.stack - 1) before.stack (entry ∷ []) (omega arith))
-    (same_output before after output)
+back_push before after entry stack output = grind (arith, back_by, take-append-le, same_output)
 
 -- it lost one
 pub back_pop : (before after : ThreadState) → after.stack ≡ take (length before.stack - 1) before.stack → after.output ≡ before.output
     → IsBack before after
-back_pop before after stack output =
-    back_by before after
-    (ap (take (length before.stack - 1)) stack ∙ take-take (length before.stack - 1) (length before.stack - 1) before.stack (omega arith))
-    (same_output before after output)
+back_pop before after stack output = grind (arith, back_by, take-take, same_output)
 
 -- it put out one value
 pub back_out : (before after : ThreadState) (value : ℤ) → after.stack ≡ before.stack → after.output ≡ before.output ++ value ∷ []
     → IsBack before after
-back_out before after value stack output =
-    back_by before after (ap (take (length before.stack - 1)) stack)
-    (ap (take (length before.output)) output ∙ take-append-le (length before.output) before.output (value ∷ []) (omega arith)
-    ∙ take_all (length before.output) before.output (omega arith))
+back_out before after value stack output = grind (arith, back_by, take-append-le, take_all)
 
 -- the cells, with what this reach kept of them
 abbrev pub cells_back : Reach → List ℤ → List ℤ → List ℤ
@@ -101,34 +85,22 @@ abbrev pub IsOwn : Reach → ℕ → Type 0
 IsOwn reach t = (before after : List ThreadState) → threads_back reach t before after ≡ thread_back t before after
 
 same_cells : (reach : Reach) (cells : List ℤ) → cells_back reach cells cells ≡ cells
-same_cells (reach.Cell cell) cells = set-get_or cells cell (pos 0)
-same_cells _ cells = refl
+same_cells reach cells = grind (arith, set-get_or)
 
 same_barriers : (reach : Reach) (barriers : List BarrierState) → barriers_back reach barriers barriers ≡ barriers
-same_barriers (reach.Barrier b) barriers = set-get_or barriers b (fresh 1 false)
-same_barriers _ barriers = refl
+same_barriers reach barriers = grind (arith, set-get_or)
 
 -- a thread that is set, and then as it was
 pub thread_set : (t : ℕ) (threads : List ThreadState) (thread : ThreadState) → t < length threads
     → IsBack (slice_index_or threads t no_thread) thread → thread_back t threads (slice_set threads t thread) ≡ threads
-thread_set t threads thread there back =
-    let note = own.note_of (slice_index_or threads t no_thread) in
-    set-set threads t thread (own.undone note (slice_index_or (slice_set threads t thread) t no_thread))
-    ∙ ap (λ (x : ThreadState). slice_set threads t (own.undone note x)) (get_or-set_same threads t thread no_thread there)
-    ∙ ap (slice_set threads t) back.is
-    ∙ set-get_or threads t no_thread
+thread_set t threads thread there back = grind (arith, set-set, get_or-set_same, set-get_or)
 
 -- a turn from a scene in which thread t alone may be another already
 pub back_from : (reach : Reach) (t : ℕ) (before mid : Scene) (after : ThreadState) → IsOwn reach t → t < length before.threads
     → cells_back reach before.cells mid.cells ≡ before.cells → barriers_back reach before.barriers mid.barriers ≡ before.barriers
     → slice_set mid.threads t after ≡ slice_set before.threads t after → IsBack (thread_at before t) after
     → GivesBack reach t before (with_thread after t mid)
-back_from reach t before mid after is_own there cells barriers threads back = record {
-  cells = cells;
-  barriers = barriers;
-  threads = is_own before.threads (slice_set mid.threads t after) ∙ ap (thread_back t before.threads) threads
-      ∙ thread_set t before.threads after there back;
-}
+back_from reach t before mid after is_own there cells barriers threads back = grind (arith, thread_set)
 
 -- a turn of the thread alone
 pub back_alone : (reach : Reach) (t : ℕ) (scene : Scene) (after : ThreadState) → IsOwn reach t → t < length scene.threads
@@ -161,14 +133,7 @@ AllBack before after = (n : ℕ) → IsBack (slice_index_or before n no_thread) 
 
 all_set : (before after : List ThreadState) (u : ℕ) (thread : ThreadState) → u < length after → AllBack before after
     → IsBack (slice_index_or before u no_thread) thread → AllBack before (slice_set after u thread)
-all_set before after u thread there all back n =
-    elim (cases_eq n u) as (λ _. IsBack (slice_index_or before n no_thread) (slice_index_or (slice_set after u thread) n no_thread)) [
-      | inl is ↦
-          subst (λ (m : ℕ). IsBack (slice_index_or before m no_thread) (slice_index_or (slice_set after u thread) m no_thread)) (sym is)
-          (subst (IsBack (slice_index_or before u no_thread)) (sym (get_or-set_same after u thread no_thread there)) back)
-      | inr apart ↦
-          subst (IsBack (slice_index_or before n no_thread)) (sym (get_or-set_other after u n thread no_thread apart)) (all n)
-    ]
+all_set before after u thread there all back n = grind (arith, cases_eq, get_or-set_same, get_or-set_other)
 
 -- two places that were set, and then as they were
 both_set : (threads : List ThreadState) (u t : ℕ) (first second : ThreadState) → u < length threads → t < length threads
@@ -204,17 +169,4 @@ both_set threads u t first second here there =
 pub threads_set : (threads : List ThreadState) (u t : ℕ) (first second : ThreadState) → u < length threads → t < length threads
     → IsBack (slice_index_or threads u no_thread) first → IsBack (slice_index_or threads t no_thread) second
     → thread_back t threads (thread_back u threads (slice_set (slice_set threads u first) t second)) ≡ threads
-threads_set threads u t first second here there back_u back_t =
-    let was_u = slice_index_or threads u no_thread in
-    let was_t = slice_index_or threads t no_thread in
-    let one = slice_set threads u first in
-    let two = slice_set one t second in
-    let many_one : length one ≡ length threads = length-set threads u first in
-    let many_two : length two ≡ length threads = length-set one t second ∙ many_one in
-    let none : AllBack threads threads = λ n. back_same (slice_index_or threads n no_thread) (slice_index_or threads n no_thread) refl refl in
-    let all_one : AllBack threads one = all_set threads threads u first here none back_u in
-    let all_two : AllBack threads two = all_set threads one t second (omega (arith, many_one, there)) all_one back_t in
-    let all_three : AllBack threads (slice_set two u was_u) = all_set threads two u was_u (omega (arith, many_two, here)) all_two (none u) in
-    ap (λ (x : ThreadState). thread_back t threads (slice_set two u x)) (all_two u).is
-    ∙ ap (slice_set (slice_set two u was_u) t) (all_three t).is
-    ∙ both_set threads u t first second here there
+threads_set threads u t first second here there back_u back_t = grind (arith, length-set, back_same, all_set, both_set)

@@ -1,5 +1,5 @@
 -- What every outcome leaves to be undone, row by row.
-use Rattle.std.proofs.Common.{cond, ◌≡◌, ◌∙◌, ℕ, ℤ, pos, ◌+◌, ◌<◌, ◌==◌, ◌++◌, [], ◌∷◌, ◌&&◌, not, Bool, true, false, List, length, ap, refl}
+use Rattle.std.proofs.Common.{cond, ◌≡◌, ◌∙◌, ℕ, ℤ, pos, ◌+◌, ◌<◌, ◌==◌, ◌++◌, [], ◌∷◌, ◌&&◌, not, Bool, true, false, List, length, ap, refl, arith, rules}
 use Rattle.std.specs.Prelude.{nat_abs, int_lt, is_some, Option, Some, None, slice_set, slice_index_or}
 use Rattle.std.specs.List.{list_any}
 use Rattle.std.specs.Ordering.{int_eq}
@@ -80,15 +80,7 @@ arrived_at manner phase before =
     (answered before manner.into phase)
 
 patient : (of : Patience) (phase : ℤ) (before : ThreadState) → Undoes before (turn_of_patience of phase before)
-patient patience.Endless phase before = waits before phase
-patient patience.Interruptible phase before =
-    either (Undoes before) before.interrupted {a = turn_of_interruption before} {b = turn_of_wait phase before} (interruption before)
-    (waits before phase)
-patient (patience.Timed time) phase before =
-    let wait = turn_of_wait phase before in
-    let late = turn_of_throw (pos 5) before in
-    either (Undoes before) before.interrupted {a = turn_of_interruption before} {b = cond (int_lt (pos 0) time) wait late} (interruption before)
-    (either (Undoes before) (int_lt (pos 0) time) {a = wait} {b = late} (waits before phase) (thrown before (pos 5)))
+patient of phase before = grind (arith, waits, interruption, thrown)
 
 awaits : (of : Patience) (into : Reg) (phase view : ℤ) (before : ThreadState) → Undoes before (turn_of_await of into phase view before)
 awaits of into phase view before =
@@ -99,10 +91,7 @@ awaits of into phase view before =
     (either (Undoes before) (not (int_eq view phase)) {a = past} {b = wait} (answered before into view) (patient of phase before))
 
 halted : (before : ThreadState) → Undoes before (turn_of_halt before)
-halted before =
-    let ended : Turn = record { thread = record before { status = status.Ended }; what = what.Ends } in
-    either (Undoes before) (list_any is_routine before.stack) {a = turn_of_throw (pos 7) before} {b = ended} (thrown before (pos 7))
-    (same before ended refl refl)
+halted before = grind (arith, thrown, same)
 
 put_out : (from : Reg) (before : ThreadState) → Undoes before (turn_of_out from before)
 put_out from before =
@@ -131,13 +120,7 @@ ended_try (Some (frame.Handler row)) before = pops before (turn_of_done (popped 
 ended_try _ before = thrown before (pos 7)
 
 unwound : (top : Option Frame) (code : ℤ) (before : ThreadState) → Undoes before (turn_of_popped top code before)
-unwound None code before = same before (turn_of_popped None code before) refl refl
-unwound (Some (frame.Call row)) code before = pops before (turn_of_popped (Some (frame.Call row)) code before) refl refl
-unwound (Some (frame.Handler row)) code before = pops before (turn_of_popped (Some (frame.Handler row)) code before) refl refl
-unwound (Some (frame.Advance root registers row)) code before =
-    pops before (turn_of_popped (Some (frame.Advance root registers row)) code before) refl refl
-unwound (Some (frame.Action b registers row)) code before =
-    pops before (turn_of_popped (Some (frame.Action b registers row)) code before) refl refl
+unwound top code before = grind (arith, same, pops)
 
 -- rows
 
@@ -156,16 +139,7 @@ local row t scene there = alone t scene _ there (same (thread_at scene t) (turn_
 
 back_own_row : (row : Row) (top : Option Frame) (t : ℕ) (scene : Scene) → t < length scene.threads
     → BackIf (reach_of_row row top) t scene (outcome_of_own_row row t scene)
-back_own_row Halt top t scene there = alone t scene _ there (halted (thread_at scene t))
-back_own_row (Ldi into value) top t scene there = local (Ldi into value) t scene there
-back_own_row (Mov into from) top t scene there = local (Mov into from) t scene there
-back_own_row (Add into left right) top t scene there = local (Add into left right) t scene there
-back_own_row (Sub into left right) top t scene there = local (Sub into left right) t scene there
-back_own_row (Jmp target) top t scene there = local (Jmp target) t scene there
-back_own_row (Beq left right target) top t scene there = local (Beq left right target) t scene there
-back_own_row (Bne left right target) top t scene there = local (Bne left right target) t scene there
-back_own_row (Blt left right target) top t scene there = local (Blt left right target) t scene there
-back_own_row _ top t scene there = tt
+back_own_row row top t scene there = grind (arith, alone, halted, local)
 
 -- thread t, back at its arrival, takes the answer of it
 back_at_arrival : (reach : Reach) (t : ℕ) (scene mid : Scene) (left : ThreadState) (into : Reg) (value : ℤ) → IsOwn reach t
@@ -196,8 +170,7 @@ back_ret None t program scene there = alone t scene _ there (thrown (thread_at s
 back_ret (Some (frame.Call row)) t program scene there =
     alone t scene _ there (pops (thread_at scene t) (turn_of_return row (thread_at scene t)) refl refl)
 back_ret (Some (frame.Handler row)) t program scene there = alone t scene _ there (thrown (thread_at scene t) (pos 7))
-back_ret (Some (frame.Advance root registers row)) t program scene there =
-    back_routine_end (flat_at scene.phasers root).ended _ root _ t scene (left_routine registers row (thread_at scene t)) there refl refl
+back_ret (Some (frame.Advance root registers row)) t program scene there = grind (arith, back_routine_end)
 back_ret (Some (frame.Action b registers row)) t program scene there =
     let left = left_routine registers row (thread_at scene t) in
     let gate = end_action true (barrier_at scene b) in
@@ -207,11 +180,7 @@ back_ret (Some (frame.Action b registers row)) t program scene there =
 back_call_row : (row : Row) (t : ℕ) (program : Program) (scene : Scene) → t < length scene.threads
     → BackIf (reach_of_row row (top_of (thread_at scene t).stack)) t scene (outcome_of_call_row row t program scene)
 back_call_row (Call target) t program scene there = alone t scene _ there (called target (thread_at scene t))
-back_call_row Ret t program scene there = back_ret (top_of (thread_at scene t).stack) t program scene there
-back_call_row (Try handler) t program scene there = alone t scene _ there (tried handler (thread_at scene t))
-back_call_row Endtry t program scene there = alone t scene _ there (ended_try (top_of (thread_at scene t).stack) (thread_at scene t))
-back_call_row (Throw code) t program scene there = alone t scene _ there (thrown (thread_at scene t) _)
-back_call_row _ t program scene there = tt
+back_call_row row t program scene there = search (rules, alone, called, back_ret, tried, ended_try, thrown)
 
 -- `sts`
 back_store : (from : Reg) (cell t : ℕ) (scene : Scene) → t < length scene.threads
@@ -234,19 +203,7 @@ marked_fields thread =
 
 back_interrupt : (other t : ℕ) (scene : Scene) → other < length scene.threads → t < length scene.threads
     → BackIf (reach.Thread other) t scene (outcome_of_data_row (Intr other) t scene)
-back_interrupt other t scene here there =
-    let mark = interrupted (thread_at scene other) in
-    let mid = with_thread mark other scene in
-    let done = (turn_of_done (thread_at mid t)).thread in
-    let back : IsBack (thread_at scene t) done =
-    back_same (thread_at scene t) done
-    (read_same (λ (x : ThreadState). x.stack) scene other mark t here (marked_fields (thread_at scene other)).0)
-    (read_same (λ (x : ThreadState). x.output) scene other mark t here (marked_fields (thread_at scene other)).1) in
-    record {
-      cells = refl;
-      barriers = refl;
-      threads = threads_set scene.threads other t mark done here there (marked (thread_at scene other)) back;
-    }
+back_interrupt other t scene here there = search (rules, IsBack, back_same, read_same, marked_fields, threads_set, marked)
 
 back_data_row : (row : Row) (top : Option Frame) (t : ℕ) (scene : Scene) → NamesThread row scene → t < length scene.threads
     → BackIf (reach_of_row row top) t scene (outcome_of_data_row row t scene)
@@ -262,13 +219,7 @@ back_data_row _ top t scene named there = tt
 back_getter_row : (row : Row) (top : Option Frame) (t : ℕ) (scene : Scene) → t < length scene.threads
     → BackIf (reach_of_row row top) t scene (outcome_of_getter_row row t scene)
 back_getter_row (Pphase into p) top t scene there = alone t scene _ there (answered (thread_at scene t) into _)
-back_getter_row (Pparties into p) top t scene there = alone t scene _ there (answered (thread_at scene t) into _)
-back_getter_row (Parrived into p) top t scene there = alone t scene _ there (answered (thread_at scene t) into _)
-back_getter_row (Punarr into p) top t scene there = alone t scene _ there (answered (thread_at scene t) into _)
-back_getter_row (Pterm into p) top t scene there = alone t scene _ there (answered (thread_at scene t) into _)
-back_getter_row (Pparent into p) top t scene there = alone t scene _ there (answered (thread_at scene t) into _)
-back_getter_row (Proot into p) top t scene there = alone t scene _ there (answered (thread_at scene t) into _)
-back_getter_row _ top t scene there = tt
+back_getter_row row top t scene there = search (rules, alone, answered)
 
 -- rows at phasers
 
@@ -284,9 +235,7 @@ no_tree p t scene after there back = back_alone (reach.Tree p) t scene after (λ
 back_registered : (answer : Registered) (into : Reg) (p t : ℕ) (scene : Scene) (phasers : List PhaserState) → t < length scene.threads
     → BackIf (reach.Tree p) t scene (outcome_of_registered answer into t (with_phasers phasers scene))
 back_registered (registered.At phase) into p t scene phasers there = at_tree p t scene phasers _ there (answered (thread_at scene t) into phase)
-back_registered (registered.Dead view) into p t scene phasers there = at_tree p t scene phasers _ there (answered (thread_at scene t) into view)
-back_registered registered.TooMany into p t scene phasers there = at_tree p t scene phasers _ there (thrown (thread_at scene t) (pos 1))
-back_registered registered.Held into p t scene phasers there = tt
+back_registered answer into p t scene phasers there = search (rules, at_tree, answered, thrown)
 
 back_bulk : (into : Reg) (p : ℕ) (count : ℤ) (t : ℕ) (scene : Scene) → t < length scene.threads
     → BackIf (reach.Tree p) t scene (outcome_of_bulk into p count t scene)
@@ -309,11 +258,7 @@ back_arrived : (answer : Arrived) (manner : Manner) (p t : ℕ) (program : Progr
     → GivesBack (reach.Tree p) t scene (outcome_of_arrived answer manner t program (with_phasers phasers scene)).scene
 back_arrived (arrived.At phase) manner p t program scene phasers there =
     at_tree p t scene phasers _ there (arrived_at manner phase (thread_at scene t))
-back_arrived (arrived.Turning root phase parties) manner p t program scene phasers there =
-    back_turning (answer_of_policy root.0 (with_phasers phasers scene)) manner p root.0 phase t program scene phasers there
-back_arrived (arrived.Dead view) manner p t program scene phasers there =
-    at_tree p t scene phasers _ there (answered (thread_at scene t) manner.into view)
-back_arrived arrived.NotThere manner p t program scene phasers there = at_tree p t scene phasers _ there (thrown (thread_at scene t) (pos 1))
+back_arrived answer manner p t program scene phasers there = search (rules, at_tree, arrived_at, back_turning, answered, thrown)
 
 back_arrival : (manner : Manner) (p t : ℕ) (program : Program) (scene : Scene) → t < length scene.threads
     → GivesBack (reach.Tree p) t scene (outcome_of_arrival manner p t program scene).scene
@@ -409,12 +354,8 @@ back_unless_runner reach b t scene outcome is_own there back =
 
 back_barrier_row : (row : Row) (top : Option Frame) (t : ℕ) (program : Program) (scene : Scene) → t < length scene.threads
     → BackIf (reach_of_row row top) t scene (outcome_of_barrier_row row t program scene)
-back_barrier_row (Cawait into b) top t program scene there =
-    back_unless_busy (reach.Barrier b) b t scene _
-    (back_unless_runner (reach.Barrier b) b t scene _ (λ first last. refl) there (back_await false into b t program scene there))
-back_barrier_row (Cawaitt into b time) top t program scene there =
-    back_unless_busy (reach.Barrier b) b t scene _
-    (back_unless_runner (reach.Barrier b) b t scene _ (λ first last. refl) there (back_await _ into b t program scene there))
+back_barrier_row (Cawait into b) top t program scene there = grind (arith, back_unless_busy, back_unless_runner, back_await)
+back_barrier_row (Cawaitt into b time) top t program scene there = grind (arith, back_unless_busy, back_unless_runner, back_await)
 back_barrier_row (Creset b) top t program scene there =
     back_unless_busy (reach.Barrier b) b t scene _
     (back_unless_runner (reach.Barrier b) b t scene (Some _) (λ first last. refl) there
@@ -432,46 +373,27 @@ back_barrier_row _ top t program scene there = tt
 
 back_popped : (top : Option Frame) (code : ℤ) (t : ℕ) (scene : Scene) → t < length scene.threads
     → GivesBack (reach_of_entry top) t scene (outcome_of_popped top code t scene).scene
-back_popped None code t scene there = alone t scene _ there (unwound (top_of (thread_at scene t).stack) code (thread_at scene t))
-back_popped (Some (frame.Call row)) code t scene there = alone t scene _ there (unwound (top_of (thread_at scene t).stack) code (thread_at scene t))
-back_popped (Some (frame.Handler row)) code t scene there = alone t scene _ there (unwound (top_of (thread_at scene t).stack) code (thread_at scene t))
-back_popped (Some (frame.Advance root registers row)) code t scene there =
-    alone t scene _ there (unwound (top_of (thread_at scene t).stack) code (thread_at scene t))
 back_popped (Some (frame.Action b registers row)) code t scene there =
     at_gate b t scene (end_action false (barrier_at scene b)) (turn_of_pop code (thread_at scene t)).thread there
     (unwound (top_of (thread_at scene t).stack) code (thread_at scene t))
+back_popped _ code t scene there = alone t scene _ there (unwound (top_of (thread_at scene t).stack) code (thread_at scene t))
 
 back_awaited : (looks : Bool) (into : Reg) (p : ℕ) (phase : ℤ) (t : ℕ) (scene : Scene) → t < length scene.threads
     → BackIf reach.Nothing t scene (outcome_of_awaited looks into p phase t scene)
-back_awaited looks into p phase t scene there =
-    either (BackIf reach.Nothing t scene) (is_past p phase scene) (alone t scene _ there (answered (thread_at scene t) into _))
-    (either (BackIf reach.Nothing t scene) (looks && (thread_at scene t).interrupted) {b = None}
-    (alone t scene _ there (interruption (thread_at scene t))) tt)
+back_awaited looks into p phase t scene there = grind (arith, BackIf, alone, answered, interruption)
 
 back_phase_wait : (row : Row) (phase : ℤ) (t : ℕ) (scene : Scene) → t < length scene.threads
     → BackIf reach.Nothing t scene (outcome_of_phase_wait row phase t scene)
 back_phase_wait (Paaa into p) phase t scene there = back_awaited false into p phase t scene there
-back_phase_wait (Pawait into p number) phase t scene there = back_awaited false into p phase t scene there
-back_phase_wait (Pawaiti into p number) phase t scene there = back_awaited true into p phase t scene there
-back_phase_wait (Pawaitt into p number time) phase t scene there = back_awaited true into p phase t scene there
-back_phase_wait _ phase t scene there = tt
+back_phase_wait row phase t scene there = search (rules, back_awaited)
 
 back_release : (wait : Option WaitState) (into : Reg) (index : ℤ) (b t : ℕ) (scene : Scene) → t < length scene.threads
     → BackIf (reach.Barrier b) t scene (outcome_of_release wait into index b t scene)
-back_release (Some state.Tripped) into index b t scene there =
-    at_gate b t scene (leave t (barrier_at scene b)) _ there (answered (thread_at scene t) into index)
-back_release (Some state.Broken) into index b t scene there =
-    at_gate b t scene (leave t (barrier_at scene b)) _ there (thrown (thread_at scene t) (pos 4))
-back_release (Some state.Waiting) into index b t scene there =
-    either (BackIf (reach.Barrier b) t scene) ((thread_at scene t).interrupted && not (is_some (barrier_at scene b).runner)) {b = None}
-    (at_gate b t scene (interrupt t (barrier_at scene b)) _ there (interruption (thread_at scene t))) tt
-back_release None into index b t scene there = tt
+back_release wait into index b t scene there = grind (arith, at_gate, answered, thrown, BackIf, interruption)
 
 back_barrier_wait : (row : Row) (index : ℤ) (t : ℕ) (scene : Scene) → t < length scene.threads
     → BackIf (reach_of_wait row) t scene (outcome_of_barrier_wait row index t scene)
-back_barrier_wait (Cawait into b) index t scene there = back_release (wait_at (barrier_at scene b).waits t) into index b t scene there
-back_barrier_wait (Cawaitt into b time) index t scene there = back_release (wait_at (barrier_at scene b).waits t) into index b t scene there
-back_barrier_wait _ index t scene there = tt
+back_barrier_wait row index t scene there = grind (arith, back_release)
 
 back_phase_timeout : (row : Row) (t : ℕ) (scene : Scene) → t < length scene.threads
     → BackIf reach.Nothing t scene (outcome_of_phase_timeout row t scene)
@@ -490,25 +412,14 @@ back_barrier_timeout _ t scene there = tt
 back_in_group : (group : Group) (row : Row) (t : ℕ) (program : Program) (scene : Scene) → NamesThread row scene → t < length scene.threads
     → BackIf (reach_of_row row (top_of (thread_at scene t).stack)) t scene (outcome_in_group group row t program scene)
 back_in_group Own row t program scene named there = back_own_row row (top_of (thread_at scene t).stack) t scene there
-back_in_group Calls row t program scene named there = back_call_row row t program scene there
-back_in_group Data row t program scene named there = back_data_row row (top_of (thread_at scene t).stack) t scene named there
-back_in_group Phasers row t program scene named there = back_phaser_row row (top_of (thread_at scene t).stack) t program scene there
-back_in_group Getters row t program scene named there = back_getter_row row (top_of (thread_at scene t).stack) t scene there
-back_in_group Barriers row t program scene named there = back_barrier_row row (top_of (thread_at scene t).stack) t program scene there
+back_in_group group row t program scene named there = search (rules, back_own_row, back_call_row, back_data_row, back_phaser_row, back_getter_row, back_barrier_row)
 
 -- the turn of thread t, by its status
 pub back_in : (of : Status) (row : Row) (t : ℕ) (program : Program) (scene : Scene) → NamesThread row scene → t < length scene.threads
     → BackIf (reach_in of row (top_of (thread_at scene t).stack)) t scene (outcome_in of row t program scene)
-back_in status.Runs row t program scene named there = back_in_group (group_of row) row t program scene named there
-back_in (status.Throws code) row t program scene named there = back_popped (top_of (thread_at scene t).stack) code t scene there
-back_in (status.AwaitsPhase phase) row t program scene named there = back_phase_wait row phase t scene there
-back_in (status.AwaitsBarrier index) row t program scene named there = back_barrier_wait row index t scene there
-back_in status.Ended row t program scene named there = tt
-back_in (status.Died code) row t program scene named there = tt
+back_in of row t program scene named there = grind (arith, back_in_group, back_popped, back_phase_wait, back_barrier_wait)
 
 -- the expiry of its wait
 pub back_timeout : (of : Status) (row : Row) (t : ℕ) (scene : Scene) → t < length scene.threads
     → BackIf (reach_in of row (top_of (thread_at scene t).stack)) t scene (timeout_in of row t scene)
-back_timeout (status.AwaitsPhase phase) row t scene there = back_phase_timeout row t scene there
-back_timeout (status.AwaitsBarrier index) row t scene there = back_barrier_timeout row t scene there
-back_timeout _ row t scene there = tt
+back_timeout of row t scene there = grind (arith, back_phase_timeout, back_barrier_timeout)

@@ -1,5 +1,5 @@
 -- Finished waits, and waits whose time runs out.
-use Rattle.std.proofs.Common.{◌≡◌, ◌∙◌, ℕ, ℤ, pos, ◌+◌, ◌<◌, ◌==◌, ◌&&◌, not, Bool, true, false, length, refl, if◌then◌else◌}
+use Rattle.std.proofs.Common.{◌≡◌, ◌∙◌, ℕ, ℤ, pos, ◌+◌, ◌<◌, ◌==◌, ◌&&◌, not, Bool, true, false, length, refl, if◌then◌else◌, rules}
 use Rattle.std.specs.Prelude.{is_some, Option, Some, None}
 use Rattle.std.proofs.lemmas.List.{length-map, length-set}
 use Rattle.instruction_table.specs.declared.row.Row.{Row}
@@ -46,34 +46,21 @@ pub sound_phase_wait : (row : Row) (phase : ℤ) (program : Program) (steps t : 
     → StandsAt program steps t scene (status.AwaitsPhase phase) row → KeepsSound program (steps + 1) (outcome_of_phase_wait row phase t scene)
 sound_phase_wait (Paaa into p) phase program steps t scene stands =
     sound_awaited false program steps t p scene (Paaa into p) into phase stands refl
-sound_phase_wait (Pawait into p number) phase program steps t scene stands =
-    sound_awaited false program steps t p scene (Pawait into p number) into phase stands refl
-sound_phase_wait (Pawaiti into p number) phase program steps t scene stands =
-    sound_awaited true program steps t p scene (Pawaiti into p number) into phase stands refl
-sound_phase_wait (Pawaitt into p number time) phase program steps t scene stands =
-    sound_awaited true program steps t p scene (Pawaitt into p number time) into phase stands refl
-sound_phase_wait _ phase program steps t scene stands = tt
+sound_phase_wait row phase program steps t scene stands = search (rules, sound_awaited)
 
 -- a released thread takes its outcome
 sound_left : (program : Program) (steps t b : ℕ) (index : ℤ) (scene : Scene) (row : Row) (turn : Turn)
     → StandsAt program steps t scene (status.AwaitsBarrier index) row → ((c : ℕ) → is_wait_row c row ≡ (b == c)) → b < length scene.barriers
     → KeepsStack program (thread_at scene t) turn
     → IsSound program (steps + 1) (outcome_of_turn turn t (with_barrier (leave t (barrier_at scene b)) b scene)).scene
-sound_left program steps t b index scene row turn stands at here keeps =
-    let old = barrier_at scene b in
-    sound_end program steps t b index scene row turn (leave t old) stands at here keeps
-    (λ u. has_wait-leave t old u (seat program steps t b scene stands.sound stands.there here)) (length-set old.waits t None) refl
+sound_left program steps t b index scene row turn stands at here keeps = search (rules, sound_end, has_wait-leave, seat, length-set)
 
 -- an interruption or an expiry breaks the barrier, and the thread leaves
 sound_broke : (program : Program) (steps t b : ℕ) (index : ℤ) (scene : Scene) (row : Row) (turn : Turn)
     → StandsAt program steps t scene (status.AwaitsBarrier index) row → ((c : ℕ) → is_wait_row c row ≡ (b == c)) → b < length scene.barriers
     → KeepsStack program (thread_at scene t) turn
     → IsSound program (steps + 1) (outcome_of_turn turn t (with_barrier (interrupt t (barrier_at scene b)) b scene)).scene
-sound_broke program steps t b index scene row turn stands at here keeps =
-    let old = barrier_at scene b in
-    sound_end program steps t b index scene row turn (interrupt t old) stands at here keeps
-    (λ u. has_wait-interrupt t old u (seat program steps t b scene stands.sound stands.there here))
-    (length-set (release state.Broken old.waits) t None ∙ length-map old.waits (released state.Broken)) refl
+sound_broke program steps t b index scene row turn stands at here keeps = search (rules, sound_end, has_wait-interrupt, seat, length-set, length-map)
 
 sound_release : (wait : Option WaitState) (program : Program) (steps t b : ℕ) (index : ℤ) (scene : Scene) (row : Row) (into : Reg)
     → StandsAt program steps t scene (status.AwaitsBarrier index) row → stops row ≡ false → ((c : ℕ) → is_wait_row c row ≡ (b == c))
@@ -95,9 +82,7 @@ pub sound_barrier_wait : (row : Row) (index : ℤ) (program : Program) (steps t 
     → StandsAt program steps t scene (status.AwaitsBarrier index) row → KeepsSound program (steps + 1) (outcome_of_barrier_wait row index t scene)
 sound_barrier_wait (Cawait into b) index program steps t scene stands =
     sound_release (wait_at (barrier_at scene b).waits t) program steps t b index scene (Cawait into b) into stands refl (λ c. refl) stands.named
-sound_barrier_wait (Cawaitt into b time) index program steps t scene stands =
-    sound_release (wait_at (barrier_at scene b).waits t) program steps t b index scene (Cawaitt into b time) into stands refl (λ c. refl) stands.named
-sound_barrier_wait _ index program steps t scene stands = tt
+sound_barrier_wait row index program steps t scene stands = search (rules, sound_release)
 
 -- the time of a wait for a phase runs out
 pub sound_phase_timeout : (row : Row) (phase : ℤ) (program : Program) (steps t : ℕ) (scene : Scene)

@@ -57,67 +57,27 @@ i32_cells a b c d fa fb fc fd =
 -- four bytes, one by one
 pub of_four : (bytes : List ℕ) → length bytes ≡ 4 →
     bytes ≡ get_or bytes 0 0 ∷ get_or bytes 1 0 ∷ get_or bytes 2 0 ∷ get_or bytes 3 0 ∷ []
-of_four [] e = absurd (cc)
-of_four (_ ∷ []) e = absurd (cc)
-of_four (_ ∷ _ ∷ []) e = absurd (cc)
-of_four (_ ∷ _ ∷ _ ∷ []) e = absurd (cc)
 of_four (_ ∷ _ ∷ _ ∷ _ ∷ []) e = refl
-of_four (_ ∷ _ ∷ _ ∷ _ ∷ _ ∷ rest) e = absurd (cc)
+of_four _ e = absurd (cc)
 
 -- eight bytes, one by one
 pub of_eight : (bytes : List ℕ) → length bytes ≡ 8 →
     bytes ≡ get_or bytes 0 0 ∷ get_or bytes 1 0 ∷ get_or bytes 2 0 ∷ get_or bytes 3 0 ∷ get_or bytes 4 0 ∷ get_or bytes 5 0 ∷ get_or bytes 6 0 ∷ get_or bytes 7 0 ∷ []
-of_eight [] e = absurd (cc)
-of_eight (_ ∷ []) e = absurd (cc)
-of_eight (_ ∷ _ ∷ []) e = absurd (cc)
-of_eight (_ ∷ _ ∷ _ ∷ []) e = absurd (cc)
-of_eight (_ ∷ _ ∷ _ ∷ _ ∷ []) e = absurd (cc)
-of_eight (_ ∷ _ ∷ _ ∷ _ ∷ _ ∷ []) e = absurd (cc)
-of_eight (_ ∷ _ ∷ _ ∷ _ ∷ _ ∷ _ ∷ []) e = absurd (cc)
-of_eight (_ ∷ _ ∷ _ ∷ _ ∷ _ ∷ _ ∷ _ ∷ []) e = absurd (cc)
 of_eight (_ ∷ _ ∷ _ ∷ _ ∷ _ ∷ _ ∷ _ ∷ _ ∷ []) e = refl
-of_eight (_ ∷ _ ∷ _ ∷ _ ∷ _ ∷ _ ∷ _ ∷ _ ∷ _ ∷ rest) e = absurd (cc)
+of_eight _ e = absurd (cc)
 
 -- twelve bytes, one by one
 pub of_twelve : (bytes : List ℕ) → length bytes ≡ 12 →
     bytes ≡ get_or bytes 0 0 ∷ get_or bytes 1 0 ∷ get_or bytes 2 0 ∷ get_or bytes 3 0 ∷ get_or bytes 4 0 ∷ get_or bytes 5 0 ∷ get_or bytes 6 0 ∷ get_or bytes 7 0 ∷ get_or bytes 8 0 ∷ get_or bytes 9 0 ∷ get_or bytes 10 0 ∷ get_or bytes 11 0 ∷ []
-of_twelve [] e = absurd (cc)
-of_twelve (_ ∷ []) e = absurd (cc)
-of_twelve (_ ∷ _ ∷ []) e = absurd (cc)
-of_twelve (_ ∷ _ ∷ _ ∷ []) e = absurd (cc)
-of_twelve (_ ∷ _ ∷ _ ∷ _ ∷ []) e = absurd (cc)
-of_twelve (_ ∷ _ ∷ _ ∷ _ ∷ _ ∷ []) e = absurd (cc)
-of_twelve (_ ∷ _ ∷ _ ∷ _ ∷ _ ∷ _ ∷ []) e = absurd (cc)
-of_twelve (_ ∷ _ ∷ _ ∷ _ ∷ _ ∷ _ ∷ _ ∷ []) e = absurd (cc)
-of_twelve (_ ∷ _ ∷ _ ∷ _ ∷ _ ∷ _ ∷ _ ∷ _ ∷ []) e = absurd (cc)
-of_twelve (_ ∷ _ ∷ _ ∷ _ ∷ _ ∷ _ ∷ _ ∷ _ ∷ _ ∷ []) e = absurd (cc)
-of_twelve (_ ∷ _ ∷ _ ∷ _ ∷ _ ∷ _ ∷ _ ∷ _ ∷ _ ∷ _ ∷ []) e = absurd (cc)
-of_twelve (_ ∷ _ ∷ _ ∷ _ ∷ _ ∷ _ ∷ _ ∷ _ ∷ _ ∷ _ ∷ _ ∷ []) e = absurd (cc)
 of_twelve (_ ∷ _ ∷ _ ∷ _ ∷ _ ∷ _ ∷ _ ∷ _ ∷ _ ∷ _ ∷ _ ∷ _ ∷ []) e = refl
-of_twelve (_ ∷ _ ∷ _ ∷ _ ∷ _ ∷ _ ∷ _ ∷ _ ∷ _ ∷ _ ∷ _ ∷ _ ∷ _ ∷ rest) e = absurd (cc)
+of_twelve _ e = absurd (cc)
 
 -- the first four bytes, one by one
 pub front_four : (bytes : List ℕ) → 4 ≤ length bytes →
     take 4 bytes ≡ get_or bytes 0 0 ∷ get_or bytes 1 0 ∷ get_or bytes 2 0 ∷ get_or bytes 3 0 ∷ []
-front_four [] e = absurd (omega (arith, e))
-front_four (_ ∷ []) e = absurd (omega (arith, e))
-front_four (_ ∷ _ ∷ []) e = absurd (omega (arith, e))
-front_four (_ ∷ _ ∷ _ ∷ []) e = absurd (omega (arith, e))
-front_four (_ ∷ _ ∷ _ ∷ _ ∷ rest) e = refl
+front_four bytes e = grind arith
 
 -- the first twelve bytes, one by one
 pub front_twelve : (bytes : List ℕ) → 12 ≤ length bytes →
     take 12 bytes ≡ get_or bytes 0 0 ∷ get_or bytes 1 0 ∷ get_or bytes 2 0 ∷ get_or bytes 3 0 ∷ get_or bytes 4 0 ∷ get_or bytes 5 0 ∷ get_or bytes 6 0 ∷ get_or bytes 7 0 ∷ get_or bytes 8 0 ∷ get_or bytes 9 0 ∷ get_or bytes 10 0 ∷ get_or bytes 11 0 ∷ []
-front_twelve [] e = absurd (omega (arith, e))
-front_twelve (_ ∷ []) e = absurd (omega (arith, e))
-front_twelve (_ ∷ _ ∷ []) e = absurd (omega (arith, e))
-front_twelve (_ ∷ _ ∷ _ ∷ []) e = absurd (omega (arith, e))
-front_twelve (_ ∷ _ ∷ _ ∷ _ ∷ []) e = absurd (omega (arith, e))
-front_twelve (_ ∷ _ ∷ _ ∷ _ ∷ _ ∷ []) e = absurd (omega (arith, e))
-front_twelve (_ ∷ _ ∷ _ ∷ _ ∷ _ ∷ _ ∷ []) e = absurd (omega (arith, e))
-front_twelve (_ ∷ _ ∷ _ ∷ _ ∷ _ ∷ _ ∷ _ ∷ []) e = absurd (omega (arith, e))
-front_twelve (_ ∷ _ ∷ _ ∷ _ ∷ _ ∷ _ ∷ _ ∷ _ ∷ []) e = absurd (omega (arith, e))
-front_twelve (_ ∷ _ ∷ _ ∷ _ ∷ _ ∷ _ ∷ _ ∷ _ ∷ _ ∷ []) e = absurd (omega (arith, e))
-front_twelve (_ ∷ _ ∷ _ ∷ _ ∷ _ ∷ _ ∷ _ ∷ _ ∷ _ ∷ _ ∷ []) e = absurd (omega (arith, e))
-front_twelve (_ ∷ _ ∷ _ ∷ _ ∷ _ ∷ _ ∷ _ ∷ _ ∷ _ ∷ _ ∷ _ ∷ []) e = absurd (omega (arith, e))
-front_twelve (_ ∷ _ ∷ _ ∷ _ ∷ _ ∷ _ ∷ _ ∷ _ ∷ _ ∷ _ ∷ _ ∷ _ ∷ rest) e = refl
+front_twelve bytes e = grind arith

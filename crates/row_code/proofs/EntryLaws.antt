@@ -29,8 +29,7 @@ use Rattle.row_code.proofs.Cells.{IsBytes, u16_cells, u16_back, i32_cells, of_fo
 
 -- the value of a step that did not fail
 pub bind_ok : {A B : Type 0} (r : Result A ImageFault) (f : A → Result B ImageFault) (y : B) → (r >>= f) ≡ Ok y → (x : A) × (r ≡ Ok x) × (f x ≡ Ok y)
-bind_ok (Ok x) f y e = (x, refl, e)
-bind_ok (Err d) f y e = absurd (cc)
+bind_ok r f y e = grind arith
 
 abbrev done : {A : Type 0} → A → Result A ImageFault
 done x = Ok x
@@ -46,23 +45,19 @@ guard_ok false d x y e = absurd (cc)
 -- ---- fields
 
 target_takes : (at : ℕ) (z : ℤ) (n : ℕ) → target_at at z ≡ Ok n → pos n ≡ z
-target_takes at (pos m) n e = ap pos (sym (guard_ok (ltb m 65536) (fault.Field at) m n e).1)
-target_takes at (negsuc m) n e = absurd (cc)
+target_takes at z n e = grind (arith, guard_ok)
 
 target_again : (at n : ℕ) → n < 65536 → target_at at (pos n) ≡ Ok n
 target_again at n lt = grind (arith, common_steps, nat_tests)
 
 phase_takes : (at : ℕ) (z y : ℤ) → phase_at at z ≡ Ok y → z ≡ y
-phase_takes at (pos m) y e = cc
-phase_takes at (negsuc m) y e = absurd (cc)
+phase_takes at z y e = grind arith
 
 phase_again : (at : ℕ) (z : ℤ) → IsCount z → phase_at at z ≡ Ok z
-phase_again at (pos n) h = refl
-phase_again at (negsuc n) h = absurd (omega (arith, ints, h.0))
+phase_again at z h = grind (arith, ints)
 
 zero_takes : (at : ℕ) (z y : ℤ) → zero_at at z ≡ Ok y → z ≡ pos 0
-zero_takes at (pos m) y e = ap pos (eqb-true m 0 (guard_ok (eqb m 0) (fault.Field at) (pos 0) y e).0)
-zero_takes at (negsuc m) y e = absurd (cc)
+zero_takes at z y e = grind (arith, eqb-true, guard_ok)
 
 parent_takes : (at byte : ℕ) (o : Option ℕ) → parent_at at byte ≡ Ok o → byte ≡ parent_byte o
 parent_takes at byte o e = by_test (eqb byte 255) refl e
@@ -72,21 +67,14 @@ parent_takes at byte o e = by_test (eqb byte 255) refl e
     by_test false is e = ap parent_byte (guard_ok (ltb byte 64) (fault.Field at) (Some byte) o e).1
 
 parent_again : (at : ℕ) (o : Option ℕ) → IfSome o (λ n. n < 64) → parent_at at (parent_byte o) ≡ Ok o
-parent_again at None h = refl
-parent_again at (Some n) h = grind (arith, common_steps, nat_tests)
+parent_again at o h = grind (arith, common_steps, nat_tests)
 
 kind_again : (at : ℕ) (policy : DeclaredPolicy) → kind_at at (kind_byte policy) ≡ Ok (kind_byte policy)
-kind_again at Default = refl
-kind_again at Never = refl
-kind_again at (Until phase) = refl
-kind_again at (Routine row) = refl
+kind_again at policy = grind arith
 
 policy_again : (at : ℕ) (policy : DeclaredPolicy) → IsPolicy policy → policy_at at (kind_byte policy) (argument policy) ≡ Ok policy
 unfolding policy_at
-policy_again at Default h = refl
-policy_again at Never h = refl
-policy_again at (Until phase) h = rw (phase_again at phase h) refl
-policy_again at (Routine row) h = rw (target_again at row h) refl
+policy_again at policy h = grind (arith, phase_again, target_again)
 
 policy_takes : (at kind : ℕ) (z : ℤ) (policy : DeclaredPolicy) → kind < 4 → policy_at at kind z ≡ Ok policy → (kind ≡ kind_byte policy) × (z ≡ argument policy)
 unfolding policy_at
@@ -106,8 +94,7 @@ policy_takes at (suc (suc (suc (suc n)))) z policy lt e = absurd (omega (arith, 
 
 action_again : (at : ℕ) (action : Option ℕ) → IfSome action (λ row. row < 65536) → action_at at (action_flag action) (action_row action) ≡ Ok action
 unfolding action_at
-action_again at None h = refl
-action_again at (Some row) h = rw (target_again (at + 2) row h) refl
+action_again at action h = grind (arith, target_again)
 
 action_takes : (at flag : ℕ) (z : ℤ) (action : Option ℕ) → action_at at flag z ≡ Ok action → (flag ≡ action_flag action) × (z ≡ action_row action)
 unfolding action_at
@@ -125,25 +112,19 @@ action_takes at (suc (suc n)) z action e =
     absurd (cc)
 
 count_fits : (z : ℤ) → IsCount z → FitsSigned w32 z
-count_fits (pos n) h = record { sfits = omega (arith, ints, h.1) }
-count_fits (negsuc n) h = absurd (omega (arith, ints, h.0))
+count_fits z h = grind (arith, ints)
 
 small : (n : ℕ) → n < 65536 → FitsSigned w32 (pos n)
 small n h = record { sfits = omega (arith, h) }
 
 argument_fits : (policy : DeclaredPolicy) → IsPolicy policy → FitsSigned w32 (argument policy)
-argument_fits Default h = small 0 (omega arith)
-argument_fits Never h = small 0 (omega arith)
-argument_fits (Until phase) h = count_fits phase h
-argument_fits (Routine row) h = small row h
+argument_fits policy h = grind (arith, small, count_fits)
 
 flag_fits : (action : Option ℕ) → action_flag action < 65536
-flag_fits None = omega arith
-flag_fits (Some row) = omega arith
+flag_fits action = grind arith
 
 row_fits : (action : Option ℕ) → IfSome action (λ row. row < 65536) → FitsSigned w32 (action_row action)
-row_fits None h = small 0 (omega arith)
-row_fits (Some row) h = small row h
+row_fits action h = grind (arith, small)
 
 -- a row may stand in an image whose magic says whether there is one with a timeout
 abbrev pub MayStand : Bool → Row → Type 0

@@ -328,8 +328,7 @@ image_again i h =
 -- an image that was answered is the one that the bytes spell
 pub is_found : (bytes : List ℕ) (r : Result Image ImageFault) → IsBytes bytes → IfOk r (λ i. IsImage i) → Answers is_memory (λ read. read) r (image_of bytes) →
     IfOk r (λ i. IsImage i × (bytes ≡ image_bytes i))
-is_found bytes (Ok i) fits within given = (within, image_takes bytes i fits given)
-is_found bytes (Err e) fits within given = tt
+is_found bytes r fits within given = grind (arith, image_takes)
 
 -- what was answered of an image's bytes is that image
 pub is_only : (bytes : List ℕ) (r : Result Image ImageFault) → Answers is_memory (λ read. read) r (image_of bytes) →

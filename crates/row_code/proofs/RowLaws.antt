@@ -18,14 +18,7 @@ use Rattle.row_code.specs.RowOperands.{register_at, object_at, operands_at, rows
 use Rattle.row_code.specs.RowBytes.{bytes_of, fields_at}
 
 register_back : (r : Reg) → register_at (number_of r) ≡ r
-register_back R0 = refl
-register_back R1 = refl
-register_back R2 = refl
-register_back R3 = refl
-register_back R4 = refl
-register_back R5 = refl
-register_back R6 = refl
-register_back R7 = refl
+register_back r = search rules
 
 object_back : (n : ℕ) → pos n <ℤ pos 65536 → object_at (pos n) ≡ n
 object_back n h = grind (arith, ints, nat_tests)
@@ -35,97 +28,15 @@ small_fits n h = record { sfits = omega (arith, ints) }
 
 -- the number in imm is an `int`
 imm_fits : (row : Row) → IsRow row → FitsSigned w32 (fields_of row).imm
-imm_fits Halt h = small_fits 0 h
-imm_fits (Ldi into value) h = h
-imm_fits (Mov into from) h = small_fits 0 h
-imm_fits (Add into left right) h = small_fits 0 h
-imm_fits (Sub into left right) h = small_fits 0 h
-imm_fits (Jmp target) h = small_fits target h
-imm_fits (Beq left right target) h = small_fits target h
-imm_fits (Bne left right target) h = small_fits target h
-imm_fits (Blt left right target) h = small_fits target h
-imm_fits (Call target) h = small_fits target h
-imm_fits Ret h = small_fits 0 h
-imm_fits (Try handler) h = small_fits handler h
-imm_fits Endtry h = small_fits 0 h
-imm_fits (Throw code) h = small_fits 0 h
-imm_fits (Out value) h = small_fits 0 h
-imm_fits (Lds into cell) h = small_fits cell h
-imm_fits (Sts from cell) h = small_fits cell h
-imm_fits (SelfNumber into) h = small_fits 0 h
-imm_fits (Intr thread) h = small_fits thread h
-imm_fits (Intrd into) h = small_fits 0 h
-imm_fits (Preg into phaser) h = small_fits phaser h
-imm_fits (Pbulk into phaser count) h = small_fits phaser h
-imm_fits (Parr into phaser) h = small_fits phaser h
-imm_fits (Pdereg into phaser) h = small_fits phaser h
-imm_fits (Paaa into phaser) h = small_fits phaser h
-imm_fits (Pawait into phaser phase) h = small_fits phaser h
-imm_fits (Pawaiti into phaser phase) h = small_fits phaser h
-imm_fits (Pforce phaser) h = small_fits phaser h
-imm_fits (Pphase into phaser) h = small_fits phaser h
-imm_fits (Pparties into phaser) h = small_fits phaser h
-imm_fits (Parrived into phaser) h = small_fits phaser h
-imm_fits (Punarr into phaser) h = small_fits phaser h
-imm_fits (Pterm into phaser) h = small_fits phaser h
-imm_fits (Pparent into phaser) h = small_fits phaser h
-imm_fits (Proot into phaser) h = small_fits phaser h
-imm_fits (Cawait into barrier) h = small_fits barrier h
-imm_fits (Creset barrier) h = small_fits barrier h
-imm_fits (Cbroken into barrier) h = small_fits barrier h
-imm_fits (Cwaiting into barrier) h = small_fits barrier h
-imm_fits (Cparties into barrier) h = small_fits barrier h
-imm_fits (Pawaitt into phaser phase timeout) h = small_fits phaser h
-imm_fits (Cawaitt into barrier timeout) h = small_fits barrier h
+imm_fits row h = grind (arith, ints, small_fits)
 
 -- a row's own fields lead back to it
 likely_back : (row : Row) → IsRow row → row_with (opcode_of row) (operands_at (fields_of row)) ≡ row
 likely_back Halt h = refl
-likely_back (Ldi into value) h = rw (register_back into) refl
-likely_back (Mov into from) h = rw (register_back into, register_back from) refl
-likely_back (Add into left right) h = rw (register_back into, register_back left, register_back right) refl
-likely_back (Sub into left right) h = rw (register_back into, register_back left, register_back right) refl
-likely_back (Jmp target) h = rw (object_back target h) refl
-likely_back (Beq left right target) h = rw (register_back left, register_back right, object_back target h) refl
-likely_back (Bne left right target) h = rw (register_back left, register_back right, object_back target h) refl
-likely_back (Blt left right target) h = rw (register_back left, register_back right, object_back target h) refl
-likely_back (Call target) h = rw (object_back target h) refl
-likely_back Ret h = refl
-likely_back (Try handler) h = rw (object_back handler h) refl
-likely_back Endtry h = refl
-likely_back (Throw code) h = rw (register_back code) refl
-likely_back (Out value) h = rw (register_back value) refl
-likely_back (Lds into cell) h = rw (register_back into, object_back cell h) refl
-likely_back (Sts from cell) h = rw (register_back from, object_back cell h) refl
-likely_back (SelfNumber into) h = rw (register_back into) refl
-likely_back (Intr thread) h = rw (object_back thread h) refl
-likely_back (Intrd into) h = rw (register_back into) refl
-likely_back (Preg into phaser) h = rw (register_back into, object_back phaser h) refl
-likely_back (Pbulk into phaser count) h = rw (register_back into, register_back count, object_back phaser h) refl
-likely_back (Parr into phaser) h = rw (register_back into, object_back phaser h) refl
-likely_back (Pdereg into phaser) h = rw (register_back into, object_back phaser h) refl
-likely_back (Paaa into phaser) h = rw (register_back into, object_back phaser h) refl
-likely_back (Pawait into phaser phase) h = rw (register_back into, register_back phase, object_back phaser h) refl
-likely_back (Pawaiti into phaser phase) h = rw (register_back into, register_back phase, object_back phaser h) refl
-likely_back (Pforce phaser) h = rw (object_back phaser h) refl
-likely_back (Pphase into phaser) h = rw (register_back into, object_back phaser h) refl
-likely_back (Pparties into phaser) h = rw (register_back into, object_back phaser h) refl
-likely_back (Parrived into phaser) h = rw (register_back into, object_back phaser h) refl
-likely_back (Punarr into phaser) h = rw (register_back into, object_back phaser h) refl
-likely_back (Pterm into phaser) h = rw (register_back into, object_back phaser h) refl
-likely_back (Pparent into phaser) h = rw (register_back into, object_back phaser h) refl
-likely_back (Proot into phaser) h = rw (register_back into, object_back phaser h) refl
-likely_back (Cawait into barrier) h = rw (register_back into, object_back barrier h) refl
-likely_back (Creset barrier) h = rw (object_back barrier h) refl
-likely_back (Cbroken into barrier) h = rw (register_back into, object_back barrier h) refl
-likely_back (Cwaiting into barrier) h = rw (register_back into, object_back barrier h) refl
-likely_back (Cparties into barrier) h = rw (register_back into, object_back barrier h) refl
-likely_back (Pawaitt into phaser phase timeout) h = rw (register_back into, register_back phase, register_back timeout, object_back phaser h) refl
-likely_back (Cawaitt into barrier timeout) h = rw (register_back into, register_back timeout, object_back barrier h) refl
+likely_back row h = grind (arith, ints, register_back, object_back)
 
 unsigned_below : (z : ℤ) → FitsSigned w32 z → cast_unsigned w32 z < 2 ^ 32
-unsigned_below (pos n) h = omega (arith, ints, h.sfits)
-unsigned_below (negsuc n) h = omega (arith, ints)
+unsigned_below z h = grind (arith, ints)
 
 -- an `int` is read as it was written
 pub i32_back : (z : ℤ) → FitsSigned w32 z → i32_of (i32_bytes z) ≡ z

@@ -74,9 +74,7 @@ none_turned : (above : List ℕ) (i count root : ℕ) (phasers : List PhaserStat
     → (phaser_at phasers i).line ≡ i ∷ above → root_at phasers i ≡ root
     → ((n : ℕ) → n < length phasers → root_at phasers n ≡ root → (flat_at phasers n).turned ≡ false)
     → list_any (is_turned phasers) (joins_along (i ∷ above) count phasers) ≡ false
-none_turned [] i count root phasers sound there line tree idle =
-    ap (λ (b : Bool). b || list_any (is_turned phasers) (if is_empty (flat_at phasers i) then [] else [])) (idle i there tree)
-    ∙ none_if (is_empty (flat_at phasers i)) (is_turned phasers) [] refl
+none_turned [] i count root phasers sound there line tree idle = grind (arith, none_if)
 none_turned (q ∷ more) i count root phasers sound there line tree idle =
     let parent = next-parent phasers i q more sound there line in
     let below : q < i = parent.0 in
@@ -107,11 +105,7 @@ unless false test stray is = refl
 
 -- a phaser that was declared before isn't a child
 no_child : (phasers : List PhaserState) (id k : ℕ) → IsForest phasers → k < length phasers → k < id → is_under id (phaser_at phasers k).line ≡ false
-no_child phasers id k sound there before = by_test (is_under id (phaser_at phasers k).line) refl
-  where
-    by_test : (under : Bool) → is_under id (phaser_at phasers k).line ≡ under → under ≡ false
-    by_test true is = let below = (child-tree phasers k id sound there is).0 in absurd (omega (arith, below, before))
-    by_test false is = refl
+no_child phasers id k sound there before = grind (arith, child-tree)
 
 stands_added : (phasers : List PhaserState) (new : PhaserState) (parties : ℕ) (top : Bool) (gain : ℕ → ℕ) (after : List PhaserState) (origin : Origin)
     → IsForest phasers → IsForest (phasers ++ new ∷ []) → AreTallied phasers origin → IsAdded phasers new parties gain after
@@ -220,26 +214,10 @@ added_alone : (phasers : List PhaserState) (new : PhaserState) (phase parties : 
     → ((id : ℕ) → bit (is_under id new.line && is_awaited new.flat) ≡ 0)
     → (flat_at (phasers ++ new ∷ []) (root_at (phasers ++ new ∷ []) (length phasers))).ended ≡ false
     → IsAdded phasers new parties (λ (id : ℕ). 0) (phasers ++ new ∷ [])
-added_alone phasers new phase parties is joined_bit awaited_bit tree = record {
-  off = λ id. record { registered = refl; unarrived = refl };
-  joined_bit = joined_bit;
-  awaited_bit = awaited_bit;
-  last = refl;
-  same = refl;
-  ended = λ id. refl;
-  good = λ id had. had;
-  count = ap (λ (f : Flat). f.parties) is;
-  unarrived = (let all : unarrived_of new.flat ≡ parties - 0 = ap unarrived_of is in omega (arith, all));
-  fresh = (ap (λ (f : Flat). f.turned) is, ap (λ (f : Flat). f.arrived) is);
-  tree = tree ∙ sym (ap (λ (f : Flat). f.ended) is);
-}
+added_alone phasers new phase parties is joined_bit awaited_bit tree = grind arith
 
 flip_eq : (a b : ℕ) → (a == b) ≡ (b == a)
-flip_eq a b = by_test (a == b) refl
-  where
-    by_test : (t : Bool) → (a == b) ≡ t → t ≡ (b == a)
-    by_test true is = let same : a ≡ b = grind (arith, nat_tests, is) in sym (ap (λ (m : ℕ). b == m) same ∙ same-is b)
-    by_test false is = let other : b ≢ a = λ same. absurd (grind (arith, nat_tests, is, same)) in sym (other-is b a other)
+flip_eq a b = grind (arith, nat_tests, same-is, other-is)
 
 and_true : (b : Bool) → (b && true) ≡ b
 and_true true = refl
@@ -251,83 +229,21 @@ added_below : (phasers after : List PhaserState) (new : PhaserState) (phase part
     → places_of after ≡ places_of (phasers ++ new ∷ []) → Changes q 1 0 1 0 (phasers ++ new ∷ []) after
     → (flat_at (phasers ++ new ∷ []) (root_at (phasers ++ new ∷ []) (length phasers))).ended ≡ false
     → IsAdded phasers new parties (λ (id : ℕ). bit (q == id)) after
-added_below phasers after new phase parties q rest is some below line same changes tree =
-    let zero : (parties == 0) ≡ false = grind (arith, nat_tests, some) in
-    let has : has_joined new.flat ≡ true = ap has_joined is ∙ ap not zero in
-    let waits : is_awaited new.flat ≡ true = ap is_awaited is ∙ ap (λ (z : Bool). not z && true) zero in
-    record {
-      off = λ id. elim (cases_eq id q) as (λ _. IsOff id (bit (q == id)) 0 (bit (q == id)) 0 (phasers ++ new ∷ []) after) [
-        | inl own ↦ subst (λ (b : Bool). IsOff id (bit b) 0 (bit b) 0 (phasers ++ new ∷ []) after)
-            (sym (ap (λ (m : ℕ). q == m) own ∙ same-is q))
-            (subst (λ (m : ℕ). IsOff m 1 0 1 0 (phasers ++ new ∷ []) after) (sym own) changes.own)
-        | inr other ↦ subst (λ (b : Bool). IsOff id (bit b) 0 (bit b) 0 (phasers ++ new ∷ []) after)
-            (sym (flip_eq q id ∙ other-is id q other)) (changes.others id other)
-      ];
-      joined_bit = λ id. ap (λ (l : List ℕ). bit (is_under id l && has_joined new.flat)) line
-          ∙ ap (λ (t : Bool). bit ((q == id) && t)) has ∙ ap bit (and_true (q == id));
-      awaited_bit = λ id. ap (λ (l : List ℕ). bit (is_under id l && is_awaited new.flat)) line
-          ∙ ap (λ (t : Bool). bit ((q == id) && t)) waits ∙ ap bit (and_true (q == id));
-      last = (let apart : (q == length phasers) ≡ false = grind (arith, nat_tests, below) in ap bit apart);
-      same = same;
-      ended = changes.ended;
-      good = changes.good;
-      count = ap (λ (f : Flat). f.parties) is;
-      unarrived = (let all : unarrived_of new.flat ≡ parties - 0 = ap unarrived_of is in omega (arith, all));
-      fresh = (ap (λ (f : Flat). f.turned) is, ap (λ (f : Flat). f.arrived) is);
-      tree = tree ∙ sym (ap (λ (f : Flat). f.ended) is);
-    }
+added_below phasers after new phase parties q rest is some below line same changes tree = grind (arith, nat_tests, cases_eq, IsOff, bit, same-is, flip_eq, other-is, and_true)
 
 -- the phasers of the parent's tree are fresh, and so is the new one
 fresh_more : (phasers : List PhaserState) (new : PhaserState) (root : ℕ) → IsFreshTree root phasers → IsFresh new
     → (k : ℕ) → k < length (phasers ++ new ∷ []) → root_at (phasers ++ new ∷ []) k ≡ root → IsFresh (phaser_at (phasers ++ new ∷ []) k)
-fresh_more phasers new root tree first k here inside =
-    let longer : length (phasers ++ new ∷ []) ≡ length phasers + 1 = length_push phasers new in
-    elim (cases_lt k (length phasers)) as (λ _. IsFresh (phaser_at (phasers ++ new ∷ []) k)) [
-      | inl there ↦
-          let old : phaser_at (phasers ++ new ∷ []) k ≡ phaser_at phasers k = get_or_append_left phasers (new ∷ []) no_phaser k there in
-          subst IsFresh (sym old) (tree k no_phaser there (ap root_of (sym old) ∙ inside))
-      | inr last ↦
-          let is : length phasers ≡ k = omega (arith, last, here, longer) in
-          subst IsFresh (sym (get_or_push phasers new no_phaser k is)) first
-    ]
+fresh_more phasers new root tree first k here inside = grind (arith, length_push, cases_lt, get_or_append_left, get_or_push)
 
 good_more : (phasers : List PhaserState) (new : PhaserState) (origin : Origin) → AreTallied phasers origin → IsFresh new → AllGood (phasers ++ new ∷ [])
-good_more phasers new origin stands first k here =
-    let longer : length (phasers ++ new ∷ []) ≡ length phasers + 1 = length_push phasers new in
-    elim (cases_lt k (length phasers)) as (λ _. IsGood (root_at (phasers ++ new ∷ []) k) k (flat_at (phasers ++ new ∷ []) k)) [
-      | inl there ↦
-          let was = stands.steady k there in
-          let old : phaser_at (phasers ++ new ∷ []) k ≡ phaser_at phasers k = get_or_append_left phasers (new ∷ []) no_phaser k there in
-          subst (λ (p : PhaserState). IsGood (root_of p) k p.flat) (sym old)
-          (record { arrived = was.arrived; turned = was.turned; child = was.child })
-      | inr last ↦
-          let is : length phasers ≡ k = omega (arith, last, here, longer) in
-          let idle : new.flat.turned ≡ false = ap (λ (f : Flat). f.turned) first in
-          let none : new.flat.arrived ≡ 0 = ap (λ (f : Flat). f.arrived) first in
-          subst (λ (p : PhaserState). IsGood (root_of p) k p.flat) (sym (get_or_push phasers new no_phaser k is))
-          (record { arrived = omega (arith, none); turned = (λ yes. absurd (cc (yes, idle))); child = (λ yes _. absurd (cc (yes, idle))) })
-    ]
+good_more phasers new origin stands first k here = grind (arith, length_push, cases_lt, IsGood, get_or_append_left, get_or_push)
 
 -- the root of a new child isn't terminated
 live_root : (phasers : List PhaserState) (new : PhaserState) (q : ℕ) → IsForest phasers → IsForest (phasers ++ new ∷ []) → q < length phasers
     → new.line ≡ length phasers ∷ (phaser_at phasers q).line → IsFreshTree (root_at phasers q) phasers
     → (flat_at (phasers ++ new ∷ []) (root_at (phasers ++ new ∷ []) (length phasers))).ended ≡ false
-live_root phasers new q sound sound_more below line tree =
-    let more = phasers ++ new ∷ [] in
-    let newest : phaser_at more (length phasers) ≡ new = get_or_push phasers new no_phaser (length phasers) refl in
-    let old_q : phaser_at more q ≡ phaser_at phasers q = get_or_append_left phasers (new ∷ []) no_phaser q below in
-    let longer : length more ≡ length phasers + 1 = length_push phasers new in
-    let within : q < length more = omega (arith, below, longer) in
-    let r_below : root_at phasers q < length phasers = root_within phasers q sound below in
-    let root_is : root_at more (length phasers) ≡ root_at phasers q =
-    root-parent more (length phasers) q sound_more within
-    (ap (λ (p : PhaserState). p.line) newest ∙ line ∙ ap (λ (p : PhaserState). length phasers ∷ p.line) (sym old_q))
-    ∙ ap root_of old_q in
-    let top : root_at phasers (root_at phasers q) ≡ root_at phasers q = (root-root phasers (phaser_at phasers q).line q sound below refl).0 in
-    let r_fresh : (flat_at phasers (root_at phasers q)).ended ≡ false =
-    ap (λ (f : Flat). f.ended) (tree (root_at phasers q) no_phaser r_below top) in
-    ap (λ (m : ℕ). (flat_at more m).ended) root_is
-    ∙ ap (λ (p : PhaserState). p.flat.ended) (get_or_append_left phasers (new ∷ []) no_phaser (root_at phasers q) r_below) ∙ r_fresh
+live_root phasers new q sound sound_more below line tree = grind (arith, get_or_push, get_or_append_left, length_push, root_within, root-parent, root-root)
 
 -- a child, with parties or without
 stands_child : (none : Bool) (phasers after : List PhaserState) (new : PhaserState) (phase parties q : ℕ) (origin : Origin)

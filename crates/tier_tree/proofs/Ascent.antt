@@ -1,5 +1,5 @@
 -- A climb along a line.
-use Rattle.std.proofs.Common.{inl, inr, ◌≡◌, ◌≢◌, ◌∙◌, ℕ, zero, suc, ◌+◌, ◌<◌, ◌≤◌, drop, ◌==◌, Bool, true, false, List, [], ◌∷◌, length, get_or, ap, refl, sym, subst, arith, if◌then◌else◌}
+use Rattle.std.proofs.Common.{inl, inr, ◌≡◌, ◌≢◌, ◌∙◌, ℕ, zero, suc, ◌+◌, ◌<◌, ◌≤◌, drop, ◌==◌, Bool, true, false, List, [], ◌∷◌, length, get_or, ap, refl, sym, subst, arith, if◌then◌else◌, rules}
 use Rattle.std.specs.Prelude.{All, ℤ, pos, take, slice_set}
 use Rattle.std.proofs.lemmas.Bool.Decides.{nat_tests}
 use Rattle.std.proofs.lemmas.List.{get_or_read, get_or-set_same, drop_all}
@@ -78,19 +78,13 @@ one_top forest i top line is tree k d there = is ∙ ap (λ (n : ℕ). (stored_a
 pub arrives : (id : ℕ) (leave : Bool) (phasers after : List PhaserState) (c : Climb) → (flat_at phasers id).ended ≡ false
     → record { phasers = after; climb = c } ≡ climbed (phaser_at phasers id).line leave phasers
     → arrival_by c id after phasers ≡ arrival id leave phasers
-arrives id leave phasers after c live is =
-    let all = climbed (phaser_at phasers id).line leave phasers in
-    ap (λ (r : Climbed). arrival_by r.climb id r.phasers phasers) is
-    ∙ sym (ap (λ (e : Bool). if e then record { phasers = phasers; answer = arrived.Dead (view_of (flat_at phasers id)) }
-    else arrival_by all.climb id all.phasers phasers) live)
+arrives id leave phasers after c live is = grind arith
 
 -- the climb from a phaser of this line, by what the arrival comes to there
 first_climbed : (leave : Bool) (line above : List ℕ) (id : ℕ) (phasers : List PhaserState) (a : Arrival) → line ≡ id ∷ above
     → a ≡ arrive leave (flat_at phasers id)
     → climbed_by a id (is_top above) (λ leaves. climbed above leaves phasers) phasers ≡ climbed line leave phasers
-first_climbed leave line above id phasers a is arrives =
-    ap (λ (b : Arrival). climbed_by b id (is_top above) (λ leaves. climbed above leaves phasers) phasers) arrives
-    ∙ ap (λ (l : List ℕ). climbed l leave phasers) (sym is)
+first_climbed leave line above id phasers a is arrives = grind arith
 
 -- the view of a word after an arrival that was counted
 view_is : (f g : Flat) → IsAsLate g f × (f.ended ≡ false) → view_of g ≡ pos f.phase
@@ -99,34 +93,17 @@ view_is f g late = ap (λ (n : ℕ). phase_view n g.ended) late.0.0 ∙ ap (phas
 pub counted_here : (i : ℕ) (leave : Bool) (above : List ℕ) (phasers after : List PhaserState) (g : Flat) → (phaser_at phasers i).line ≡ i ∷ above
     → Counts g ≡ arrive leave (flat_at phasers i) → after ≡ with_flat phasers i g
     → record { phasers = after; answer = arrived.At (view_of g) } ≡ arrival i leave phasers
-counted_here i leave above phasers after g line is set =
-    let late = found leave (flat_at phasers i) (Counts g) is in
-    ap (λ (z : ℤ). record { phasers = after; answer = arrived.At z }) (view_is (flat_at phasers i) g late)
-    ∙ arrives i leave phasers after climb.Counted late.1
-    (ap (λ (ps : List PhaserState). record { phasers = ps; climb = climb.Counted }) set
-    ∙ first_climbed leave (phaser_at phasers i).line above i phasers (Counts g) line is)
+counted_here i leave above phasers after g line is set = grind (arith, found, view_is, arrives, first_climbed)
 
 pub turned_here : (i root : ℕ) (leave : Bool) (phasers after : List PhaserState) (g : Flat) → (phaser_at phasers i).line ≡ i ∷ [] → i < length phasers
     → root ≡ root_at phasers i → root ≡ i → Turns g ≡ arrive leave (flat_at phasers i) → after ≡ with_flat phasers i g
     → record { phasers = after; answer = arrived.Turning (record { 0 = root }) (view_of g) g.parties } ≡ arrival i leave phasers
-turned_here i root leave phasers after g line there root_is top is set =
-    let late = found leave (flat_at phasers i) (Turns g) is in
-    let own : flat_at after root ≡ g =
-    ap (flat_at after) top ∙ ap (λ (ps : List PhaserState). flat_at ps i) set
-    ∙ ap (λ (p : PhaserState). p.flat) (get_or-set_same phasers i (record (phaser_at phasers i) { flat = g }) no_phaser there) in
-    ap (λ (z : ℤ). record { phasers = after; answer = arrived.Turning (record { 0 = root }) z g.parties }) (view_is (flat_at phasers i) g late)
-    ∙ ap (λ (f : Flat). record { phasers = after; answer = arrived.Turning (record { 0 = root }) (pos (flat_at phasers i).phase) f.parties }) (sym own)
-    ∙ ap (λ (n : ℕ). record { phasers = after; answer = arrived.Turning (record { 0 = n }) (pos (flat_at phasers i).phase) (flat_at after n).parties }) root_is
-    ∙ arrives i leave phasers after climb.Turned late.1
-    (ap (λ (ps : List PhaserState). record { phasers = ps; climb = climb.Turned }) set
-    ∙ first_climbed leave (phaser_at phasers i).line [] i phasers (Turns g) line is)
+turned_here i root leave phasers after g line there root_is top is set = grind (arith, found, get_or-set_same, view_is, arrives, first_climbed)
 
 pub none_here : (i : ℕ) (leave : Bool) (above : List ℕ) (phasers : List PhaserState) → (phaser_at phasers i).line ≡ i ∷ above
     → IsUnregistered ≡ arrive leave (flat_at phasers i)
     → record { phasers = phasers; answer = arrived.NotThere } ≡ arrival i leave phasers
-none_here i leave above phasers line is =
-    arrives i leave phasers phasers climb.Refused (found leave (flat_at phasers i) IsUnregistered is)
-    (first_climbed leave (phaser_at phasers i).line above i phasers IsUnregistered line is)
+none_here i leave above phasers line is = grind (arith, arrives, found, first_climbed)
 
 -- 2. a look, phaser after phaser
 
@@ -134,14 +111,7 @@ none_here i leave above phasers line is =
 pub in_phase : (forest : List Stored) (id top : ℕ) → IsStored forest → id < length forest
     → top ≡ (stored_at forest (root_at (phasers_of forest) id)).word → (record_of top).ended ≡ false
     → ((flat_at (phasers_of forest) id).phase ≡ (record_of top).phase) × ((flat_at (phasers_of forest) id).ended ≡ false)
-in_phase forest id top stored there is live =
-    let own = kept_flat (stored_at forest id) in
-    let above = kept_flat (stored_at forest (top_at forest id)) in
-    let same : record_of top ≡ above = ap record_of (is ∙ ap (λ (n : ℕ). (stored_at forest n).word) (root_shown forest id there)) in (
-      ap (λ (f : Flat). f.phase) (flat_shown forest id there) ∙ present-phase above own ∙ ap (λ (f : Flat). f.phase) (sym same),
-      ap (λ (f : Flat). f.ended) (flat_shown forest id there) ∙ present-ended above own (stored.live id there)
-          ∙ ap (λ (f : Flat). f.ended) (sym same) ∙ live,
-    )
+in_phase forest id top stored there is live = grind (arith, top_at, root_shown, flat_shown, present-phase, present-ended)
 
 -- a word of its root's phase is of each phaser's
 pub live_line : (forest : List Stored) (line : List ℕ) (k top : ℕ) → IsStored forest → All (λ (id : ℕ). id < length forest) line
@@ -185,26 +155,20 @@ one_higher (suc k) (id ∷ line) (first ∷ words) word rest here room =
 
 from_refused : (k : ℕ) (line words : List ℕ) (phasers : List PhaserState)
     → from_below k line words (record { phasers = phasers; climb = climb.Refused }) ≡ record { phasers = phasers; climb = climb.Refused }
-from_refused zero line words phasers = refl
-from_refused (suc k) [] words phasers = refl
-from_refused (suc k) (id ∷ line) [] phasers = refl
 from_refused (suc k) (id ∷ line) (word ∷ words) phasers =
     ap (λ (r : Climbed). passes id word r.climb r.phasers) (from_refused k line words phasers)
+from_refused _ _ _ phasers = refl
 
 written_by : (id word : ℕ) (c : Climb) (above : List PhaserState) → c ≢ climb.Refused
     → passes id word c above ≡ record { phasers = with_flat above id (record_of word); climb = c }
-written_by id word climb.Counted above not = refl
-written_by id word climb.Turned above not = refl
-written_by id word climb.Refused above not = absurd (not refl)
+written_by id word c above not = grind arith
 
 from_written : (k : ℕ) (line words : List ℕ) (phasers : List PhaserState) (c : Climb) → c ≢ climb.Refused
     → from_below k line words (record { phasers = phasers; climb = c }) ≡ record { phasers = written (take k line) words phasers; climb = c }
-from_written zero line words phasers c not = refl
-from_written (suc k) [] words phasers c not = refl
-from_written (suc k) (id ∷ line) [] phasers c not = refl
 from_written (suc k) (id ∷ line) (word ∷ words) phasers c not =
     ap (λ (r : Climbed). passes id word r.climb r.phasers) (from_written k line words phasers c not)
     ∙ written_by id word c (written (take k line) words phasers) not
+from_written _ _ _ phasers c not = refl
 
 -- the phaser waits for nobody, or is terminated
 abbrev pub IsRefusal : Arrival → Type 0
@@ -215,10 +179,7 @@ IsRefusal IsUnregistered = Unit {0}
 
 refused_climb : (a : Arrival) (id : ℕ) (top : Bool) (above : Bool → Climbed) (phasers : List PhaserState) → IsRefusal a
     → climbed_by a id top above phasers ≡ record { phasers = phasers; climb = climb.Refused }
-refused_climb (Counts flat) id top above phasers refuses = absurd refuses
-refused_climb (Turns flat) id top above phasers refuses = absurd refuses
-refused_climb (ComesLate view) id top above phasers refuses = refl
-refused_climb IsUnregistered id top above phasers refuses = refl
+refused_climb a id top above phasers refuses = grind arith
 
 -- so far all phasers of the line have turned, and their words are found
 pub record IsFound (line words : List ℕ) (k : ℕ) (leave leaves : Bool) (top : ℕ) (phasers : List PhaserState) : Type 0 where
@@ -233,10 +194,7 @@ one_more : (line words : List ℕ) (k word : ℕ) (leave leaves : Bool) (phasers
     → climbed line leave phasers ≡ from_below k line words (climbed (drop k line) leaves phasers)
     → climbed (drop k line) leaves phasers ≡ passes (get_or line k 0) word rest.climb rest.phasers
     → climbed line leave phasers ≡ from_below (k + 1) line (slice_set words k word) rest
-one_more line words k word leave leaves phasers rest here room climbs is =
-    let next : suc k ≡ k + 1 = omega arith in
-    climbs ∙ ap (from_below k line words) is ∙ one_higher k line words word rest here room
-    ∙ ap (λ (n : ℕ). from_below n line (slice_set words k word) rest) next
+one_more line words k word leave leaves phasers rest here room climbs is = grind (arith, one_higher)
 
 -- it ends at this one
 ends_here : (line words : List ℕ) (k word : ℕ) (leave leaves : Bool) (phasers : List PhaserState) (c : Climb) → c ≢ climb.Refused
@@ -277,13 +235,7 @@ settled_stays f true is = grind (arith, nat_tests, is)
 settled_stays f false is = tt
 
 arrival_stays : (f : Flat) → Stays (arrive false f)
-arrival_stays f = by_case f.ended (f.arrived == f.parties)
-  where
-    by_case : (ended none : Bool)
-        → Stays (if ended then ComesLate (view_of f) else (if none then IsUnregistered else settled (record f { arrived = f.arrived + 1 })))
-    by_case true none = tt
-    by_case false true = tt
-    by_case false false = settled_stays f (f.arrived + 1 == f.parties) refl
+arrival_stays f = grind (arith, settled_stays)
 
 pub stays : (f g : Flat) (leave : Bool) → Turns g ≡ arrive leave f → leave ≡ false → (g.parties == 0) ≡ false
 stays f g leave is not = subst Stays (sym (is ∙ ap (λ (b : Bool). arrive b f) not)) (arrival_stays f)
@@ -291,34 +243,19 @@ stays f g leave is not = subst Stays (sym (is ∙ ap (λ (b : Bool). arrive b f)
 -- it goes on above
 child_passes : (id word : ℕ) (g : Flat) (c : Climb) (above : List PhaserState) → record_of word ≡ passed_on g
     → with_child id g c above ≡ passes id word c above
-child_passes id word g climb.Counted above is = ap (λ (f : Flat). record { phasers = with_flat above id f; climb = climb.Counted }) (sym is)
-child_passes id word g climb.Turned above is = ap (λ (f : Flat). record { phasers = with_flat above id f; climb = climb.Turned }) (sym is)
-child_passes id word g climb.Refused above is = refl
+child_passes id word g c above is = grind arith
 
 pub goes_on : (line words : List ℕ) (k word : ℕ) (g : Flat) (leave leaves next : Bool) (top : ℕ) (phasers : List PhaserState) → k < length line
     → k < length words → k + 1 ≢ length line → IsFound line words k leave leaves top phasers
     → Turns g ≡ arrive leaves (flat_at phasers (get_or line k 0)) → next ≡ (g.parties == 0) → record_of word ≡ passed_on g
     → climbed line leave phasers ≡ from_below (k + 1) line (slice_set words k word) (climbed (drop (k + 1) line) next phasers)
-goes_on line words k word g leave leaves next top phasers here room more so_far is leaves_is passed =
-    let id = get_or line k 0 in
-    let above = drop (k + 1) line in
-    let rest = climbed above next phasers in
-    let none_is_top = ap is_top (from_here line (k + 1) (omega (arith, here, more))) in
-    one_more line words k word leave leaves phasers rest here room so_far.climbs
-    (sym (first_climbed leaves (drop k line) above id phasers (Turns g) (from_here line k here) is)
-    ∙ ap (λ (t : Bool). climbed_by (Turns g) id t (λ (b : Bool). climbed above b phasers) phasers) none_is_top
-    ∙ ap (λ (b : Bool). with_child id g (climbed above b phasers).climb (climbed above b phasers).phasers) (sym leaves_is)
-    ∙ child_passes id word g rest.climb rest.phasers passed)
+goes_on line words k word g leave leaves next top phasers here room more so_far is leaves_is passed = grind (arith, from_here, one_more, first_climbed, child_passes)
 
 -- it is refused there
 pub refused_there : (line words : List ℕ) (k : ℕ) (leave leaves : Bool) (top : ℕ) (phasers : List PhaserState) (a : Arrival) → k < length line
     → IsFound line words k leave leaves top phasers → a ≡ arrive leaves (flat_at phasers (get_or line k 0)) → IsRefusal a
     → record { phasers = phasers; climb = climb.Refused } ≡ climbed line leave phasers
-refused_there line words k leave leaves top phasers a here so_far is refuses =
-    sym (so_far.climbs
-    ∙ ap (from_below k line words) (sym (first_climbed leaves (drop k line) (drop (k + 1) line) (get_or line k 0) phasers a (from_here line k here) is)
-    ∙ refused_climb a (get_or line k 0) (is_top (drop (k + 1) line)) (λ (b : Bool). climbed (drop (k + 1) line) b phasers) phasers refuses)
-    ∙ from_refused k line words phasers)
+refused_there line words k leave leaves top phasers a here so_far is refuses = grind (arith, first_climbed, from_here, refused_climb, from_refused)
 
 pub refused_past : (line words : List ℕ) (k : ℕ) (leave leaves : Bool) (top : ℕ) (phasers : List PhaserState) → length line ≤ k
     → IsFound line words k leave leaves top phasers → record { phasers = phasers; climb = climb.Refused } ≡ climbed line leave phasers
@@ -330,14 +267,10 @@ pub new_word : (forest : List Stored) (line words : List ℕ) (top k word : ℕ)
     → All (λ (id : ℕ). top ≡ (stored_at forest (root_at (phasers_of forest) id)).word) line → (record_of top).ended ≡ false → k < length line
     → IsAsLate (record_of word) (flat_at (phasers_of forest) (get_or line k 0)) → All (IsOfPhase (record_of top)) words
     → All (IsOfPhase (record_of top)) (slice_set words k word)
-new_word forest line words top k word stored there tops live here late all =
-    let id = in_phase forest (get_or line k 0) top stored (there k 0 here) (tops k 0 here) live in
-    All-set (IsOfPhase (record_of top)) words k word (late.0 ∙ id.0, late.1 ∙ id.1) all
+new_word forest line words top k word stored there tops live here late all = search (rules, in_phase, All-set)
 
 pub passed_late : (g f : Flat) (word : ℕ) → record_of word ≡ passed_on g → IsAsLate g f → IsAsLate (record_of word) f
-passed_late g f word is late =
-    let passed = passed_on-late g in
-    (ap (λ (x : Flat). x.phase) is ∙ passed.0 ∙ late.0, ap (λ (x : Flat). x.ended) is ∙ passed.1 ∙ late.1)
+passed_late g f word is late = grind (arith, passed_on-late)
 
 -- 3. the words are written, from the highest one down
 

@@ -1,5 +1,5 @@
 -- What an arrival makes of the counts of a forest.
-use Rattle.std.proofs.Common.{inl, inr, ◌≡◌, ◌≢◌, ◌∙◌, ℕ, zero, suc, ◌+◌, ◌-◌, ◌<◌, ◌≤◌, ◌==◌, Bool, true, false, List, [], ◌∷◌, length, ap, refl, sym, subst, arith, if◌then◌else◌}
+use Rattle.std.proofs.Common.{inl, inr, ◌≡◌, ◌≢◌, ◌∙◌, ℕ, zero, suc, ◌+◌, ◌-◌, ◌<◌, ◌≤◌, ◌==◌, Bool, true, false, List, [], ◌∷◌, length, ap, refl, sym, subst, arith, if◌then◌else◌, rules}
 use Rattle.std.specs.Prelude.{◌&&◌, not, slice_index_or}
 use Rattle.std.proofs.lemmas.Bool.{cases_eq}
 use Rattle.std.proofs.lemmas.Bool.Decides.{nat_tests}
@@ -27,41 +27,23 @@ add-bit false = refl
 pub children-set : (test : Flat → Bool) (id : ℕ) (phasers : List PhaserState) (i : ℕ) (flat : Flat) → i < length phasers
     → children test id (with_flat phasers i flat) + bit (is_under id (phaser_at phasers i).line && test (flat_at phasers i))
     ≡ children test id phasers + bit (is_under id (phaser_at phasers i).line && test flat)
-children-set test id [] i flat there = absurd (omega (arith, there))
-children-set test id (p ∷ phasers) zero flat there =
-    let old = add-bit (is_under id p.line && test p.flat) in
-    let new = add-bit (is_under id p.line && test flat) in
-    omega (arith, old, new)
 children-set test id (p ∷ phasers) (suc i) flat there =
     let others = children-set test id phasers i flat (omega (arith, there)) in
     omega (arith, others)
+children-set test id phasers i flat there = grind (arith, add-bit)
 
 pub put_same : (test : Flat → Bool) (id : ℕ) (phasers : List PhaserState) (i : ℕ) (flat : Flat) → i < length phasers
     → test flat ≡ test (flat_at phasers i) → children test id (with_flat phasers i flat) ≡ children test id phasers
-put_same test id phasers i flat there same =
-    let all = children-set test id phasers i flat there in
-    let bits : bit (is_under id (phaser_at phasers i).line && test flat) ≡ bit (is_under id (phaser_at phasers i).line && test (flat_at phasers i)) =
-    ap (λ (t : Bool). bit (is_under id (phaser_at phasers i).line && t)) same in
-    omega (arith, all, bits)
+put_same test id phasers i flat there same = grind (arith, children-set)
 
 pub put_apart : (test : Flat → Bool) (id : ℕ) (phasers : List PhaserState) (i : ℕ) (flat : Flat) → i < length phasers
     → is_under id (phaser_at phasers i).line ≡ false → children test id (with_flat phasers i flat) ≡ children test id phasers
-put_apart test id phasers i flat there apart =
-    let all = children-set test id phasers i flat there in
-    let new : bit (is_under id (phaser_at phasers i).line && test flat) ≡ 0 = ap (λ (u : Bool). bit (u && test flat)) apart in
-    let old : bit (is_under id (phaser_at phasers i).line && test (flat_at phasers i)) ≡ 0 =
-    ap (λ (u : Bool). bit (u && test (flat_at phasers i))) apart in
-    omega (arith, all, new, old)
+put_apart test id phasers i flat there apart = grind (arith, children-set)
 
 pub put_under : (test : Flat → Bool) (id : ℕ) (phasers : List PhaserState) (i : ℕ) (flat : Flat) → i < length phasers
     → is_under id (phaser_at phasers i).line ≡ true
     → children test id (with_flat phasers i flat) + bit (test (flat_at phasers i)) ≡ children test id phasers + bit (test flat)
-put_under test id phasers i flat there under =
-    let all = children-set test id phasers i flat there in
-    let new : bit (is_under id (phaser_at phasers i).line && test flat) ≡ bit (test flat) = ap (λ (u : Bool). bit (u && test flat)) under in
-    let old : bit (is_under id (phaser_at phasers i).line && test (flat_at phasers i)) ≡ bit (test (flat_at phasers i)) =
-    ap (λ (u : Bool). bit (u && test (flat_at phasers i))) under in
-    omega (arith, all, new, old)
+put_under test id phasers i flat there under = grind (arith, children-set)
 
 pub flat-put : (phasers : List PhaserState) (i : ℕ) (flat : Flat) → i < length phasers → flat_at (with_flat phasers i flat) i ≡ flat
 flat-put phasers i flat there =
@@ -149,36 +131,15 @@ record IsCounted (leave : Bool) (before after : Flat) : Type 0 where
   turned : after.turned ≡ before.turned
 
 in_numbers : (leave : Bool) (f : Flat) → f.arrived ≤ f.parties → f.arrived ≢ f.parties → IsCounted leave f (counted leave f)
-in_numbers true f within some = record {
-  parties = omega (arith, within, some);
-  unarrived = omega (arith, within, some);
-  within = omega (arith, within, some);
-  ended = refl;
-  turned = refl;
-}
-in_numbers false f within some = record {
-  parties = omega arith;
-  unarrived = omega (arith, within, some);
-  within = omega (arith, within, some);
-  ended = refl;
-  turned = refl;
-}
+in_numbers true f within some = grind arith
+in_numbers false f within some = grind arith
 
 -- a phaser that waits for somebody has joined its parent, and its parent waits for it
 pub waiting : (f : Flat) → f.ended ≡ false → f.turned ≡ false → 0 < f.parties → (has_joined f ≡ true) × (is_awaited f ≡ true)
-waiting f live idle some =
-    let zero : (f.parties == 0) ≡ false = grind (arith, nat_tests, some) in
-    let empty : is_empty f ≡ false =
-    ap (λ (e : Bool). if e then false else (if f.turned then false else f.parties == 0)) live
-    ∙ ap (λ (t : Bool). if t then false else f.parties == 0) idle ∙ zero in
-    (ap not empty, ap (λ (e : Bool). not e && not f.turned) empty ∙ ap not idle)
+waiting f live idle some = grind (arith, nat_tests)
 
 open_flat : (f : Flat) → (f.turned ≡ true → (f.ended ≡ false) × (f.arrived ≡ f.parties)) → f.arrived ≢ f.parties → f.turned ≡ false
-open_flat f turned some = by_cases f.turned turned
-  where
-    by_cases : (t : Bool) → (t ≡ true → (f.ended ≡ false) × (f.arrived ≡ f.parties)) → t ≡ false
-    by_cases true turned = absurd (some (turned refl).1)
-    by_cases false turned = refl
+open_flat f turned some = grind arith
 
 -- an arrival that comes through
 abbrev pub Succeeds : Climb → Type 0
@@ -197,23 +158,7 @@ counted_case : (leave : Bool) (phasers : List PhaserState) (i : ℕ) → i < len
     → (flat_at phasers i).ended ≡ false → (flat_at phasers i).arrived ≢ (flat_at phasers i).parties
     → (counted leave (flat_at phasers i)).arrived ≢ (counted leave (flat_at phasers i)).parties
     → Changes i 0 (bit leave) 0 1 phasers (with_flat phasers i (counted leave (flat_at phasers i)))
-counted_case leave phasers i there good live some others =
-    let f = flat_at phasers i in
-    let was = good i there in
-    let new = in_numbers leave f was.arrived some in
-    let idle = open_flat f was.turned some in
-    let before = waiting f live idle (some_of f.arrived f.parties was.arrived some) in
-    let after = waiting (counted leave f) (new.ended ∙ live) (new.turned ∙ idle)
-    (some_of (counted leave f).arrived (counted leave f).parties new.within others) in
-    simple phasers i (bit leave) (counted leave f) there
-    (λ id. put_same has_joined id phasers i (counted leave f) there (after.0 ∙ sym before.0))
-    (λ id. put_same is_awaited id phasers i (counted leave f) there (after.1 ∙ sym before.1))
-    new.parties new.unarrived new.ended
-    (λ _. record {
-      arrived = new.within;
-      turned = (λ yes. absurd (cc (yes, new.turned, idle)));
-      child = (λ yes _. absurd (cc (yes, new.turned, idle)));
-    })
+counted_case leave phasers i there good live some others = search (rules, in_numbers, open_flat, waiting, some_of, simple, put_same)
 
 -- the root's last
 top_case : (leave : Bool) (phasers : List PhaserState) (i : ℕ) → i < length phasers → AllGood phasers
@@ -221,20 +166,7 @@ top_case : (leave : Bool) (phasers : List PhaserState) (i : ℕ) → i < length 
     → (flat_at phasers i).ended ≡ false → (flat_at phasers i).arrived ≢ (flat_at phasers i).parties
     → (counted leave (flat_at phasers i)).arrived ≡ (counted leave (flat_at phasers i)).parties
     → Changes i 0 (bit leave) 0 1 phasers (with_flat phasers i (record (counted leave (flat_at phasers i)) { turned = true }))
-top_case leave phasers i there good top live some all =
-    let f = flat_at phasers i in
-    let was = good i there in
-    let new = in_numbers leave f was.arrived some in
-    let last = record (counted leave f) { turned = true } in
-    simple phasers i (bit leave) last there
-    (λ id. put_apart has_joined id phasers i last there (ap (is_under id) top))
-    (λ id. put_apart is_awaited id phasers i last there (ap (is_under id) top))
-    new.parties new.unarrived new.ended
-    (λ _. record {
-      arrived = new.within;
-      turned = (λ _. (new.ended ∙ live, all));
-      child = (λ _ below. absurd (below (ap last_of top)));
-    })
+top_case leave phasers i there good top live some all = search (rules, in_numbers, simple, put_apart, last_of)
 
 -- what a child that all have arrived at shows its parent
 record IsPassed (none : Bool) (last after : Flat) : Type 0 where
@@ -247,22 +179,8 @@ record IsPassed (none : Bool) (last after : Flat) : Type 0 where
 
 passed : (none : Bool) (g : Flat) → g.ended ≡ false → (g.parties == 0) ≡ none → g.arrived ≡ g.parties
     → IsPassed none g (if none then vacate (record g { turned = true }) else record g { turned = true })
-passed true g live none all = record {
-  joined = ap (λ (e : Bool). not (if e then false else g.parties == 0)) live ∙ ap not none;
-  awaited = ap (λ (e : Bool). not (if e then false else g.parties == 0) && true) live ∙ ap (λ (z : Bool). not z && true) none;
-  parties = refl;
-  unarrived = refl;
-  ended = refl;
-  good = λ root id. record { arrived = omega (arith, all); turned = (λ yes. absurd (cc (yes))); child = (λ yes _. absurd (cc (yes))) };
-}
-passed false g live none all = record {
-  joined = ap (λ (e : Bool). not (if e then false else false)) live;
-  awaited = ap (λ (e : Bool). not (if e then false else false) && false) live;
-  parties = refl;
-  unarrived = refl;
-  ended = refl;
-  good = λ root id. record { arrived = omega (arith, all); turned = (λ _. (live, all)); child = (λ _ _. grind (arith, nat_tests, none)) };
-}
+passed true g live none all = grind arith
+passed false g live none all = grind (arith, nat_tests)
 
 bit-not : (b : Bool) → bit b + bit (not b) ≡ 1
 bit-not true = refl
@@ -350,9 +268,7 @@ Onward (q ∷ more) onward phasers =
 child_by : (c : Climb) (id first less : ℕ) (last : Flat) (phasers mid : List PhaserState) → Succeeds (with_child id last c mid).climb
     → (Succeeds c → Changes first 0 less 0 1 phasers (with_flat mid id (passed_on last)))
     → Changes first 0 less 0 1 phasers (with_child id last c mid).phasers
-child_by climb.Counted id first less last phasers mid ok changes = changes tt
-child_by climb.Turned id first less last phasers mid ok changes = changes tt
-child_by climb.Refused id first less last phasers mid ok changes = absurd ok
+child_by c id first less last phasers mid ok changes = grind arith
 
 abbrev second_of : List ℕ → ℕ
 second_of [] = 0
@@ -366,18 +282,7 @@ others_of (x ∷ rest) = rest
 -- the next phaser of a line is the parent
 pub next-parent : (phasers : List PhaserState) (i q : ℕ) (more : List ℕ) → IsForest phasers → i < length phasers
     → (phaser_at phasers i).line ≡ i ∷ q ∷ more → (q < i) × ((phaser_at phasers q).line ≡ q ∷ more)
-next-parent phasers i q more sound there line =
-    elim (linked phasers i sound there) as (λ _. (q < i) × ((phaser_at phasers q).line ≡ q ∷ more)) [
-      | inl top ↦ absurd (cc (top, line))
-      | inr child ↦
-          let below : child.0 < i = child.1 in
-          let within : child.0 < length phasers = omega (arith, below, there) in
-          let own = line_own phasers child.0 sound within in
-          let whole : i ∷ child.0 ∷ own.0 ≡ i ∷ q ∷ more = sym (child.2 ∙ ap (λ (l : List ℕ). i ∷ l) own.1) ∙ line in
-          let same : child.0 ≡ q = ap second_of whole in
-          let rest : child.0 ∷ own.0 ≡ q ∷ more = ap others_of whole in
-          (subst (λ (n : ℕ). n < i) same below, ap (λ (n : ℕ). (phaser_at phasers n).line) (sym same) ∙ own.1 ∙ rest)
-    ]
+next-parent phasers i q more sound there line = grind (arith, linked, line_own)
 
 -- the phasers after an arrival, by how it fares at its first phaser
 climb_by : (above : List ℕ) (leave : Bool) (phasers : List PhaserState) (i : ℕ) (onward : Bool → Climbed) → IsForest phasers → i < length phasers
@@ -391,8 +296,6 @@ climb_by : (above : List ℕ) (leave : Bool) (phasers : List PhaserState) (i : �
     else (if last then Turns (record (counted leave (flat_at phasers i)) { turned = true }) else Counts (counted leave (flat_at phasers i)))))
     i (is_top above) onward phasers in
     Succeeds r.climb → Changes i 0 (bit leave) 0 1 phasers r.phasers
-climb_by above leave phasers i onward sound there line good true missing last is_ended is_missing is_last rest kept ok = absurd ok
-climb_by above leave phasers i onward sound there line good false true last is_ended is_missing is_last rest kept ok = absurd ok
 climb_by above leave phasers i onward sound there line good false false false is_ended is_missing is_last rest kept ok =
     counted_case leave phasers i there good is_ended (λ all. absurd (grind (arith, nat_tests, all, is_missing)))
     (λ all. absurd (grind (arith, nat_tests, all, is_last)))
@@ -415,6 +318,7 @@ climb_by (q ∷ more) leave phasers i onward sound there line good false false t
     child_by mid.climb i i (bit leave) (record g { turned = true }) phasers mid.phasers ok
     (λ through. child_case leave none phasers mid.phasers i q more (passed_on (record g { turned = true })) there
     (next-parent phasers i q more sound there line).0 good moved many is_ended some (passed none g live refl all) (rest none through))
+climb_by above leave phasers i onward sound there line good _ _ last is_ended is_missing is_last rest kept ok = absurd ok
 
 -- an arrival that comes through takes one from its first phaser, and the phasers above stay balanced
 pub climb-changes : (above : List ℕ) (i : ℕ) (leave : Bool) (phasers : List PhaserState) → IsForest phasers → i < length phasers

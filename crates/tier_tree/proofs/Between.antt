@@ -20,15 +20,7 @@ use Rattle.tier_tree.proofs.Balance.{next-parent}
 -- a phaser that has all takes no arrival
 none_arrives : (id : ℕ) (above : List ℕ) (leave : Bool) (phasers : List PhaserState) → (flat_at phasers id).ended ≡ false
     → (flat_at phasers id).arrived ≡ (flat_at phasers id).parties → (climbed (id ∷ above) leave phasers).climb ≡ climb.Refused
-none_arrives id above leave phasers live all =
-    let f = flat_at phasers id in
-    let equal : (f.arrived == f.parties) ≡ true = grind (arith, nat_tests, all) in
-    let answer : arrive leave f ≡ IsUnregistered =
-    ap (λ (e : Bool). if e then ComesLate (view_of f) else (if f.arrived == f.parties then IsUnregistered
-    else (if leave then settled (record f { parties = f.parties - 1 }) else settled (record f { arrived = f.arrived + 1 })))) live
-    ∙ ap (λ (m : Bool). if m then IsUnregistered
-    else (if leave then settled (record f { parties = f.parties - 1 }) else settled (record f { arrived = f.arrived + 1 }))) equal in
-    ap (λ (a : Arrival). (climbed_by a id (is_top above) (λ leaves. climbed above leaves phasers) phasers).climb) answer
+none_arrives id above leave phasers live all = grind (arith, nat_tests)
 
 or_true : (b : Bool) → (b || true) ≡ true
 or_true true = refl
@@ -39,9 +31,7 @@ any_turned : (above : List ℕ) (i count root : ℕ) (phasers : List PhaserState
     → (phaser_at phasers i).line ≡ i ∷ above → root_at phasers i ≡ root → (flat_at phasers root).turned ≡ true
     → ((n : ℕ) → n < length phasers → root_at phasers n ≡ root → HasAll (flat_at phasers n))
     → list_any (is_turned phasers) (joins_along (i ∷ above) count phasers) ≡ true
-any_turned [] i count root phasers sound there line tree turned all =
-    let own : (flat_at phasers i).turned ≡ true = ap (λ (m : ℕ). (flat_at phasers m).turned) (sym (ap last_of line) ∙ tree) ∙ turned in
-    ap (λ (b : Bool). b || list_any (is_turned phasers) (if is_empty (flat_at phasers i) then [] else [])) own
+any_turned [] i count root phasers sound there line tree turned all = grind (arith, last_of)
 any_turned (q ∷ more) i count root phasers sound there line tree turned all =
     let rest : List Join = if is_empty (flat_at phasers i) then joins_along (q ∷ more) 1 phasers else [] in
     let parent = next-parent phasers i q more sound there line in
@@ -60,9 +50,7 @@ held : (ended over turned : Bool) (view phase : ℤ) → ended ≡ false → tur
     else (if turned then registered.Held else registered.At phase)) in
     (answer ≡ registered.Held) ⊎ (answer ≡ registered.TooMany)
 held true over turned view phase live is = absurd (cc)
-held false true turned view phase live is = inr refl
-held false false true view phase live is = inl refl
-held false false false view phase live is = absurd (cc)
+held false _ turned view phase live is = grind arith
 
 refused : (ended : Bool) (c : Climb) (id : ℕ) (after phasers : List PhaserState) (view : ℤ) → ended ≡ false → c ≡ climb.Refused
     → let r : Arrives = if ended then record { phasers = phasers; answer = arrived.Dead view } else arrival_by c id after phasers in

@@ -42,18 +42,12 @@ use Rattle.tier_tree.proofs.Turning.{IsFull, turning}
 pub joined_all : (ps after : List PhaserState) (id count : ℕ) (line : List ℕ) (answer : Registered) (phase : ℤ)
     → answer ≡ registration id count ps → answer ≡ registered_answer.At phase → 0 < count → line ≡ (phaser_at ps id).line
     → after ≡ joined (joins_along line count ps) ps → after ≡ after_registration id count ps
-joined_all ps after id count line answer phase is at some line_is joins_is =
-    let none : (count == 0) ≡ false = grind (arith, nat_tests, some) in
-    joins_is ∙ ap (λ (l : List ℕ). joined (joins_along l count ps) ps) line_is
-    ∙ ap (λ (t : Bool). joined (if t then [] else joins_along (phaser_at ps id).line count ps) ps) (sym none)
-    ∙ ap (λ (r : Registered). registered_by r (joins id count ps) ps) (sym at ∙ is)
+joined_all ps after id count line answer phase is at some line_is joins_is = grind (arith, nat_tests)
 
 -- a slice of all phasers, written back
 pub written_back : (P : List Stored → List Stored → Type 0) (items given now written : List Stored) (n : ℕ) → given ≡ items → items ≡ now
     → length given ≡ n → length written ≡ length given → P given written → P now (take n (written ++ drop (length written) items))
-written_back P items given now written n value view len many p =
-    subst (λ (before : List Stored). P before (take n (written ++ drop (length written) items))) (value ∙ view)
-    (subst (P given) (sym (take_at written (drop (length written) items) n (many ∙ len))) p)
+written_back P items given now written n value view len many p = grind (arith, take_at)
 
 -- what every call keeps
 pub record Keeps (next : Origin → Origin) (before after : List PhaserState) : Type 0 where
@@ -119,18 +113,10 @@ word_full : (w : ℕ) → IsFull (record_of w)
 word_full w turned = turned_all (fields_of w).ended (fields_of w).parties (fields_of w).unarrived turned
 
 present_full : (top own : Flat) → IsFull own → IsFull (present top own)
-present_full top own full = by_case top.ended (own.phase == top.phase)
-  where
-    by_case : (ended same : Bool) → IsFull (if ended then record { phase = top.phase; ended = true; parties = own.parties; arrived = own.parties; turned = false }
-        else (if same then own else record { phase = top.phase; ended = false; parties = own.parties; arrived = 0; turned = false }))
-    by_case true same turned = absurd (cc (turned))
-    by_case false true turned = full turned
-    by_case false false turned = absurd (cc (turned))
+present_full top own full = grind (arith, IsFull, arrived)
 
 pub all_full : (forest : List Stored) (id : ℕ) → id < length forest → IsFull (flat_at (phasers_of forest) id)
-all_full forest id there =
-    subst IsFull (sym (flat_shown forest id there))
-    (present_full (kept_flat (stored_at forest (top_at forest id))) (kept_flat (stored_at forest id)) (word_full (stored_at forest id).word))
+all_full forest id there = grind (arith, IsFull, flat_shown, present_full, top_at, word_full)
 
 pub arrived_turning : (items given now written : List Stored) (id : ℕ) (leave : Bool) (answer : Arrived) → given ≡ items → items ≡ now → IsStored items
     → id < length now → length written ≡ length given → record { phasers = phasers_of written; answer = answer } ≡ arrival id leave (phasers_of given)
@@ -146,46 +132,20 @@ arrived_turning items given now written id leave answer value view stored there 
 
 -- all phasers of a tree are in its root's phase, and terminated with it
 pub one_phase : (forest : List Stored) → IsStored forest → HaveOnePhase (phasers_of forest)
-one_phase forest stored id there =
-    let many = length-shown forest in
-    let within : id < length forest = omega (arith, many, there) in
-    let root_is = root_shown forest id within in
-    let below = top_there forest id stored within in
-    let t = kept_flat (stored_at forest (top_at forest id)) in
-    let own : flat_at (phasers_of forest) id ≡ present t (kept_flat (stored_at forest id)) = flat_shown forest id within in
-    let up : flat_at (phasers_of forest) (root_at (phasers_of forest) id) ≡ present t t =
-    ap (flat_at (phasers_of forest)) root_is ∙ flat_shown forest (top_at forest id) below
-    ∙ ap (λ (n : ℕ). present (kept_flat (stored_at forest n)) t) (top-top forest id stored within) in
-    record {
-      phase = ap (λ (f : Flat). f.phase) own ∙ present-phase t (kept_flat (stored_at forest id)) ∙ sym (present-phase t t)
-          ∙ sym (ap (λ (f : Flat). f.phase) up);
-      ended = ap (λ (f : Flat). f.ended) own ∙ present-ended t (kept_flat (stored_at forest id)) (stored.live id within)
-          ∙ sym (present-ended t t (λ live. live)) ∙ sym (ap (λ (f : Flat). f.ended) up);
-    }
+one_phase forest stored id there = grind (arith, length-shown, root_shown, top_there, top_at, flat_shown, top-top, present-phase, present-ended)
 
 -- a declaration
 pub declared_ends : (parent : Option PhaserId) (parties : ℕ) (policy : Policy) (phase : ℕ) (before after : List PhaserState)
     → after ≡ after_declaration parent parties policy phase before → KeepsEnds before after
-declared_ends parent parties policy phase before after is n =
-    let new = declared parent parties policy phase before in
-    let more = before ++ new ∷ [] in
-    ap (λ (ps : List PhaserState). (phaser_at ps n).ends) is ∙ joined-ends (joins_above parent parties more) more n ∙ push-ends before new refl n
+declared_ends parent parties policy phase before after is n = grind (arith, joined-ends, push-ends)
 
 pub declared_places : (parent : Option PhaserId) (parties : ℕ) (policy : Policy) (phase : ℕ) (before after : List PhaserState)
     → after ≡ after_declaration parent parties policy phase before → AddsPlace before after
-declared_places parent parties policy phase before after is id there =
-    let new = declared parent parties policy phase before in
-    let more = before ++ new ∷ [] in
-    ap (λ (ps : List PhaserState). place_of (phaser_at ps id)) is ∙ place_at-places (after_declaration parent parties policy phase before) id
-    ∙ ap (λ (places : List Place). get_or places id (place_of no_phaser)) (joined-places (joins_above parent parties more) more)
-    ∙ sym (place_at-places more id) ∙ ap place_of (get_or_append_left before (new ∷ []) no_phaser id there)
+declared_places parent parties policy phase before after is id there = grind (arith, place_at-places, joined-places, get_or_append_left)
 
 -- an empty forest stands for any counts
 pub stands_empty : (origin : Origin) → AreTallied [] origin
-stands_empty origin = record {
-  steady = λ id there. absurd (omega (arith, there));
-  tallied = λ id there. absurd (omega (arith, there));
-}
+stands_empty origin = grind arith
 
 -- what was kept, put back
 pub restored-many : (saved : List Kept) (forest : List Stored) → length (restored saved forest) ≡ length forest
@@ -195,9 +155,8 @@ restored-many (kept ∷ others) forest = restored-many others (with_kept kept fo
 -- in the same places
 set-places : (forest : List Stored) (id word ends : ℕ)
     → map place_in (slice_set forest id (record (stored_at forest id) { word = word; ends = ends })) ≡ map place_in forest
-set-places [] id word ends = refl
-set-places (s ∷ forest) zero word ends = refl
 set-places (s ∷ forest) (suc id) word ends = ap (λ (places : List Place). place_in s ∷ places) (set-places forest id word ends)
+set-places forest id word ends = grind arith
 
 restored-places : (saved : List Kept) (forest : List Stored) → map place_in (restored saved forest) ≡ map place_in forest
 restored-places [] forest = refl

@@ -37,12 +37,7 @@ line_read forest id s line is read stored there =
 -- the root that is read
 pub root_read : (forest : List Stored) (id r : ℕ) (s : Stored) → s ≡ get_or forest id s → r ≡ top_of s → IsStored forest → id < length forest
     → (r < length forest) × (root_at (phasers_of forest) r ≡ r)
-root_read forest id r s read is stored there =
-    let same : r ≡ top_at forest id = is ∙ ap top_of (get_or_read forest id s there read no_stored) in
-    let below = top_there forest id stored there in (
-      omega (arith, same, below),
-      ap (root_at (phasers_of forest)) same ∙ root_shown forest (top_at forest id) below ∙ top-top forest id stored there ∙ sym same,
-    )
+root_read forest id r s read is stored there = grind (arith, top_at, get_or_read, top_there, root_shown, top-top)
 
 -- a root is alone in its line
 pub root-line : (forest : List Stored) (r : ℕ) → IsStored forest → r < length forest → top_at forest r ≡ r → (stored_at forest r).line ≡ r ∷ []
@@ -99,11 +94,7 @@ changed_then_root before mid after id r stored stored_mid there is one two =
 
 -- nothing has changed
 pub changed_nothing : (id : ℕ) (before after : List Stored) → after ≡ before → ChangedAt id before after
-changed_nothing id before after is = record {
-  many = ap length is;
-  places = λ n. ap (λ (ss : List Stored). place_in (stored_at ss n)) is;
-  others = λ n away. ap (λ (ss : List Stored). stored_at ss n) is;
-}
+changed_nothing id before after is = grind arith
 
 -- what was kept of a line, put back
 pub restored_line : (line : List ℕ) (before after : List Stored) → ChangedOnly line before after → restored (map (kept_at before) line) after ≡ before
@@ -151,10 +142,7 @@ pub saved_restored : (id : ℕ) (before after : List Stored) → ChangedAt id be
 saved_restored id before after changed = restored_line (stored_at before id).line before after changed
 
 pub place_is : (node : Stored) (p : PhaserState) → node.line ≡ p.line → node.policy ≡ p.policy → place_in node ≡ place_of p
-place_is node p line policy =
-    let by_line : List ℕ → Place = λ l. record { line = l; policy = node.policy } in
-    let by_policy : Policy → Place = λ q. record { line = p.line; policy = q } in
-    ap by_line line ∙ ap by_policy policy
+place_is node p line policy = grind arith
 
 -- a new phaser at the end
 pub record Pushes (now after : List Stored) (new : PhaserState) : Type 0 where
@@ -170,38 +158,7 @@ newest : (parent : Option PhaserId) (parties : ℕ) (policy : Policy) (phase : �
     → kept_flat node ≡ (declared parent parties policy phase (phasers_of now)).flat
     → has_parent parent (phasers_of now) ≡ true → IsFreshAbove parent (phasers_of now) → IsStored now
     → IsNewest (now ++ node ∷ []) node
-newest None parties policy phase now node place word there fresh_above stored =
-    let n = length (phasers_of now) in
-    let top : top_of node ≡ n = ap (λ (p : Place). last_of p.line) place in
-    let own : stored_at (now ++ node ∷ []) (top_of node) ≡ node =
-    ap (stored_at (now ++ node ∷ [])) top ∙ get_or_push now node no_stored n (sym (length-shown now)) in
-    record {
-      top = ap (λ (s : Stored). (kept_flat s).ended) own ∙ ap (λ (f : Flat). f.ended) word;
-      phase = sym (ap (λ (s : Stored). (kept_flat s).phase) own);
-    }
-newest (Some parent) parties policy phase now node place word there fresh_above stored =
-    let ps = phasers_of now in
-    let n = length ps in
-    let within : parent.0 < length ps = grind (arith, nat_tests, there) in
-    let many = length-shown now in
-    let inside : parent.0 < length now = omega (arith, within, many) in
-    let own = line_own ps parent.0 stored.places within in
-    let top : top_of node ≡ top_at now parent.0 =
-    ap (λ (p : Place). last_of p.line) place ∙ ap (λ (l : List ℕ). last_of (n ∷ l)) own.1 ∙ last-more n parent.0 own.0
-    ∙ ap last_of (sym own.1) ∙ ap (λ (p : PhaserState). last_of p.line) (shown_at now parent.0 inside) in
-    let below = top_there now parent.0 stored inside in
-    let same : stored_at (now ++ node ∷ []) (top_of node) ≡ stored_at now (top_at now parent.0) =
-    ap (stored_at (now ++ node ∷ [])) top ∙ get_or_append_left now (node ∷ []) no_stored (top_at now parent.0) below in
-    let above = flat_shown now parent.0 inside in
-    let is_fresh : IsFresh (phaser_at ps parent.0) = fresh_above parent refl within parent.0 no_phaser within refl in
-    let live : (flat_at ps parent.0).ended ≡ false = ap (λ (f : Flat). f.ended) is_fresh in
-    let t = kept_flat (stored_at now (top_at now parent.0)) in
-    record {
-      top = ap (λ (s : Stored). (kept_flat s).ended) same
-          ∙ present_live t (kept_flat (stored_at now parent.0)) (ap (λ (f : Flat). f.ended) (sym above) ∙ live);
-      phase = ap (λ (f : Flat). f.phase) word ∙ ap (λ (f : Flat). f.phase) above ∙ present-phase t (kept_flat (stored_at now parent.0))
-          ∙ sym (ap (λ (s : Stored). (kept_flat s).phase) same);
-    }
+newest parent parties policy phase now node place word there fresh_above stored = grind (arith, last_of, get_or_push, length-shown, nat_tests, line_own, top_at, last-more, shown_at, top_there, get_or_append_left, flat_shown, present_live, present-phase)
 
 pub pushed : (parent : Option PhaserId) (parties : ℕ) (policy : Policy) (phase : ℕ) (items now after : List Stored) (node : Stored) → items ≡ now
     → place_in node ≡ place_of (declared parent parties policy phase (phasers_of now))

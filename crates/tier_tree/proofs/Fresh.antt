@@ -1,5 +1,5 @@
 -- Declarations leave all phasers as they began.
-use Rattle.std.proofs.Common.{inl, inr, ◌≡◌, ℕ, ◌+◌, ◌==◌, Bool, true, false, List, [], ◌∷◌, ◌++◌, length, refl, sym, subst, pos, if◌then◌else◌}
+use Rattle.std.proofs.Common.{inl, inr, ◌≡◌, ℕ, ◌+◌, ◌==◌, Bool, true, false, List, [], ◌∷◌, ◌++◌, length, refl, sym, subst, pos, if◌then◌else◌, arith}
 use Rattle.std.specs.Prelude.{nat_lt}
 use Rattle.std.proofs.lemmas.Bool.{cases_lt}
 use Rattle.std.proofs.lemmas.List.{get_or_past}
@@ -13,20 +13,14 @@ fresh_if : (none over : Bool) (phase parties count : ℕ) → let f = fresh phas
     let after = flat_by (if none then Joins f (pos phase) else (if over then Overfull else Joins (record f { parties = parties + count }) (pos phase))) f in
     after ≡ fresh after.phase after.parties
 fresh_if true over phase parties count = refl
-fresh_if false true phase parties count = refl
-fresh_if false false phase parties count = refl
+fresh_if false _ phase parties count = grind arith
 
 fresh_joined : (count : ℕ) (f : Flat) → f ≡ fresh f.phase f.parties
     → flat_by (register count f) f ≡ fresh (flat_by (register count f) f).phase (flat_by (register count f) f).parties
-fresh_joined count f is =
-    subst (λ (g : Flat). flat_by (register count g) g ≡ fresh (flat_by (register count g) g).phase (flat_by (register count g) g).parties)
-    (sym is) (fresh_if (count == 0) (nat_lt 65535 (f.parties + count)) f.phase f.parties count)
+fresh_joined count f is = grind (arith, fresh_if)
 
 fresh_at : (phasers : List PhaserState) (id : ℕ) → AreAllFresh phasers → IsFresh (phaser_at phasers id)
-fresh_at phasers id all = elim (cases_lt id (length phasers)) as (λ _. IsFresh (phaser_at phasers id)) [
-  | inl there ↦ all id no_phaser there
-  | inr past ↦ subst IsFresh (sym (get_or_past phasers id no_phaser past)) refl
-]
+fresh_at phasers id all = grind (arith, cases_lt, get_or_past)
 
 pub fresh_after_joins : (all : List Join) (phasers : List PhaserState) → AreAllFresh phasers → AreAllFresh (joined all phasers)
 fresh_after_joins [] phasers fresh = fresh

@@ -23,17 +23,7 @@ or_false false b none = (refl, none)
 -- a phaser that takes them has that many more parties, who are still to arrive
 taken : (count : ℕ) (f : Flat) → f.ended ≡ false → 0 < count → nat_lt 65535 (f.parties + count) ≡ false → f.turned ≡ false
     → flat_by (register count f) f ≡ record f { parties = f.parties + count }
-taken count f live some room idle =
-    let positive : (count == 0) ≡ false = grind (arith, nat_tests, some) in
-    let more : Flat = record f { parties = f.parties + count } in
-    let answer : register count f ≡ Joins more (pos f.phase) =
-    ap (λ (e : Bool). if e then JoinsLate (view_of f) else (if count == 0 then Joins f (pos f.phase)
-    else (if nat_lt 65535 (f.parties + count) then Overfull else (if f.turned then MustWait else Joins more (pos f.phase))))) live
-    ∙ ap (λ (z : Bool). if z then Joins f (pos f.phase)
-    else (if nat_lt 65535 (f.parties + count) then Overfull else (if f.turned then MustWait else Joins more (pos f.phase)))) positive
-    ∙ ap (λ (o : Bool). if o then Overfull else (if f.turned then MustWait else Joins more (pos f.phase))) room
-    ∙ ap (λ (t : Bool). if t then MustWait else Joins more (pos f.phase)) idle in
-    ap (λ (r : Registration). flat_by r f) answer
+taken count f live some room idle = grind (arith, nat_tests)
 
 -- the phaser changes after those above, whose counts `mid` has
 put_more : (count : ℕ) (phasers mid : List PhaserState) (i : ℕ) → i < length phasers → length mid ≡ length phasers → AllGood phasers
@@ -45,34 +35,7 @@ put_more : (count : ℕ) (phasers mid : List PhaserState) (i : ℕ) → i < leng
     → ((id : ℕ) → (flat_at mid id).ended ≡ (flat_at phasers id).ended)
     → ((id : ℕ) → IsGood (root_at phasers id) id (flat_at phasers id) → IsGood (root_at phasers id) id (flat_at mid id))
     → Changes i count 0 count 0 phasers after
-put_more count phasers mid i there many good kept live idle joined_same awaited_same others same ended goods =
-    let f = flat_at phasers i in
-    let new : Flat = record f { parties = f.parties + count } in
-    let was = good i there in
-    let within_parties : f.arrived ≤ f.parties = was.arrived in
-    let within : i < length mid = omega (arith, many, there) in
-    let put = flat-put mid i new within in
-    record {
-      own = record {
-        registered = (let p : (flat_at (with_flat mid i new) i).parties ≡ f.parties + count = ap (λ (x : Flat). x.parties) put in
-            let j = joined_same in omega (arith, p, j));
-        unarrived = (let u : unarrived_of (flat_at (with_flat mid i new) i) ≡ (f.parties + count) - f.arrived = ap unarrived_of put in
-            let j = awaited_same in omega (arith, u, j, within_parties));
-      };
-      others = others;
-      same = λ id above. flat-other mid i new id (λ is. absurd (omega (arith, is, above))) ∙ same id above;
-      ended = λ id. elim (cases_eq id i) as (λ _. (flat_at (with_flat mid i new) id).ended ≡ (flat_at phasers id).ended) [
-        | inl is ↦ subst (λ (n : ℕ). (flat_at (with_flat mid i new) n).ended ≡ (flat_at phasers n).ended) (sym is)
-            (ap (λ (x : Flat). x.ended) put)
-        | inr other ↦ ap (λ (x : Flat). x.ended) (flat-other mid i new id other) ∙ ended id
-      ];
-      good = λ id had. elim (cases_eq id i) as (λ _. IsGood (root_at phasers id) id (flat_at (with_flat mid i new) id)) [
-        | inl is ↦ subst (λ (n : ℕ). IsGood (root_at phasers n) n (flat_at (with_flat mid i new) n)) (sym is)
-            (subst (λ (x : Flat). IsGood (root_at phasers i) i x) (sym put)
-            (record { arrived = omega (arith, within_parties); turned = (λ yes. absurd (cc (yes, idle))); child = (λ yes _. absurd (cc (yes, idle))) }))
-        | inr other ↦ subst (λ (x : Flat). IsGood (root_at phasers id) id x) (sym (flat-other mid i new id other)) (goods id had)
-      ];
-    }
+put_more count phasers mid i there many good kept live idle joined_same awaited_same others same ended goods = grind (arith, flat-put, flat-other, cases_eq, IsGood)
 
 -- what the registration above has made of the counts
 abbrev pub Above : List ℕ → List PhaserState → Type 0
@@ -95,48 +58,8 @@ join_by : (empty : Bool) (above : List ℕ) (i count : ℕ) (phasers : List Phas
     → let all : List Join = record { id = i; count = count } ∷ (if empty then joins_along above 1 phasers else []) in
     list_any (is_overfull phasers) all ≡ false → list_any (is_turned phasers) all ≡ false
     → Changes i count 0 count 0 phasers (joined all phasers)
-join_by false above i count phasers sound there line good live some is_empty_is rest room idle =
-    let f = flat_at phasers i in
-    let room_here : nat_lt 65535 (f.parties + count) ≡ false = (or_false _ _ room).0 in
-    let idle_here : f.turned ≡ false = (or_false _ _ idle).0 in
-    let new : Flat = record f { parties = f.parties + count } in
-    let positive : 0 < new.parties = omega (arith, some) in
-    let after = waiting new live idle_here positive in
-    let joined_before : has_joined f ≡ true = ap not is_empty_is in
-    let awaited_before : is_awaited f ≡ true = ap (λ (e : Bool). not e && not f.turned) is_empty_is ∙ ap not idle_here in
-    let j : (id : ℕ) → children has_joined id (with_flat phasers i new) ≡ children has_joined id phasers =
-    λ id. put_same has_joined id phasers i new there (after.0 ∙ sym joined_before) in
-    let w : (id : ℕ) → children is_awaited id (with_flat phasers i new) ≡ children is_awaited id phasers =
-    λ id. put_same is_awaited id phasers i new there (after.1 ∙ sym awaited_before) in
-    subst (λ (x : Flat). Changes i count 0 count 0 phasers (with_flat phasers i x))
-    (sym (as_taken count phasers phasers i refl live some room_here idle_here))
-    (put_more count phasers phasers i there refl good refl live idle_here (j i) (w i)
-    (λ id other.
-    let away = flat-other phasers i new id other in
-    let p : (flat_at (with_flat phasers i new) id).parties ≡ (flat_at phasers id).parties = ap (λ (x : Flat). x.parties) away in
-    let u : unarrived_of (flat_at (with_flat phasers i new) id) ≡ unarrived_of (flat_at phasers id) = ap unarrived_of away in
-    let ji = j id in let wi = w id in
-    record { registered = omega (arith, p, ji); unarrived = omega (arith, u, wi) })
-    (λ id above_it. refl) (λ id. refl) (λ id had. had))
-join_by true [] i count phasers sound there line good live some is_empty_is rest room idle =
-    let f = flat_at phasers i in
-    let room_here : nat_lt 65535 (f.parties + count) ≡ false = (or_false _ _ room).0 in
-    let idle_here : f.turned ≡ false = (or_false _ _ idle).0 in
-    let new : Flat = record f { parties = f.parties + count } in
-    let j : (id : ℕ) → children has_joined id (with_flat phasers i new) ≡ children has_joined id phasers =
-    λ id. put_apart has_joined id phasers i new there (ap (is_under id) line) in
-    let w : (id : ℕ) → children is_awaited id (with_flat phasers i new) ≡ children is_awaited id phasers =
-    λ id. put_apart is_awaited id phasers i new there (ap (is_under id) line) in
-    subst (λ (x : Flat). Changes i count 0 count 0 phasers (with_flat phasers i x))
-    (sym (as_taken count phasers phasers i refl live some room_here idle_here))
-    (put_more count phasers phasers i there refl good refl live idle_here (j i) (w i)
-    (λ id other.
-    let away = flat-other phasers i new id other in
-    let p : (flat_at (with_flat phasers i new) id).parties ≡ (flat_at phasers id).parties = ap (λ (x : Flat). x.parties) away in
-    let u : unarrived_of (flat_at (with_flat phasers i new) id) ≡ unarrived_of (flat_at phasers id) = ap unarrived_of away in
-    let ji = j id in let wi = w id in
-    record { registered = omega (arith, p, ji); unarrived = omega (arith, u, wi) })
-    (λ id above_it. refl) (λ id. refl) (λ id had. had))
+join_by false above i count phasers sound there line good live some is_empty_is rest room idle = grind (arith, or_false, waiting, put_same, Changes, as_taken, put_more, flat-other)
+join_by true [] i count phasers sound there line good live some is_empty_is rest room idle = grind (arith, or_false, Changes, as_taken, put_more, flat-other, put_apart)
 join_by true (q ∷ more) i count phasers sound there line good live some is_empty_is rest room idle =
     let f = flat_at phasers i in
     let room_here : nat_lt 65535 (f.parties + count) ≡ false = (or_false _ _ room).0 in
@@ -245,13 +168,7 @@ stands_joined phasers after origin id count sound stands same changes =
 
 -- nobody came
 none_changes : (phasers : List PhaserState) (id count : ℕ) → count ≡ 0 → Changes id count 0 count 0 phasers phasers
-none_changes phasers id count none = record {
-  own = record { registered = omega (arith, none); unarrived = omega (arith, none) };
-  others = λ n other. record { registered = refl; unarrived = refl };
-  same = λ n above. refl;
-  ended = λ n. refl;
-  good = λ n had. had;
-}
+none_changes phasers id count none = grind arith
 
 -- a registration's joins, whether there are parties or none
 joins_changes : (none : Bool) (id count : ℕ) (phasers : List PhaserState) (origin : Origin) → IsForest phasers → id < length phasers
@@ -259,8 +176,7 @@ joins_changes : (none : Bool) (id count : ℕ) (phasers : List PhaserState) (ori
     → let all : List Join = if none then [] else joins_along (phaser_at phasers id).line count phasers in
     list_any (is_overfull phasers) all ≡ false → list_any (is_turned phasers) all ≡ false
     → Changes id count 0 count 0 phasers (joined all phasers)
-joins_changes true id count phasers origin sound there stands live is =
-    λ room idle. none_changes phasers id count (grind (arith, nat_tests, is))
+joins_changes true id count phasers origin sound there stands live is = grind (arith, none_changes, nat_tests)
 joins_changes false id count phasers origin sound there stands live is =
     let own = line_own phasers id sound there in
     let some : 0 < count = grind (arith, nat_tests, is) in
@@ -280,20 +196,10 @@ by_answer : (ended over turned : Bool) (id count : ℕ) (phasers : List PhaserSt
     else (if turned then registered.Held else registered.At phase)) in
     AreTallied (registered_by answer (joins id count phasers) phasers) (origin_after_registration answer id count origin)
 by_answer true over turned id count phasers origin view phase stands is_ended is_over is_held through = stands
-by_answer false true turned id count phasers origin view phase stands is_ended is_over is_held through = stands
-by_answer false false true id count phasers origin view phase stands is_ended is_over is_held through = stands
-by_answer false false false id count phasers origin view phase stands is_ended is_over is_held through = through is_ended is_over is_held
+by_answer false _ turned id count phasers origin view phase stands is_ended is_over is_held through = grind arith
 
 -- a registration
 pub stands_registered : (id count : ℕ) (phasers after : List PhaserState) (origin : Origin) (answer : Registered) → IsForest phasers → id < length phasers
     → answer ≡ registration id count phasers → after ≡ registered_by (registration id count phasers) (joins id count phasers) phasers
     → AreTallied phasers origin → AreTallied after (origin_after_registration answer id count origin)
-stands_registered id count phasers after origin answer sound there answer_is is stands =
-    let all : AreTallied (registered_by (registration id count phasers) (joins id count phasers) phasers)
-    (origin_after_registration (registration id count phasers) id count origin) =
-    by_answer (flat_at phasers id).ended _ _ id count phasers origin _ _ stands refl refl refl
-    (λ live room idle. stands_joined phasers (joined (joins id count phasers) phasers) origin id count sound stands
-    (joined-places (joins id count phasers) phasers)
-    (joins_changes (count == 0) id count phasers origin sound there stands live refl room idle)) in
-    subst (λ (a : Registered). AreTallied after (origin_after_registration a id count origin)) (sym answer_is)
-    (subst (λ (ps : List PhaserState). AreTallied ps (origin_after_registration (registration id count phasers) id count origin)) (sym is) all)
+stands_registered id count phasers after origin answer sound there answer_is is stands = grind (arith, by_answer, stands_joined, joined-places, joins_changes)

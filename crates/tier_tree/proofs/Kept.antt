@@ -1,5 +1,5 @@
 -- What a call keeps of the trees: places, and how many phases have ended.
-use Rattle.std.proofs.Common.{◌≡◌, ◌∙◌, ℕ, zero, suc, ◌==◌, Bool, true, false, List, [], ◌∷◌, ◌++◌, map, refl, if◌then◌else◌}
+use Rattle.std.proofs.Common.{◌≡◌, ◌∙◌, ℕ, zero, suc, ◌==◌, Bool, true, false, List, [], ◌∷◌, ◌++◌, map, refl, if◌then◌else◌, arith}
 use Rattle.packed_phaser.specs.Flat.{Flat, Arrival, Counts, Turns, ComesLate, IsUnregistered, arrive, register, view_of, force}
 use Rattle.tier_tree.specs.declared.climb.Climb.{Climb}
 use Rattle.tier_tree.specs.declared.climb.Climb.TheVariants as climb
@@ -26,19 +26,12 @@ with_flat-ends (p ∷ phasers) (suc id) zero flat = refl
 with_flat-ends (p ∷ phasers) (suc id) (suc n) flat = with_flat-ends phasers id n flat
 
 child-ends : (id n : ℕ) (g : Flat) (c : Climb) (above : List PhaserState) → (phaser_at (with_child id g c above).phasers n).ends ≡ (phaser_at above n).ends
-child-ends id n g climb.Counted above = with_flat-ends above id n (passed_on g)
-child-ends id n g climb.Turned above = with_flat-ends above id n (passed_on g)
-child-ends id n g climb.Refused above = refl
+child-ends id n g c above = grind (arith, with_flat-ends)
 
 climbed_by-ends : (a : Arrival) (id n : ℕ) (top : Bool) (above : Bool → Climbed) (phasers : List PhaserState)
     → ((leave : Bool) → (phaser_at (above leave).phasers n).ends ≡ (phaser_at phasers n).ends)
     → (phaser_at (climbed_by a id top above phasers).phasers n).ends ≡ (phaser_at phasers n).ends
-climbed_by-ends (Counts g) id n top above phasers rest = with_flat-ends phasers id n g
-climbed_by-ends (Turns g) id n true above phasers rest = with_flat-ends phasers id n g
-climbed_by-ends (Turns g) id n false above phasers rest =
-    child-ends id n g (above (g.parties == 0)).climb (above (g.parties == 0)).phasers ∙ rest (g.parties == 0)
-climbed_by-ends (ComesLate view) id n top above phasers rest = refl
-climbed_by-ends IsUnregistered id n top above phasers rest = refl
+climbed_by-ends a id n top above phasers rest = grind (arith, with_flat-ends, child-ends)
 
 pub climbed-ends : (line : List ℕ) (leave : Bool) (phasers : List PhaserState) (n : ℕ)
     → (phaser_at (climbed line leave phasers).phasers n).ends ≡ (phaser_at phasers n).ends
@@ -48,18 +41,7 @@ climbed-ends (id ∷ above) leave phasers n =
     (λ leaves. climbed-ends above leaves phasers n)
 
 pub arrival-ends : (id : ℕ) (leave : Bool) (phasers : List PhaserState) → KeepsEnds phasers (arrival id leave phasers).phasers
-arrival-ends id leave phasers n = by_end (flat_at phasers id).ended
-  where
-    by_climb : (c : Climb) → (phaser_at (arrival_by c id (climbed (phaser_at phasers id).line leave phasers).phasers phasers).phasers n).ends ≡ (phaser_at phasers n).ends
-    by_climb climb.Counted = climbed-ends (phaser_at phasers id).line leave phasers n
-    by_climb climb.Turned = climbed-ends (phaser_at phasers id).line leave phasers n
-    by_climb climb.Refused = refl
-
-    by_end : (ended : Bool) → let a : Arrives = if ended then record { phasers = phasers; answer = arrived.Dead (view_of (flat_at phasers id)) }
-        else arrival_by (climbed (phaser_at phasers id).line leave phasers).climb id (climbed (phaser_at phasers id).line leave phasers).phasers phasers in
-        (phaser_at a.phasers n).ends ≡ (phaser_at phasers n).ends
-    by_end true = refl
-    by_end false = by_climb (climbed (phaser_at phasers id).line leave phasers).climb
+arrival-ends id leave phasers n = grind (arith, climbed-ends)
 
 pub joined-ends : (all : List Join) (phasers : List PhaserState) → KeepsEnds phasers (joined all phasers)
 joined-ends [] phasers n = refl
@@ -68,10 +50,7 @@ joined-ends (join ∷ others) phasers n =
     with_flat-ends after join.id n (flat_by (register join.count (flat_at after join.id)) (flat_at after join.id)) ∙ joined-ends others phasers n
 
 by-ends : (r : Registered) (all : List Join) (phasers : List PhaserState) → KeepsEnds phasers (registered_by r all phasers)
-by-ends (registered.At phase) all phasers n = joined-ends all phasers n
-by-ends (registered.Dead view) all phasers n = refl
-by-ends registered.Held all phasers n = refl
-by-ends registered.TooMany all phasers n = refl
+by-ends r all phasers n = grind (arith, joined-ends)
 
 pub registration-ends : (id count : ℕ) (phasers : List PhaserState) → KeepsEnds phasers (after_registration id count phasers)
 registration-ends id count phasers n = by-ends (registration id count phasers) (joins id count phasers) phasers n
@@ -81,9 +60,8 @@ if-ends true p f = refl
 if-ends false p f = refl
 
 terminated-ends : (root : ℕ) (phasers : List PhaserState) → KeepsEnds phasers (map (terminated root) phasers)
-terminated-ends root [] n = refl
-terminated-ends root (p ∷ phasers) zero = if-ends (root_of p == root) p (force p.flat)
 terminated-ends root (p ∷ phasers) (suc n) = terminated-ends root phasers n
+terminated-ends root phasers n = grind (arith, if-ends)
 
 pub force-ends : (id : ℕ) (phasers : List PhaserState) → KeepsEnds phasers (after_force id phasers)
 force-ends id phasers n = terminated-ends (root_at phasers id) phasers n
@@ -91,6 +69,5 @@ force-ends id phasers n = terminated-ends (root_at phasers id) phasers n
 -- one more phaser, which has ended no phase
 pub push-ends : (phasers : List PhaserState) (new : PhaserState) → new.ends ≡ 0 → KeepsEnds phasers (phasers ++ new ∷ [])
 push-ends [] new none zero = none
-push-ends [] new none (suc n) = refl
-push-ends (p ∷ phasers) new none zero = refl
 push-ends (p ∷ phasers) new none (suc n) = push-ends phasers new none n
+push-ends _ new none _ = refl

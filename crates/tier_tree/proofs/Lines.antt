@@ -23,9 +23,8 @@ use Rattle.tier_tree.specs.Sound.{Place, place_of, places_of, IsForest, IsForest
 -- a phaser in the place of the one that stands there
 set-places : (phasers : List PhaserState) (id : ℕ) (flat : Flat) (ends : ℕ)
     → places_of (slice_set phasers id (record (phaser_at phasers id) { flat = flat; ends = ends })) ≡ places_of phasers
-set-places [] id flat ends = refl
-set-places (p ∷ phasers) zero flat ends = refl
 set-places (p ∷ phasers) (suc id) flat ends = ap (λ ps. place_of p ∷ ps) (set-places phasers id flat ends)
+set-places phasers id flat ends = grind arith
 
 pub with_flat-places : (phasers : List PhaserState) (id : ℕ) (flat : Flat) → places_of (with_flat phasers id flat) ≡ places_of phasers
 with_flat-places phasers id flat = set-places phasers id flat (phaser_at phasers id).ends
@@ -38,29 +37,19 @@ joined-places (join ∷ others) phasers =
     ∙ joined-places others phasers
 
 by-places : (r : Registered) (all : List Join) (phasers : List PhaserState) → places_of (registered_by r all phasers) ≡ places_of phasers
-by-places (registered.At phase) all phasers = joined-places all phasers
-by-places (registered.Dead view) all phasers = refl
-by-places registered.Held all phasers = refl
-by-places registered.TooMany all phasers = refl
+by-places r all phasers = grind (arith, joined-places)
 
 pub registration-places : (id count : ℕ) (phasers : List PhaserState) → places_of (after_registration id count phasers) ≡ places_of phasers
 registration-places id count phasers = by-places (registration id count phasers) (joins id count phasers) phasers
 
 child-places : (id : ℕ) (flat : Flat) (c : Climb) (above : List PhaserState)
     → places_of (with_child id flat c above).phasers ≡ places_of above
-child-places id flat climb.Counted above = with_flat-places above id (passed_on flat)
-child-places id flat climb.Turned above = with_flat-places above id (passed_on flat)
-child-places id flat climb.Refused above = refl
+child-places id flat c above = grind (arith, with_flat-places)
 
 climbed_by-places : (a : Arrival) (id : ℕ) (top : Bool) (above : Bool → Climbed) (phasers : List PhaserState)
     → ((leave : Bool) → places_of (above leave).phasers ≡ places_of phasers)
     → places_of (climbed_by a id top above phasers).phasers ≡ places_of phasers
-climbed_by-places (Counts flat) id top above phasers kept = with_flat-places phasers id flat
-climbed_by-places (Turns flat) id true above phasers kept = with_flat-places phasers id flat
-climbed_by-places (Turns flat) id false above phasers kept =
-    let rest = above (flat.parties == 0) in child-places id flat rest.climb rest.phasers ∙ kept (flat.parties == 0)
-climbed_by-places (ComesLate view) id top above phasers kept = refl
-climbed_by-places IsUnregistered id top above phasers kept = refl
+climbed_by-places a id top above phasers kept = grind (arith, with_flat-places, child-places)
 
 pub climbed-places : (line : List ℕ) (leave : Bool) (phasers : List PhaserState)
     → places_of (climbed line leave phasers).phasers ≡ places_of phasers
@@ -71,17 +60,13 @@ climbed-places (id ∷ above) leave phasers =
 
 arrival_by-places : (c : Climb) (id : ℕ) (after phasers : List PhaserState) → places_of after ≡ places_of phasers
     → places_of (arrival_by c id after phasers).phasers ≡ places_of phasers
-arrival_by-places climb.Counted id after phasers same = same
-arrival_by-places climb.Turned id after phasers same = same
-arrival_by-places climb.Refused id after phasers same = refl
+arrival_by-places c id after phasers same = grind arith
 
 arrival_if-places : (ended : Bool) (id : ℕ) (leave : Bool) (phasers : List PhaserState) (view : _)
     → places_of (if ended then record { phasers = phasers; answer = view }
     else arrival_by (climbed (phaser_at phasers id).line leave phasers).climb id (climbed (phaser_at phasers id).line leave phasers).phasers phasers).phasers ≡ places_of phasers
 arrival_if-places true id leave phasers view = refl
-arrival_if-places false id leave phasers view =
-    arrival_by-places (climbed (phaser_at phasers id).line leave phasers).climb id _ phasers
-    (climbed-places (phaser_at phasers id).line leave phasers)
+arrival_if-places false id leave phasers view = grind (arith, arrival_by-places, climbed-places)
 
 pub arrival-places : (id : ℕ) (leave : Bool) (phasers : List PhaserState) → places_of (arrival id leave phasers).phasers ≡ places_of phasers
 arrival-places id leave phasers = arrival_if-places (flat_at phasers id).ended id leave phasers _
@@ -107,25 +92,16 @@ terminated-places root (p ∷ phasers) =
 -- another phaser of the same place
 put-places : (phasers : List PhaserState) (id : ℕ) (phaser : PhaserState) → place_of phaser ≡ place_of (phaser_at phasers id)
     → places_of (slice_set phasers id phaser) ≡ places_of phasers
-put-places [] id phaser same = refl
-put-places (p ∷ phasers) zero phaser same = ap (λ q. q ∷ places_of phasers) same
 put-places (p ∷ phasers) (suc id) phaser same = ap (λ ps. place_of p ∷ ps) (put-places phasers id phaser same)
+put-places phasers id phaser same = grind arith
 
 -- the place of the phaser at this number
 pub place_at-places : (phasers : List PhaserState) (id : ℕ) → place_of (phaser_at phasers id) ≡ get_or (places_of phasers) id (place_of no_phaser)
-place_at-places [] id = refl
-place_at-places (p ∷ phasers) zero = refl
 place_at-places (p ∷ phasers) (suc id) = place_at-places phasers id
+place_at-places phasers id = grind arith
 
 pub turn-places : (root : ℕ) (ends : Bool) (phasers : List PhaserState) → places_of (after_phase_end root ends phasers) ≡ places_of phasers
-turn-places root ends phasers =
-    let before = phaser_at phasers root in
-    let flat = advance ends before.flat in
-    let all = follow-places root flat.phase flat.ended phasers in
-    put-places (map (in_step root flat.phase flat.ended) phasers) root (record before { flat = flat; ends = before.ends + 1 })
-    (place_at-places phasers root ∙ ap (λ ps. get_or ps root (place_of no_phaser)) (sym all)
-    ∙ sym (place_at-places (map (in_step root flat.phase flat.ended) phasers) root))
-    ∙ all
+turn-places root ends phasers = grind (arith, follow-places, put-places, place_at-places)
 
 pub force-places : (id : ℕ) (phasers : List PhaserState) → places_of (after_force id phasers) ≡ places_of phasers
 force-places id phasers = terminated-places (root_at phasers id) phasers
@@ -140,21 +116,11 @@ length-places phasers = length-map phasers place_of
 -- a phaser's line is within the forest
 pub line_within : (phasers : List PhaserState) (id : ℕ) → IsForest phasers → id < length phasers
     → All (λ (above : ℕ). above < length phasers) (phaser_at phasers id).line
-line_within phasers id sound there =
-    let many = length-places phasers in
-    let line = (sound.lines id (omega (arith, many, there))).within in
-    let same : line_at (places_of phasers) id ≡ (phaser_at phasers id).line = ap (λ (p : Place). p.line) (sym (place_at-places phasers id)) in
-    subst (λ (n : ℕ). All (λ (above : ℕ). above < n) (phaser_at phasers id).line) many
-    (subst (λ (l : List ℕ). All (λ (above : ℕ). above < length (places_of phasers)) l) same line)
+line_within phasers id sound there = grind (arith, length-places, place_at-places)
 
 -- and so is its root
 pub root_within : (phasers : List PhaserState) (id : ℕ) → IsForest phasers → id < length phasers → root_at phasers id < length phasers
-root_within phasers id sound there =
-    let many = length-places phasers in
-    let root = (sound.lines id (omega (arith, many, there))).root in
-    let same : line_at (places_of phasers) id ≡ (phaser_at phasers id).line = ap (λ (p : Place). p.line) (sym (place_at-places phasers id)) in
-    subst (λ (n : ℕ). root_at phasers id < n) many
-    (subst (λ (l : List ℕ). slice_index_or l (length l - 1) 0 < length (places_of phasers)) same root)
+root_within phasers id sound there = grind (arith, length-places, place_at-places)
 
 pub climbed_same : (line : List ℕ) (leave : Bool) (phasers after : List PhaserState) (c : Climb)
     → record { phasers = after; climb = c } ≡ climbed line leave phasers → places_of after ≡ places_of phasers
@@ -164,63 +130,18 @@ climbed_same line leave phasers after c is =
 -- a line stays one in a forest of one more phaser
 line_more : (places : List Place) (more : Place) (id : ℕ) (line : List ℕ) → id < length places → IsLine places id line
     → IsLine (places ++ more ∷ []) id line
-line_more places more id line there is =
-    let longer : length (places ++ more ∷ []) ≡ length places + 1 = length_push places more in
-    record {
-      within = All-weaker (λ (above : ℕ). above < length places) (λ (above : ℕ). above < length (places ++ more ∷ []))
-          (λ above below. omega (arith, below, longer)) line is.within;
-      root = (let below = is.root in omega (arith, below, longer));
-      linked = elim is.linked as (λ _. IsLinked (places ++ more ∷ []) id line) [
-        | inl root ↦ inl root
-        | inr child ↦ inr (
-          child.0,
-          child.1,
-          child.2 ∙ ap (λ (p : Place). id ∷ p.line)
-              (sym (get_or_append_left places (more ∷ []) (place_of no_phaser) child.0 (let below = child.1 in omega (arith, below, there)))),
-        )
-      ];
-    }
+line_more places more id line there is = grind (arith, length_push, All-weaker, get_or_append_left)
 
 root_above : (id bound : ℕ) (line : List ℕ) → id < bound → slice_index_or line (length line - 1) 0 < bound
     → slice_index_or (id ∷ line) (length (id ∷ line) - 1) 0 < bound
-root_above id bound [] own above = own
-root_above id bound (x ∷ line) own above =
-    let here : suc (suc (length line)) - 1 ≡ suc (length line) = omega arith in
-    let there : suc (length line) - 1 ≡ length line = omega arith in
-    subst (λ (n : ℕ). slice_index_or (id ∷ x ∷ line) n 0 < bound) (sym here)
-    (subst (λ (n : ℕ). slice_index_or (x ∷ line) n 0 < bound) there above)
+root_above id bound line own above = grind arith
 
 -- the line of a new phaser
 line_new : (places : List Place) (more : Place) (line : List ℕ) → IsForestOf places
     → (line ≡ length places ∷ []) ⊎ ((parent : ℕ) × (parent < length places) × (line ≡ length places ∷ line_at places parent))
     → IsLine (places ++ more ∷ []) (length places) line
-line_new places more line sound (inl root) =
-    let longer : length (places ++ more ∷ []) ≡ length places + 1 = length_push places more in
-    let own : length places < length (places ++ more ∷ []) = omega (arith, longer) in
-    let P : List ℕ → Type 0 = λ (l : List ℕ). IsLine (places ++ more ∷ []) (length places) l in
-    subst P (sym root) (record {
-      within = All-cons (λ (above : ℕ). above < length (places ++ more ∷ [])) (length places) [] own (All-nil _);
-      root = own;
-      linked = inl refl;
-    })
-line_new places more line sound (inr child) =
-    let longer : length (places ++ more ∷ []) ≡ length places + 1 = length_push places more in
-    let own : length places < length (places ++ more ∷ []) = omega (arith, longer) in
-    let above = sound.lines child.0 child.1 in
-    let P : List ℕ → Type 0 = λ (l : List ℕ). IsLine (places ++ more ∷ []) (length places) l in
-    subst P (sym child.2) (record {
-      within = All-cons (λ (above : ℕ). above < length (places ++ more ∷ [])) (length places) (line_at places child.0) own
-          (All-weaker (λ (above : ℕ). above < length places) (λ (above : ℕ). above < length (places ++ more ∷ []))
-          (λ above below. omega (arith, below, longer)) (line_at places child.0) above.within);
-      root = root_above (length places) (length (places ++ more ∷ [])) (line_at places child.0) own
-          (let below = above.root in omega (arith, below, longer));
-      linked = inr (
-        child.0,
-        child.1,
-        ap (λ (p : Place). length places ∷ p.line)
-            (sym (get_or_append_left places (more ∷ []) (place_of no_phaser) child.0 child.1)),
-      );
-    })
+line_new places more line sound (inl root) = grind (arith, length_push, All-cons, All-nil)
+line_new places more line sound (inr child) = grind (arith, length_push, All-cons, All-weaker, root_above, get_or_append_left)
 
 -- a forest of one more phaser
 forest_more : (places : List Place) (more : Place) → length places < 64 → IsForestOf places
@@ -247,19 +168,4 @@ forest_more places more few sound is =
 pub forest_declared : (parent : Option PhaserId) (parties : ℕ) (policy : Policy) (phase : ℕ) (phasers : List PhaserState)
     → length phasers < 64 → has_parent parent phasers ≡ true → IsForest phasers
     → IsForest (phasers ++ declared parent parties policy phase phasers ∷ [])
-forest_declared None parties policy phase phasers few there sound =
-    let many = length-places phasers in
-    subst IsForestOf (sym (map-append place_of phasers (declared None parties policy phase phasers ∷ [])))
-    (forest_more (places_of phasers) (place_of (declared None parties policy phase phasers)) (omega (arith, many, few)) sound
-    (inl (ap (λ (n : ℕ). n ∷ []) (sym many))))
-forest_declared (Some parent) parties policy phase phasers few there sound =
-    let many = length-places phasers in
-    let below : parent.0 < length (places_of phasers) = grind (arith, nat_tests, there, many) in
-    subst IsForestOf (sym (map-append place_of phasers (declared (Some parent) parties policy phase phasers ∷ [])))
-    (forest_more (places_of phasers) (place_of (declared (Some parent) parties policy phase phasers)) (omega (arith, many, few)) sound
-    (inr (
-      parent.0,
-      below,
-      ap (λ (n : ℕ). n ∷ (phaser_at phasers parent.0).line) (sym many)
-          ∙ ap (λ (p : Place). length (places_of phasers) ∷ p.line) (place_at-places phasers parent.0),
-    )))
+forest_declared parent parties policy phase phasers few there sound = grind (arith, length-places, map-append, forest_more, nat_tests, place_at-places)

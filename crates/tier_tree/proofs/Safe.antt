@@ -34,23 +34,16 @@ first-fails false pass others none under = absurd (cc)
 -- a child of a phaser without children that pass the test doesn't pass it
 none-passes : (test : Flat → Bool) (parent : ℕ) (phasers : List PhaserState) (id : ℕ) → children test parent phasers ≡ 0
     → id < length phasers → is_under parent (phaser_at phasers id).line ≡ true → test (flat_at phasers id) ≡ false
-none-passes test parent [] id none there under = absurd (omega (arith, there))
-none-passes test parent (p ∷ phasers) zero none there under =
-    first-fails (is_under parent p.line) (test p.flat) (children test parent phasers) none under
 none-passes test parent (p ∷ phasers) (suc id) none there under =
     none-passes test parent phasers id (omega (arith, none)) (omega (arith, there)) under
+none-passes test parent phasers id none there under = grind (arith, first-fails)
 
 -- a phaser is turned or empty
 abbrev pub HasAll : Flat → Type 0
 HasAll flat = (flat.turned ≡ true) ⊎ (is_empty flat ≡ true)
 
 not_awaited : (flat : Flat) → is_awaited flat ≡ false → HasAll flat
-not_awaited flat none = by_tests (is_empty flat) flat.turned none
-  where
-    by_tests : (empty turned : Bool) → (not empty && not turned) ≡ false → (turned ≡ true) ⊎ (empty ≡ true)
-    by_tests true turned none = inr refl
-    by_tests false true none = inl refl
-    by_tests false false none = absurd (cc)
+not_awaited flat none = grind arith
 
 -- nobody is missing where all have arrived or nobody is registered
 none_missing : (arrived parties : ℕ) → arrived ≡ parties → parties - arrived ≡ 0
@@ -59,26 +52,16 @@ none_missing arrived parties all = omega (arith, all)
 if_ended : (ended turned : Bool) (parties : ℕ) → (if ended then false else (if turned then false else parties == 0)) ≡ true
     → (ended ≡ false) × (parties ≡ 0)
 if_ended true turned parties empty = absurd (cc)
-if_ended false true parties empty = absurd (cc)
-if_ended false false parties empty = (refl, grind (arith, nat_tests, empty))
+if_ended false _ parties empty = grind (arith, nat_tests)
 
 -- such a phaser isn't terminated, and waits for nobody
 pub all_there : (id : ℕ) (phasers : List PhaserState) → IsSteady id phasers → HasAll (flat_at phasers id)
     → ((flat_at phasers id).ended ≡ false) × (unarrived_of (flat_at phasers id) ≡ 0)
-all_there id phasers steady (inl turned) =
-    ((steady.turned turned).0, none_missing (flat_at phasers id).arrived (flat_at phasers id).parties (steady.turned turned).1)
-all_there id phasers steady (inr empty) =
-    let flat = flat_at phasers id in
-    let parts = if_ended flat.ended flat.turned flat.parties empty in
-    let none = parts.1 in
-    (parts.0, omega (arith, none))
+all_there id phasers steady (inl turned) = grind (arith, none_missing)
+all_there id phasers steady (inr empty) = grind (arith, if_ended)
 
 under-parent : (line : List ℕ) (id parent : ℕ) (above : List ℕ) → line ≡ id ∷ parent ∷ above → is_under parent line ≡ true
-under-parent line id parent above is =
-    subst (λ (l : List ℕ). is_under parent l ≡ true) (sym is) (same_is_equal parent)
-  where
-    same_is_equal : (n : ℕ) → (n == n) ≡ true
-    same_is_equal n = grind (arith, nat_tests)
+under-parent line id parent above is = grind (arith, nat_tests)
 
 -- a line begins with the phaser's own number
 pub line_own : (phasers : List PhaserState) (id : ℕ) → IsForest phasers → id < length phasers
@@ -93,10 +76,7 @@ abbrev pub last_of : List ℕ → ℕ
 last_of line = slice_index_or line (length line - 1) 0
 
 pub last-more : (id x : ℕ) (rest : List ℕ) → last_of (id ∷ x ∷ rest) ≡ last_of (x ∷ rest)
-last-more id x rest =
-    let here : suc (suc (length rest)) - 1 ≡ suc (length rest) = omega arith in
-    let there : suc (length rest) - 1 ≡ length rest = omega arith in
-    ap (λ (n : ℕ). slice_index_or (id ∷ x ∷ rest) n 0) here ∙ sym (ap (λ (n : ℕ). slice_index_or (x ∷ rest) n 0) there)
+last-more id x rest = grind arith
 
 abbrev pub rest_of : List ℕ → List ℕ
 rest_of [] = []
@@ -140,9 +120,4 @@ all_turned phasers origin root sound stands clean turned (first ∷ above) id th
 -- so everybody who registered directly has arrived
 pub all_arrived : (phasers : List PhaserState) (origin : Origin) (root : ℕ) → IsForest phasers → AreTallied phasers origin
     → origin.stray root ≡ false → (flat_at phasers root).turned ≡ true → HaveAllArrived origin root phasers
-all_arrived phasers origin root sound stands clean turned id there tree =
-    let all = all_turned phasers origin root sound stands clean turned (phaser_at phasers id).line id there refl tree in
-    let there_all = all_there id phasers (stands.steady id there) all in
-    let nobody : unarrived_of (flat_at phasers id) ≡ 0 = there_all.1 in
-    let tally = (stands.tallied id there (ap origin.stray tree ∙ clean) there_all.0).unarrived in
-    omega (arith, tally, nobody)
+all_arrived phasers origin root sound stands clean turned id there tree = grind (arith, all_turned, all_there)

@@ -1,5 +1,5 @@
 -- What a stored forest shows, after each change of one word.
-use Rattle.std.proofs.Common.{inl, inr, ◌≡◌, ◌≢◌, ◌∙◌, ℕ, ◌+◌, ◌-◌, ◌<◌, ◌≤◌, ◌==◌, Bool, true, false, List, [], ◌∷◌, length, map, get_or, ap, refl, sym, subst, arith, if◌then◌else◌}
+use Rattle.std.proofs.Common.{inl, inr, ◌≡◌, ◌≢◌, ◌∙◌, ℕ, ◌+◌, ◌-◌, ◌<◌, ◌≤◌, ◌==◌, Bool, true, false, List, [], ◌∷◌, length, map, get_or, ap, refl, sym, subst, arith, if◌then◌else◌, rules}
 use Rattle.std.specs.Prelude.{nat_le, slice_set}
 use Rattle.std.proofs.lemmas.Bool.{cases_eq}
 use Rattle.std.proofs.lemmas.Bool.Decides.{nat_tests}
@@ -22,44 +22,21 @@ abbrev pub seen : Bool → ℕ → Flat → Flat
 seen ended phase own = if ended then force (renew phase own) else (if own.phase == phase then own else renew phase own)
 
 pub present_live : (top own : Flat) → (present top own).ended ≡ false → top.ended ≡ false
-present_live top own live = by_case top.ended live
-  where
-    by_case : (ended : Bool) → (seen ended top.phase own).ended ≡ false → ended ≡ false
-    by_case true still = absurd (cc)
-    by_case false still = refl
+present_live top own live = grind arith
 
 pub present-phase : (top own : Flat) → (present top own).phase ≡ top.phase
-present-phase top own = by_case top.ended (own.phase == top.phase) refl
-  where
-    by_case : (ended same : Bool) → (own.phase == top.phase) ≡ same
-        → (if ended then force (renew top.phase own) else (if same then own else renew top.phase own)).phase ≡ top.phase
-    by_case true same is = refl
-    by_case false true is = grind (arith, nat_tests, is)
-    by_case false false is = refl
+present-phase top own = grind (arith, nat_tests)
 
 -- terminated with the root, where the own word isn't before it
 pub present-ended : (top own : Flat) → (top.ended ≡ false → own.ended ≡ false) → (present top own).ended ≡ top.ended
-present-ended top own live = by_case top.ended (own.phase == top.phase) live
-  where
-    by_case : (ended same : Bool) → (ended ≡ false → own.ended ≡ false)
-        → (if ended then force (renew top.phase own) else (if same then own else renew top.phase own)).ended ≡ ended
-    by_case true same live = refl
-    by_case false true live = live refl
-    by_case false false live = refl
+present-ended top own live = grind arith
 
 pub present-parties : (top own : Flat) → (present top own).parties ≡ own.parties
-present-parties top own = by_case top.ended (own.phase == top.phase)
-  where
-    by_case : (ended same : Bool) → (if ended then force (renew top.phase own) else (if same then own else renew top.phase own)).parties ≡ own.parties
-    by_case true same = refl
-    by_case false true = refl
-    by_case false false = refl
+present-parties top own = grind arith
 
 -- in the root's phase a word stands as it is
 pub present-now : (top own : Flat) → top.ended ≡ false → own.phase ≡ top.phase → present top own ≡ own
-present-now top own live same =
-    let is : (own.phase == top.phase) ≡ true = ap (λ (n : ℕ). n == top.phase) same ∙ same-is top.phase in
-    ap (λ (e : Bool). seen e top.phase own) live ∙ ap (λ (t : Bool). if t then own else renew top.phase own) is
+present-now top own live same = grind (arith, same-is)
 
 -- in another phase all its parties are to arrive
 pub present-late : (top own : Flat) → top.ended ≡ false → own.phase ≢ top.phase → present top own ≡ renew top.phase own
@@ -113,23 +90,10 @@ pub record IsPut (forest : List Stored) (i : ℕ) (x : Stored) (now : List Store
 
 pub is_put : (forest : List Stored) (i : ℕ) (x : Stored) → i < length forest → place_in x ≡ place_in (stored_at forest i)
     → IsPut forest i x (slice_set forest i x)
-is_put forest i x there same = record {
-  own = get_or-set_same forest i x no_stored there;
-  others = λ n other. get_or-set_other forest i n x no_stored other;
-  many = length-set forest i x;
-  places = λ n. elim (cases_eq n i) as (λ _. place_in (stored_at (slice_set forest i x) n) ≡ place_in (stored_at forest n)) [
-    | inl is ↦ subst (λ (m : ℕ). place_in (stored_at (slice_set forest i x) m) ≡ place_in (stored_at forest m)) (sym is)
-        (ap place_in (get_or-set_same forest i x no_stored there) ∙ same)
-    | inr other ↦ ap place_in (get_or-set_other forest i n x no_stored other)
-  ];
-}
+is_put forest i x there same = grind (arith, get_or-set_same, get_or-set_other, length-set, cases_eq)
 
 pub only_put : (forest : List Stored) (i : ℕ) (x : Stored) (now : List Stored) → IsPut forest i x now → ChangedOnly (i ∷ []) forest now
-only_put forest i x now put = record {
-  many = put.many;
-  places = put.places;
-  others = λ n away. put.others n (All-head (λ (m : ℕ). n ≢ m) i [] away);
-}
+only_put forest i x now put = grind (arith, All-head)
 
 pub top-put : (forest : List Stored) (i : ℕ) (x : Stored) (now : List Stored) → IsPut forest i x now → (n : ℕ) → top_at now n ≡ top_at forest n
 top-put forest i x now put n = ap (λ (p : Place). get_or p.line (length p.line - 1) 0) (put.places n)
@@ -141,15 +105,7 @@ pub shown_put : (forest : List Stored) (i : ℕ) (x : Stored) (now : List Stored
       flat = present (kept_flat (stored_at now (top_at forest n))) (kept_flat (stored_at now n));
       ends = (stored_at now n).ends;
     }
-shown_put forest i x now put n there =
-    let many = put.many in
-    shown_at now n (omega (arith, many, there))
-    ∙ ap (λ (p : Place). record {
-      line = p.line;
-      policy = p.policy;
-      flat = present (kept_flat (stored_at now (get_or p.line (length p.line - 1) 0))) (kept_flat (stored_at now n));
-      ends = (stored_at now n).ends;
-    }) (put.places n)
+shown_put forest i x now put n there = grind (arith, shown_at)
 
 pub behind-self : (p : ℕ) → behind p p ≡ 0
 behind-self p = grind (arith, nat_tests)
@@ -283,18 +239,7 @@ put_near forest i w now stored there steady n here =
     ]
 
 put_live : (forest : List Stored) (i w : ℕ) (now : List Stored) → IsStored forest → i < length forest → IsSteadyPut forest i w now → IsLive now
-put_live forest i w now stored there steady n here alive =
-    let put = steady.put in
-    let many = put.many in
-    let within : n < length forest = omega (arith, many, here) in
-    let up = top-put forest i (record (stored_at forest i) { word = w }) now put n in
-    elim (cases_eq n i) as (λ _. (kept_flat (stored_at now n)).ended ≡ false) [
-      | inl is ↦
-          ap (λ (m : ℕ). (kept_flat (stored_at now m)).ended) is ∙ ap (λ (s : Stored). (kept_flat s).ended) put.own ∙ steady.own
-      | inr other ↦
-          ap (λ (s : Stored). (kept_flat s).ended) (put.others n other)
-          ∙ stored.live n within (sym (steady.top n within).1 ∙ ap (λ (m : ℕ). (kept_flat (stored_at now m)).ended) (sym up) ∙ alive)
-    ]
+put_live forest i w now stored there steady n here alive = grind (arith, top-put, cases_eq)
 
 pub record Puts (forest : List Stored) (i w : ℕ) (now : List Stored) : Type 0 where
   pub shows : phasers_of now ≡ with_flat (phasers_of forest) i (record_of w)
@@ -322,42 +267,26 @@ puts forest i w now is stored there phase before live =
 
 pub top_read : (forest : List Stored) (i r : ℕ) (own : Stored) → IsStored forest → i < length forest → own ≡ get_or forest i own → r ≡ top_of own
     → r < length forest
-top_read forest i r own stored there read is =
-    let same : r ≡ top_at forest i = is ∙ ap top_of (get_or_read forest i own there read no_stored) in
-    let within = top_there forest i stored there in
-    omega (arith, same, within)
+top_read forest i r own stored there read is = grind (arith, get_or_read, top_there)
 
 pub top_word_read : (forest : List Stored) (i r w : ℕ) (own top : Stored) → IsStored forest → i < length forest → own ≡ get_or forest i own → r ≡ top_of own
     → top ≡ get_or forest r top → w ≡ top.word → w ≡ (stored_at forest (root_at (phasers_of forest) i)).word
-top_word_read forest i r w own top stored there read_own is_top read_top is_w =
-    let r_is : r ≡ root_at (phasers_of forest) i = is_top ∙ ap top_of (get_or_read forest i own there read_own no_stored) ∙ sym (root_shown forest i there) in
-    is_w ∙ ap (λ (s : Stored). s.word) (get_or_read forest r top (top_read forest i r own stored there read_own is_top) read_top no_stored ∙ ap (stored_at forest) r_is)
+top_word_read forest i r w own top stored there read_own is_top read_top is_w = grind (arith, get_or_read, root_shown, top_read)
 
 -- the root of a phaser that isn't terminated isn't
 pub live_top : (forest : List Stored) (i top : ℕ) (f : Flat) → i < length forest → top ≡ (stored_at forest (root_at (phasers_of forest) i)).word
     → f ≡ flat_at (phasers_of forest) i → f.ended ≡ false → (record_of top).ended ≡ false
-live_top forest i top f there is found live =
-    ap (λ (w : ℕ). (record_of w).ended) (is ∙ ap (λ (n : ℕ). (stored_at forest n).word) (root_shown forest i there))
-    ∙ present_live (kept_flat (stored_at forest (top_at forest i))) (kept_flat (stored_at forest i))
-    (ap (λ (x : Flat). x.ended) (sym (found ∙ flat_shown forest i there)) ∙ live)
+live_top forest i top f there is found live = grind (arith, root_shown, present_live, flat_shown)
 
 -- a word below its root's
 pub below_read : (forest : List Stored) (i top own_word : ℕ) (own : Stored) (f : Flat) → IsStored forest → i < length forest → own ≡ get_or forest i own
     → own_word ≡ own.word → top ≡ (stored_at forest (root_at (phasers_of forest) i)).word
     → (((record_of top).ended ≡ false → (record_of own_word).ended ≡ false) → f ≡ present (record_of top) (record_of own_word)) → f ≡ flat_at (phasers_of forest) i
-below_read forest i top own_word own f stored there read is_own is_top is =
-    let own_is : own_word ≡ (stored_at forest i).word = is_own ∙ ap (λ (s : Stored). s.word) (get_or_read forest i own there read no_stored) in
-    let top_is : top ≡ (stored_at forest (top_at forest i)).word = is_top ∙ ap (λ (n : ℕ). (stored_at forest n).word) (root_shown forest i there) in
-    is (λ live. ap (λ (n : ℕ). (record_of n).ended) own_is ∙ stored.live i there (ap (λ (n : ℕ). (record_of n).ended) (sym top_is) ∙ live))
-    ∙ ap (λ (n : ℕ). present (record_of n) (record_of own_word)) top_is
-    ∙ ap (λ (n : ℕ). present (kept_flat (stored_at forest (top_at forest i))) (record_of n)) own_is
-    ∙ sym (flat_shown forest i there)
+below_read forest i top own_word own f stored there read is_own is_top is = grind (arith, get_or_read, root_shown, flat_shown)
 
 -- an arrival below a terminated root
 comes_late : (leave : Bool) (top own : Flat) → top.ended ≡ true → ComesLate (view_of top) ≡ arrive leave (present top own)
-comes_late leave top own ended =
-    ap (λ (e : Bool). ComesLate (phase_view top.phase e)) ended
-    ∙ ap (λ (e : Bool). arrive leave (if e then force (renew top.phase own) else (if own.phase == top.phase then own else renew top.phase own))) (sym ended)
+comes_late leave top own ended = grind arith
 
 pub late_read : (leave : Bool) (forest : List Stored) (i top own_word : ℕ) (own : Stored) → IsStored forest → i < length forest → own ≡ get_or forest i own
     → own_word ≡ own.word → top ≡ (stored_at forest (root_at (phasers_of forest) i)).word → (record_of top).ended ≡ true
@@ -373,10 +302,7 @@ view-present top own live =
 
 pub view_read : (forest : List Stored) (i top : ℕ) → IsStored forest → i < length forest → top ≡ (stored_at forest (root_at (phasers_of forest) i)).word
     → view_of (record_of top) ≡ view_of (flat_at (phasers_of forest) i)
-view_read forest i top stored there is =
-    ap (λ (w : ℕ). view_of (record_of w)) (is ∙ ap (λ (n : ℕ). (stored_at forest n).word) (root_shown forest i there))
-    ∙ sym (ap view_of (flat_shown forest i there)
-    ∙ view-present (kept_flat (stored_at forest (top_at forest i))) (kept_flat (stored_at forest i)) (stored.live i there))
+view_read forest i top stored there is = grind (arith, root_shown, flat_shown, view-present)
 
 pub puts_read : (forest : List Stored) (i w : ℕ) (d x : Stored) → x ≡ record (get_or forest i d) { word = w }
     → IsStored forest → i < length forest
@@ -398,65 +324,21 @@ present-self false f = ap (λ (t : Bool). if t then advance false f else renew (
 
 -- a word that isn't a whole turn behind isn't in the next phase yet
 not_next : (own top ends : ℕ) → behind own top ≤ ends → ends < 2147483647 → own ≢ next_phase top
-not_next own top ends near few = λ is. by_case (nat_le own top) (top == 2147483647) refl refl is
-  where
-    by_case : (below last : Bool) → nat_le own top ≡ below → (top == 2147483647) ≡ last → own ≡ next_phase top → ⊥
-    by_case below last is_below is_last is =
-        let b : (if below then top - own else (top + 2147483648) - own) ≤ ends =
-        subst (λ (t : Bool). (if t then top - own else (top + 2147483648) - own) ≤ ends) is_below near in
-        let n : own ≡ (if last then 0 else top + 1) = is ∙ ap (λ (t : Bool). if t then 0 else top + 1) is_last in
-        in_case below last is_below is_last b n
-      where
-        in_case : (below last : Bool) → nat_le own top ≡ below → (top == 2147483647) ≡ last
-            → (if below then top - own else (top + 2147483648) - own) ≤ ends → own ≡ (if last then 0 else top + 1) → ⊥
-        in_case true true is_below is_last b n = grind (arith, nat_tests, is_below, is_last, b, n, few)
-        in_case true false is_below is_last b n = grind (arith, nat_tests, is_below, is_last, b, n, few)
-        in_case false true is_below is_last b n = grind (arith, nat_tests, is_below, is_last, b, n, few)
-        in_case false false is_below is_last b n = grind (arith, nat_tests, is_below, is_last, b, n, few)
+not_next own top ends near few = grind (arith, nat_tests)
 
 -- a phase end puts a word one phase further behind at most
 behind_next : (own top ends : ℕ) → behind own top ≤ ends → behind own (next_phase top) ≤ ends + 1
-behind_next own top ends near = by_case (nat_le own top) (top == 2147483647) (nat_le own (next_phase top)) refl refl refl
-  where
-    by_case : (below last after : Bool) → nat_le own top ≡ below → (top == 2147483647) ≡ last → nat_le own (next_phase top) ≡ after
-        → behind own (next_phase top) ≤ ends + 1
-    by_case below last after is_below is_last is_after =
-        let b : (if below then top - own else (top + 2147483648) - own) ≤ ends =
-        subst (λ (t : Bool). (if t then top - own else (top + 2147483648) - own) ≤ ends) is_below near in
-        let n : next_phase top ≡ (if last then 0 else top + 1) = ap (λ (t : Bool). if t then 0 else top + 1) is_last in
-        let goal_is : behind own (next_phase top) ≡ (if after then (next_phase top) - own else ((next_phase top) + 2147483648) - own) =
-        ap (λ (t : Bool). if t then (next_phase top) - own else ((next_phase top) + 2147483648) - own) is_after in
-        subst (λ (m : ℕ). m ≤ ends + 1) (sym goal_is) (in_case below last after (next_phase top) is_below is_last is_after b n)
-      where
-        in_case : (below last after : Bool) (next : ℕ) → nat_le own top ≡ below → (top == 2147483647) ≡ last → nat_le own next ≡ after
-            → (if below then top - own else (top + 2147483648) - own) ≤ ends → next ≡ (if last then 0 else top + 1)
-            → (if after then next - own else (next + 2147483648) - own) ≤ ends + 1
-        in_case true true true next is_below is_last is_after b n = grind (arith, nat_tests, is_below, is_last, is_after, b, n)
-        in_case true true false next is_below is_last is_after b n = grind (arith, nat_tests, is_below, is_last, is_after, b, n)
-        in_case true false true next is_below is_last is_after b n = grind (arith, nat_tests, is_below, is_last, is_after, b, n)
-        in_case true false false next is_below is_last is_after b n = grind (arith, nat_tests, is_below, is_last, is_after, b, n)
-        in_case false true true next is_below is_last is_after b n = grind (arith, nat_tests, is_below, is_last, is_after, b, n)
-        in_case false true false next is_below is_last is_after b n = grind (arith, nat_tests, is_below, is_last, is_after, b, n)
-        in_case false false true next is_below is_last is_after b n = grind (arith, nat_tests, is_below, is_last, is_after, b, n)
-        in_case false false false next is_below is_last is_after b n = grind (arith, nat_tests, is_below, is_last, is_after, b, n)
+behind_next own top ends near = grind (arith, nat_tests)
 
 -- a word below a root whose phase ends
 present_turned : (ends : Bool) (top own : Flat) (count : ℕ) → behind own.phase top.phase ≤ count → count < 2147483647
     → present (advance ends top) own ≡ follow (advance ends top).phase ends (present top own)
 present_turned true top own count near few = ap (λ (n : ℕ). force (fresh (next_phase top.phase) n)) (sym (present-parties top own))
-present_turned false top own count near few =
-    present-late (advance false top) own refl (not_next own.phase top.phase count near few)
-    ∙ ap (λ (n : ℕ). fresh (next_phase top.phase) n) (sym (present-parties top own))
+present_turned false top own count near few = grind (arith, present-parties, present-late, not_next)
 
 -- a terminated root
 present_forced : (top own : Flat) → present (force top) own ≡ force (present top own)
-present_forced top own = by_case top.ended (own.phase == top.phase) refl
-  where
-    by_case : (ended same : Bool) → (own.phase == top.phase) ≡ same
-        → force (renew top.phase own) ≡ force (if ended then force (renew top.phase own) else (if same then own else renew top.phase own))
-    by_case true same is = refl
-    by_case false true is = ap (λ (p : ℕ). force (renew p own)) (sym (let eq : own.phase ≡ top.phase = grind (arith, nat_tests, is) in eq))
-    by_case false false is = refl
+present_forced top own = grind (arith, nat_tests)
 
 -- the root's word changes to one that all others of the tree are read beside
 record IsTopPut (forest : List Stored) (root w count : ℕ) (now : List Stored) : Type 0 where
@@ -465,10 +347,7 @@ record IsTopPut (forest : List Stored) (root w count : ℕ) (now : List Stored) 
 
 top_put : (forest : List Stored) (root w count : ℕ) → IsStored forest → root < length forest → root_at (phasers_of forest) root ≡ root
     → IsTopPut forest root w count (slice_set forest root (record (stored_at forest root) { word = w; ends = count }))
-top_put forest root w count stored there is_root = record {
-  put = is_put forest root (record (stored_at forest root) { word = w; ends = count }) there refl;
-  top = sym (root_shown forest root there) ∙ is_root;
-}
+top_put forest root w count stored there is_root = search (rules, is_put, root_shown)
 
 -- what another phaser shows then
 top_shows : (forest : List Stored) (root w count : ℕ) (now : List Stored) → IsTopPut forest root w count now
@@ -476,40 +355,7 @@ top_shows : (forest : List Stored) (root w count : ℕ) (now : List Stored) → 
     → phaser_at (phasers_of now) n ≡ record (phaser_at (phasers_of forest) n) {
       flat = (if top_at forest n == root then present (record_of w) (kept_flat (stored_at forest n)) else flat_at (phasers_of forest) n);
     }
-top_shows forest root w count now changed n there other =
-    let put = changed.put in
-    let x : Stored = record (stored_at forest root) { word = w; ends = count } in
-    let is = shown_put forest root x now put n there
-    ∙ ap (λ (s : Stored). record {
-      line = (stored_at forest n).line;
-      policy = (stored_at forest n).policy;
-      flat = present (kept_flat (stored_at now (top_at forest n))) (kept_flat s);
-      ends = s.ends;
-    }) (put.others n other) in
-    let flat : present (kept_flat (stored_at now (top_at forest n))) (kept_flat (stored_at forest n))
-    ≡ (if top_at forest n == root then present (record_of w) (kept_flat (stored_at forest n)) else flat_at (phasers_of forest) n) =
-    elim (cases_eq (top_at forest n) root) as (λ _. present (kept_flat (stored_at now (top_at forest n))) (kept_flat (stored_at forest n))
-    ≡ (if top_at forest n == root then present (record_of w) (kept_flat (stored_at forest n)) else flat_at (phasers_of forest) n)) [
-      | inl under ↦
-          ap (λ (m : ℕ). present (kept_flat (stored_at now m)) (kept_flat (stored_at forest n))) under
-          ∙ ap (λ (s : Stored). present (kept_flat s) (kept_flat (stored_at forest n))) put.own
-          ∙ sym (ap (λ (t : Bool). if t then present (record_of w) (kept_flat (stored_at forest n)) else flat_at (phasers_of forest) n)
-          (ap (λ (m : ℕ). m == root) under ∙ same-is root))
-      | inr apart ↦
-          ap (λ (s : Stored). present (kept_flat s) (kept_flat (stored_at forest n))) (put.others (top_at forest n) apart)
-          ∙ sym (flat_shown forest n there)
-          ∙ sym (ap (λ (t : Bool). if t then present (record_of w) (kept_flat (stored_at forest n)) else flat_at (phasers_of forest) n)
-          (other-is (top_at forest n) root apart))
-    ] in
-    is ∙ ap (λ (f : Flat). record {
-      line = (stored_at forest n).line;
-      policy = (stored_at forest n).policy;
-      flat = f;
-      ends = (stored_at forest n).ends;
-    }) flat
-    ∙ ap (λ (p : PhaserState). record p {
-      flat = (if top_at forest n == root then present (record_of w) (kept_flat (stored_at forest n)) else flat_at (phasers_of forest) n);
-    }) (sym (shown_at forest n there))
+top_shows forest root w count now changed n there other = grind (arith, shown_put, cases_eq, same-is, flat_shown, other-is, shown_at)
 
 put_if : (here : Bool) (p : PhaserState) (f g : Flat) → p.flat ≡ g → record p { flat = (if here then f else g) } ≡ (if here then record p { flat = f } else p)
 put_if true p f g is = refl
@@ -682,61 +528,12 @@ top_near : (forest : List Stored) (root w count : ℕ) (now : List Stored) → I
     → IsTopPut forest root w count now
     → ((p : ℕ) → behind p (kept_flat (stored_at forest root)).phase ≤ (stored_at forest root).ends → behind p (record_of w).phase ≤ count)
     → IsNear now
-top_near forest root w count now stored there changed step n here =
-    let put = changed.put in
-    let x : Stored = record (stored_at forest root) { word = w; ends = count } in
-    let many = put.many in
-    let within : n < length forest = omega (arith, many, here) in
-    let near = stored.near n within in
-    let up = top-put forest root x now put n in
-    elim (cases_eq n root) as (λ _. behind (kept_flat (stored_at now n)).phase (kept_flat (stored_at now (top_at now n))).phase ≤ (stored_at now (top_at now n)).ends) [
-      | inl is ↦
-          let own : top_at now n ≡ n = up ∙ ap (top_at forest) is ∙ changed.top ∙ sym is in
-          let none : behind (kept_flat (stored_at now n)).phase (kept_flat (stored_at now (top_at now n))).phase ≡ 0 =
-          ap (λ (m : ℕ). behind (kept_flat (stored_at now n)).phase (kept_flat (stored_at now m)).phase) own ∙ behind-self _ in
-          omega (arith, none)
-      | inr other ↦
-          let kept : behind (kept_flat (stored_at now n)).phase (kept_flat (stored_at now (top_at now n))).phase
-          ≡ behind (kept_flat (stored_at forest n)).phase (kept_flat (stored_at now (top_at forest n))).phase =
-          ap (λ (s : Stored). behind (kept_flat s).phase (kept_flat (stored_at now (top_at now n))).phase) (put.others n other)
-          ∙ ap (λ (m : ℕ). behind (kept_flat (stored_at forest n)).phase (kept_flat (stored_at now m)).phase) up in
-          let count_is : (stored_at now (top_at now n)).ends ≡ (stored_at now (top_at forest n)).ends = ap (λ (m : ℕ). (stored_at now m).ends) up in
-          let goal : behind (kept_flat (stored_at forest n)).phase (kept_flat (stored_at now (top_at forest n))).phase ≤ (stored_at now (top_at forest n)).ends =
-          elim (cases_eq (top_at forest n) root) as (λ _. behind (kept_flat (stored_at forest n)).phase (kept_flat (stored_at now (top_at forest n))).phase ≤ (stored_at now (top_at forest n)).ends) [
-            | inl under ↦
-                subst (λ (m : ℕ). behind (kept_flat (stored_at forest n)).phase (kept_flat (stored_at now m)).phase ≤ (stored_at now m).ends) (sym under)
-                (subst (λ (s : Stored). behind (kept_flat (stored_at forest n)).phase (kept_flat s).phase ≤ s.ends) (sym put.own)
-                (step (kept_flat (stored_at forest n)).phase
-                (subst (λ (m : ℕ). behind (kept_flat (stored_at forest n)).phase (kept_flat (stored_at forest m)).phase ≤ (stored_at forest m).ends) under near)))
-            | inr apart ↦
-                subst (λ (s : Stored). behind (kept_flat (stored_at forest n)).phase (kept_flat s).phase ≤ s.ends) (sym (put.others (top_at forest n) apart)) near
-          ] in
-          omega (arith, kept, count_is, goal)
-    ]
+top_near forest root w count now stored there changed step n here = grind (arith, top-put, cases_eq, behind-self)
 
 -- nor is a word terminated before the root's
 top_live : (forest : List Stored) (root w count : ℕ) (now : List Stored) → IsStored forest → IsTopPut forest root w count now
     → ((record_of w).ended ≡ false → (kept_flat (stored_at forest root)).ended ≡ false) → IsLive now
-top_live forest root w count now stored changed step n here alive =
-    let put = changed.put in
-    let x : Stored = record (stored_at forest root) { word = w; ends = count } in
-    let many = put.many in
-    let within : n < length forest = omega (arith, many, here) in
-    let up = top-put forest root x now put n in
-    elim (cases_eq n root) as (λ _. (kept_flat (stored_at now n)).ended ≡ false) [
-      | inl is ↦
-          let own : top_at now n ≡ n = up ∙ ap (top_at forest) is ∙ changed.top ∙ sym is in
-          ap (λ (m : ℕ). (kept_flat (stored_at now m)).ended) (sym own) ∙ alive
-      | inr other ↦
-          let above : (kept_flat (stored_at now (top_at forest n))).ended ≡ false = ap (λ (m : ℕ). (kept_flat (stored_at now m)).ended) (sym up) ∙ alive in
-          ap (λ (s : Stored). (kept_flat s).ended) (put.others n other)
-          ∙ stored.live n within (elim (cases_eq (top_at forest n) root) as (λ _. (kept_flat (stored_at forest (top_at forest n))).ended ≡ false) [
-            | inl under ↦
-                ap (λ (m : ℕ). (kept_flat (stored_at forest m)).ended) under
-                ∙ step (sym (ap (λ (s : Stored). (kept_flat s).ended) put.own) ∙ ap (λ (m : ℕ). (kept_flat (stored_at now m)).ended) (sym under) ∙ above)
-            | inr apart ↦ sym (ap (λ (s : Stored). (kept_flat s).ended) (put.others (top_at forest n) apart)) ∙ above
-          ])
-    ]
+top_live forest root w count now stored changed step n here alive = grind (arith, top-put, cases_eq)
 
 pub record Changes (root : ℕ) (forest now : List Stored) (after : List PhaserState) : Type 0 where
   pub shows : phasers_of now ≡ after

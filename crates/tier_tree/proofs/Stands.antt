@@ -16,14 +16,10 @@ use Rattle.tier_tree.proofs.Balance.{bit, IsOff, IsGood, Changes, AllGood, Succe
 
 -- roots depend on the places alone
 pub root-same : (phasers after : List PhaserState) (id : ℕ) → places_of after ≡ places_of phasers → root_at after id ≡ root_at phasers id
-root-same phasers after id same =
-    ap (λ (p : Place). last_of p.line) (place_at-places after id
-    ∙ ap (λ (ps : List Place). slice_index_or ps id (place_of no_phaser)) same ∙ sym (place_at-places phasers id))
+root-same phasers after id same = grind (arith, last_of, place_at-places)
 
 pub good_of : (phasers : List PhaserState) (origin : Origin) → AreTallied phasers origin → AllGood phasers
-good_of phasers origin stands id there =
-    let steady = stands.steady id there in
-    record { arrived = steady.arrived; turned = steady.turned; child = steady.child }
+good_of phasers origin stands id there = grind arith
 
 -- a change keeps each phaser steady
 pub steady_after : (phasers after : List PhaserState) (origin : Origin) → IsForest phasers → AreTallied phasers origin
@@ -31,18 +27,7 @@ pub steady_after : (phasers after : List PhaserState) (origin : Origin) → IsFo
     → ((id : ℕ) → (flat_at after id).ended ≡ (flat_at phasers id).ended)
     → ((id : ℕ) → IsGood (root_at phasers id) id (flat_at phasers id) → IsGood (root_at phasers id) id (flat_at after id))
     → (id : ℕ) → id < length after → IsSteady id after
-steady_after phasers after origin sound stands same ended good id there =
-    let many : length after ≡ length phasers = sym (length-places after) ∙ ap length same ∙ length-places phasers in
-    let before : id < length phasers = omega (arith, many, there) in
-    let now = good id (good_of phasers origin stands id before) in
-    let root = root-same phasers after id same in
-    record {
-      arrived = now.arrived;
-      turned = now.turned;
-      child = (λ turned apart. now.child turned (λ is. apart (root ∙ is)));
-      tree = ended id ∙ (stands.steady id before).tree ∙ sym (ended (root_at phasers id))
-          ∙ ap (λ (n : ℕ). (flat_at after n).ended) (sym root);
-    }
+steady_after phasers after origin sound stands same ended good id there = grind (arith, length-places, good_of, root-same)
 
 pub same-is : (n : ℕ) → (n == n) ≡ true
 same-is n = grind (arith, nat_tests)
@@ -52,46 +37,25 @@ other-is m n other = grind (arith, nat_tests, other)
 
 -- a clean tree isn't the one that had the stray
 clean_of : (a b : ℕ) (stray : Bool) → (if a == b then true else stray) ≡ false → (a ≢ b) × (stray ≡ false)
-clean_of a b stray = by_test (a == b) refl
-  where
-    by_test : (t : Bool) → (a == b) ≡ t → (if t then true else stray) ≡ false → (a ≢ b) × (stray ≡ false)
-    by_test true is clean = absurd (cc)
-    by_test false is clean = ((λ same. absurd (grind (arith, nat_tests, same, is))), clean)
+clean_of a b stray = grind (arith, nat_tests)
 
 -- a tally is of two counts
 pub tallied_as : (origin other : Origin) (id : ℕ) (phasers : List PhaserState) → other.registered id ≡ origin.registered id
     → other.unarrived id ≡ origin.unarrived id → IsTallied origin id phasers → IsTallied other id phasers
-tallied_as origin other id phasers registered unarrived tally =
-    let tr = tally.registered in let tu = tally.unarrived in let tw = tally.within in
-    record { registered = omega (arith, registered, tr); unarrived = omega (arith, unarrived, tu); within = omega (arith, registered, unarrived, tw) }
+tallied_as origin other id phasers registered unarrived tally = grind arith
 
 -- the counts of the phaser that the party arrived at
 own_tallied : (leave : Bool) (phasers after : List PhaserState) (origin other : Origin) (id : ℕ) → IsOff id 0 (bit leave) 0 1 phasers after
     → IsTallied origin id phasers → 0 < origin.unarrived id
     → other.registered id ≡ (if leave then origin.registered id - 1 else origin.registered id)
     → other.unarrived id ≡ origin.unarrived id - 1 → IsTallied other id after
-own_tallied true phasers after origin other id off tally some registered unarrived =
-    let r = off.registered in let u = off.unarrived in let tr = tally.registered in let tu = tally.unarrived in let tw = tally.within in
-    record {
-      registered = omega (arith, r, tr, registered, some, tw);
-      unarrived = omega (arith, u, tu, unarrived, some);
-      within = omega (arith, registered, unarrived, some, tw);
-    }
-own_tallied false phasers after origin other id off tally some registered unarrived =
-    let r = off.registered in let u = off.unarrived in let tr = tally.registered in let tu = tally.unarrived in let tw = tally.within in
-    record {
-      registered = omega (arith, r, tr, registered);
-      unarrived = omega (arith, u, tu, unarrived, some);
-      within = omega (arith, registered, unarrived, some, tw);
-    }
+own_tallied true phasers after origin other id off tally some registered unarrived = grind arith
+own_tallied false phasers after origin other id off tally some registered unarrived = grind arith
 
 -- and of the others
 others_tallied : (leave : Bool) (phasers after : List PhaserState) (origin : Origin) (id n : ℕ) → Changes id 0 (bit leave) 0 1 phasers after
     → n ≢ id → IsTallied origin n phasers → IsTallied origin n after
-others_tallied leave phasers after origin id n changes other tally =
-    let off = changes.others n other in
-    let r = off.registered in let u = off.unarrived in let tr = tally.registered in let tu = tally.unarrived in
-    record { registered = omega (arith, r, tr); unarrived = omega (arith, u, tu); within = tally.within }
+others_tallied leave phasers after origin id n changes other tally = grind arith
 
 -- a counted arrival
 stands_by : (stray : Bool) (phasers after : List PhaserState) (origin : Origin) (id : ℕ) (leave : Bool) → IsForest phasers → id < length phasers
@@ -143,9 +107,7 @@ by_climb : (c : Climb) (id : ℕ) (after phasers : List PhaserState) (origin : O
     → (Succeeds c → AreTallied after (arrived_at id (root_at phasers id) leave origin))
     → AreTallied (arrival_by c id after phasers).phasers
     (origin_after_arrival (arrival_by c id after phasers).answer id (root_at phasers id) leave origin)
-by_climb climb.Counted id after phasers origin leave stands through = through tt
-by_climb climb.Turned id after phasers origin leave stands through = through tt
-by_climb climb.Refused id after phasers origin leave stands through = stands
+by_climb c id after phasers origin leave stands through = grind arith
 
 arrival_stands : (ended : Bool) (phasers : List PhaserState) (origin : Origin) (id : ℕ) (leave : Bool) (view : ℤ) → IsForest phasers → id < length phasers
     → AreTallied phasers origin
@@ -167,6 +129,4 @@ arrival_stands false phasers origin id leave view sound there stands =
 pub stands_after_arrival : (phasers : List PhaserState) (origin : Origin) (id : ℕ) (leave : Bool) (r : Arrives) → IsForest phasers
     → id < length phasers → r ≡ arrival id leave phasers → AreTallied phasers origin
     → AreTallied r.phasers (origin_after_arrival r.answer id (root_at phasers id) leave origin)
-stands_after_arrival phasers origin id leave r sound there is stands =
-    let Fits : Arrives → Type 0 = λ (a : Arrives). AreTallied a.phasers (origin_after_arrival a.answer id (root_at phasers id) leave origin) in
-    subst Fits (sym is) (arrival_stands (flat_at phasers id).ended phasers origin id leave _ sound there stands)
+stands_after_arrival phasers origin id leave r sound there is stands = grind (arith, arrival_stands)

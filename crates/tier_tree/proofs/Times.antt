@@ -1,5 +1,5 @@
 -- A climb changes no phase and terminates nobody.
-use Rattle.std.proofs.Common.{◌≡◌, ℕ, zero, suc, ◌==◌, ◌-◌, ◌+◌, Bool, true, false, List, [], ◌∷◌, refl, sym, subst, if◌then◌else◌}
+use Rattle.std.proofs.Common.{◌≡◌, ℕ, zero, suc, ◌==◌, ◌-◌, ◌+◌, Bool, true, false, List, [], ◌∷◌, refl, sym, subst, if◌then◌else◌, arith}
 use Rattle.packed_phaser.specs.Flat.{Flat, Arrival, Counts, Turns, ComesLate, IsUnregistered, arrive, settled, view_of}
 use Rattle.tier_tree.specs.Forest.{PhaserState, flat_at, with_flat}
 use Rattle.tier_tree.specs.Arrival.{passed_on}
@@ -21,17 +21,7 @@ settled_is f g late live true = (late, live)
 settled_is f g late live false = (late, live)
 
 arrival_is : (leave : Bool) (f : Flat) → IsArrival f (arrive leave f)
-arrival_is leave f = by_case leave f.ended (f.arrived == f.parties) refl
-  where
-    by_case : (leave ended none : Bool) → f.ended ≡ ended
-        → IsArrival f (if ended then ComesLate (view_of f)
-        else (if none then IsUnregistered
-        else (if leave then settled (record f { parties = f.parties - 1 })
-        else settled (record f { arrived = f.arrived + 1 }))))
-    by_case leave true none is = (refl, is)
-    by_case leave false true is = is
-    by_case true false false is = settled_is f (record f { parties = f.parties - 1 }) (refl, refl) is (f.arrived == f.parties - 1)
-    by_case false false false is = settled_is f (record f { arrived = f.arrived + 1 }) (refl, refl) is (f.arrived + 1 == f.parties)
+arrival_is leave f = grind (arith, settled_is)
 
 pub found : (leave : Bool) (f : Flat) (a : Arrival) → a ≡ arrive leave f → IsArrival f a
 found leave f a is = subst (IsArrival f) (sym is) (arrival_is leave f)
@@ -39,15 +29,9 @@ found leave f a is = subst (IsArrival f) (sym is) (arrival_is leave f)
 -- other counts of the same phase
 pub with_flat-late : (phasers : List PhaserState) (id n : ℕ) (flat : Flat) → IsAsLate flat (flat_at phasers id)
     → IsAsLate (flat_at (with_flat phasers id flat) n) (flat_at phasers n)
-with_flat-late [] id n flat late = (refl, refl)
 with_flat-late (p ∷ phasers) zero zero flat late = late
-with_flat-late (p ∷ phasers) zero (suc n) flat late = (refl, refl)
-with_flat-late (p ∷ phasers) (suc id) zero flat late = (refl, refl)
 with_flat-late (p ∷ phasers) (suc id) (suc n) flat late = with_flat-late phasers id n flat late
+with_flat-late _ _ _ flat late = (refl, refl)
 
 pub passed_on-late : (f : Flat) → IsAsLate (passed_on f) f
-passed_on-late f = by_case (f.parties == 0)
-  where
-    by_case : (none : Bool) → IsAsLate (if none then record f { turned = false } else f) f
-    by_case true = (refl, refl)
-    by_case false = (refl, refl)
+passed_on-late f = grind arith

@@ -67,16 +67,10 @@ unturned : (phasers : List PhaserState) (id : ℕ) → length phasers ≤ id →
 unturned phasers id past = ap (λ (p : PhaserState). p.flat.turned) (get_or_past phasers id no_phaser past)
 
 pending_there : (phasers : List PhaserState) (id : ℕ) → is_pending (flat_at phasers id) ≡ true → id < length phasers
-pending_there phasers id is = elim (cases_lt id (length phasers)) as (λ _. id < length phasers) [
-  | inl there ↦ there
-  | inr past ↦ (let none = absent phasers id past in absurd (cc (none, is)))
-]
+pending_there phasers id is = grind (arith, cases_lt, absent)
 
 pub full_of : (phasers : List PhaserState) (origin : Origin) → AreTallied phasers origin → AreFull phasers
-full_of phasers origin stands id turned = elim (cases_lt id (length phasers)) as (λ _. (flat_at phasers id).arrived ≡ (flat_at phasers id).parties) [
-  | inl there ↦ ((stands.steady id there).turned turned).1
-  | inr past ↦ (let none = unturned phasers id past in absurd (cc (none, turned)))
-]
+full_of phasers origin stands id turned = grind (arith, cases_lt, unturned)
 
 -- what is true of each phaser and another in its place
 put : (P : PhaserState → PhaserState → Type 0) → ((x : PhaserState) → P x x) → (phasers : List PhaserState) (i : ℕ) (new : PhaserState)
@@ -93,10 +87,7 @@ join_pending : (ended none over turned : Bool) (f more : Flat) (view phase : _) 
     else (if over then Overfull else (if turned then MustWait
     else Joins more phase)))) f) ≡ is_pending f
 join_pending true none over turned f more view phase t e = refl
-join_pending false true over turned f more view phase t e = refl
-join_pending false false true turned f more view phase t e = refl
-join_pending false false false true f more view phase t e = refl
-join_pending false false false false f more view phase t e = rw (t, e) refl
+join_pending false _ _ turned f more view phase t e = grind arith
 
 joined_pending : (all : List Join) (phasers : List PhaserState) (q : ℕ) → is_pending (flat_at (joined all phasers) q) ≡ is_pending (flat_at phasers q)
 joined_pending [] phasers q = refl
@@ -110,10 +101,7 @@ joined_pending (join ∷ others) phasers q =
 
 by_pending : (r : Registered) (all : List Join) (phasers : List PhaserState) (q : ℕ)
     → is_pending (flat_at (registered_by r all phasers) q) ≡ is_pending (flat_at phasers q)
-by_pending (registered.At phase) all phasers q = joined_pending all phasers q
-by_pending (registered.Dead view) all phasers q = refl
-by_pending registered.Held all phasers q = refl
-by_pending registered.TooMany all phasers q = refl
+by_pending r all phasers q = grind (arith, joined_pending)
 
 pub registration-pending : (id count : ℕ) (phasers : List PhaserState) (q : ℕ)
     → is_pending (flat_at (after_registration id count phasers) q) ≡ is_pending (flat_at phasers q)
@@ -124,26 +112,17 @@ refuses : (leave : Bool) (f : Flat) (turned ended : Bool) → f.turned ≡ turne
     → IsFull f → (i : ℕ) (top : Bool) (onward : Bool → Climbed) (phasers : List PhaserState)
     → (climbed_by (arrive leave f) i top onward phasers).phasers ≡ phasers
 refuses leave f turned true t e some full i top onward phasers = rw e refl
-refuses leave f true false t e some full i top onward phasers =
-    let all : (f.arrived == f.parties) ≡ true = rw (full t) (same-is f.parties) in
-    rw (e, all) refl
+refuses leave f true false t e some full i top onward phasers = grind (arith, same-is)
 refuses leave f false false t e some full i top onward phasers = absurd (cc (some))
 
 child_pending : (c : Climb) (i : ℕ) (flat : Flat) (above : List PhaserState) (r : ℕ) → r ≢ i → is_pending (flat_at above r) ≡ true
     → is_pending (flat_at (with_child i flat c above).phasers r) ≡ true
-child_pending climb.Counted i flat above r apart is = ap is_pending (flat-other above i (passed_on flat) r apart) ∙ is
-child_pending climb.Turned i flat above r apart is = ap is_pending (flat-other above i (passed_on flat) r apart) ∙ is
-child_pending climb.Refused i flat above r apart is = is
+child_pending c i flat above r apart is = grind (arith, flat-other)
 
 other_pending : (a : Arrival) (i : ℕ) (top : Bool) (onward : Bool → Climbed) (phasers : List PhaserState) (r : ℕ) → r ≢ i
     → is_pending (flat_at phasers r) ≡ true → ((leaves : Bool) → is_pending (flat_at (onward leaves).phasers r) ≡ true)
     → is_pending (flat_at (climbed_by a i top onward phasers).phasers r) ≡ true
-other_pending (Counts flat) i top onward phasers r apart is rest = ap is_pending (flat-other phasers i flat r apart) ∙ is
-other_pending (Turns flat) i true onward phasers r apart is rest = ap is_pending (flat-other phasers i flat r apart) ∙ is
-other_pending (Turns flat) i false onward phasers r apart is rest =
-    let above = onward (flat.parties == 0) in child_pending above.climb i flat above.phasers r apart (rest (flat.parties == 0))
-other_pending (ComesLate view) i top onward phasers r apart is rest = is
-other_pending IsUnregistered i top onward phasers r apart is rest = is
+other_pending a i top onward phasers r apart is rest = grind (arith, flat-other, child_pending)
 
 -- whoever is pending stays so while others arrive
 climbed_pending : (line : List ℕ) (leave : Bool) (phasers : List PhaserState) (r : ℕ) → AreFull phasers
@@ -167,16 +146,11 @@ arrival_by-pending : (ended : Bool) (c : Climb) (id : ℕ) (after phasers : List
     → let a : Arrives = if ended then record { phasers = phasers; answer = arrived.Dead view } else arrival_by c id after phasers in
     is_pending (flat_at a.phasers r) ≡ true
 arrival_by-pending true c id after phasers view r before now = before
-arrival_by-pending false climb.Counted id after phasers view r before now = now
-arrival_by-pending false climb.Turned id after phasers view r before now = now
-arrival_by-pending false climb.Refused id after phasers view r before now = before
+arrival_by-pending false c id after phasers view r before now = grind arith
 
 pub arrival_pending : (id : ℕ) (leave : Bool) (phasers : List PhaserState) (r : ℕ) → AreFull phasers
     → StaysPending r phasers (arrival id leave phasers).phasers
-arrival_pending id leave phasers r full is =
-    let all = climbed (phaser_at phasers id).line leave phasers in
-    arrival_by-pending (flat_at phasers id).ended all.climb id all.phasers phasers (view_of (flat_at phasers id)) r is
-    (climbed_pending (phaser_at phasers id).line leave phasers r full is)
+arrival_pending id leave phasers r full is = grind (arith, arrival_by-pending, climbed_pending)
 
 pub force_pending : (id : ℕ) (phasers : List PhaserState) (r : ℕ) → StaysPending r phasers (after_force id phasers)
 force_pending id phasers r is =
@@ -198,9 +172,7 @@ many_same phasers after same = sym (length-places after) ∙ ap length same ∙ 
 
 -- each phaser keeps its policy
 pub policy_same : (before after : List PhaserState) → KeepsPlaces before after → (id : ℕ) → (phaser_at after id).policy ≡ (phaser_at before id).policy
-policy_same before after keeps id =
-    ap (λ (p : Place). p.policy) (place_at-places after id ∙ ap (λ (ps : List Place). get_or ps id (place_of no_phaser)) keeps.places
-    ∙ sym (place_at-places before id))
+policy_same before after keeps id = grind (arith, place_at-places)
 
 -- one more phase end may be counted
 pub more_ends : (most : ℕ) (phasers : List PhaserState) → AreTrees most phasers → AreTrees (most + 1) phasers
@@ -260,19 +232,7 @@ trees_arrived most id leave phasers trees there =
 -- a termination
 pub trees_forced : (most id : ℕ) (phasers : List PhaserState) → AreTrees most phasers → id < length phasers
     → KeepsTrees most phasers (after_force id phasers)
-trees_forced most id phasers trees there =
-    let after = after_force id phasers in
-    let same = force-places id phasers in
-    record {
-      places = keeps_places phasers after same;
-      many = many_same phasers after same;
-      trees = record {
-        forest = forest_kept phasers after same trees.forest;
-        stands = (trees.stands.0, stands_after_force id phasers after trees.stands.0 trees.forest there refl trees.stands.1);
-        ends = λ n. (let few = trees.ends n in let e = force-ends id phasers n in omega (arith, few, e));
-      };
-      pending = λ root top. force_pending id phasers root;
-    }
+trees_forced most id phasers trees there = grind (arith, force-places, keeps_places, many_same, forest_kept, stands_after_force, force-ends, force_pending)
 
 -- the count of phase ends grows by one at the root
 if-ends : (here : Bool) (x : PhaserState) (flat : Flat) → (if here then record x { flat = flat } else x).ends ≡ x.ends
@@ -281,9 +241,8 @@ if-ends false x flat = refl
 
 in_step-ends : (root phase : ℕ) (ended : Bool) (phasers : List PhaserState) (n : ℕ)
     → (phaser_at (map (in_step root phase ended) phasers) n).ends ≡ (phaser_at phasers n).ends
-in_step-ends root phase ended [] n = refl
-in_step-ends root phase ended (x ∷ phasers) zero = if-ends (root_of x == root) x (follow phase ended x.flat)
 in_step-ends root phase ended (x ∷ phasers) (suc n) = in_step-ends root phase ended phasers n
+in_step-ends root phase ended phasers n = grind (arith, if-ends)
 
 pub turn-ends : (root most : ℕ) (ends : Bool) (phasers : List PhaserState) → ((id : ℕ) → (phaser_at phasers id).ends ≤ most)
     → (id : ℕ) → (phaser_at (after_phase_end root ends phasers) id).ends ≤ most + 1
@@ -319,17 +278,10 @@ trees_turned most root ends phasers trees can =
 
 pub if_turning : (answer : Arrived) (P : PhaserId → Type 0) → IfTurning answer P
     → (root : PhaserId) (phase : _) (parties : ℕ) → answer ≡ arrived.Turning root phase parties → P root
-if_turning (arrived.At at) P told root phase parties is = absurd (cc (is))
-if_turning (arrived.Turning own at count) P told root phase parties is =
-    let same : own ≡ root = cc (is) in subst P same told
-if_turning (arrived.Dead view) P told root phase parties is = absurd (cc (is))
-if_turning arrived.NotThere P told root phase parties is = absurd (cc (is))
+if_turning answer P told root phase parties is = grind arith
 
 turning_gives : (answer : Arrived) (P Q : PhaserId → Type 0) → ((root : PhaserId) → P root → Q root) → IfTurning answer P → IfTurning answer Q
-turning_gives (arrived.At at) P Q gives told = tt
-turning_gives (arrived.Turning own at count) P Q gives told = gives own told
-turning_gives (arrived.Dead view) P Q gives told = tt
-turning_gives arrived.NotThere P Q gives told = tt
+turning_gives answer P Q gives told = grind arith
 
 -- who turns a root found it not pending, and its phase can be ended
 pub arrived_can_turn : (most id : ℕ) (leave : Bool) (phasers : List PhaserState) → AreTrees most phasers → most < 2147483647 → id < length phasers

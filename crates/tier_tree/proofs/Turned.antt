@@ -33,8 +33,6 @@ children-same : (test before_test : Flat → Bool) (parent : ℕ) (after phasers
     → test (flat_at after id) ≡ before_test (flat_at phasers id))
     → children test parent after ≡ children before_test parent phasers
 children-same test before_test parent [] [] same agree = refl
-children-same test before_test parent [] (p ∷ phasers) same agree = absurd (cc)
-children-same test before_test parent (q ∷ after) [] same agree = absurd (cc)
 children-same test before_test parent (q ∷ after) (p ∷ phasers) same agree =
     let first : place_of q ≡ place_of p = ap first_of same in
     let others : places_of after ≡ places_of phasers = ap others_of same in
@@ -44,14 +42,11 @@ children-same test before_test parent (q ∷ after) (p ∷ phasers) same agree =
     ap (λ (u : Bool). (if u && test q.flat then 1 else 0) + children test parent after) line
     ∙ ap (λ (n : ℕ). n + children test parent after) here
     ∙ ap (λ (n : ℕ). (if is_under parent p.line && before_test p.flat then 1 else 0) + n) rest
+children-same test before_test parent _ _ same agree = absurd (cc)
 
 -- the line of a child of this phaser
 under-shape : (parent : ℕ) (line : List ℕ) → is_under parent line ≡ true → (own : ℕ) × (more : List ℕ) × (line ≡ own ∷ parent ∷ more)
-under-shape parent [] under = absurd (cc)
-under-shape parent (own ∷ []) under = absurd (cc)
-under-shape parent (own ∷ next ∷ more) under =
-    let same : next ≡ parent = grind (arith, nat_tests, under) in
-    (own, more, ap (λ (n : ℕ). own ∷ n ∷ more) same)
+under-shape parent line under = grind (arith, nat_tests)
 
 abbrev head_of : List ℕ → ℕ
 head_of [] = 0
@@ -106,8 +101,7 @@ follow-good phase false f root id = record { arrived = omega arith; turned = (λ
 joined-by : (ended turned : Bool) (parties : ℕ) → ended ≡ false → (turned ≡ true → 0 < parties)
     → not (parties == 0) ≡ not (if ended then false else (if turned then false else parties == 0))
 joined-by true turned parties live some = absurd (cc)
-joined-by false true parties live some = let more = some refl in let none : (parties == 0) ≡ false = grind (arith, nat_tests, more) in ap not none
-joined-by false false parties live some = refl
+joined-by false _ parties live some = grind (arith, nat_tests)
 
 and-true : (b : Bool) → (b && true) ≡ b
 and-true true = refl
@@ -225,9 +219,8 @@ stands_reset phasers after origin other root ends sound within top live stands c
 -- each phaser of a mapped forest
 map-at : (f : PhaserState → PhaserState) (phasers : List PhaserState) (id : ℕ) → id < length phasers
     → phaser_at (map f phasers) id ≡ f (phaser_at phasers id)
-map-at f [] id there = absurd (omega (arith, there))
-map-at f (p ∷ phasers) zero there = refl
 map-at f (p ∷ phasers) (suc id) there = map-at f phasers id (omega (arith, there))
+map-at f phasers id there = grind arith
 
 change_if : (here : Bool) (phaser : PhaserState) (flat : Flat) → (if here then record phaser { flat = flat } else phaser).flat ≡ (if here then flat else phaser.flat)
 change_if true phaser flat = refl
@@ -235,9 +228,7 @@ change_if false phaser flat = refl
 
 forced_flat : (phasers : List PhaserState) (root id : ℕ) → id < length phasers
     → flat_at (map (terminated root) phasers) id ≡ (if root_at phasers id == root then force (flat_at phasers id) else flat_at phasers id)
-forced_flat phasers root id there =
-    ap (λ (p : PhaserState). p.flat) (map-at (terminated root) phasers id there)
-    ∙ change_if (root_at phasers id == root) (phaser_at phasers id) (force (flat_at phasers id))
+forced_flat phasers root id there = grind (arith, map-at, change_if)
 
 pub force_change : (id : ℕ) (phasers : List PhaserState) → TreeChange (root_at phasers id) true phasers (after_force id phasers)
 force_change id phasers = record {
@@ -268,9 +259,7 @@ advance-follows false f = refl
 step_flat : (phasers : List PhaserState) (root phase : ℕ) (ends : Bool) (id : ℕ) → id < length phasers
     → flat_at (map (in_step root phase ends) phasers) id
     ≡ (if root_at phasers id == root then follow phase ends (flat_at phasers id) else flat_at phasers id)
-step_flat phasers root phase ends id there =
-    ap (λ (p : PhaserState). p.flat) (map-at (in_step root phase ends) phasers id there)
-    ∙ change_if (root_at phasers id == root) (phaser_at phasers id) (follow phase ends (flat_at phasers id))
+step_flat phasers root phase ends id there = grind (arith, map-at, change_if)
 
 pub turn_change : (root : ℕ) (ends : Bool) (phasers : List PhaserState) → root < length phasers → root_at phasers root ≡ root
     → TreeChange root ends phasers (after_phase_end root ends phasers)

@@ -35,17 +35,7 @@ settled_turns f g awaits live true = ((refl, live), awaits)
 settled_turns f g awaits live false = tt
 
 arrive_turns : (leave : Bool) (f : Flat) → TurnsAll f (arrive leave f)
-arrive_turns leave f = by_case leave f.ended (f.arrived == f.parties) refl refl
-  where
-    by_case : (leave ended none : Bool) → f.ended ≡ ended → (f.arrived == f.parties) ≡ none
-        → TurnsAll f (if ended then ComesLate (view_of f)
-        else (if none then IsUnregistered
-        else (if leave then settled (record f { parties = f.parties - 1 })
-        else settled (record f { arrived = f.arrived + 1 }))))
-    by_case leave true none is some = tt
-    by_case leave false true is some = tt
-    by_case true false false is some = settled_turns f (record f { parties = f.parties - 1 }) (is, some) is (f.arrived == f.parties - 1)
-    by_case false false false is some = settled_turns f (record f { arrived = f.arrived + 1 }) (is, some) is (f.arrived + 1 == f.parties)
+arrive_turns leave f = grind (arith, settled_turns)
 
 -- the root is turned now, and waited for somebody before
 abbrev pub TurnsIt : Flat → Flat → Type 0
@@ -53,37 +43,21 @@ TurnsIt f g = IsTurned g × IsOpen f
 
 child_turned : (id : ℕ) (g : Flat) (c : Climb) (above : List PhaserState) → (with_child id g c above).climb ≡ climb.Turned
     → (c ≡ climb.Turned) × ((with_child id g c above).phasers ≡ with_flat above id (passed_on g))
-child_turned id g climb.Counted above is = absurd (cc (is))
-child_turned id g climb.Turned above is = (refl, refl)
-child_turned id g climb.Refused above is = absurd (cc (is))
+child_turned id g c above is = grind arith
 
 root_turned : (a : Arrival) (i : ℕ) (above : Bool → Climbed) (phasers : List PhaserState) → i < length phasers → TurnsAll (flat_at phasers i) a
     → (climbed_by a i true above phasers).climb ≡ climb.Turned → TurnsIt (flat_at phasers i) (flat_at (climbed_by a i true above phasers).phasers i)
-root_turned (Counts g) i above phasers there all is = absurd (cc (is))
-root_turned (Turns g) i above phasers there all is =
-    subst (TurnsIt (flat_at phasers i)) (sym (ap (λ (p : PhaserState). p.flat) (get_or-set_same phasers i (record (phaser_at phasers i) { flat = g }) no_phaser there))) all
-root_turned (ComesLate view) i above phasers there all is = absurd (cc (is))
-root_turned IsUnregistered i above phasers there all is = absurd (cc (is))
+root_turned a i above phasers there all is = grind (arith, get_or-set_same)
 
 above_turned : (a : Arrival) (i r : ℕ) (above : Bool → Climbed) (phasers : List PhaserState) → r ≢ i
     → ((leaves : Bool) → (above leaves).climb ≡ climb.Turned → TurnsIt (flat_at phasers r) (flat_at (above leaves).phasers r))
     → (climbed_by a i false above phasers).climb ≡ climb.Turned → TurnsIt (flat_at phasers r) (flat_at (climbed_by a i false above phasers).phasers r)
-above_turned (Counts g) i r above phasers apart rest is = absurd (cc (is))
-above_turned (Turns g) i r above phasers apart rest is =
-    let up = above (g.parties == 0) in
-    let child = child_turned i g up.climb up.phasers is in
-    subst (λ (ps : List PhaserState). TurnsIt (flat_at phasers r) (flat_at ps r)) (sym child.1)
-    (subst (TurnsIt (flat_at phasers r)) (sym (ap (λ (p : PhaserState). p.flat)
-    (get_or-set_other up.phasers i r (record (phaser_at up.phasers i) { flat = passed_on g }) no_phaser apart))) (rest (g.parties == 0) child.0))
-above_turned (ComesLate view) i r above phasers apart rest is = absurd (cc (is))
-above_turned IsUnregistered i r above phasers apart rest is = absurd (cc (is))
+above_turned a i r above phasers apart rest is = grind (arith, child_turned, get_or-set_other)
 
 pub climbed_turned : (above : List ℕ) (i : ℕ) (leave : Bool) (phasers : List PhaserState) → IsForest phasers → i < length phasers
     → (phaser_at phasers i).line ≡ i ∷ above → (climbed (i ∷ above) leave phasers).climb ≡ climb.Turned
     → TurnsIt (flat_at phasers (root_at phasers i)) (flat_at (climbed (i ∷ above) leave phasers).phasers (root_at phasers i))
-climbed_turned [] i leave phasers sound there line is =
-    subst (λ (n : ℕ). TurnsIt (flat_at phasers n) (flat_at (climbed (i ∷ []) leave phasers).phasers n)) (sym (ap last_of line))
-    (root_turned (arrive leave (flat_at phasers i)) i (λ leaves. climbed [] leaves phasers) phasers there (arrive_turns leave (flat_at phasers i)) is)
+climbed_turned [] i leave phasers sound there line is = grind (arith, last_of, root_turned, arrive_turns)
 climbed_turned (q ∷ more) i leave phasers sound there line is =
     let next = next-parent phasers i q more sound there line in
     let below : q < i = next.0 in
@@ -100,13 +74,7 @@ abbrev pub IsFull : Flat → Type 0
 IsFull f = f.turned ≡ true → f.arrived ≡ f.parties
 
 not_turned : (f : Flat) → IsOpen f → IsFull f → f.turned ≡ false
-not_turned f awaits full = by_case f.turned refl
-  where
-    by_case : (turned : Bool) → f.turned ≡ turned → turned ≡ false
-    by_case true is =
-        let all = ap (λ (n : ℕ). n == f.parties) (full is) ∙ same-is f.parties in
-        absurd (cc (all, awaits.1))
-    by_case false is = refl
+not_turned f awaits full = grind (arith, same-is)
 
 -- what the answer of an arrival tells of the root
 pub turning : (id m : ℕ) (leave : Bool) (phasers after : List PhaserState) (answer : Arrived) → IsForest phasers → id < length phasers

@@ -9,21 +9,14 @@ use Rattle.tier_tree.specs.Stored.{present}
 
 pub view_number : (view : ℤ) (ended : Bool) (p q : ℕ) → view ≡ phase_view q ended → phase_view p (is_ended_view view) ≡ view
     → q < 2147483648 → p ≡ q
-view_number (pos n) true p q is found few = grind (arith, is, found, few)
 view_number (pos n) false p q is found few = cc (is, found)
-view_number (negsuc n) true p q is found few = grind (arith, is, found, few)
-view_number (negsuc n) false p q is found few = grind (arith, is, found, few)
+view_number _ _ p q is found few = grind (arith, is, found, few)
 
 -- in its root's phase, and terminated where that is
 alike : (f : Flat) (n : ℕ) (ended : Bool) → f.phase ≡ n → f.ended ≡ ended → (ended ≡ true → (f.arrived ≡ f.parties) × (f.turned ≡ false))
     → f ≡ (if ended then force (renew n f) else (if f.phase == n then f else renew n f))
-alike f n true phase is all =
-    let whole : ℕ → Bool → ℕ → Bool → Flat = λ p e a t. record { phase = p; ended = e; parties = f.parties; arrived = a; turned = t } in
-    ap (λ (e : Bool). whole f.phase e f.arrived f.turned) is ∙ ap (λ (p : ℕ). whole p true f.arrived f.turned) phase
-    ∙ ap (λ (a : ℕ). whole n true a f.turned) (all refl).0 ∙ ap (whole n true f.parties) (all refl).1
-alike f n false phase is all =
-    let same : (f.phase == n) ≡ true = grind (arith, nat_tests, phase) in
-    ap (λ (t : Bool). if t then f else renew n f) (sym same)
+alike f n true phase is all = grind arith
+alike f n false phase is all = grind (arith, nat_tests)
 
 all_there : (ended : Bool) (parties unarrived : ℕ) → ended ≡ true
     → ((if ended then parties else parties - unarrived) ≡ parties) × ((not ended && (unarrived == 0)) ≡ false)
@@ -36,32 +29,16 @@ phase_high w = refl
 
 ended_high : (w : ℕ) → (fields_of w).ended ≡ (w / 4294967296 / 2147483648 == 1)
 unfolding fields_of
-ended_high w =
-    let high : w / 9223372036854775808 ≡ w / 4294967296 / 2147483648 = omega arith in
-    ap (λ (n : ℕ). n == 1) high
+ended_high w = grind arith
 
 pub stands_as_it_is : (top own : ℕ) → own / 4294967296 ≡ top / 4294967296 → record_of own ≡ present (record_of top) (record_of own)
-stands_as_it_is top own same =
-    let ended : (fields_of own).ended ≡ (fields_of top).ended =
-    ended_high own ∙ ap (λ (n : ℕ). n / 2147483648 == 1) same ∙ sym (ended_high top) in
-    alike (record_of own) (record_of top).phase (record_of top).ended
-    (phase_high own ∙ ap (λ (n : ℕ). n % 2147483648) same ∙ sym (phase_high top)) ended
-    (λ is. all_there (fields_of own).ended (fields_of own).parties (fields_of own).unarrived (ended ∙ is))
+stands_as_it_is top own same = grind (arith, ended_high, alike, phase_high, all_there)
 
 -- of words that aren't terminated, in another phase
 phase_of_live : (w : ℕ) → w < 18446744073709551616 → (fields_of w).ended ≡ false → (fields_of w).phase ≡ w / 4294967296
 unfolding fields_of
-phase_of_live w small live =
-    let high : w / 9223372036854775808 ≡ 0 = grind (arith, nat_tests, small, live) in
-    omega (arith, high)
+phase_of_live w small live = grind (arith, nat_tests)
 
 pub lags : (top own : ℕ) → top < 18446744073709551616 → own < 18446744073709551616 → (record_of top).ended ≡ false → (record_of own).ended ≡ false
     → own / 4294967296 ≢ top / 4294967296 → renew (record_of top).phase (record_of own) ≡ present (record_of top) (record_of own)
-lags top own small_top small_own live_top live_own apart =
-    let top_is = phase_of_live top small_top live_top in
-    let own_is = phase_of_live own small_own live_own in
-    let other : ((fields_of own).phase == (fields_of top).phase) ≡ false = grind (arith, nat_tests, top_is, own_is, apart) in
-    let t = record_of top in
-    let f = record_of own in
-    ap (λ (same : Bool). if same then f else renew t.phase f) (sym other)
-    ∙ ap (λ (ended : Bool). if ended then force (renew t.phase f) else (if f.phase == t.phase then f else renew t.phase f)) (sym live_top)
+lags top own small_top small_own live_top live_own apart = grind (arith, phase_of_live, nat_tests)

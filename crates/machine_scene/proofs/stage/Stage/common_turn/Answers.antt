@@ -15,14 +15,7 @@ played c =
     c.row_of-row.ensures.row c.requires.sound c.requires.thread c.phasers_are_stored.ensures c.in-Some.ensures.ok c.in-Some.ensures.phasers
 
 after : (c : goal.After-settle-arg-1) → AfterCommon c.args.program.now c.row_of-row.result c.args.t c.args.self.now c.common_by_status.new.self c.in-Some.event
-after c = record {
-  at = c.row_of-row.ensures.row;
-  there = c.requires.thread;
-  comes = c.in-Some.ensures.ok;
-  common = c.in-Some.ensures.common;
-  trees = c.in-Some.ensures.trees;
-  ready = c.in-Some.ensures.ready;
-}
+after c = grind arith
 
 pub settle-requires-clause-sound : goal.settle-requires-clause-sound
 settle-requires-clause-sound c = (played c).sound 2147483646 (omega arith) c.requires.sound
