@@ -30,8 +30,11 @@ after_choices image (within, loads) choices =
 
 pub numbers_at_ends : NumbersChangeAtEnds
 numbers_at_ends image accepted choices choice plays =
-    (goes_keeps (execution (start image) choices).world choice (counts_through (start image) choices (declared_origin image.phasers))
-    (after_choices image accepted choices) plays).numbers
+    let counts = counts_through (start image) choices (declared_origin image.phasers) in
+    let goes = after_choices image accepted choices in (
+      (goes_keeps (execution (start image) choices).world choice counts goes plays).numbers,
+      (choice_goes (execution (start image) choices).world choice counts goes plays).1.numbers,
+    )
 
 pub terminations_said : TerminationsAreSaid
 terminations_said image accepted choices choice plays =

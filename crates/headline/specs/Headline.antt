@@ -46,7 +46,7 @@ use Rattle.shared_phaser.specs.declared.history.Known.{Known}
 use Rattle.shared_phaser.specs.History.{IsLegal}
 use Rattle.shared_phaser.specs.Known.{Owns, making}
 use Rattle.headline.specs.Pasts.{RecordsOnePast}
-use Rattle.headline.specs.PhaseEnds.{HasEndedInTime, TerminateAsSaid, row_of}
+use Rattle.headline.specs.PhaseEnds.{HasEndedInTime, NumbersGoOn, TerminateAsSaid, row_of}
 
 -- accepted: each list of the program is within its limits, and no check of the loader finds a fault in it
 abbrev pub Accepted : Image → Type 0
@@ -84,12 +84,15 @@ TerminationsAreSaid =
     refusal_of now choice ≡ None
     → TerminateAsSaid (row_of now choice) (thread_at now.scene choice.thread) now.scene.phasers (played now choice).world.scene.phasers
 
--- Nor does any bring a phaser into the phase of another number where it ends no phase of the phaser's tree.
+-- Nor does any bring a phaser into the phase of another number where it ends no phase of the phaser's tree; where it does, the
+-- tree comes into the phase behind its root's.
 abbrev pub NumbersChangeAtEnds : Type 0
 NumbersChangeAtEnds =
     (image : Image) → Accepted image → (choices : List Choice) (choice : Choice)
     → let now : World = (execution (start image) choices).world in
-    refusal_of now choice ≡ None → NumbersStay now.scene.phasers (played now choice).world.scene.phasers
+    refusal_of now choice ≡ None
+    → NumbersStay now.scene.phasers (played now choice).world.scene.phasers
+    × NumbersGoOn now.scene.phasers (played now choice).world.scene.phasers
 
 -- 3. None of these choices is refused where they are played in this order, these are their events, and once as many steps are
 -- taken back all is as before, to the stored word.

@@ -1,17 +1,19 @@
 -- Why a phaser is terminated, and that a phase does end.
-use Rattle.std.specs.Prelude.{◌≡◌, ◌<◌, ◌==◌, ◌⊎◌, if◌then◌else◌, ℕ, pos, not, Bool, true, false, List, length, Option, Some, None}
+use Rattle.std.specs.Prelude.{◌≡◌, ◌<◌, ◌==◌, ◌||◌, ◌⊎◌, if◌then◌else◌, ℕ, pos, not, Bool, true, false, List, length, Option, Some, None}
 use Rattle.std.specs.Ordering.{int_eq}
 use Rattle.instruction_table.specs.declared.row.Row.{Row}
-use Rattle.instruction_table.specs.declared.row.Row.TheVariants.{Ret, Pforce}
+use Rattle.instruction_table.specs.declared.row.Row.TheVariants.{Ret, Parr, Pdereg, Paaa, Pforce}
 use Rattle.instruction_table.specs.declared.register.Reg.TheVariants.{R0}
 use Rattle.instruction_table.specs.Registers.{value_in}
-use Rattle.packed_phaser.specs.declared.policy.Policy.{Policy}
+use Rattle.phase_number.specs.Phase.{next_phase}
 use Rattle.packed_phaser.specs.Policy.{ends}
 use Rattle.tier_tree.specs.Forest.{PhaserState, phaser_at, flat_at, root_at}
 use Rattle.tier_tree.specs.Origin.{Origin, HaveAllArrived}
 use Rattle.thread_state.specs.declared.status.Status.{Status}
 use Rattle.thread_state.specs.declared.status.Status.TheVariants as status
-use Rattle.thread_state.specs.Thread.{ThreadState}
+use Rattle.thread_state.specs.declared.frame.Frame.{Frame}
+use Rattle.thread_state.specs.declared.frame.Frame.TheVariants as frame
+use Rattle.thread_state.specs.Thread.{ThreadState, top_of}
 use Rattle.loader.specs.Program.{row_at}
 use Rattle.machine_scene.specs.PhaserRows.{is_routine_policy}
 use Rattle.machine_scene.specs.Scene.{thread_at}
@@ -35,27 +37,46 @@ abbrev pub is_force : Option Row → ℕ → List PhaserState → Bool
 is_force (Some (Pforce p)) root phasers = root_at phasers p == root
 is_force _ root phasers = false
 
--- a policy's answer; of a routine there is none before it returns
-abbrev pub is_yes : Option Bool → Bool
-is_yes (Some terminates) = terminates
-is_yes None = false
+-- What the root's policy answers to an arrival at phaser p that ends a phase of this root and leaves it so many parties. A
+-- routine's answer is none yet, and an arrival in another tree has none.
+abbrev pub answer_at : ℕ → ℕ → List PhaserState → (parties : ℕ) → Option Bool
+answer_at p root phasers parties =
+    if root_at phasers p == root then ends (phaser_at phasers root).policy (flat_at phasers root).phase parties else None
 
--- What `onAdvance` answers where this row ends a phase of this number that leaves so many parties: at `ret` it is the routine
--- that has, by any number but 0 in the thread's first register; at an arrival the root's policy does.
-abbrev pub on_advance : Option Row → ThreadState → Policy → (phase parties : ℕ) → Bool
-on_advance (Some Ret) thread policy phase parties = not (int_eq (value_in thread.registers R0) (pos 0))
-on_advance _ thread policy phase parties = is_yes (ends policy phase parties)
+-- What `ret` answers, by the top entry: out of this root's routine any number but 0 in the thread's first register is yes. The
+-- way back out of a call, an action or another root's routine answers nothing.
+abbrev pub answer_of_ret : Option Frame → ℕ → ThreadState → Option Bool
+answer_of_ret (Some (frame.Advance own registers row)) root thread =
+    if own == root then Some (not (int_eq (value_in thread.registers R0) (pos 0))) else None
+answer_of_ret _ root thread = None
 
--- Where a phase of its tree ends, a phaser is terminated exactly where `onAdvance` answers so; where none ends, only by force.
+-- What `onAdvance` answers where this row ends a phase of this root and leaves it so many parties. No other row is answered, nor
+-- is a turn or an expiry without a row: one that waits, throws or is popped.
+abbrev pub on_advance : Option Row → ThreadState → ℕ → List PhaserState → (parties : ℕ) → Option Bool
+on_advance (Some (Parr into p)) thread root phasers parties = answer_at p root phasers parties
+on_advance (Some (Pdereg into p)) thread root phasers parties = answer_at p root phasers parties
+on_advance (Some (Paaa into p)) thread root phasers parties = answer_at p root phasers parties
+on_advance (Some Ret) thread root phasers parties = answer_of_ret (top_of thread.stack) root thread
+on_advance _ thread root phasers parties = None
+
+-- A phase ends only in a tree that isn't terminated, and at a row that `onAdvance` answers: each phaser of the tree is then
+-- terminated exactly where it says yes. Where no phase of its tree ends, a phaser stays terminated, stays as it is, or is
+-- terminated by force, which always terminates.
 abbrev pub TerminateAsSaid : Option Row → ThreadState → List PhaserState → List PhaserState → Type 0
 TerminateAsSaid row thread before after =
     (id : ℕ) → id < length before
     → let root = root_at before id in
     (has_ended_phase root before after ≡ true
-    → (flat_at after id).ended
-    ≡ on_advance row thread (phaser_at before root).policy (flat_at before root).phase (flat_at after root).parties)
-    × (has_ended_phase root before after ≡ false → (flat_at after id).ended ≡ true
-    → ((flat_at before id).ended ≡ true) ⊎ (is_force row root before ≡ true))
+    → ((flat_at before id).ended ≡ false)
+    × (on_advance row thread root before (flat_at after root).parties ≡ Some (flat_at after id).ended))
+    × (has_ended_phase root before after ≡ false
+    → (flat_at after id).ended ≡ ((flat_at before id).ended || is_force row root before))
+
+-- Where a phase of its tree ends, a phaser comes into the phase behind that of its root, terminated or not.
+abbrev pub NumbersGoOn : List PhaserState → List PhaserState → Type 0
+NumbersGoOn before after =
+    (id : ℕ) → id < length before → has_ended_phase (root_at before id) before after ≡ true
+    → (flat_at after id).phase ≡ next_phase (flat_at before (root_at before id)).phase
 
 -- Once everybody who registered with the tree of this root has arrived, its phase has ended: else it is terminated, no party
 -- is left at the root, or the routine of the tree is to answer first, as one that has thrown never does. Of a tree that has had
