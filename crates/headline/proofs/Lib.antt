@@ -3,6 +3,7 @@ pub mod Resting
 pub mod TreeCalls
 pub mod BarrierCalls
 pub mod Turns
+pub mod LastArrivals
 pub mod Choices
 pub mod Pasts
 pub mod PhaseEnds

@@ -8,6 +8,8 @@ use Rattle.tier_tree.specs.Origin.{Origin}
 use Rattle.row_code.specs.declared.image.Image.{Image}
 use Rattle.loader.specs.Declarations.{declared_origin}
 use Rattle.loader.proofs.Images.{all_made}
+use Rattle.thread_state.specs.declared.frame.Frame.TheVariants as frame
+use Rattle.machine_scene.proofs.Facts.{top_named}
 use Rattle.thread_machine.specs.declared.choice.Choice.{Choice}
 use Rattle.thread_machine.specs.declared.fault.StepFault.{StepFault}
 use Rattle.thread_machine.specs.World.{World}
@@ -16,8 +18,9 @@ use Rattle.thread_machine.specs.Execution.{execution, execution_by}
 use Rattle.thread_machine.specs.DirectCounts.{counts_after, counts_through}
 use Rattle.thread_machine.proofs.SafeEnds.{Goes, goes_first, goes_keeps, goes_through, no_early_end_of}
 use Rattle.headline.specs.Headline.{Accepted, EndsNoPhaseEarly, NumbersChangeAtEnds, PhasesEndInTime, TerminationsAreSaid, start}
-use Rattle.headline.proofs.Choices.{choice_goes, goes_next}
-use Rattle.headline.proofs.Resting.{AreResting, all_done, nobody}
+use Rattle.headline.proofs.Choices.{choice_goes, goes_next, stands_now}
+use Rattle.headline.proofs.LastArrivals.{last_ends, routine_ends}
+use Rattle.headline.proofs.Resting.{AreResting, nobody}
 
 pub no_early_end : EndsNoPhaseEarly
 no_early_end image (within, loads) = no_early_end_of image 1000000000 within loads (omega arith)
@@ -68,9 +71,13 @@ resting (choice ∷ choices) world origin goes rest =
     (goes_next world choice origin goes accepted) ((choice_goes world choice origin goes accepted).1.rests rest))
 
 pub ends_in_time : PhasesEndInTime
-ends_in_time image (within, loads) choices root there top live clean all =
-    let counts = counts_through (start image) choices (declared_origin image.phasers) in
+ends_in_time image (within, loads) choices choice plays =
+    let now = (execution (start image) choices).world in
     let goes = after_choices image (within, loads) choices in
-    all_done (execution (start image) choices).world.scene.phasers counts root goes.sound.trees.forest goes.stands
-    (resting choices (start image) (declared_origin image.phasers) (goes_first image 1000000000 within loads (omega arith))
-    (fresh_rests (start image).scene.phasers (all_made image loads).fresh)) there top clean live all
+    let rest = resting choices (start image) (declared_origin image.phasers) (goes_first image 1000000000 within loads (omega arith))
+    (fresh_rests (start image).scene.phasers (all_made image loads).fresh) in
+    let stands = stands_now now choice (counts_through (start image) choices (declared_origin image.phasers)) goes plays in (
+      last_ends now choice (counts_through (start image) choices (declared_origin image.phasers)) now.steps stands goes.stands rest,
+      routine_ends now choice now.steps
+          (λ root registers back top. (top_named now.program now.steps now.scene choice.thread (frame.Advance root registers back) goes.sound stands.there top).1.0),
+    )

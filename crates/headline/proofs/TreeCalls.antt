@@ -123,7 +123,7 @@ in_step-ends root phase ended [] n = refl
 in_step-ends root phase ended (x ∷ phasers) zero = if-ends (root_of x == root) x (follow phase ended x.flat)
 in_step-ends root phase ended (x ∷ phasers) (suc n) = in_step-ends root phase ended phasers n
 
-root_ended : (root : ℕ) (ends : Bool) (before mid : List PhaserState) → KeepsEnds before mid → root < length mid
+pub root_ended : (root : ℕ) (ends : Bool) (before mid : List PhaserState) → KeepsEnds before mid → root < length mid
     → has_ended_phase root before (after_phase_end root ends mid) ≡ true
 root_ended root ends before mid kept within =
     let own = phaser_at mid root in
@@ -256,7 +256,7 @@ trees_counted row thread steps id leave phasers answer quiet trees there is none
       ],
     ))
 
-no_answer : (own : Policy) (phase parties : ℕ) → ends own phase parties ≡ None → is_routine_policy own ≡ true
+pub no_answer : (own : Policy) (phase parties : ℕ) → ends own phase parties ≡ None → is_routine_policy own ≡ true
 no_answer policy.Routine phase parties is = refl
 no_answer policy.Default phase parties is = absurd (cc is)
 no_answer policy.Never phase parties is = absurd (cc is)

@@ -1,5 +1,5 @@
 -- Why a phaser is terminated, and that a phase does end.
-use Rattle.std.specs.Prelude.{◌≡◌, ◌<◌, ◌==◌, ◌||◌, ◌⊎◌, if◌then◌else◌, ℕ, pos, not, Bool, true, false, List, length, Option, Some, None}
+use Rattle.std.specs.Prelude.{◌≡◌, ◌<◌, ◌==◌, ◌||◌, ◌⊎◌, if◌then◌else◌, ℕ, ℤ, pos, not, Bool, true, false, List, length, Option, Some, None}
 use Rattle.std.specs.Ordering.{int_eq}
 use Rattle.instruction_table.specs.declared.row.Row.{Row}
 use Rattle.instruction_table.specs.declared.row.Row.TheVariants.{Ret, Parr, Pdereg, Paaa, Pforce}
@@ -18,7 +18,7 @@ use Rattle.loader.specs.Program.{row_at}
 use Rattle.machine_scene.specs.PhaserRows.{is_routine_policy}
 use Rattle.machine_scene.specs.Scene.{thread_at}
 use Rattle.thread_machine.specs.declared.choice.Choice.{Choice}
-use Rattle.thread_machine.specs.DirectCounts.{has_ended_phase}
+use Rattle.thread_machine.specs.DirectCounts.{counts_at_end, has_ended_phase}
 use Rattle.thread_machine.specs.World.{World}
 
 -- the row that a thread plays: that of one that runs
@@ -78,11 +78,30 @@ NumbersGoOn before after =
     (id : ℕ) → id < length before → has_ended_phase (root_at before id) before after ≡ true
     → (flat_at after id).phase ≡ next_phase (flat_at before (root_at before id)).phase
 
--- Once everybody who registered with the tree of this root has arrived, its phase has ended: else it is terminated, no party
--- is left at the root, or the routine of the tree is to answer first, as one that has thrown never does. Of a tree that has had
--- a stray nothing is said.
-abbrev pub HasEndedInTime : Origin → List PhaserState → ℕ → Type 0
-HasEndedInTime counts phasers root =
-    (flat_at phasers root).ended ≡ false → counts.stray root ≡ false → HaveAllArrived counts root phasers
-    → ((flat_at phasers root).parties ≡ 0)
-    ⊎ (((flat_at phasers root).turned ≡ true) × (is_routine_policy (phaser_at phasers root).policy ≡ true))
+-- the top entry of the thread's stack is the routine of this root
+abbrev pub IsInRoutine : ℕ → ThreadState → Type 0
+IsInRoutine root thread = (registers : List ℤ) × ((row : ℕ) × (top_of thread.stack ≡ Some (frame.Advance root registers row)))
+
+-- by the counts before a choice and at it: somebody registered with this root's tree was still to arrive, and now nobody is
+abbrev pub HasLastArrived : (before at : Origin) → ℕ → List PhaserState → Type 0
+HasLastArrived before at root phasers =
+    ((id : ℕ) × ((id < length phasers) × ((root_at phasers id ≡ root) × (0 < before.unarrived id))))
+    × HaveAllArrived at root phasers
+
+-- A choice with which the last of those registered with a tree arrives or leaves ends a phase of the tree, or its thread now
+-- runs the tree's routine, to which that is left. Excluded are a tree that is terminated, and one that has had a stray.
+abbrev pub EndsInTime : World → Choice → World → Origin → Type 0
+EndsInTime before choice after counts =
+    let trees = before.scene.phasers in
+    let at = counts_at_end before choice counts in
+    (root : ℕ) → root < length trees → (flat_at trees root).ended ≡ false → at.stray root ≡ false
+    → HasLastArrived counts at root trees
+    → (has_ended_phase root trees after.scene.phasers ≡ true)
+    ⊎ ((is_routine_policy (phaser_at trees root).policy ≡ true) × IsInRoutine root (thread_at after.scene choice.thread))
+
+-- `ret` out of a routine ends a phase of its tree, unless that was terminated meanwhile.
+abbrev pub RoutineEnds : World → Choice → World → Type 0
+RoutineEnds before choice after =
+    (root : ℕ) → row_of before choice ≡ Some Ret → IsInRoutine root (thread_at before.scene choice.thread)
+    → (flat_at before.scene.phasers root).ended ≡ false
+    → has_ended_phase root before.scene.phasers after.scene.phasers ≡ true
