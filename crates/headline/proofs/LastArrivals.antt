@@ -17,6 +17,7 @@ use Rattle.tier_tree.specs.declared.registered.Registered.TheVariants as registe
 use Rattle.tier_tree.specs.declared.arrived.Arrived.{Arrived}
 use Rattle.tier_tree.specs.declared.arrived.Arrived.TheVariants as arrived
 use Rattle.tier_tree.specs.declared.id.PhaserId.{PhaserId}
+use Rattle.tier_tree.specs.Answer.{KeepsEnds}
 use Rattle.tier_tree.specs.Forest.{PhaserState, phaser_at, flat_at, root_at, with_flat}
 use Rattle.tier_tree.specs.Registration.{registration}
 use Rattle.tier_tree.specs.Arrival.{Arrives, Climbed, is_top, passed_on, with_child, climbed_by, climbed, arrival_by, arrival}
@@ -33,14 +34,14 @@ use Rattle.thread_state.specs.declared.frame.Frame.{Frame}
 use Rattle.thread_state.specs.declared.frame.Frame.TheVariants as frame
 use Rattle.thread_state.specs.declared.status.Status.{Status}
 use Rattle.thread_state.specs.declared.status.Status.TheVariants as status
-use Rattle.thread_state.specs.Thread.{ThreadState, Turn, top_of, is_full, turn_of_advance}
+use Rattle.thread_state.specs.Thread.{ThreadState, Turn, top_of, is_full, turn_of_advance, turn_of_throw}
 use Rattle.machine_scene.specs.declared.manner.Manner.{Manner}
 use Rattle.machine_scene.specs.Manner.{manner_of}
-use Rattle.machine_scene.specs.Scene.{Scene, Outcome, no_thread, thread_at, routine_at, with_phasers}
+use Rattle.machine_scene.specs.Scene.{Scene, Outcome, no_thread, thread_at, routine_at, outcome_of_turn, with_phasers, with_thread}
 use Rattle.machine_scene.specs.CallRows.{outcome_of_ret, outcome_of_routine_end}
 use Rattle.machine_scene.specs.PhaserRows.{is_own_tree, has_routine, is_routine_policy, answer_of_policy, unless_own, outcome_of_pending_end, outcome_of_arrived, outcome_of_arrival, outcome_with_room}
 use Rattle.machine_scene.specs.Outcomes.{outcome_in, outcome_of, outcome_of_expiry}
-use Rattle.machine_scene.proofs.Outcomes.{stands_at}
+use Rattle.machine_scene.proofs.CallRows.{can_turn_on_top}
 use Rattle.machine_scene.proofs.Plain.{StandsAt}
 use Rattle.machine_scene.proofs.Routines.{turning_root}
 use Rattle.machine_scene.proofs.Standings.{Standing, arrival-standings}
@@ -49,9 +50,10 @@ use Rattle.thread_machine.specs.World.{World}
 use Rattle.thread_machine.specs.Ready.{outcome_of_choice}
 use Rattle.thread_machine.specs.Step.{played, played_by}
 use Rattle.thread_machine.specs.DirectCounts.{has_ended_phase, with_registration, with_arrival, with_row, with_turn, counts_at_end}
-use Rattle.headline.specs.PhaseEnds.{EndsInTime, HasLastArrived, IsInRoutine, RoutineEnds, row_in, row_of}
+use Rattle.headline.specs.PhaseEnds.{AreCounted, EndsInTime, HasLastArrived, HaveAllLeft, IsInRoutine, RoutineEnds, TerminateAsSaid, on_advance, row_in, row_of}
 use Rattle.headline.proofs.Resting.{AreResting, Lands, Pending, nobody, all_come, arrival_rests, arrive_lands}
-use Rattle.headline.proofs.TreeCalls.{no_answer, root_ended}
+use Rattle.headline.proofs.TreeCalls.{no_answer, none_ended, root_ended}
+use Rattle.headline.proofs.Left.{ended_left}
 use Rattle.headline.proofs.Turns.{scene_after}
 
 -- a phaser of this root's tree, below a number, at which somebody is still to arrive
@@ -365,6 +367,145 @@ last_ends world choice counts steps stands tallied rest root =
     (sym (played_ends outcome world))
     (by_kind choice.expiry counts (with_turn thread.status row t scene counts) t scene _ _
     (turn_ends thread.status row world.program steps t scene counts stands tallied rest) root)
+
+-- what is to be shown of each outcome that ends a phase
+abbrev Leaves : Origin → Scene → Scene → Type 0
+Leaves at scene last =
+    (root : ℕ) → root < length scene.phasers → root_at scene.phasers root ≡ root → has_ended_phase root scene.phasers last.phasers ≡ true
+    → at.stray root ≡ false
+    → ((flat_at last.phasers root).parties ≡ 0 → HaveAllLeft at root scene.phasers)
+    × (HaveAllLeft at root scene.phasers → (flat_at last.phasers root).parties ≡ 0)
+
+none_leaves : (at : Origin) (scene last : Scene) → KeepsEnds scene.phasers last.phasers → Leaves at scene last
+none_leaves at scene last kept root there top ended =
+    let none = none_ended scene.phasers last.phasers kept root in absurd (cc (none, ended))
+
+-- a row that `onAdvance` doesn't answer ends none
+silent_leaves : (row : Option Row) (thread : ThreadState) (at : Origin) (scene last : Scene)
+    → ((root parties : ℕ) → on_advance row thread root scene.phasers parties ≡ None)
+    → TerminateAsSaid row thread scene.phasers last.phasers → Leaves at scene last
+silent_leaves row thread at scene last silent said root there top ended =
+    let own = root_at scene.phasers root in
+    let answer = ((said root there).0 (ap (λ r. has_ended_phase r scene.phasers last.phasers) top ∙ ended)).1 in
+    let none = silent own (flat_at last.phasers own).parties in
+    absurd (cc (none, answer))
+
+pending_leaves : (answer : Option Bool) (program : Program) (steps t p : ℕ) (manner : Manner) (scene : Scene) (counts : Origin) (root : PhaserId)
+    (phase : ℤ) (parties : ℕ) (row : Row) → StandsAt program steps t scene status.Runs row → p < length scene.phasers
+    → AreTallied scene.phasers counts → (arrival p manner.leaves scene.phasers).answer ≡ arrived.Turning root phase parties
+    → let after = with_phasers (arrival p manner.leaves scene.phasers).phasers scene in
+    Leaves (arrived_at p (root_at scene.phasers p) manner.leaves counts) scene (outcome_of_pending_end answer manner root.0 phase t program after).scene
+pending_leaves (Some over) program steps t p manner scene counts root phase parties row stands there tallied is r inside top =
+    let phasers = scene.phasers in
+    let turns = turning_root steps p manner.leaves phasers root phase parties stands.sound.trees stands.few there is in
+    let kept = trees_arrived steps p manner.leaves phasers stands.sound.trees there in
+    ended_left root.0 over phasers (arrival p manner.leaves phasers).phasers (arrived_at p (root_at phasers p) manner.leaves counts) turns.2
+    kept.trees.forest
+    (subst (λ answer. AreTallied (arrival p manner.leaves phasers).phasers (origin_after_arrival answer p (root_at phasers p) manner.leaves counts)) is
+    (stands_after_arrival phasers counts p manner.leaves (arrival p manner.leaves phasers) stands.sound.trees.forest there refl tallied))
+    kept.many kept.places.roots (arrival-ends p manner.leaves phasers) r
+pending_leaves None program steps t p manner scene counts root phase parties row stands there tallied is r inside top =
+    none_leaves (arrived_at p (root_at scene.phasers p) manner.leaves counts) scene
+    (with_phasers (arrival p manner.leaves scene.phasers).phasers scene) (arrival-ends p manner.leaves scene.phasers) r inside top
+
+arrival_leaves : (answer : Arrived) (row : Row) (program : Program) (steps t p : ℕ) (manner : Manner) (scene : Scene) (counts : Origin)
+    → StandsAt program steps t scene status.Runs row → p < length scene.phasers → AreTallied scene.phasers counts
+    → (arrival p manner.leaves scene.phasers).answer ≡ answer
+    → Leaves (origin_after_arrival answer p (root_at scene.phasers p) manner.leaves counts) scene
+    (outcome_of_arrived answer manner t program (with_phasers (arrival p manner.leaves scene.phasers).phasers scene)).scene
+arrival_leaves (arrived.Turning root phase parties) row program steps t p manner scene counts stands there tallied is r inside top =
+    pending_leaves (answer_of_policy root.0 (with_phasers (arrival p manner.leaves scene.phasers).phasers scene)) program steps t p manner scene
+    counts root phase parties row stands there tallied is r inside top
+arrival_leaves answer row program steps t p manner scene counts stands there tallied is r inside top =
+    none_leaves (origin_after_arrival answer p (root_at scene.phasers p) manner.leaves counts) scene
+    (with_phasers (arrival p manner.leaves scene.phasers).phasers scene) (arrival-ends p manner.leaves scene.phasers) r inside top
+
+leaves_or : (own full : Bool) (scene : Scene) (counts at : Origin) (first second call : Outcome) → KeepsEnds scene.phasers first.scene.phasers
+    → KeepsEnds scene.phasers second.scene.phasers → Leaves at scene call.scene
+    → Leaves (if own || full then counts else at) scene
+    (scene_after (if own then Some first else Some (if full then second else call)) scene)
+leaves_or true full scene counts at first second call a b goes root = none_leaves counts scene first.scene a root
+leaves_or false true scene counts at first second call a b goes root = none_leaves counts scene second.scene b root
+leaves_or false false scene counts at first second call a b goes root = goes root
+
+counted_leaves : (row : Row) (program : Program) (steps t p : ℕ) (manner : Manner) (scene : Scene) (counts : Origin)
+    → StandsAt program steps t scene status.Runs row → p < length scene.phasers → AreTallied scene.phasers counts
+    → Leaves (with_arrival p manner.leaves t scene counts) scene
+    (scene_after (unless_own p t scene (Some (outcome_of_arrival manner p t program scene))) scene)
+counted_leaves row program steps t p manner scene counts stands there tallied =
+    let thread = thread_at scene t in
+    leaves_or (is_own_tree p thread scene) (has_routine p scene && is_full thread) scene counts
+    (origin_after_arrival (arrival p manner.leaves scene.phasers).answer p (root_at scene.phasers p) manner.leaves counts)
+    (outcome_of_turn (turn_of_throw (pos 1) thread) t scene) (outcome_of_turn (turn_of_throw (pos 6) thread) t scene)
+    (outcome_with_room manner p t program scene) (λ id. refl) (λ id. refl)
+    (arrival_leaves (arrival p manner.leaves scene.phasers).answer row program steps t p manner scene counts stands there tallied refl)
+
+routine_leaves : (ended : Bool) (program : Program) (steps t root back : ℕ) (registers : List ℤ) (manner : Manner) (scene : Scene) (left : ThreadState)
+    (counts : Origin) → (flat_at scene.phasers root).ended ≡ ended → StandsAt program steps t scene status.Runs Ret
+    → top_of (thread_at scene t).stack ≡ Some (frame.Advance root registers back) → AreTallied scene.phasers counts
+    → (terminates : Bool) → Leaves counts scene (outcome_of_routine_end ended manner root terminates t (with_thread left t scene)).scene
+routine_leaves true program steps t root back saved manner scene left counts is stands top tallied terminates r inside own =
+    none_leaves counts scene (with_thread left t scene) (λ id. refl) r inside own
+routine_leaves false program steps t root back saved manner scene left counts is stands top tallied terminates r inside own =
+    ended_left root terminates scene.phasers scene.phasers counts
+    (can_turn_on_top program steps t root back saved scene stands.sound stands.few stands.there top is) stands.sound.trees.forest tallied refl
+    (λ id. refl) (λ id. refl) r
+
+ret_leaves : (top : Option Frame) (program : Program) (steps t : ℕ) (scene : Scene) (counts : Origin) → StandsAt program steps t scene status.Runs Ret
+    → top_of (thread_at scene t).stack ≡ top → AreTallied scene.phasers counts → Leaves counts scene (outcome_of_ret top t program scene).scene
+ret_leaves (Some (frame.Advance root saved back)) program steps t scene counts stands is tallied =
+    routine_leaves (flat_at scene.phasers root).ended program steps t root back saved _ scene _ counts refl stands is tallied _
+ret_leaves top program steps t scene counts stands is tallied =
+    none_leaves counts scene (outcome_of_ret top t program scene).scene (λ id. refl)
+
+row_leaves : (row : Row) (program : Program) (steps t : ℕ) (scene : Scene) (counts : Origin) → StandsAt program steps t scene status.Runs row
+    → AreTallied scene.phasers counts
+    → TerminateAsSaid (Some row) (thread_at scene t) scene.phasers (scene_after (outcome_in status.Runs row t program scene) scene).phasers
+    → Leaves (with_row row t scene counts) scene (scene_after (outcome_in status.Runs row t program scene) scene)
+row_leaves (Parr into p) program steps t scene counts stands tallied said =
+    counted_leaves (Parr into p) program steps t p (manner_of (Parr into p)) scene counts stands stands.named tallied
+row_leaves (Pdereg into p) program steps t scene counts stands tallied said =
+    counted_leaves (Pdereg into p) program steps t p (manner_of (Pdereg into p)) scene counts stands stands.named tallied
+row_leaves (Paaa into p) program steps t scene counts stands tallied said =
+    counted_leaves (Paaa into p) program steps t p (manner_of (Paaa into p)) scene counts stands stands.named tallied
+row_leaves Ret program steps t scene counts stands tallied said =
+    ret_leaves (top_of (thread_at scene t).stack) program steps t scene counts stands refl tallied
+row_leaves row program steps t scene counts stands tallied said =
+    silent_leaves (Some row) (thread_at scene t) (with_row row t scene counts) scene
+    (scene_after (outcome_in status.Runs row t program scene) scene) (λ root parties. refl) said
+
+turn_leaves : (of : Status) (row : Row) (program : Program) (steps t : ℕ) (scene : Scene) (counts : Origin) → StandsAt program steps t scene of row
+    → AreTallied scene.phasers counts
+    → TerminateAsSaid (row_in of row) (thread_at scene t) scene.phasers (scene_after (outcome_in of row t program scene) scene).phasers
+    → Leaves (with_turn of row t scene counts) scene (scene_after (outcome_in of row t program scene) scene)
+turn_leaves status.Runs row program steps t scene counts stands tallied said = row_leaves row program steps t scene counts stands tallied said
+turn_leaves of row program steps t scene counts stands tallied said =
+    silent_leaves None (thread_at scene t) counts scene (scene_after (outcome_in of row t program scene) scene) (λ root parties. refl) said
+
+leaves_by : (expiry : Bool) (row : Option Row) (counts at : Origin) (t : ℕ) (scene : Scene) (late turn : Option Outcome)
+    → (TerminateAsSaid row (thread_at scene t) scene.phasers (scene_after turn scene).phasers → Leaves at scene (scene_after turn scene))
+    → TerminateAsSaid (if expiry then None else row) (thread_at scene t) scene.phasers (scene_after (if expiry then late else turn) scene).phasers
+    → Leaves (if expiry then counts else at) scene (scene_after (if expiry then late else turn) scene)
+leaves_by true row counts at t scene late turn goes said =
+    silent_leaves None (thread_at scene t) counts scene (scene_after late scene) (λ root parties. refl) said
+leaves_by false row counts at t scene late turn goes said = goes said
+
+-- the parties that `onAdvance` is told of are those who are registered
+pub are_counted : (world : World) (choice : Choice) (counts : Origin) (steps : ℕ)
+    → StandsAt world.program steps choice.thread world.scene (thread_at world.scene choice.thread).status (row_at world.program.rows (thread_at world.scene choice.thread).pc)
+    → AreTallied world.scene.phasers counts
+    → TerminateAsSaid (row_of world choice) (thread_at world.scene choice.thread) world.scene.phasers (played world choice).world.scene.phasers
+    → AreCounted world choice (played world choice).world counts
+are_counted world choice counts steps stands tallied said =
+    let scene = world.scene in
+    let t = choice.thread in
+    let thread = thread_at scene t in
+    let row = row_at world.program.rows thread.pc in
+    let outcome = outcome_of_choice world.program choice scene in
+    subst (λ (last : Scene). Leaves (counts_at_end world choice counts) scene last) (sym (played_ends outcome world))
+    (leaves_by choice.expiry (row_in thread.status row) counts (with_turn thread.status row t scene counts) t scene _ _
+    (turn_leaves thread.status row world.program steps t scene counts stands tallied)
+    (subst (λ (last : Scene). TerminateAsSaid (row_of world choice) thread scene.phasers last.phasers) (played_ends outcome world) said))
 
 -- the way back out of a routine
 ret_ends : (ended : Bool) (top : Option Frame) (root : ℕ) (registers : List ℤ) (back : ℕ) (program : Program) (t : ℕ) (scene : Scene)

@@ -2,6 +2,7 @@ pub mod Backs
 pub mod Resting
 pub mod TreeCalls
 pub mod BarrierCalls
+pub mod Left
 pub mod Turns
 pub mod LastArrivals
 pub mod Choices

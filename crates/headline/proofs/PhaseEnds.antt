@@ -19,7 +19,7 @@ use Rattle.thread_machine.specs.DirectCounts.{counts_after, counts_through}
 use Rattle.thread_machine.proofs.SafeEnds.{Goes, goes_first, goes_keeps, goes_through, no_early_end_of}
 use Rattle.headline.specs.Headline.{Accepted, EndsNoPhaseEarly, NumbersChangeAtEnds, PhasesEndInTime, TerminationsAreSaid, start}
 use Rattle.headline.proofs.Choices.{choice_goes, goes_next, stands_now}
-use Rattle.headline.proofs.LastArrivals.{last_ends, routine_ends}
+use Rattle.headline.proofs.LastArrivals.{are_counted, last_ends, routine_ends}
 use Rattle.headline.proofs.Resting.{AreResting, nobody}
 
 pub no_early_end : EndsNoPhaseEarly
@@ -41,8 +41,11 @@ numbers_at_ends image accepted choices choice plays =
 
 pub terminations_said : TerminationsAreSaid
 terminations_said image accepted choices choice plays =
-    (choice_goes (execution (start image) choices).world choice (counts_through (start image) choices (declared_origin image.phasers))
-    (after_choices image accepted choices) plays).1.said
+    let now = (execution (start image) choices).world in
+    let counts = counts_through (start image) choices (declared_origin image.phasers) in
+    let goes = after_choices image accepted choices in
+    let said = (choice_goes now choice counts goes plays).1.said in
+    (said, are_counted now choice counts now.steps (stands_now now choice counts goes plays) goes.stands said)
 
 -- before the first choice nobody has arrived
 fresh_rests : (phasers : List PhaserState) → AreAllFresh phasers → AreResting nobody phasers

@@ -251,7 +251,7 @@ change_rests root ends before after change top rest q =
     ]
 
 -- where everybody who registered with a tree has arrived, each phaser has all its parties
-no_children : (test : Flat → Bool) (parent : ℕ) (phasers : List PhaserState)
+pub no_children : (test : Flat → Bool) (parent : ℕ) (phasers : List PhaserState)
     → ((k : ℕ) → k < length phasers → is_under parent (phaser_at phasers k).line ≡ true → test (flat_at phasers k) ≡ false)
     → children test parent phasers ≡ 0
 no_children test parent [] none = refl

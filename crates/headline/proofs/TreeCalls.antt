@@ -56,7 +56,7 @@ pub record TreesGo (row : Option Row) (thread : ThreadState) (before after : Lis
   pub numbers : NumbersGoOn before after
   pub rests : AreResting nobody before → AreResting nobody after
 
-none_ended : (before after : List PhaserState) → KeepsEnds before after → (root : ℕ) → has_ended_phase root before after ≡ false
+pub none_ended : (before after : List PhaserState) → KeepsEnds before after → (root : ℕ) → has_ended_phase root before after ≡ false
 none_ended before after kept root =
     ap (λ (n : ℕ). not (n == (phaser_at before root).ends)) (kept root) ∙ ap not (same-is (phaser_at before root).ends)
 
@@ -83,7 +83,7 @@ trees_registered row thread id count phasers quiet =
     (λ n. ap (λ (s : Standing). s.ended) (registration-standings id count phasers n))
     (registration_rests (registration id count phasers) (joins id count phasers) phasers)
 
-follow_keeps : (phase : ℕ) (ends : Bool) (f : Flat) → ((follow phase ends f).ended ≡ ends) × ((follow phase ends f).parties ≡ f.parties)
+pub follow_keeps : (phase : ℕ) (ends : Bool) (f : Flat) → ((follow phase ends f).ended ≡ ends) × ((follow phase ends f).parties ≡ f.parties)
 follow_keeps phase true f = (refl, refl)
 follow_keeps phase false f = (refl, refl)
 
@@ -135,7 +135,7 @@ root_ended root ends before mid kept within =
     let was = kept root in
     ap not (other-is (phaser_at (after_phase_end root ends mid) root).ends (phaser_at before root).ends (λ same. omega (arith, up, was, same)))
 
-others_ended : (root : ℕ) (ends : Bool) (before mid : List PhaserState) → KeepsEnds before mid → (r : ℕ) → r ≢ root
+pub others_ended : (root : ℕ) (ends : Bool) (before mid : List PhaserState) → KeepsEnds before mid → (r : ℕ) → r ≢ root
     → has_ended_phase r before (after_phase_end root ends mid) ≡ false
 others_ended root ends before mid kept r apart =
     let own = phaser_at mid root in

@@ -45,7 +45,7 @@ use Rattle.shared_phaser.specs.declared.history.Known.{Known}
 use Rattle.shared_phaser.specs.History.{IsLegal}
 use Rattle.shared_phaser.specs.Known.{Owns, making}
 use Rattle.headline.specs.Pasts.{RecordsOnePast}
-use Rattle.headline.specs.PhaseEnds.{EndsInTime, NumbersGoOn, RoutineEnds, TerminateAsSaid, row_of}
+use Rattle.headline.specs.PhaseEnds.{AreCounted, EndsInTime, NumbersGoOn, RoutineEnds, TerminateAsSaid, row_of}
 
 -- accepted: each list of the program is within its limits, and no check of the loader finds a fault in it
 abbrev pub Accepted : Image → Type 0
@@ -76,13 +76,15 @@ PhasesEndInTime =
     → EndsInTime now choice (played now choice).world (counts_through (start image) choices (declared_origin image.phasers))
     × RoutineEnds now choice (played now choice).world
 
--- A choice terminates a phaser only by force, or as a phase of its tree ends and `onAdvance` answers so.
+-- A choice terminates a phaser only by force, or as a phase of its tree ends and `onAdvance` answers so; the parties that it is
+-- told of are those who are registered by the counts.
 abbrev pub TerminationsAreSaid : Type 0
 TerminationsAreSaid =
     (image : Image) → Accepted image → (choices : List Choice) (choice : Choice)
     → let now : World = (execution (start image) choices).world in
     refusal_of now choice ≡ None
     → TerminateAsSaid (row_of now choice) (thread_at now.scene choice.thread) now.scene.phasers (played now choice).world.scene.phasers
+    × AreCounted now choice (played now choice).world (counts_through (start image) choices (declared_origin image.phasers))
 
 -- Nor does any bring a phaser into the phase of another number where it ends no phase of the phaser's tree; where it does, the
 -- tree comes into the phase behind its root's.

@@ -1,5 +1,5 @@
 -- Why a phaser is terminated, and that a phase does end.
-use Rattle.std.specs.Prelude.{◌≡◌, ◌<◌, ◌==◌, ◌||◌, ◌⊎◌, if◌then◌else◌, ℕ, ℤ, pos, not, Bool, true, false, List, length, Option, Some, None}
+use Rattle.std.specs.Prelude.{◌≡◌, ◌<◌, ◌==◌, ◌||◌, ◌⊎◌, ◌↔◌, if◌then◌else◌, ℕ, ℤ, pos, not, Bool, true, false, List, length, Option, Some, None}
 use Rattle.std.specs.Ordering.{int_eq}
 use Rattle.instruction_table.specs.declared.row.Row.{Row}
 use Rattle.instruction_table.specs.declared.row.Row.TheVariants.{Ret, Parr, Pdereg, Paaa, Pforce}
@@ -105,3 +105,18 @@ RoutineEnds before choice after =
     (root : ℕ) → row_of before choice ≡ Some Ret → IsInRoutine root (thread_at before.scene choice.thread)
     → (flat_at before.scene.phasers root).ended ≡ false
     → has_ended_phase root before.scene.phasers after.scene.phasers ≡ true
+
+-- everybody who registered with this root's tree has left
+abbrev pub HaveAllLeft : Origin → ℕ → List PhaserState → Type 0
+HaveAllLeft counts root phasers =
+    (id : ℕ) → id < length phasers → root_at phasers id ≡ root → counts.registered id ≡ 0
+
+-- Where a choice ends a phase of a tree without strays, the root has no party left, which is what `onAdvance` is told, exactly
+-- where all who were declared or registered with the tree have left.
+abbrev pub AreCounted : World → Choice → World → Origin → Type 0
+AreCounted before choice after counts =
+    let trees = before.scene.phasers in
+    let at = counts_at_end before choice counts in
+    (root : ℕ) → root < length trees → root_at trees root ≡ root → has_ended_phase root trees after.scene.phasers ≡ true
+    → at.stray root ≡ false
+    → ((flat_at after.scene.phasers root).parties ≡ 0) ↔ HaveAllLeft at root trees
