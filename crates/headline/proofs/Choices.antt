@@ -4,6 +4,9 @@ use Rattle.std.specs.Prelude.{nat_le, Option, Some, None}
 use Rattle.std.proofs.lemmas.Bool.Decides.{nat_tests}
 use Rattle.instruction_table.specs.declared.row.Row.{Row}
 use Rattle.tier_tree.specs.Origin.{Origin}
+use Rattle.loader.specs.Program.{row_at}
+use Rattle.machine_scene.proofs.Outcomes.{stands_at}
+use Rattle.machine_scene.proofs.Plain.{StandsAt}
 use Rattle.machine_scene.specs.Scene.{Outcome, Scene, barrier_at, thread_at}
 use Rattle.thread_machine.specs.declared.choice.Choice.{Choice}
 use Rattle.thread_machine.specs.declared.fault.StepFault.TheVariants as fault
@@ -47,6 +50,16 @@ by_outcome : (outcome : Option Outcome) (row : Option Row) (t : ℕ) (world : Wo
     → ChoiceGoes row t world (played_by outcome world).world
 by_outcome (Some outcome) row t world goes = goes
 by_outcome None row t world goes = goes
+
+-- where the thread of an accepted choice stands
+pub stands_now : (world : World) (choice : Choice) (origin : Origin) → Goes world origin → refusal_of world choice ≡ None
+    → let thread = thread_at world.scene choice.thread in
+    StandsAt world.program world.steps choice.thread world.scene thread.status (row_at world.program.rows thread.pc)
+stands_now world choice origin goes accepted =
+    let most = goes.limit in
+    let done = goes.steps in
+    stands_at world.program world.steps choice.thread world.scene (thread_at world.scene choice.thread).status goes.sound (omega (arith, most, done))
+    (is_there world choice accepted) refl
 
 pub choice_goes : (world : World) (choice : Choice) (origin : Origin) → Goes world origin → refusal_of world choice ≡ None
     → ChoiceGoes (row_of world choice) choice.thread world (played world choice).world

@@ -2,7 +2,9 @@ pub mod Backs
 pub mod Resting
 pub mod TreeCalls
 pub mod BarrierCalls
+pub mod Left
 pub mod Turns
+pub mod LastArrivals
 pub mod Choices
 pub mod Pasts
 pub mod PhaseEnds

@@ -8,6 +8,8 @@ use Rattle.tier_tree.specs.Origin.{Origin}
 use Rattle.row_code.specs.declared.image.Image.{Image}
 use Rattle.loader.specs.Declarations.{declared_origin}
 use Rattle.loader.proofs.Images.{all_made}
+use Rattle.thread_state.specs.declared.frame.Frame.TheVariants as frame
+use Rattle.machine_scene.proofs.Facts.{top_named}
 use Rattle.thread_machine.specs.declared.choice.Choice.{Choice}
 use Rattle.thread_machine.specs.declared.fault.StepFault.{StepFault}
 use Rattle.thread_machine.specs.World.{World}
@@ -16,8 +18,9 @@ use Rattle.thread_machine.specs.Execution.{execution, execution_by}
 use Rattle.thread_machine.specs.DirectCounts.{counts_after, counts_through}
 use Rattle.thread_machine.proofs.SafeEnds.{Goes, goes_first, goes_keeps, goes_through, no_early_end_of}
 use Rattle.headline.specs.Headline.{Accepted, EndsNoPhaseEarly, NumbersChangeAtEnds, PhasesEndInTime, TerminationsAreSaid, start}
-use Rattle.headline.proofs.Choices.{choice_goes, goes_next}
-use Rattle.headline.proofs.Resting.{AreResting, all_done, nobody}
+use Rattle.headline.proofs.Choices.{choice_goes, goes_next, stands_now}
+use Rattle.headline.proofs.LastArrivals.{are_counted, last_ends, routine_ends}
+use Rattle.headline.proofs.Resting.{AreResting, nobody}
 
 pub no_early_end : EndsNoPhaseEarly
 no_early_end image (within, loads) = no_early_end_of image 1000000000 within loads (omega arith)
@@ -30,13 +33,19 @@ after_choices image (within, loads) choices =
 
 pub numbers_at_ends : NumbersChangeAtEnds
 numbers_at_ends image accepted choices choice plays =
-    (goes_keeps (execution (start image) choices).world choice (counts_through (start image) choices (declared_origin image.phasers))
-    (after_choices image accepted choices) plays).numbers
+    let counts = counts_through (start image) choices (declared_origin image.phasers) in
+    let goes = after_choices image accepted choices in (
+      (goes_keeps (execution (start image) choices).world choice counts goes plays).numbers,
+      (choice_goes (execution (start image) choices).world choice counts goes plays).1.numbers,
+    )
 
 pub terminations_said : TerminationsAreSaid
 terminations_said image accepted choices choice plays =
-    (choice_goes (execution (start image) choices).world choice (counts_through (start image) choices (declared_origin image.phasers))
-    (after_choices image accepted choices) plays).1.said
+    let now = (execution (start image) choices).world in
+    let counts = counts_through (start image) choices (declared_origin image.phasers) in
+    let goes = after_choices image accepted choices in
+    let said = (choice_goes now choice counts goes plays).1.said in
+    (said, are_counted now choice counts now.steps (stands_now now choice counts goes plays) goes.stands said)
 
 -- before the first choice nobody has arrived
 fresh_rests : (phasers : List PhaserState) → AreAllFresh phasers → AreResting nobody phasers
@@ -65,9 +74,13 @@ resting (choice ∷ choices) world origin goes rest =
     (goes_next world choice origin goes accepted) ((choice_goes world choice origin goes accepted).1.rests rest))
 
 pub ends_in_time : PhasesEndInTime
-ends_in_time image (within, loads) choices root there top live clean all =
-    let counts = counts_through (start image) choices (declared_origin image.phasers) in
+ends_in_time image (within, loads) choices choice plays =
+    let now = (execution (start image) choices).world in
     let goes = after_choices image (within, loads) choices in
-    all_done (execution (start image) choices).world.scene.phasers counts root goes.sound.trees.forest goes.stands
-    (resting choices (start image) (declared_origin image.phasers) (goes_first image 1000000000 within loads (omega arith))
-    (fresh_rests (start image).scene.phasers (all_made image loads).fresh)) there top clean live all
+    let rest = resting choices (start image) (declared_origin image.phasers) (goes_first image 1000000000 within loads (omega arith))
+    (fresh_rests (start image).scene.phasers (all_made image loads).fresh) in
+    let stands = stands_now now choice (counts_through (start image) choices (declared_origin image.phasers)) goes plays in (
+      last_ends now choice (counts_through (start image) choices (declared_origin image.phasers)) now.steps stands goes.stands rest,
+      routine_ends now choice now.steps
+          (λ root registers back top. (top_named now.program now.steps now.scene choice.thread (frame.Advance root registers back) goes.sound stands.there top).1.0),
+    )

@@ -85,8 +85,8 @@ registration_rests registered.Held all phasers rest = rest
 registration_rests registered.TooMany all phasers rest = rest
 
 -- an arrival at one phaser
-abbrev Lands : Flat → Arrival → Type 0
-Lands f (Counts g) = IsPrompt g × (g.turned ≡ f.turned)
+abbrev pub Lands : Flat → Arrival → Type 0
+Lands f (Counts g) = IsPrompt g × (g.turned ≡ f.turned) × (g.arrived < g.parties)
 Lands f (Turns g) = IsPrompt g
 Lands f (ComesLate view) = Unit {0}
 Lands f IsUnregistered = Unit {0}
@@ -94,9 +94,11 @@ Lands f IsUnregistered = Unit {0}
 settled_lands : (all : Bool) (f g : Flat) → (g.arrived == g.parties) ≡ all → g.arrived ≤ g.parties → g.turned ≡ f.turned
     → Lands f (if all then Turns (record g { turned = true }) else Counts g)
 settled_lands true f g is few same = (few, λ live one all. refl)
-settled_lands false f g is few same = ((few, λ live one all. absurd (grind (arith, nat_tests, is, all))), same)
+settled_lands false f g is few same =
+    let less : g.arrived < g.parties = grind (arith, nat_tests, is, few) in
+    ((few, λ live one all. absurd (omega (arith, less, all))), same, less)
 
-arrive_lands : (ended none leave : Bool) (f : Flat) (view : _) → (f.arrived == f.parties) ≡ none → IsPrompt f
+pub arrive_lands : (ended none leave : Bool) (f : Flat) (view : _) → (f.arrived == f.parties) ≡ none → IsPrompt f
     → Lands f (if ended then ComesLate view else (if none then IsUnregistered
     else (if leave then settled (record f { parties = f.parties - 1 }) else settled (record f { arrived = f.arrived + 1 }))))
 arrive_lands true none leave f view is prompt = tt
@@ -249,7 +251,7 @@ change_rests root ends before after change top rest q =
     ]
 
 -- where everybody who registered with a tree has arrived, each phaser has all its parties
-no_children : (test : Flat → Bool) (parent : ℕ) (phasers : List PhaserState)
+pub no_children : (test : Flat → Bool) (parent : ℕ) (phasers : List PhaserState)
     → ((k : ℕ) → k < length phasers → is_under parent (phaser_at phasers k).line ≡ true → test (flat_at phasers k) ≡ false)
     → children test parent phasers ≡ 0
 no_children test parent [] none = refl
@@ -278,7 +280,7 @@ not_awaited f false false e t (few, rest) live none =
     by_parties false true parties live t e = absurd (cc t)
     by_parties false false parties live t e = grind (arith, nat_tests, e)
 
-all_come : (n : ℕ) (phasers : List PhaserState) (origin : Origin) (root : ℕ) → IsForest phasers → AreTallied phasers origin
+pub all_come : (n : ℕ) (phasers : List PhaserState) (origin : Origin) (root : ℕ) → IsForest phasers → AreTallied phasers origin
     → AreResting nobody phasers → origin.stray root ≡ false → (flat_at phasers root).ended ≡ false → HaveAllArrived origin root phasers
     → (id : ℕ) → length phasers ≤ id + n → id < length phasers → root_at phasers id ≡ root → unarrived_of (flat_at phasers id) ≡ 0
 all_come zero phasers origin root forest stands rest clean live all id most there tree = absurd (omega (arith, most, there))

@@ -1,10 +1,11 @@
 -- What each call of the trees makes of them in a turn.
 use Rattle.std.proofs.Common.{inl, inr, ◌≡◌, ◌≢◌, ◌∙◌, ℕ, ℤ, zero, suc, ◌+◌, ◌<◌, ◌==◌, Bool, true, false, List, [], ◌∷◌, length, map, ap, refl, sym, subst, arith, if◌then◌else◌}
-use Rattle.std.specs.Prelude.{◌⊎◌, not, Option, Some, None}
+use Rattle.std.specs.Prelude.{◌⊎◌, ◌||◌, not, Option, Some, None}
 use Rattle.std.proofs.lemmas.Bool.{cases_eq}
 use Rattle.std.proofs.lemmas.List.{length-map, get_or-set_same, get_or-set_other}
 use Rattle.instruction_table.specs.declared.row.Row.{Row}
 use Rattle.instruction_table.specs.declared.row.Row.TheVariants.{Pforce}
+use Rattle.phase_number.specs.Phase.{next_phase}
 use Rattle.packed_phaser.specs.declared.policy.Policy.{Policy}
 use Rattle.packed_phaser.specs.declared.policy.Policy.TheVariants as policy
 use Rattle.packed_phaser.specs.Flat.{Flat, advance}
@@ -18,6 +19,7 @@ use Rattle.tier_tree.specs.Registration.{registration, joins, after_registration
 use Rattle.tier_tree.specs.Arrival.{arrival}
 use Rattle.tier_tree.specs.PhaseEnd.{follow, in_step, after_phase_end, after_force}
 use Rattle.tier_tree.specs.Sound.{IsForest}
+use Rattle.tier_tree.specs.Origin.{IsSteady}
 use Rattle.tier_tree.specs.Trees.{AreTrees}
 use Rattle.tier_tree.proofs.Kept.{registration-ends, arrival-ends, force-ends}
 use Rattle.tier_tree.proofs.Stands.{same-is, other-is}
@@ -26,41 +28,64 @@ use Rattle.tier_tree.proofs.Turned.{turn_change, force_change, root-root}
 use Rattle.thread_state.specs.Thread.{ThreadState}
 use Rattle.machine_scene.specs.PhaserRows.{is_routine_policy}
 use Rattle.machine_scene.proofs.Routines.{turning_root}
-use Rattle.machine_scene.proofs.Standings.{Standing, registration-standings, arrival-standings}
+use Rattle.machine_scene.proofs.Standings.{Standing, standing_of, registration-standings, arrival-standings}
 use Rattle.thread_machine.specs.DirectCounts.{has_ended_phase}
-use Rattle.headline.specs.PhaseEnds.{is_force, is_yes, on_advance, TerminateAsSaid}
+use Rattle.headline.specs.PhaseEnds.{answer_at, is_force, on_advance, NumbersGoOn, TerminateAsSaid}
 use Rattle.headline.proofs.Resting.{AreResting, nobody, may_wait, Pending, registration_rests, arrival_rests, change_rests, routine_waits, weaker_at}
+
+-- a row that terminates no tree by force
+abbrev pub IsQuiet : Option Row → Type 0
+IsQuiet (Some (Pforce p)) = ⊥
+IsQuiet _ = Unit {0}
+
+no_force : (row : Option Row) → IsQuiet row → (root : ℕ) (phasers : List PhaserState) → is_force row root phasers ≡ false
+no_force (Some (Pforce p)) quiet root phasers = absurd quiet
+no_force _ quiet root phasers = refl
+
+or_no : (a b : Bool) → b ≡ false → (a || b) ≡ a
+or_no true b is = refl
+or_no false b is = is
+
+or_yes : (a b : Bool) → b ≡ true → (a || b) ≡ true
+or_yes true b is = refl
+or_yes false b is = is
 
 -- what a turn at this row may make of the trees
 pub record TreesGo (row : Option Row) (thread : ThreadState) (before after : List PhaserState) : Type 0 where
   pub said : TerminateAsSaid row thread before after
+  pub numbers : NumbersGoOn before after
   pub rests : AreResting nobody before → AreResting nobody after
 
-none_ended : (before after : List PhaserState) → KeepsEnds before after → (root : ℕ) → has_ended_phase root before after ≡ false
+pub none_ended : (before after : List PhaserState) → KeepsEnds before after → (root : ℕ) → has_ended_phase root before after ≡ false
 none_ended before after kept root =
     ap (λ (n : ℕ). not (n == (phaser_at before root).ends)) (kept root) ∙ ap not (same-is (phaser_at before root).ends)
 
 -- no phase ends, and no tree is terminated
-kept_on : (row : Option Row) (thread : ThreadState) (before after : List PhaserState) → KeepsEnds before after
+kept_on : (row : Option Row) (thread : ThreadState) (before after : List PhaserState) → IsQuiet row → KeepsEnds before after
     → ((id : ℕ) → (flat_at after id).ended ≡ (flat_at before id).ended) → (AreResting nobody before → AreResting nobody after)
     → TreesGo row thread before after
-kept_on row thread before after kept same rests = record {
+kept_on row thread before after quiet kept same rests = record {
   said = λ id there. (
     λ ended. (let none = none_ended before after kept (root_at before id) in absurd (cc (none, ended))),
-    λ none is. inl (sym (same id) ∙ is),
+    λ none. same id ∙ sym (or_no (flat_at before id).ended _ (no_force row quiet (root_at before id) before)),
   );
+  numbers = λ id there ended. (let none = none_ended before after kept (root_at before id) in absurd (cc (none, ended)));
   rests = rests;
 }
 
-pub trees_stay : (row : Option Row) (thread : ThreadState) (phasers : List PhaserState) → TreesGo row thread phasers phasers
-trees_stay row thread phasers = kept_on row thread phasers phasers (λ id. refl) (λ id. refl) (λ rest. rest)
+pub trees_stay : (row : Option Row) (thread : ThreadState) (phasers : List PhaserState) → IsQuiet row → TreesGo row thread phasers phasers
+trees_stay row thread phasers quiet = kept_on row thread phasers phasers quiet (λ id. refl) (λ id. refl) (λ rest. rest)
 
-pub trees_registered : (row : Option Row) (thread : ThreadState) (id count : ℕ) (phasers : List PhaserState)
+pub trees_registered : (row : Option Row) (thread : ThreadState) (id count : ℕ) (phasers : List PhaserState) → IsQuiet row
     → TreesGo row thread phasers (after_registration id count phasers)
-trees_registered row thread id count phasers =
-    kept_on row thread phasers (after_registration id count phasers) (registration-ends id count phasers)
+trees_registered row thread id count phasers quiet =
+    kept_on row thread phasers (after_registration id count phasers) quiet (registration-ends id count phasers)
     (λ n. ap (λ (s : Standing). s.ended) (registration-standings id count phasers n))
     (registration_rests (registration id count phasers) (joins id count phasers) phasers)
+
+pub follow_keeps : (phase : ℕ) (ends : Bool) (f : Flat) → ((follow phase ends f).ended ≡ ends) × ((follow phase ends f).parties ≡ f.parties)
+follow_keeps phase true f = (refl, refl)
+follow_keeps phase false f = (refl, refl)
 
 -- a termination by force
 pub trees_forced : (thread : ThreadState) (p : ℕ) (phasers : List PhaserState) → IsForest phasers → p < length phasers
@@ -73,11 +98,17 @@ trees_forced thread p phasers forest there_p =
     record {
       said = λ id there. (
         λ ended. (let none = none_ended phasers after (force-ends p phasers) (root_at phasers id) in absurd (cc (none, ended))),
-        λ none is. elim (cases_eq root (root_at phasers id)) as (λ _. ((flat_at phasers id).ended ≡ true) ⊎ (is_force (Some (Pforce p)) (root_at phasers id) phasers ≡ true)) [
-          | inl same ↦ inr (ap (λ n. root == n) (sym same) ∙ same-is root)
-          | inr apart ↦ inl (ap (λ (f : Flat). f.ended) (sym (change.apart id there (λ same. apart (sym same)))) ∙ is)
+        λ none. elim (cases_eq root (root_at phasers id)) as (λ _. (flat_at after id).ended ≡ ((flat_at phasers id).ended || is_force (Some (Pforce p)) (root_at phasers id) phasers)) [
+          | inl same ↦
+              let now = change.inside id there (sym same) in
+              ap (λ (f : Flat). f.ended) now.1 ∙ (follow_keeps now.0 true (flat_at phasers id)).0
+              ∙ sym (or_yes (flat_at phasers id).ended (root == root_at phasers id) (ap (λ n. root == n) (sym same) ∙ same-is root))
+          | inr apart ↦
+              ap (λ (f : Flat). f.ended) (change.apart id there (λ same. apart (sym same)))
+              ∙ sym (or_no (flat_at phasers id).ended (root == root_at phasers id) (other-is root (root_at phasers id) apart))
         ],
       );
+      numbers = λ id there ended. (let none = none_ended phasers after (force-ends p phasers) (root_at phasers id) in absurd (cc (none, ended)));
       rests = λ rest. change_rests root true phasers after change top (weaker_at root phasers rest);
     }
 
@@ -92,7 +123,7 @@ in_step-ends root phase ended [] n = refl
 in_step-ends root phase ended (x ∷ phasers) zero = if-ends (root_of x == root) x (follow phase ended x.flat)
 in_step-ends root phase ended (x ∷ phasers) (suc n) = in_step-ends root phase ended phasers n
 
-root_ended : (root : ℕ) (ends : Bool) (before mid : List PhaserState) → KeepsEnds before mid → root < length mid
+pub root_ended : (root : ℕ) (ends : Bool) (before mid : List PhaserState) → KeepsEnds before mid → root < length mid
     → has_ended_phase root before (after_phase_end root ends mid) ≡ true
 root_ended root ends before mid kept within =
     let own = phaser_at mid root in
@@ -104,7 +135,7 @@ root_ended root ends before mid kept within =
     let was = kept root in
     ap not (other-is (phaser_at (after_phase_end root ends mid) root).ends (phaser_at before root).ends (λ same. omega (arith, up, was, same)))
 
-others_ended : (root : ℕ) (ends : Bool) (before mid : List PhaserState) → KeepsEnds before mid → (r : ℕ) → r ≢ root
+pub others_ended : (root : ℕ) (ends : Bool) (before mid : List PhaserState) → KeepsEnds before mid → (r : ℕ) → r ≢ root
     → has_ended_phase r before (after_phase_end root ends mid) ≡ false
 others_ended root ends before mid kept r apart =
     let own = phaser_at mid root in
@@ -114,41 +145,86 @@ others_ended root ends before mid kept r apart =
     ∙ in_step-ends root flat.phase flat.ended mid r ∙ kept r in
     ap (λ (n : ℕ). not (n == (phaser_at before r).ends)) stays ∙ ap not (same-is (phaser_at before r).ends)
 
-follow_keeps : (phase : ℕ) (ends : Bool) (f : Flat) → ((follow phase ends f).ended ≡ ends) × ((follow phase ends f).parties ≡ f.parties)
-follow_keeps phase true f = (refl, refl)
-follow_keeps phase false f = (refl, refl)
+-- each phaser of the tree is then in the phase behind the root's
+if-phase : (here : Bool) (x : PhaserState) (phase : ℕ) (ended : Bool) → here ≡ true
+    → (if here then record x { flat = follow phase ended x.flat } else x).flat.phase ≡ phase
+if-phase true x phase true is = refl
+if-phase true x phase false is = refl
+if-phase false x phase ended is = absurd (cc is)
+
+in_step-phase : (root phase : ℕ) (ended : Bool) (phasers : List PhaserState) (n : ℕ) → n < length phasers → root_at phasers n ≡ root
+    → (flat_at (map (in_step root phase ended) phasers) n).phase ≡ phase
+in_step-phase root phase ended [] n there inside = absurd (omega (arith, there))
+in_step-phase root phase ended (x ∷ phasers) zero there inside =
+    if-phase (root_of x == root) x phase ended (ap (λ n. n == root) inside ∙ same-is root)
+in_step-phase root phase ended (x ∷ phasers) (suc n) there inside =
+    in_step-phase root phase ended phasers n (omega (arith, there)) inside
+
+next_number : (root : ℕ) (ends : Bool) (mid : List PhaserState) (id : ℕ) → id < length mid → root_at mid id ≡ root
+    → (flat_at (after_phase_end root ends mid) id).phase ≡ next_phase (flat_at mid root).phase
+next_number root ends mid id there inside =
+    let own = phaser_at mid root in
+    let flat = advance ends own.flat in
+    let new : PhaserState = record own { flat = flat; ends = own.ends + 1 } in
+    let moved = map (in_step root flat.phase flat.ended) mid in
+    let many = length-map mid (in_step root flat.phase flat.ended) in
+    elim (cases_eq id root) as (λ _. (flat_at (after_phase_end root ends mid) id).phase ≡ next_phase (flat_at mid root).phase) [
+      | inl is ↦
+          ap (λ n. (flat_at (after_phase_end root ends mid) n).phase) is
+          ∙ ap (λ (p : PhaserState). p.flat.phase) (get_or-set_same moved root new no_phaser (omega (arith, many, is, there)))
+      | inr apart ↦
+          ap (λ (p : PhaserState). p.flat.phase) (get_or-set_other moved root id new no_phaser apart)
+          ∙ in_step-phase root flat.phase flat.ended mid id there inside
+    ]
 
 -- a phase of this root ends
-pub trees_ended : (row : Option Row) (thread : ThreadState) (root : ℕ) (ends : Bool) (before mid : List PhaserState) → CanEnd root mid
-    → length mid ≡ length before → ((id : ℕ) → root_at mid id ≡ root_at before id) → KeepsEnds before mid
-    → ((id : ℕ) → (flat_at mid id).ended ≡ (flat_at before id).ended)
-    → ends ≡ on_advance row thread (phaser_at before root).policy (flat_at before root).phase (flat_at mid root).parties
+pub trees_ended : (row : Option Row) (thread : ThreadState) (root : ℕ) (ends : Bool) (before mid : List PhaserState) → IsQuiet row
+    → CanEnd root mid → length mid ≡ length before → ((id : ℕ) → root_at mid id ≡ root_at before id) → KeepsEnds before mid
+    → ((id : ℕ) → standing_of (flat_at mid id) ≡ standing_of (flat_at before id)) → ((id : ℕ) → id < length before → IsSteady id before)
+    → on_advance row thread root before (flat_at mid root).parties ≡ Some ends
     → (AreResting nobody before → AreResting (λ q. q ≡ root) mid) → TreesGo row thread before (after_phase_end root ends mid)
-trees_ended row thread root ends before mid can many roots kept same says rests =
+trees_ended row thread root ends before mid quiet can many roots kept stood steady says rests =
     let after = after_phase_end root ends mid in
     let change = turn_change root ends mid can.there can.top in
     let own = change.inside root can.there can.top in
+    let same : (id : ℕ) → (flat_at mid id).ended ≡ (flat_at before id).ended = λ id. ap (λ (s : Standing). s.ended) (stood id) in
     let left : (flat_at after root).parties ≡ (flat_at mid root).parties =
     ap (λ (f : Flat). f.parties) own.1 ∙ (follow_keeps own.0 ends (flat_at mid root)).1 in
     record {
       said = λ id there.
           let inside_mid : id < length mid = omega (arith, many, there) in
           elim (cases_eq (root_at before id) root) as (λ _. (has_ended_phase (root_at before id) before after ≡ true
-          → (flat_at after id).ended ≡ on_advance row thread (phaser_at before (root_at before id)).policy (flat_at before (root_at before id)).phase (flat_at after (root_at before id)).parties)
-          × (has_ended_phase (root_at before id) before after ≡ false → (flat_at after id).ended ≡ true → ((flat_at before id).ended ≡ true) ⊎ (is_force row (root_at before id) before ≡ true))) [
+          → ((flat_at before id).ended ≡ false)
+          × (on_advance row thread (root_at before id) before (flat_at after (root_at before id)).parties ≡ Some (flat_at after id).ended))
+          × (has_ended_phase (root_at before id) before after ≡ false
+          → (flat_at after id).ended ≡ ((flat_at before id).ended || is_force row (root_at before id) before))) [
             | inl inside ↦
                 let now = change.inside id inside_mid (roots id ∙ inside) in
                 let yes = root_ended root ends before mid kept can.there in (
-                  λ ended. ap (λ (f : Flat). f.ended) now.1 ∙ (follow_keeps now.0 ends (flat_at mid id)).0 ∙ says
-                      ∙ ap (λ n. on_advance row thread (phaser_at before root).policy (flat_at before root).phase n) (sym left)
-                      ∙ ap (λ r. on_advance row thread (phaser_at before r).policy (flat_at before r).phase (flat_at after r).parties) (sym inside),
+                  λ ended. (
+                    (steady id there).tree ∙ ap (λ r. (flat_at before r).ended) inside ∙ sym (same root) ∙ can.live,
+                    ap (λ r. on_advance row thread r before (flat_at after r).parties) inside
+                        ∙ ap (λ n. on_advance row thread root before n) left ∙ says
+                        ∙ ap (λ b. Some b) (sym (ap (λ (f : Flat). f.ended) now.1 ∙ (follow_keeps now.0 ends (flat_at mid id)).0)),
+                  ),
                   λ none. absurd (cc (yes, none, ap (λ r. has_ended_phase r before after) inside)),
                 )
             | inr outside ↦
                 let no = others_ended root ends before mid kept (root_at before id) outside in (
                   λ ended. absurd (cc (no, ended)),
-                  λ none is. inl (sym (same id) ∙ ap (λ (f : Flat). f.ended) (sym (change.apart id inside_mid (λ is_root. outside (sym (roots id) ∙ is_root)))) ∙ is),
+                  λ none. ap (λ (f : Flat). f.ended) (change.apart id inside_mid (λ is_root. outside (sym (roots id) ∙ is_root))) ∙ same id
+                      ∙ sym (or_no (flat_at before id).ended _ (no_force row quiet (root_at before id) before)),
                 )
+          ];
+      numbers = λ id there ended.
+          elim (cases_eq (root_at before id) root) as (λ _. (flat_at after id).phase ≡ next_phase (flat_at before (root_at before id)).phase) [
+            | inl inside ↦
+                next_number root ends mid id (omega (arith, many, there)) (roots id ∙ inside)
+                ∙ ap (λ (s : Standing). next_phase s.phase) (stood root)
+                ∙ ap (λ r. next_phase (flat_at before r).phase) (sym inside)
+            | inr outside ↦
+                let no = others_ended root ends before mid kept (root_at before id) outside in
+                absurd (cc (no, ended))
           ];
       rests = λ rest. change_rests root ends mid after change can.top (rests rest);
     }
@@ -168,10 +244,10 @@ rests_by steps id leave phasers answer trees there is rest =
 
 -- one that wasn't the last
 pub trees_counted : (row : Option Row) (thread : ThreadState) (steps id : ℕ) (leave : Bool) (phasers : List PhaserState) (answer : Arrived)
-    → AreTrees steps phasers → id < length phasers → (arrival id leave phasers).answer ≡ answer → ((q : ℕ) → Pending answer q → ⊥)
-    → TreesGo row thread phasers (arrived_at id leave phasers)
-trees_counted row thread steps id leave phasers answer trees there is none =
-    kept_on row thread phasers (arrived_at id leave phasers) (arrival-ends id leave phasers) (arrival_same id leave phasers)
+    → IsQuiet row → AreTrees steps phasers → id < length phasers → (arrival id leave phasers).answer ≡ answer
+    → ((q : ℕ) → Pending answer q → ⊥) → TreesGo row thread phasers (arrived_at id leave phasers)
+trees_counted row thread steps id leave phasers answer quiet trees there is none =
+    kept_on row thread phasers (arrived_at id leave phasers) quiet (arrival-ends id leave phasers) (arrival_same id leave phasers)
     (λ rest q. let new = rests_by steps id leave phasers answer trees there is rest q in (
       new.0,
       λ turned. elim (new.1 turned) as (λ _. nobody q ⊎ (may_wait (phaser_at (arrived_at id leave phasers) q) ≡ true)) [
@@ -180,7 +256,7 @@ trees_counted row thread steps id leave phasers answer trees there is none =
       ],
     ))
 
-no_answer : (own : Policy) (phase parties : ℕ) → ends own phase parties ≡ None → is_routine_policy own ≡ true
+pub no_answer : (own : Policy) (phase parties : ℕ) → ends own phase parties ≡ None → is_routine_policy own ≡ true
 no_answer policy.Routine phase parties is = refl
 no_answer policy.Default phase parties is = absurd (cc is)
 no_answer policy.Never phase parties is = absurd (cc is)
@@ -188,14 +264,14 @@ no_answer (policy.Until k) phase parties is = absurd (cc is)
 
 -- the last, where a routine is to answer
 pub trees_pending : (row : Option Row) (thread : ThreadState) (steps id : ℕ) (leave : Bool) (phasers : List PhaserState) (root : PhaserId)
-    (phase : ℤ) (parties : ℕ) → AreTrees steps phasers → id < length phasers
+    (phase : ℤ) (parties : ℕ) → IsQuiet row → AreTrees steps phasers → id < length phasers
     → (arrival id leave phasers).answer ≡ arrived.Turning root phase parties
     → let mid = arrived_at id leave phasers in
     ends (phaser_at mid root.0).policy (flat_at mid root.0).phase (flat_at mid root.0).parties ≡ None → TreesGo row thread phasers mid
-trees_pending row thread steps id leave phasers root phase parties trees there is none =
+trees_pending row thread steps id leave phasers root phase parties quiet trees there is none =
     let mid = arrived_at id leave phasers in
     let routine = no_answer (phaser_at mid root.0).policy (flat_at mid root.0).phase (flat_at mid root.0).parties none in
-    kept_on row thread phasers mid (arrival-ends id leave phasers) (arrival_same id leave phasers)
+    kept_on row thread phasers mid quiet (arrival-ends id leave phasers) (arrival_same id leave phasers)
     (λ rest q. let new = rests_by steps id leave phasers (arrived.Turning root phase parties) trees there is rest q in (
       new.0,
       λ turned. elim (new.1 turned) as (λ _. nobody q ⊎ (may_wait (phaser_at mid q) ≡ true)) [
@@ -204,26 +280,34 @@ trees_pending row thread steps id leave phasers root phase parties trees there i
       ],
     ))
 
--- a policy answers at this row, and no routine
-abbrev pub AsksPolicy : Option Row → ThreadState → Type 0
-AsksPolicy row thread =
-    (own : Policy) (phase parties : ℕ) → on_advance row thread own phase parties ≡ is_yes (ends own phase parties)
+-- at this row the policy of the tree of phaser p answers
+abbrev pub AsksPolicy : Option Row → ThreadState → ℕ → List PhaserState → Type 0
+AsksPolicy row thread p phasers =
+    (parties : ℕ) → on_advance row thread (root_at phasers p) phasers parties ≡ answer_at p (root_at phasers p) phasers parties
+
+asked : (p : ℕ) (phasers : List PhaserState) (parties : ℕ)
+    → answer_at p (root_at phasers p) phasers parties
+    ≡ ends (phaser_at phasers (root_at phasers p)).policy (flat_at phasers (root_at phasers p)).phase parties
+asked p phasers parties =
+    ap (λ b. if b then ends (phaser_at phasers (root_at phasers p)).policy (flat_at phasers (root_at phasers p)).phase parties else None)
+    (same-is (root_at phasers p))
 
 -- the last, where the policy answers
 pub trees_advanced : (row : Option Row) (thread : ThreadState) (steps id : ℕ) (leave : Bool) (phasers : List PhaserState) (root : PhaserId)
-    (phase : ℤ) (parties : ℕ) (over : Bool) → AsksPolicy row thread → AreTrees steps phasers → steps < 2147483647 → id < length phasers
-    → (arrival id leave phasers).answer ≡ arrived.Turning root phase parties
+    (phase : ℤ) (parties : ℕ) (over : Bool) → IsQuiet row → AsksPolicy row thread id phasers → AreTrees steps phasers
+    → steps < 2147483647 → id < length phasers → (arrival id leave phasers).answer ≡ arrived.Turning root phase parties
     → let mid = arrived_at id leave phasers in
     ends (phaser_at mid root.0).policy (flat_at mid root.0).phase (flat_at mid root.0).parties ≡ Some over
     → TreesGo row thread phasers (after_phase_end root.0 over mid)
-trees_advanced row thread steps id leave phasers root phase parties over asks trees few there is says =
+trees_advanced row thread steps id leave phasers root phase parties over quiet asks trees few there is says =
     let mid = arrived_at id leave phasers in
     let kept = trees_arrived steps id leave phasers trees there in
-    trees_ended row thread root.0 over phasers mid (turning_root steps id leave phasers root phase parties trees few there is).2 kept.many
-    kept.places.roots (arrival-ends id leave phasers) (arrival_same id leave phasers)
-    (ap is_yes (sym says)
-    ∙ ap (λ own. is_yes (ends own (flat_at mid root.0).phase (flat_at mid root.0).parties)) (policy_same phasers mid kept.places root.0)
-    ∙ ap (λ n. is_yes (ends (phaser_at phasers root.0).policy n (flat_at mid root.0).parties))
-    (ap (λ (s : Standing). s.phase) (arrival-standings id leave phasers root.0))
-    ∙ sym (asks (phaser_at phasers root.0).policy (flat_at phasers root.0).phase (flat_at mid root.0).parties))
+    let turns = turning_root steps id leave phasers root phase parties trees few there is in
+    let left = (flat_at mid root.0).parties in
+    trees_ended row thread root.0 over phasers mid quiet turns.2 kept.many
+    kept.places.roots (arrival-ends id leave phasers) (arrival-standings id leave phasers) trees.stands.1.steady
+    (ap (λ r. on_advance row thread r phasers left) turns.0 ∙ asks left ∙ asked id phasers left
+    ∙ ap (λ r. ends (phaser_at phasers r).policy (flat_at phasers r).phase left) (sym turns.0)
+    ∙ ap (λ n. ends (phaser_at phasers root.0).policy n left) (sym (ap (λ (s : Standing). s.phase) (arrival-standings id leave phasers root.0)))
+    ∙ ap (λ own. ends own (flat_at mid root.0).phase left) (sym (policy_same phasers mid kept.places root.0)) ∙ says)
     (rests_by steps id leave phasers (arrived.Turning root phase parties) trees there is)

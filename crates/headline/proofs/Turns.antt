@@ -1,5 +1,5 @@
 -- What a turn makes of the past of each barrier, and of the trees of phasers.
-use Rattle.std.proofs.Common.{◌≡◌, ◌≢◌, ◌∙◌, ℕ, ℤ, pos, zero, suc, ◌<◌, ◌&&◌, not, Bool, true, false, List, [], ◌∷◌, ap, refl, sym}
+use Rattle.std.proofs.Common.{◌≡◌, ◌≢◌, ◌∙◌, ℕ, ℤ, pos, zero, suc, ◌<◌, ◌&&◌, not, Bool, true, false, List, [], ◌∷◌, ap, refl, sym, if◌then◌else◌}
 use Rattle.std.specs.Ordering.{int_eq}
 use Rattle.std.specs.Prelude.{nat_abs, int_lt, is_some, length, Option, Some, None, slice_set, slice_index_or}
 use Rattle.instruction_table.specs.declared.row.Row.{Row}
@@ -21,6 +21,7 @@ use Rattle.cyclic_barrier.specs.declared.answer.WaitState.{WaitState}
 use Rattle.cyclic_barrier.specs.declared.answer.WaitState.TheVariants as state
 use Rattle.cyclic_barrier.specs.Waits.{wait_at}
 use Rattle.cyclic_barrier.specs.Barrier.{BarrierState, Entry, fresh, enter_timed}
+use Rattle.tier_tree.proofs.Stands.{same-is}
 use Rattle.loader.specs.Program.{Program, IsNamed, row_at}
 use Rattle.thread_state.specs.declared.frame.Frame.{Frame}
 use Rattle.thread_state.specs.declared.frame.Frame.TheVariants as frame
@@ -46,10 +47,10 @@ use Rattle.machine_scene.proofs.Plain.{either, StandsAt}
 use Rattle.machine_scene.proofs.BarrierRows.{seat}
 use Rattle.machine_scene.proofs.CallRows.{can_turn_on_top}
 use Rattle.machine_scene.proofs.Outcomes.{stands_at}
-use Rattle.headline.specs.PhaseEnds.{row_in}
+use Rattle.headline.specs.PhaseEnds.{answer_of_ret, row_in}
 use Rattle.headline.proofs.BarrierCalls.{GoesTo, nowhere, goes_entered, goes_ended, goes_left, goes_interrupted, goes_expired, goes_reset}
 use Rattle.headline.proofs.Resting.{weaker_at}
-use Rattle.headline.proofs.TreeCalls.{AsksPolicy, TreesGo, trees_stay, trees_registered, trees_forced, trees_counted, trees_pending, trees_advanced, trees_ended}
+use Rattle.headline.proofs.TreeCalls.{AsksPolicy, IsQuiet, TreesGo, trees_stay, trees_registered, trees_forced, trees_counted, trees_pending, trees_advanced, trees_ended}
 
 -- the scene that an outcome leaves; without one it stays
 abbrev pub scene_after : Option Outcome → Scene → Scene
@@ -68,9 +69,9 @@ aside : {row : Option Row} {thread : ThreadState} {after : List PhaserState} (sc
 aside scene goes = (λ b. nowhere (barrier_at scene b), goes)
 
 -- and so do the trees
-stay : {row : Option Row} {thread : ThreadState} (scene : Scene)
+stay : {row : Option Row} {thread : ThreadState} → IsQuiet row → (scene : Scene)
     → ((b : ℕ) → GoesTo (barrier_at scene b) (barrier_at scene b)) × TreesGo row thread scene.phasers scene.phasers
-stay {row = row} {thread = thread} scene = aside scene (trees_stay row thread scene.phasers)
+stay {row = row} {thread = thread} quiet scene = aside scene (trees_stay row thread scene.phasers quiet)
 
 put : (barriers : List BarrierState) (b : ℕ) (gate : BarrierState) → GoesTo (slice_index_or barriers b (fresh 1 false)) gate → (c : ℕ)
     → GoesTo (slice_index_or barriers c (fresh 1 false)) (slice_index_or (slice_set barriers b gate) c (fresh 1 false))
@@ -80,16 +81,16 @@ put (x ∷ barriers) zero gate goes (suc c) = nowhere (slice_index_or barriers c
 put (x ∷ barriers) (suc b) gate goes zero = nowhere x
 put (x ∷ barriers) (suc b) gate goes (suc c) = put barriers b gate goes c
 
-at_gate : {row : Option Row} {thread : ThreadState} (b : ℕ) (scene : Scene) (gate : BarrierState) → GoesTo (barrier_at scene b) gate
+at_gate : {row : Option Row} {thread : ThreadState} → IsQuiet row → (b : ℕ) (scene : Scene) (gate : BarrierState) → GoesTo (barrier_at scene b) gate
     → ((c : ℕ) → GoesTo (barrier_at scene c) (barrier_at (with_barrier gate b scene) c)) × TreesGo row thread scene.phasers scene.phasers
-at_gate {row = row} {thread = thread} b scene gate goes =
-    (λ c. put scene.barriers b gate goes c, trees_stay row thread scene.phasers)
+at_gate {row = row} {thread = thread} quiet b scene gate goes =
+    (λ c. put scene.barriers b gate goes c, trees_stay row thread scene.phasers quiet)
 
 -- rows
 
-own_row : (row : Row) (t : ℕ) (scene : Scene) → GoIf (Some row) t scene (outcome_of_own_row row t scene)
-own_row Halt t scene = stay scene
-own_row _ t scene = stay scene
+own_row : (row : Row) (t : ℕ) (scene : Scene) → IsQuiet (Some row) → GoIf (Some row) t scene (outcome_of_own_row row t scene)
+own_row Halt t scene quiet = stay quiet scene
+own_row _ t scene quiet = stay quiet scene
 
 -- `ret` out of a routine: the phase ends, or the tree was terminated meanwhile
 routine_end : (ended : Bool) (program : Program) (steps t root back : ℕ) (registers : List ℤ) (manner : Manner) (scene : Scene)
@@ -97,184 +98,187 @@ routine_end : (ended : Bool) (program : Program) (steps t root back : ℕ) (regi
     → top_of (thread_at scene t).stack ≡ Some (frame.Advance root registers back)
     → GoIf (Some Ret) t scene
     (Some (outcome_of_routine_end ended manner root (not (int_eq (value_in (thread_at scene t).registers R0) (pos 0))) t (with_thread left t scene)))
-routine_end true program steps t root back registers manner scene left is stands top = stay scene
+routine_end true program steps t root back registers manner scene left is stands top = stay tt scene
 routine_end false program steps t root back registers manner scene left is stands top =
-    aside scene (trees_ended (Some Ret) (thread_at scene t) root _ scene.phasers scene.phasers
+    let thread = thread_at scene t in
+    let says : Option Bool = Some (not (int_eq (value_in thread.registers R0) (pos 0))) in
+    aside scene (trees_ended (Some Ret) thread root _ scene.phasers scene.phasers tt
     (can_turn_on_top program steps t root back registers scene stands.sound stands.few stands.there top is) refl (λ id. refl) (λ id. refl)
-    (λ id. refl) refl (weaker_at root scene.phasers))
+    (λ id. refl) stands.sound.trees.stands.1.steady
+    (ap (λ top. answer_of_ret top root thread) top ∙ ap (λ b. if b then says else None) (same-is root)) (weaker_at root scene.phasers))
 
 ret : (top : Option Frame) (program : Program) (steps t : ℕ) (scene : Scene) → StandsAt program steps t scene status.Runs Ret
     → top_of (thread_at scene t).stack ≡ top → GoIf (Some Ret) t scene (Some (outcome_of_ret top t program scene))
 ret (Some (frame.Advance root registers back)) program steps t scene stands is =
     routine_end (flat_at scene.phasers root).ended program steps t root back registers _ scene _ refl stands is
-ret (Some (frame.Action b registers back)) program steps t scene stands is = at_gate b scene _ (goes_ended true (barrier_at scene b))
-ret _ program steps t scene stands is = stay scene
+ret (Some (frame.Action b registers back)) program steps t scene stands is = at_gate tt b scene _ (goes_ended true (barrier_at scene b))
+ret _ program steps t scene stands is = stay tt scene
 
-call_row : (row : Row) (program : Program) (steps t : ℕ) (scene : Scene) → StandsAt program steps t scene status.Runs row
-    → GoIf (Some row) t scene (outcome_of_call_row row t program scene)
-call_row Ret program steps t scene stands = ret (top_of (thread_at scene t).stack) program steps t scene stands refl
-call_row _ program steps t scene stands = stay scene
+call_row : (row : Row) (program : Program) (steps t : ℕ) (scene : Scene) → IsQuiet (Some row)
+    → StandsAt program steps t scene status.Runs row → GoIf (Some row) t scene (outcome_of_call_row row t program scene)
+call_row Ret program steps t scene quiet stands = ret (top_of (thread_at scene t).stack) program steps t scene stands refl
+call_row _ program steps t scene quiet stands = stay quiet scene
 
-data_row : (row : Row) (t : ℕ) (scene : Scene) → GoIf (Some row) t scene (outcome_of_data_row row t scene)
-data_row (Out value) t scene = stay scene
-data_row _ t scene = stay scene
+data_row : (row : Row) (t : ℕ) (scene : Scene) → IsQuiet (Some row) → GoIf (Some row) t scene (outcome_of_data_row row t scene)
+data_row (Out value) t scene quiet = stay quiet scene
+data_row _ t scene quiet = stay quiet scene
 
-getter_row : (row : Row) (t : ℕ) (scene : Scene) → GoIf (Some row) t scene (outcome_of_getter_row row t scene)
-getter_row (Pphase into p) t scene = stay scene
-getter_row _ t scene = stay scene
+getter_row : (row : Row) (t : ℕ) (scene : Scene) → IsQuiet (Some row) → GoIf (Some row) t scene (outcome_of_getter_row row t scene)
+getter_row (Pphase into p) t scene quiet = stay quiet scene
+getter_row _ t scene quiet = stay quiet scene
 
 -- rows at phasers
 
 in_registered : (row : Row) (answer : Registered) (into : Reg) (t : ℕ) (scene : Scene) (phasers : List PhaserState)
-    → TreesGo (Some row) (thread_at scene t) scene.phasers phasers
+    → IsQuiet (Some row) → TreesGo (Some row) (thread_at scene t) scene.phasers phasers
     → GoIf (Some row) t scene (outcome_of_registered answer into t (with_phasers phasers scene))
-in_registered row (registered.At phase) into t scene phasers goes = aside scene goes
-in_registered row (registered.Dead view) into t scene phasers goes = aside scene goes
-in_registered row registered.TooMany into t scene phasers goes = aside scene goes
-in_registered row registered.Held into t scene phasers goes = stay scene
+in_registered row (registered.At phase) into t scene phasers quiet goes = aside scene goes
+in_registered row (registered.Dead view) into t scene phasers quiet goes = aside scene goes
+in_registered row registered.TooMany into t scene phasers quiet goes = aside scene goes
+in_registered row registered.Held into t scene phasers quiet goes = stay quiet scene
 
-in_registration : (row : Row) (into : Reg) (p count t : ℕ) (scene : Scene)
+in_registration : (row : Row) (into : Reg) (p count t : ℕ) (scene : Scene) → IsQuiet (Some row)
     → GoIf (Some row) t scene (outcome_of_registration into p count t scene)
-in_registration row into p count t scene =
-    in_registered row (registration p count scene.phasers) into t scene (after_registration p count scene.phasers)
-    (trees_registered (Some row) (thread_at scene t) p count scene.phasers)
+in_registration row into p count t scene quiet =
+    in_registered row (registration p count scene.phasers) into t scene (after_registration p count scene.phasers) quiet
+    (trees_registered (Some row) (thread_at scene t) p count scene.phasers quiet)
 
 -- an arrival at phaser p by a thread that stands at this row
 in_turning : (answer : Option Bool) (row : Row) (program : Program) (steps t p : ℕ) (manner : Manner) (scene : Scene) (root : PhaserId)
-    (phase : ℤ) (parties : ℕ) → AsksPolicy (Some row) (thread_at scene t) → StandsAt program steps t scene status.Runs row
+    (phase : ℤ) (parties : ℕ) → IsQuiet (Some row) → AsksPolicy (Some row) (thread_at scene t) p scene.phasers → StandsAt program steps t scene status.Runs row
     → p < length scene.phasers → (arrival p manner.leaves scene.phasers).answer ≡ arrived.Turning root phase parties
     → let after = with_phasers (arrival p manner.leaves scene.phasers).phasers scene in
     answer_of_policy root.0 after ≡ answer → GoIf (Some row) t scene (Some (outcome_of_pending_end answer manner root.0 phase t program after))
-in_turning (Some over) row program steps t p manner scene root phase parties asks stands there is says =
-    aside scene (trees_advanced (Some row) (thread_at scene t) steps p manner.leaves scene.phasers root phase parties over asks
+in_turning (Some over) row program steps t p manner scene root phase parties quiet asks stands there is says =
+    aside scene (trees_advanced (Some row) (thread_at scene t) steps p manner.leaves scene.phasers root phase parties over quiet asks
     stands.sound.trees stands.few there is says)
-in_turning None row program steps t p manner scene root phase parties asks stands there is says =
-    aside scene (trees_pending (Some row) (thread_at scene t) steps p manner.leaves scene.phasers root phase parties stands.sound.trees
+in_turning None row program steps t p manner scene root phase parties quiet asks stands there is says =
+    aside scene (trees_pending (Some row) (thread_at scene t) steps p manner.leaves scene.phasers root phase parties quiet stands.sound.trees
     there is says)
 
 in_arrived : (answer : Arrived) (row : Row) (program : Program) (steps t p : ℕ) (manner : Manner) (scene : Scene)
-    → AsksPolicy (Some row) (thread_at scene t) → StandsAt program steps t scene status.Runs row → p < length scene.phasers
+    → IsQuiet (Some row) → AsksPolicy (Some row) (thread_at scene t) p scene.phasers → StandsAt program steps t scene status.Runs row → p < length scene.phasers
     → (arrival p manner.leaves scene.phasers).answer ≡ answer
     → GoIf (Some row) t scene
     (Some (outcome_of_arrived answer manner t program (with_phasers (arrival p manner.leaves scene.phasers).phasers scene)))
-in_arrived (arrived.Turning root phase parties) row program steps t p manner scene asks stands there is =
+in_arrived (arrived.Turning root phase parties) row program steps t p manner scene quiet asks stands there is =
     in_turning (answer_of_policy root.0 (with_phasers (arrival p manner.leaves scene.phasers).phasers scene)) row program steps t p manner
-    scene root phase parties asks stands there is refl
-in_arrived (arrived.At phase) row program steps t p manner scene asks stands there is =
-    aside scene (trees_counted (Some row) (thread_at scene t) steps p manner.leaves scene.phasers (arrived.At phase) stands.sound.trees there
+    scene root phase parties quiet asks stands there is refl
+in_arrived (arrived.At phase) row program steps t p manner scene quiet asks stands there is =
+    aside scene (trees_counted (Some row) (thread_at scene t) steps p manner.leaves scene.phasers (arrived.At phase) quiet stands.sound.trees there
     is (λ q no_one. no_one))
-in_arrived (arrived.Dead view) row program steps t p manner scene asks stands there is =
-    aside scene (trees_counted (Some row) (thread_at scene t) steps p manner.leaves scene.phasers (arrived.Dead view) stands.sound.trees
+in_arrived (arrived.Dead view) row program steps t p manner scene quiet asks stands there is =
+    aside scene (trees_counted (Some row) (thread_at scene t) steps p manner.leaves scene.phasers (arrived.Dead view) quiet stands.sound.trees
     there is (λ q no_one. no_one))
-in_arrived arrived.NotThere row program steps t p manner scene asks stands there is =
-    aside scene (trees_counted (Some row) (thread_at scene t) steps p manner.leaves scene.phasers arrived.NotThere stands.sound.trees there
+in_arrived arrived.NotThere row program steps t p manner scene quiet asks stands there is =
+    aside scene (trees_counted (Some row) (thread_at scene t) steps p manner.leaves scene.phasers arrived.NotThere quiet stands.sound.trees there
     is (λ q no_one. no_one))
 
-in_unless_own : (row : Row) (p t : ℕ) (scene : Scene) (outcome : Option Outcome) → GoIf (Some row) t scene outcome
+in_unless_own : (row : Row) (p t : ℕ) (scene : Scene) (outcome : Option Outcome) → IsQuiet (Some row) → GoIf (Some row) t scene outcome
     → GoIf (Some row) t scene (unless_own p t scene outcome)
-in_unless_own row p t scene outcome goes =
-    either (GoIf (Some row) t scene) (is_own_tree p (thread_at scene t) scene) {b = outcome} (stay scene) goes
+in_unless_own row p t scene outcome quiet goes =
+    either (GoIf (Some row) t scene) (is_own_tree p (thread_at scene t) scene) {b = outcome} (stay quiet scene) goes
 
 in_arrival : (row : Row) (program : Program) (steps t p : ℕ) (manner : Manner) (scene : Scene)
-    → AsksPolicy (Some row) (thread_at scene t) → StandsAt program steps t scene status.Runs row → p < length scene.phasers
+    → IsQuiet (Some row) → AsksPolicy (Some row) (thread_at scene t) p scene.phasers → StandsAt program steps t scene status.Runs row → p < length scene.phasers
     → GoIf (Some row) t scene (unless_own p t scene (Some (outcome_of_arrival manner p t program scene)))
-in_arrival row program steps t p manner scene asks stands there =
-    in_unless_own row p t scene (Some (outcome_of_arrival manner p t program scene))
+in_arrival row program steps t p manner scene quiet asks stands there =
+    in_unless_own row p t scene (Some (outcome_of_arrival manner p t program scene)) quiet
     (either (λ (outcome : Outcome). GoIf (Some row) t scene (Some outcome)) (has_routine p scene && is_full (thread_at scene t))
-    (stay scene)
-    (in_arrived (arrival p manner.leaves scene.phasers).answer row program steps t p manner scene asks stands there refl))
+    (stay quiet scene)
+    (in_arrived (arrival p manner.leaves scene.phasers).answer row program steps t p manner scene quiet asks stands there refl))
 
-in_bulk : (row : Row) (into : Reg) (p : ℕ) (count : ℤ) (t : ℕ) (scene : Scene)
+in_bulk : (row : Row) (into : Reg) (p : ℕ) (count : ℤ) (t : ℕ) (scene : Scene) → IsQuiet (Some row)
     → GoIf (Some row) t scene (outcome_of_bulk into p count t scene)
-in_bulk row into p count t scene =
-    either (GoIf (Some row) t scene) (int_lt count (pos 0)) {b = outcome_of_registration into p (nat_abs count) t scene} (stay scene)
-    (in_registration row into p (nat_abs count) t scene)
+in_bulk row into p count t scene quiet =
+    either (GoIf (Some row) t scene) (int_lt count (pos 0)) {b = outcome_of_registration into p (nat_abs count) t scene} (stay quiet scene)
+    (in_registration row into p (nat_abs count) t scene quiet)
 
 phaser_row : (row : Row) (program : Program) (steps t : ℕ) (scene : Scene) → StandsAt program steps t scene status.Runs row
     → GoIf (Some row) t scene (outcome_of_phaser_row row t program scene)
-phaser_row (Preg into p) program steps t scene stands = in_unless_own _ p t scene _ (in_registration _ into p 1 t scene)
+phaser_row (Preg into p) program steps t scene stands = in_unless_own _ p t scene _ tt (in_registration _ into p 1 t scene tt)
 phaser_row (Pbulk into p count) program steps t scene stands =
-    in_unless_own _ p t scene _ (in_bulk _ into p (value_in (thread_at scene t).registers count) t scene)
+    in_unless_own _ p t scene _ tt (in_bulk _ into p (value_in (thread_at scene t).registers count) t scene tt)
 phaser_row (Parr into p) program steps t scene stands =
-    in_arrival (Parr into p) program steps t p _ scene (λ own phase parties. refl) stands stands.named
+    in_arrival (Parr into p) program steps t p _ scene tt (λ parties. refl) stands stands.named
 phaser_row (Pdereg into p) program steps t scene stands =
-    in_arrival (Pdereg into p) program steps t p _ scene (λ own phase parties. refl) stands stands.named
+    in_arrival (Pdereg into p) program steps t p _ scene tt (λ parties. refl) stands stands.named
 phaser_row (Paaa into p) program steps t scene stands =
-    in_arrival (Paaa into p) program steps t p _ scene (λ own phase parties. refl) stands stands.named
-phaser_row (Pawait into p phase) program steps t scene stands = in_unless_own _ p t scene (Some _) (stay scene)
-phaser_row (Pawaiti into p phase) program steps t scene stands = in_unless_own _ p t scene (Some _) (stay scene)
-phaser_row (Pawaitt into p phase time) program steps t scene stands = in_unless_own _ p t scene (Some _) (stay scene)
+    in_arrival (Paaa into p) program steps t p _ scene tt (λ parties. refl) stands stands.named
+phaser_row (Pawait into p phase) program steps t scene stands = in_unless_own _ p t scene (Some _) tt (stay tt scene)
+phaser_row (Pawaiti into p phase) program steps t scene stands = in_unless_own _ p t scene (Some _) tt (stay tt scene)
+phaser_row (Pawaitt into p phase time) program steps t scene stands = in_unless_own _ p t scene (Some _) tt (stay tt scene)
 phaser_row (Pforce p) program steps t scene stands =
     aside scene (trees_forced (thread_at scene t) p scene.phasers stands.sound.trees.forest stands.named)
-phaser_row _ program steps t scene stands = stay scene
+phaser_row _ program steps t scene stands = stay tt scene
 
 -- rows at barriers
 
 in_entered : (row : Row) (answer : Entered) (into : Reg) (b t : ℕ) (program : Program) (scene : Scene) (gate : BarrierState)
-    → GoesTo (barrier_at scene b) gate
+    → IsQuiet (Some row) → GoesTo (barrier_at scene b) gate
     → GoIf (Some row) t scene (outcome_of_entered answer into b t program (with_barrier gate b scene))
-in_entered row (entered.Wait index) into b t program scene gate goes = at_gate b scene gate goes
-in_entered row entered.Busy into b t program scene gate goes = stay scene
-in_entered row _ into b t program scene gate goes = at_gate b scene gate goes
+in_entered row (entered.Wait index) into b t program scene gate quiet goes = at_gate quiet b scene gate goes
+in_entered row entered.Busy into b t program scene gate quiet goes = stay quiet scene
+in_entered row _ into b t program scene gate quiet goes = at_gate quiet b scene gate goes
 
 -- thread t has a seat at barrier b, and no wait there
 abbrev MayEnter : ℕ → ℕ → Scene → Type 0
 MayEnter b t scene = (t < length (barrier_at scene b).waits) × (wait_at (barrier_at scene b).waits t ≡ None)
 
-in_await : (row : Row) (no_wait : Bool) (into : Reg) (b t : ℕ) (program : Program) (scene : Scene) → MayEnter b t scene
+in_await : (row : Row) (no_wait : Bool) (into : Reg) (b t : ℕ) (program : Program) (scene : Scene) → IsQuiet (Some row) → MayEnter b t scene
     → GoIf (Some row) t scene (outcome_of_await_at no_wait into b t program scene)
-in_await row no_wait into b t program scene may =
+in_await row no_wait into b t program scene quiet may =
     let gate = barrier_at scene b in
     let all : Entry = enter_timed t (thread_at scene t).interrupted no_wait gate in
     either (GoIf (Some row) t scene) (gate.action && is_full (thread_at scene t))
-    {b = outcome_of_entered all.answer into b t program (with_barrier all.barrier b scene)} (stay scene)
-    (in_entered row all.answer into b t program scene all.barrier (goes_entered t (thread_at scene t).interrupted no_wait gate may.0 may.1))
+    {b = outcome_of_entered all.answer into b t program (with_barrier all.barrier b scene)} (stay quiet scene)
+    (in_entered row all.answer into b t program scene all.barrier quiet (goes_entered t (thread_at scene t).interrupted no_wait gate may.0 may.1))
 
-in_unless_busy : (row : Row) (b t : ℕ) (scene : Scene) (outcome : Option Outcome) → GoIf (Some row) t scene outcome
+in_unless_busy : (row : Row) (b t : ℕ) (scene : Scene) (outcome : Option Outcome) → IsQuiet (Some row) → GoIf (Some row) t scene outcome
     → GoIf (Some row) t scene (unless_busy b t scene outcome)
-in_unless_busy row b t scene outcome goes =
-    either (GoIf (Some row) t scene) (is_run_by_another t (barrier_at scene b).runner) {a = None} {b = outcome} (stay scene) goes
+in_unless_busy row b t scene outcome quiet goes =
+    either (GoIf (Some row) t scene) (is_run_by_another t (barrier_at scene b).runner) {a = None} {b = outcome} (stay quiet scene) goes
 
-in_unless_runner : (row : Row) (b t : ℕ) (scene : Scene) (outcome : Option Outcome) → GoIf (Some row) t scene outcome
+in_unless_runner : (row : Row) (b t : ℕ) (scene : Scene) (outcome : Option Outcome) → IsQuiet (Some row) → GoIf (Some row) t scene outcome
     → GoIf (Some row) t scene (unless_runner b t scene outcome)
-in_unless_runner row b t scene outcome goes =
-    either (GoIf (Some row) t scene) (is_run_by t (barrier_at scene b).runner) {b = outcome} (stay scene) goes
+in_unless_runner row b t scene outcome quiet goes =
+    either (GoIf (Some row) t scene) (is_run_by t (barrier_at scene b).runner) {b = outcome} (stay quiet scene) goes
 
 -- thread t may enter each barrier that is there
 abbrev MayEnterAny : ℕ → Scene → Type 0
 MayEnterAny t scene = (b : ℕ) → b < length scene.barriers → MayEnter b t scene
 
-barrier_row : (row : Row) (t : ℕ) (program : Program) (scene : Scene) → IsNamed (counts_of program scene) row → MayEnterAny t scene
+barrier_row : (row : Row) (t : ℕ) (program : Program) (scene : Scene) → IsQuiet (Some row) → IsNamed (counts_of program scene) row → MayEnterAny t scene
     → GoIf (Some row) t scene (outcome_of_barrier_row row t program scene)
-barrier_row (Cawait into b) t program scene named may =
-    in_unless_busy _ b t scene _ (in_unless_runner _ b t scene _ (in_await _ false into b t program scene (may b named)))
-barrier_row (Cawaitt into b time) t program scene named may =
-    in_unless_busy _ b t scene _ (in_unless_runner _ b t scene _ (in_await _ _ into b t program scene (may b named)))
-barrier_row (Creset b) t program scene named may =
-    in_unless_busy _ b t scene _ (in_unless_runner _ b t scene (Some _) (at_gate b scene _ (goes_reset (barrier_at scene b))))
-barrier_row (Cbroken into b) t program scene named may = in_unless_busy _ b t scene (Some _) (stay scene)
-barrier_row (Cwaiting into b) t program scene named may =
-    in_unless_busy _ b t scene _ (in_unless_runner _ b t scene (Some _) (stay scene))
-barrier_row _ t program scene named may = stay scene
+barrier_row (Cawait into b) t program scene quiet named may =
+    in_unless_busy _ b t scene _ quiet (in_unless_runner _ b t scene _ quiet (in_await _ false into b t program scene quiet (may b named)))
+barrier_row (Cawaitt into b time) t program scene quiet named may =
+    in_unless_busy _ b t scene _ quiet (in_unless_runner _ b t scene _ quiet (in_await _ _ into b t program scene quiet (may b named)))
+barrier_row (Creset b) t program scene quiet named may =
+    in_unless_busy _ b t scene _ quiet (in_unless_runner _ b t scene (Some _) quiet (at_gate quiet b scene _ (goes_reset (barrier_at scene b))))
+barrier_row (Cbroken into b) t program scene quiet named may = in_unless_busy _ b t scene (Some _) quiet (stay quiet scene)
+barrier_row (Cwaiting into b) t program scene quiet named may =
+    in_unless_busy _ b t scene _ quiet (in_unless_runner _ b t scene (Some _) quiet (stay quiet scene))
+barrier_row _ t program scene quiet named may = stay quiet scene
 
 -- turns of threads that don't run
 
 in_popped : (top : Option Frame) (code : ℤ) (t : ℕ) (scene : Scene) → GoIf None t scene (Some (outcome_of_popped top code t scene))
-in_popped (Some (frame.Action b registers back)) code t scene = at_gate b scene _ (goes_ended false (barrier_at scene b))
-in_popped _ code t scene = stay scene
+in_popped (Some (frame.Action b registers back)) code t scene = at_gate tt b scene _ (goes_ended false (barrier_at scene b))
+in_popped _ code t scene = stay tt scene
 
 in_awaited : (looks : Bool) (into : Reg) (p : ℕ) (phase : ℤ) (t : ℕ) (scene : Scene)
     → GoIf None t scene (outcome_of_awaited looks into p phase t scene)
 in_awaited looks into p phase t scene =
-    either (GoIf None t scene) (is_past p phase scene) (stay scene)
-    (either (GoIf None t scene) (looks && (thread_at scene t).interrupted) {b = None} (stay scene) (stay scene))
+    either (GoIf None t scene) (is_past p phase scene) (stay tt scene)
+    (either (GoIf None t scene) (looks && (thread_at scene t).interrupted) {b = None} (stay tt scene) (stay tt scene))
 
 in_phase_wait : (row : Row) (phase : ℤ) (t : ℕ) (scene : Scene) → GoIf None t scene (outcome_of_phase_wait row phase t scene)
 in_phase_wait (Paaa into p) phase t scene = in_awaited false into p phase t scene
 in_phase_wait (Pawait into p number) phase t scene = in_awaited false into p phase t scene
 in_phase_wait (Pawaiti into p number) phase t scene = in_awaited true into p phase t scene
 in_phase_wait (Pawaitt into p number time) phase t scene = in_awaited true into p phase t scene
-in_phase_wait _ phase t scene = stay scene
+in_phase_wait _ phase t scene = stay tt scene
 
 tripped_isnt : Some state.Tripped ≢ Some state.Waiting
 tripped_isnt is = cc is
@@ -285,13 +289,13 @@ broken_isnt is = cc is
 in_release : (wait : Option WaitState) (into : Reg) (index : ℤ) (b t : ℕ) (scene : Scene) → t < length (barrier_at scene b).waits
     → wait_at (barrier_at scene b).waits t ≡ wait → GoIf None t scene (outcome_of_release wait into index b t scene)
 in_release (Some state.Tripped) into index b t scene there is =
-    at_gate b scene _ (goes_left t (barrier_at scene b) there (λ waits. tripped_isnt (sym is ∙ waits)))
+    at_gate tt b scene _ (goes_left t (barrier_at scene b) there (λ waits. tripped_isnt (sym is ∙ waits)))
 in_release (Some state.Broken) into index b t scene there is =
-    at_gate b scene _ (goes_left t (barrier_at scene b) there (λ waits. broken_isnt (sym is ∙ waits)))
+    at_gate tt b scene _ (goes_left t (barrier_at scene b) there (λ waits. broken_isnt (sym is ∙ waits)))
 in_release (Some state.Waiting) into index b t scene there is =
     either (GoIf None t scene) ((thread_at scene t).interrupted && not (is_some (barrier_at scene b).runner)) {b = None}
-    (at_gate b scene _ (goes_interrupted t (barrier_at scene b) there)) (stay scene)
-in_release None into index b t scene there is = stay scene
+    (at_gate tt b scene _ (goes_interrupted t (barrier_at scene b) there)) (stay tt scene)
+in_release None into index b t scene there is = stay tt scene
 
 -- thread t has a seat at each barrier that is there
 abbrev HasSeats : ℕ → Scene → Type 0
@@ -303,28 +307,33 @@ in_barrier_wait (Cawait into b) index t program scene named seats =
     in_release (wait_at (barrier_at scene b).waits t) into index b t scene (seats b named) refl
 in_barrier_wait (Cawaitt into b time) index t program scene named seats =
     in_release (wait_at (barrier_at scene b).waits t) into index b t scene (seats b named) refl
-in_barrier_wait _ index t program scene named seats = stay scene
+in_barrier_wait _ index t program scene named seats = stay tt scene
 
 in_phase_timeout : (row : Row) (t : ℕ) (scene : Scene) → GoIf None t scene (outcome_of_phase_timeout row t scene)
-in_phase_timeout (Pawaitt into p number time) t scene = stay scene
-in_phase_timeout _ t scene = stay scene
+in_phase_timeout (Pawaitt into p number time) t scene = stay tt scene
+in_phase_timeout _ t scene = stay tt scene
 
 in_barrier_timeout : (row : Row) (t : ℕ) (program : Program) (scene : Scene) → IsNamed (counts_of program scene) row → HasSeats t scene
     → GoIf None t scene (outcome_of_barrier_timeout row t scene)
 in_barrier_timeout (Cawaitt into b time) t program scene named seats =
-    either (GoIf None t scene) (is_some (barrier_at scene b).runner) {a = None} (stay scene) (at_gate b scene _ (goes_expired t (barrier_at scene b) (seats b named)))
-in_barrier_timeout _ t program scene named seats = stay scene
+    either (GoIf None t scene) (is_some (barrier_at scene b).runner) {a = None} (stay tt scene) (at_gate tt b scene _ (goes_expired t (barrier_at scene b) (seats b named)))
+in_barrier_timeout _ t program scene named seats = stay tt scene
 
 -- all of them
 
-in_group : (group : Group) (row : Row) (program : Program) (steps t : ℕ) (scene : Scene) → StandsAt program steps t scene status.Runs row
+-- `pforce` is a row at a phaser
+quiet_beside : (row : Row) → group_of row ≢ Phasers → IsQuiet (Some row)
+quiet_beside (Pforce p) other = absurd (other refl)
+quiet_beside _ other = tt
+
+in_group : (group : Group) (row : Row) (program : Program) (steps t : ℕ) (scene : Scene) → group_of row ≡ group → StandsAt program steps t scene status.Runs row
     → MayEnterAny t scene → GoIf (Some row) t scene (outcome_in_group group row t program scene)
-in_group Own row program steps t scene stands may = own_row row t scene
-in_group Calls row program steps t scene stands may = call_row row program steps t scene stands
-in_group Data row program steps t scene stands may = data_row row t scene
-in_group Phasers row program steps t scene stands may = phaser_row row program steps t scene stands
-in_group Getters row program steps t scene stands may = getter_row row t scene
-in_group Barriers row program steps t scene stands may = barrier_row row t program scene stands.named may
+in_group Own row program steps t scene is stands may = own_row row t scene (quiet_beside row (λ other. cc (is, other)))
+in_group Calls row program steps t scene is stands may = call_row row program steps t scene (quiet_beside row (λ other. cc (is, other))) stands
+in_group Data row program steps t scene is stands may = data_row row t scene (quiet_beside row (λ other. cc (is, other)))
+in_group Phasers row program steps t scene is stands may = phaser_row row program steps t scene stands
+in_group Getters row program steps t scene is stands may = getter_row row t scene (quiet_beside row (λ other. cc (is, other)))
+in_group Barriers row program steps t scene is stands may = barrier_row row t program scene (quiet_beside row (λ other. cc (is, other))) stands.named may
 
 no_wait : (wait : Option WaitState) → is_some wait ≡ false → wait ≡ None
 no_wait None is = refl
@@ -342,19 +351,19 @@ may_enter program steps t scene row stands b here = (
 in_turn : (of : Status) (row : Row) (program : Program) (steps t : ℕ) (scene : Scene) → StandsAt program steps t scene of row
     → GoIf (row_in of row) t scene (outcome_in of row t program scene)
 in_turn status.Runs row program steps t scene stands =
-    in_group (group_of row) row program steps t scene stands (may_enter program steps t scene row stands)
+    in_group (group_of row) row program steps t scene refl stands (may_enter program steps t scene row stands)
 in_turn (status.Throws code) row program steps t scene stands = in_popped (top_of (thread_at scene t).stack) code t scene
 in_turn (status.AwaitsPhase phase) row program steps t scene stands = in_phase_wait row phase t scene
 in_turn (status.AwaitsBarrier index) row program steps t scene stands =
     in_barrier_wait row index t program scene stands.named (λ b. seat program steps t b scene stands.sound stands.there)
-in_turn _ row program steps t scene stands = stay scene
+in_turn _ row program steps t scene stands = stay tt scene
 
 in_timeout : (of : Status) (row : Row) (program : Program) (steps t : ℕ) (scene : Scene) → StandsAt program steps t scene of row
     → GoIf None t scene (timeout_in of row t scene)
 in_timeout (status.AwaitsPhase phase) row program steps t scene stands = in_phase_timeout row t scene
 in_timeout (status.AwaitsBarrier index) row program steps t scene stands =
     in_barrier_timeout row t program scene stands.named (λ b. seat program steps t b scene stands.sound stands.there)
-in_timeout _ row program steps t scene stands = stay scene
+in_timeout _ row program steps t scene stands = stay tt scene
 
 pub turn_goes : (program : Program) (steps t : ℕ) (scene : Scene) → IsSound program steps scene → steps < 2147483647
     → t < length scene.threads
@@ -368,6 +377,6 @@ pub expiry_goes : (program : Program) (steps t : ℕ) (scene : Scene) → IsSoun
     → t < length scene.threads → GoIf None t scene (outcome_of_expiry t program scene)
 expiry_goes program steps t scene sound few there =
     let thread = thread_at scene t in
-    either (GoIf None t scene) (is_ready t program scene) {a = None} (stay scene)
+    either (GoIf None t scene) (is_ready t program scene) {a = None} (stay tt scene)
     (in_timeout thread.status (row_at program.rows thread.pc) program steps t scene
     (stands_at program steps t scene thread.status sound few there refl))

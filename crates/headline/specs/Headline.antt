@@ -22,10 +22,9 @@
 -- That its world is at each moment that of the choices played and not taken back, is a law of the debugger (debugger/src/law.rt).
 --
 -- Trusted are Rattle's checker and its two compilers, LLVM, the C library and the system below them.
-use Rattle.std.specs.Prelude.{◌≡◌, ◌<◌, ℕ, List, None, ◌++◌, length}
+use Rattle.std.specs.Prelude.{◌≡◌, ℕ, List, None, ◌++◌}
 use Rattle.row_code.specs.declared.image.Image.{Image}
 use Rattle.row_code.specs.Image.{IsImage}
-use Rattle.tier_tree.specs.Forest.{PhaserState, root_at}
 use Rattle.loader.specs.Declarations.{declared_origin}
 use Rattle.loader.specs.Fault.{first_fault}
 use Rattle.loader.specs.Program.{without_words}
@@ -46,7 +45,7 @@ use Rattle.shared_phaser.specs.declared.history.Known.{Known}
 use Rattle.shared_phaser.specs.History.{IsLegal}
 use Rattle.shared_phaser.specs.Known.{Owns, making}
 use Rattle.headline.specs.Pasts.{RecordsOnePast}
-use Rattle.headline.specs.PhaseEnds.{HasEndedInTime, TerminateAsSaid, row_of}
+use Rattle.headline.specs.PhaseEnds.{AreCounted, EndsInTime, NumbersGoOn, RoutineEnds, TerminateAsSaid, row_of}
 
 -- accepted: each list of the program is within its limits, and no check of the loader finds a fault in it
 abbrev pub Accepted : Image → Type 0
@@ -68,28 +67,34 @@ GivesTheRows image choices left =
 abbrev pub EndsNoPhaseEarly : Type 0
 EndsNoPhaseEarly = (image : Image) → Accepted image → NoPhaseEndsEarlyFrom (start image) (declared_origin image.phasers)
 
--- And once everybody who registered with a tree has arrived, its phase has ended, whatever is chosen.
+-- And each does end with the choice with which the last of its parties arrives or leaves, or at the `ret` of its routine.
 abbrev pub PhasesEndInTime : Type 0
 PhasesEndInTime =
-    (image : Image) → Accepted image → (choices : List Choice) (root : ℕ)
-    → let phasers : List PhaserState = (execution (start image) choices).world.scene.phasers in
-    root < length phasers → root_at phasers root ≡ root
-    → HasEndedInTime (counts_through (start image) choices (declared_origin image.phasers)) phasers root
+    (image : Image) → Accepted image → (choices : List Choice) (choice : Choice)
+    → let now : World = (execution (start image) choices).world in
+    refusal_of now choice ≡ None
+    → EndsInTime now choice (played now choice).world (counts_through (start image) choices (declared_origin image.phasers))
+    × RoutineEnds now choice (played now choice).world
 
--- A choice terminates a phaser only by force, or as a phase of its tree ends and `onAdvance` answers so.
+-- A choice terminates a phaser only by force, or as a phase of its tree ends and `onAdvance` answers so; the parties that it is
+-- told of are those who are registered by the counts.
 abbrev pub TerminationsAreSaid : Type 0
 TerminationsAreSaid =
     (image : Image) → Accepted image → (choices : List Choice) (choice : Choice)
     → let now : World = (execution (start image) choices).world in
     refusal_of now choice ≡ None
     → TerminateAsSaid (row_of now choice) (thread_at now.scene choice.thread) now.scene.phasers (played now choice).world.scene.phasers
+    × AreCounted now choice (played now choice).world (counts_through (start image) choices (declared_origin image.phasers))
 
--- Nor does any bring a phaser into the phase of another number where it ends no phase of the phaser's tree.
+-- Nor does any bring a phaser into the phase of another number where it ends no phase of the phaser's tree; where it does, the
+-- tree comes into the phase behind its root's.
 abbrev pub NumbersChangeAtEnds : Type 0
 NumbersChangeAtEnds =
     (image : Image) → Accepted image → (choices : List Choice) (choice : Choice)
     → let now : World = (execution (start image) choices).world in
-    refusal_of now choice ≡ None → NumbersStay now.scene.phasers (played now choice).world.scene.phasers
+    refusal_of now choice ≡ None
+    → NumbersStay now.scene.phasers (played now choice).world.scene.phasers
+    × NumbersGoOn now.scene.phasers (played now choice).world.scene.phasers
 
 -- 3. None of these choices is refused where they are played in this order, these are their events, and once as many steps are
 -- taken back all is as before, to the stored word.

@@ -1,22 +1,24 @@
 -- Why a phaser is terminated, and that a phase does end.
-use Rattle.std.specs.Prelude.{◌≡◌, ◌<◌, ◌==◌, ◌⊎◌, if◌then◌else◌, ℕ, pos, not, Bool, true, false, List, length, Option, Some, None}
+use Rattle.std.specs.Prelude.{◌≡◌, ◌<◌, ◌==◌, ◌||◌, ◌⊎◌, ◌↔◌, if◌then◌else◌, ℕ, ℤ, pos, not, Bool, true, false, List, length, Option, Some, None}
 use Rattle.std.specs.Ordering.{int_eq}
 use Rattle.instruction_table.specs.declared.row.Row.{Row}
-use Rattle.instruction_table.specs.declared.row.Row.TheVariants.{Ret, Pforce}
+use Rattle.instruction_table.specs.declared.row.Row.TheVariants.{Ret, Parr, Pdereg, Paaa, Pforce}
 use Rattle.instruction_table.specs.declared.register.Reg.TheVariants.{R0}
 use Rattle.instruction_table.specs.Registers.{value_in}
-use Rattle.packed_phaser.specs.declared.policy.Policy.{Policy}
+use Rattle.phase_number.specs.Phase.{next_phase}
 use Rattle.packed_phaser.specs.Policy.{ends}
 use Rattle.tier_tree.specs.Forest.{PhaserState, phaser_at, flat_at, root_at}
 use Rattle.tier_tree.specs.Origin.{Origin, HaveAllArrived}
 use Rattle.thread_state.specs.declared.status.Status.{Status}
 use Rattle.thread_state.specs.declared.status.Status.TheVariants as status
-use Rattle.thread_state.specs.Thread.{ThreadState}
+use Rattle.thread_state.specs.declared.frame.Frame.{Frame}
+use Rattle.thread_state.specs.declared.frame.Frame.TheVariants as frame
+use Rattle.thread_state.specs.Thread.{ThreadState, top_of}
 use Rattle.loader.specs.Program.{row_at}
 use Rattle.machine_scene.specs.PhaserRows.{is_routine_policy}
 use Rattle.machine_scene.specs.Scene.{thread_at}
 use Rattle.thread_machine.specs.declared.choice.Choice.{Choice}
-use Rattle.thread_machine.specs.DirectCounts.{has_ended_phase}
+use Rattle.thread_machine.specs.DirectCounts.{counts_at_end, has_ended_phase}
 use Rattle.thread_machine.specs.World.{World}
 
 -- the row that a thread plays: that of one that runs
@@ -35,33 +37,86 @@ abbrev pub is_force : Option Row → ℕ → List PhaserState → Bool
 is_force (Some (Pforce p)) root phasers = root_at phasers p == root
 is_force _ root phasers = false
 
--- a policy's answer; of a routine there is none before it returns
-abbrev pub is_yes : Option Bool → Bool
-is_yes (Some terminates) = terminates
-is_yes None = false
+-- What the root's policy answers to an arrival at phaser p that ends a phase of this root and leaves it so many parties. A
+-- routine's answer is none yet, and an arrival in another tree has none.
+abbrev pub answer_at : ℕ → ℕ → List PhaserState → (parties : ℕ) → Option Bool
+answer_at p root phasers parties =
+    if root_at phasers p == root then ends (phaser_at phasers root).policy (flat_at phasers root).phase parties else None
 
--- What `onAdvance` answers where this row ends a phase of this number that leaves so many parties: at `ret` it is the routine
--- that has, by any number but 0 in the thread's first register; at an arrival the root's policy does.
-abbrev pub on_advance : Option Row → ThreadState → Policy → (phase parties : ℕ) → Bool
-on_advance (Some Ret) thread policy phase parties = not (int_eq (value_in thread.registers R0) (pos 0))
-on_advance _ thread policy phase parties = is_yes (ends policy phase parties)
+-- What `ret` answers, by the top entry: out of this root's routine any number but 0 in the thread's first register is yes. The
+-- way back out of a call, an action or another root's routine answers nothing.
+abbrev pub answer_of_ret : Option Frame → ℕ → ThreadState → Option Bool
+answer_of_ret (Some (frame.Advance own registers row)) root thread =
+    if own == root then Some (not (int_eq (value_in thread.registers R0) (pos 0))) else None
+answer_of_ret _ root thread = None
 
--- Where a phase of its tree ends, a phaser is terminated exactly where `onAdvance` answers so; where none ends, only by force.
+-- What `onAdvance` answers where this row ends a phase of this root and leaves it so many parties. No other row is answered, nor
+-- is a turn or an expiry without a row: one that waits, throws or is popped.
+abbrev pub on_advance : Option Row → ThreadState → ℕ → List PhaserState → (parties : ℕ) → Option Bool
+on_advance (Some (Parr into p)) thread root phasers parties = answer_at p root phasers parties
+on_advance (Some (Pdereg into p)) thread root phasers parties = answer_at p root phasers parties
+on_advance (Some (Paaa into p)) thread root phasers parties = answer_at p root phasers parties
+on_advance (Some Ret) thread root phasers parties = answer_of_ret (top_of thread.stack) root thread
+on_advance _ thread root phasers parties = None
+
+-- A phase ends only in a tree that isn't terminated, and at a row that `onAdvance` answers: each phaser of the tree is then
+-- terminated exactly where it says yes. Where no phase of its tree ends, a phaser stays terminated, stays as it is, or is
+-- terminated by force, which always terminates.
 abbrev pub TerminateAsSaid : Option Row → ThreadState → List PhaserState → List PhaserState → Type 0
 TerminateAsSaid row thread before after =
     (id : ℕ) → id < length before
     → let root = root_at before id in
     (has_ended_phase root before after ≡ true
-    → (flat_at after id).ended
-    ≡ on_advance row thread (phaser_at before root).policy (flat_at before root).phase (flat_at after root).parties)
-    × (has_ended_phase root before after ≡ false → (flat_at after id).ended ≡ true
-    → ((flat_at before id).ended ≡ true) ⊎ (is_force row root before ≡ true))
+    → ((flat_at before id).ended ≡ false)
+    × (on_advance row thread root before (flat_at after root).parties ≡ Some (flat_at after id).ended))
+    × (has_ended_phase root before after ≡ false
+    → (flat_at after id).ended ≡ ((flat_at before id).ended || is_force row root before))
 
--- Once everybody who registered with the tree of this root has arrived, its phase has ended: else it is terminated, no party
--- is left at the root, or the routine of the tree is to answer first, as one that has thrown never does. Of a tree that has had
--- a stray nothing is said.
-abbrev pub HasEndedInTime : Origin → List PhaserState → ℕ → Type 0
-HasEndedInTime counts phasers root =
-    (flat_at phasers root).ended ≡ false → counts.stray root ≡ false → HaveAllArrived counts root phasers
-    → ((flat_at phasers root).parties ≡ 0)
-    ⊎ (((flat_at phasers root).turned ≡ true) × (is_routine_policy (phaser_at phasers root).policy ≡ true))
+-- Where a phase of its tree ends, a phaser comes into the phase behind that of its root, terminated or not.
+abbrev pub NumbersGoOn : List PhaserState → List PhaserState → Type 0
+NumbersGoOn before after =
+    (id : ℕ) → id < length before → has_ended_phase (root_at before id) before after ≡ true
+    → (flat_at after id).phase ≡ next_phase (flat_at before (root_at before id)).phase
+
+-- the top entry of the thread's stack is the routine of this root
+abbrev pub IsInRoutine : ℕ → ThreadState → Type 0
+IsInRoutine root thread = (registers : List ℤ) × ((row : ℕ) × (top_of thread.stack ≡ Some (frame.Advance root registers row)))
+
+-- by the counts before a choice and at it: somebody registered with this root's tree was still to arrive, and now nobody is
+abbrev pub HasLastArrived : (before at : Origin) → ℕ → List PhaserState → Type 0
+HasLastArrived before at root phasers =
+    ((id : ℕ) × ((id < length phasers) × ((root_at phasers id ≡ root) × (0 < before.unarrived id))))
+    × HaveAllArrived at root phasers
+
+-- A choice with which the last of those registered with a tree arrives or leaves ends a phase of the tree, or its thread now
+-- runs the tree's routine, to which that is left. Excluded are a tree that is terminated, and one that has had a stray.
+abbrev pub EndsInTime : World → Choice → World → Origin → Type 0
+EndsInTime before choice after counts =
+    let trees = before.scene.phasers in
+    let at = counts_at_end before choice counts in
+    (root : ℕ) → root < length trees → (flat_at trees root).ended ≡ false → at.stray root ≡ false
+    → HasLastArrived counts at root trees
+    → (has_ended_phase root trees after.scene.phasers ≡ true)
+    ⊎ ((is_routine_policy (phaser_at trees root).policy ≡ true) × IsInRoutine root (thread_at after.scene choice.thread))
+
+-- `ret` out of a routine ends a phase of its tree, unless that was terminated meanwhile.
+abbrev pub RoutineEnds : World → Choice → World → Type 0
+RoutineEnds before choice after =
+    (root : ℕ) → row_of before choice ≡ Some Ret → IsInRoutine root (thread_at before.scene choice.thread)
+    → (flat_at before.scene.phasers root).ended ≡ false
+    → has_ended_phase root before.scene.phasers after.scene.phasers ≡ true
+
+-- everybody who registered with this root's tree has left
+abbrev pub HaveAllLeft : Origin → ℕ → List PhaserState → Type 0
+HaveAllLeft counts root phasers =
+    (id : ℕ) → id < length phasers → root_at phasers id ≡ root → counts.registered id ≡ 0
+
+-- Where a choice ends a phase of a tree without strays, the root has no party left, which is what `onAdvance` is told, exactly
+-- where all who were declared or registered with the tree have left.
+abbrev pub AreCounted : World → Choice → World → Origin → Type 0
+AreCounted before choice after counts =
+    let trees = before.scene.phasers in
+    let at = counts_at_end before choice counts in
+    (root : ℕ) → root < length trees → root_at trees root ≡ root → has_ended_phase root trees after.scene.phasers ≡ true
+    → at.stray root ≡ false
+    → ((flat_at after.scene.phasers root).parties ≡ 0) ↔ HaveAllLeft at root trees
