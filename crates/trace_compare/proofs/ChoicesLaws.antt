@@ -30,15 +30,13 @@ whole choices = record { choices = choices; no_line = None }
 -- what a line names, by its parts
 state_by : (long state : Bool) (choice : Option Choice) → long ≡ false → state ≡ true
     → cond long names.Nothing (cond state names.State (named choice)) ≡ names.State
-state_by true state choice short is = let no : ⊥ = cc in absurd no
 state_by false true choice short is = refl
-state_by false false choice short is = let no : ⊥ = cc in absurd no
+state_by _ _ choice short is = let no : ⊥ = cc in absurd no
 
 choice_by : (long state : Bool) (named_is : Option Choice) (choice : Choice) → long ≡ false → state ≡ false → named_is ≡ Some choice
     → cond long names.Nothing (cond state names.State (named named_is)) ≡ names.Made choice
-choice_by true state named_is choice short isnt is = let no : ⊥ = cc in absurd no
-choice_by false true named_is choice short isnt is = let no : ⊥ = cc in absurd no
 choice_by false false named_is choice short isnt is = ap named is
+choice_by _ _ named_is choice short isnt is = let no : ⊥ = cc in absurd no
 
 -- the state line
 states-named : (world : World) (n : ℕ) → naming_from n (slice_split is_line_end (state_text world)) ≡ ended None
@@ -56,17 +54,12 @@ states-named world n =
 -- the line of a choice
 line-named : (choice : Choice) (text rest : List ℕ) (n : ℕ) → IsOwnLine choice text
     → naming_from n (slice_split is_line_end (text ++ rest)) ≡ behind_choices (choice ∷ []) (naming_from (n + 1) (slice_split is_line_end rest))
-line-named choice text rest n own =
-    ap (λ t. naming_from n (slice_split is_line_end (t ++ rest))) own.is
-    ∙ ap (naming_from n) (split-line own.line rest own.within)
-    ∙ ap (λ (l : LineNames). naming_by l n (naming_from (n + 1) (slice_split is_line_end rest)))
-    (choice_by _ _ (choice_in own.line) choice own.short own.no_state own.names)
+line-named choice text rest n own = grind (arith, split-line, choice_by)
 
 -- an execution of one choice, by whether it was refused
 one_by : (refusal : Option StepFault) (world : World) (choice : Choice)
     → (execution_by refusal world choice (λ after. execution after [])).refusal ≡ refusal
-one_by None world choice = refl
-one_by (Some fault) world choice = refl
+one_by refusal world choice = grind arith
 
 one-refusal : (world : World) (choice : Choice) → (execution world (choice ∷ [])).refusal ≡ refusal_of world choice
 one-refusal world choice = one_by (refusal_of world choice) world choice
@@ -78,11 +71,7 @@ rest_by : (refusal : Option StepFault) (world : World) (choice : Choice) (choice
     → naming_from n (slice_split is_line_end (trace_of after choices)) ≡ whole (shown after choices))
     → naming_from n (slice_split is_line_end (left_by (is_none refusal) (execution world (choice ∷ [])).world choices))
     ≡ whole (behind refusal world choice (λ after. shown after choices))
-rest_by None world choice choices n is few rest =
-    let after = (execution world (choice ∷ [])).world in
-    rest after (counted world choice few (one-refusal world choice ∙ is))
-    ∙ ap (λ (w : World). whole (shown w choices)) (after_by (refusal_of world choice) world choice (one-refusal world choice ∙ is)).1
-rest_by (Some fault) world choice choices n is few rest = states-named (execution world (choice ∷ [])).world n
+rest_by refusal world choice choices n is few rest = grind (arith, counted, one-refusal, after_by, states-named)
 
 trace-named : (choices : List Choice) (world : World) (n : ℕ) → world.choices ≤ 1000000000000 → All IsNamed choices
     → naming_from n (slice_split is_line_end (trace_of world choices)) ≡ whole (shown world choices)
@@ -105,8 +94,7 @@ all_by : (refusal : Option StepFault) (world : World) (choice : Choice) (choices
     → ((after : World) → (execution after choices).refusal ≡ None → shown after choices ≡ choices)
     → (execution_by refusal world choice (λ after. execution after choices)).refusal ≡ None
     → behind refusal world choice (λ after. shown after choices) ≡ choices
-all_by (Some fault) world choice choices rest none = let no : ⊥ = cc in absurd no
-all_by None world choice choices rest none = rest (played world choice).world none
+all_by refusal world choice choices rest none = grind arith
 
 pub all-shown : (choices : List Choice) (world : World) → (execution world choices).refusal ≡ None → shown world choices ≡ choices
 all-shown [] world none = refl
@@ -121,12 +109,7 @@ same_by : (refusal : Option StepFault) (world : World) (choice : Choice) (choice
     ≡ lines_by refusal world choice (λ after. lines_of after choices))
     × ((execution_by refusal world choice (λ after. execution after (behind refusal world choice (λ w. shown w choices)))).world
     ≡ (execution_by refusal world choice (λ after. execution after choices)).world)
-same_by None world choice choices rest =
-    let later = rest (played world choice).world in
-    (ap (λ text. lines_by None world choice (λ _. text)) later.0, later.1)
-same_by (Some NoSuchThread) world choice choices rest = (refl, refl)
-same_by (Some StepLimit) world choice choices rest = (refl, refl)
-same_by (Some Memory) world choice choices rest = (refl, refl)
+same_by refusal world choice choices rest = grind arith
 
 pub same-shown : (choices : List Choice) (world : World)
     → (lines_of world (shown world choices) ≡ lines_of world choices)
@@ -136,7 +119,4 @@ same-shown (choice ∷ choices) world =
     same_by (refusal_of world choice) world choice choices (λ after. same-shown choices after)
 
 pub same-trace : (world : World) (choices : List Choice) → trace_of world (shown world choices) ≡ trace_of world choices
-same-trace world choices =
-    let both = same-shown choices world in
-    ap (λ text. text ++ state_text (execution world (shown world choices)).world) both.0
-    ∙ ap (λ (w : World). lines_of world choices ++ state_text w) both.1
+same-trace world choices = grind (arith, same-shown)

@@ -53,14 +53,10 @@ begun-line (x ∷ xs) ys one =
     (h, (t, slice_split-cons_no is_line_end x (xs ++ ys) (All-head test x xs one) ∙ ap (onto_first x) is))
 
 made_by : (is : LineNames) (choice : Choice) → next_by is how.Whole ≡ next.Made choice → is ≡ names.Made choice
-made_by names.Nothing choice e = let no : ⊥ = cc in absurd no
-made_by names.State choice e = let no : ⊥ = cc in absurd no
-made_by (names.Made other) choice e = let same : other ≡ choice = cc in ap names.Made same
+made_by is choice e = grind arith
 
 not_at_end : (is : LineNames) (choice : Choice) → next_by is how.AtEnd ≡ next.Made choice → ⊥
-not_at_end names.Nothing choice e = cc
-not_at_end names.State choice e = cc
-not_at_end (names.Made other) choice e = cc
+not_at_end is choice e = grind arith
 
 -- a line that names a choice, and isn't the last
 pub line-made : (ended : LineEnded) (line : List ℕ) (choice : Choice) (n : ℕ) (before after : Lines) (a b : Option (List ℕ))
@@ -76,39 +72,23 @@ line-made how.Whole line choice n before after a b one came is gone gave = (
         ∙ names-line line (slice_split is_line_end rest) n (names.Made choice) (made_by (line_names line) choice is),
   ),
 )
-line-made how.AtEnd line choice n before after a b one came is gone gave = absurd (not_at_end (line_names line) choice is)
-line-made how.TooLong line choice n before after a b one came is gone gave =
-    let nothing : line_names line ≡ names.Nothing = long-names line (omega (arith, came)) in
-    let wrong : next.NotATrace ≡ next.Made choice = ap (λ (i : LineNames). next_by i how.TooLong) (sym nothing) ∙ is in
-    let no : ⊥ = cc in absurd no
+line-made ended line choice n before after a b one came is gone gave = grind (arith, whole-line, names-line, made_by, not_at_end, long-names)
 
 -- the line that ends them, by what it names
 by_end : (is : LineNames) (n : ℕ) → naming_by is n (ended (Some (n + 1))) ≡ last_naming (next_by is how.AtEnd) n
-by_end names.Nothing n = refl
-by_end names.State n = refl
-by_end (names.Made choice) n = refl
+by_end is n = grind arith
 
 by_whole : (is : LineNames) (n : ℕ) (rest : Naming) → ((choice : Choice) → next_by is how.Whole ≢ next.Made choice)
     → naming_by is n rest ≡ last_naming (next_by is how.Whole) n
-by_whole names.Nothing n rest none = refl
-by_whole names.State n rest none = refl
-by_whole (names.Made choice) n rest none = absurd (none choice refl)
+by_whole is n rest none = grind arith
 
 pub line-last : (ended : LineEnded) (line : List ℕ) (n : ℕ) (before after : Lines) (a b : Option (List ℕ))
     → IsOneLine line → HasCome ended line (prepend_known after.held b)
     → ((choice : Choice) → next_by (line_names line) ended ≢ next.Made choice)
     → Consumes (prepend_known before.held a) (prepend_known after.held b) (taken (Ok ended) line)
     → HasEnded n (last_naming (next_by (line_names line) ended) n) before after a b
-line-last how.Whole line n before after a b one came none gone = (
-  line ++ 10 ∷ [],
-  (
-    gone,
-    inr (λ rest. ap (naming_from n) (whole-line line rest one)
-        ∙ by_whole (line_names line) n (naming_from (n + 1) (slice_split is_line_end rest)) none),
-  ),
-)
-line-last how.AtEnd line n before after a b one came none gone =
-    (line, (gone, inl (came.1, ap (naming_from n) (slice_split_none is_line_end line one) ∙ by_end (line_names line) n)))
+line-last how.Whole line n before after a b one came none gone = grind (arith, whole-line, by_whole)
+line-last how.AtEnd line n before after a b one came none gone = grind (arith, slice_split_none, by_end)
 line-last how.TooLong line n before after a b one came none gone =
     let nothing : line_names line ≡ names.Nothing = long-names line (omega (arith, came)) in (
       line,
@@ -163,17 +143,13 @@ read-held before left bytes held naming gone (inr same) = (
   ),
 )
 read-held None None bytes held naming gone (inl (end, same)) = (bytes, (tt, inl (tt, same)))
-read-held None (Some ys) bytes held naming gone (inl (end, same)) =
-    (bytes, (tt, inl ((none_left held ys end).1, same)))
+read-held None (Some ys) bytes held naming gone (inl (end, same)) = grind (arith, none_left)
 read-held (Some xs) None bytes held naming gone (inl (end, same)) = absurd gone
-read-held (Some xs) (Some ys) bytes held naming gone (inl (end, same)) =
-    let none = none_left held ys end in
-    (bytes, (gone ∙ ap (λ p. bytes ++ (p ++ ys)) none.0, inl (none.1, same)))
+read-held (Some xs) (Some ys) bytes held naming gone (inl (end, same)) = grind (arith, none_left)
 
 names-behind : (one two : List ℕ) (choices : List Choice) (n : ℕ) (left : Option (List ℕ)) (naming : Naming)
     → NamesFrom 1 one choices n → Names n two left naming → Names 1 (one ++ two) left (behind_choices choices naming)
-names-behind one two choices n left naming names (inl (end, is)) =
-    inl (end, names two ∙ ap (behind_choices choices) is)
+names-behind one two choices n left naming names (inl (end, is)) = grind arith
 names-behind one two choices n left naming names (inr is) =
     inr (λ rest. ap naming_of (append_assoc one two rest) ∙ names (two ++ rest) ∙ ap (behind_choices choices) (is rest))
 

@@ -1,5 +1,5 @@
 -- A schedule names threads from 0 to 63.
-use Rattle.std.proofs.Common.{◌≡◌, ◌+◌, ◌≤◌, ◌==◌, ◌||◌, ◌&&◌, not, ℕ, Bool, true, false, List, [], ◌∷◌, length, drop, replicate, cond, All, Option, Some, None, refl, subst, nat_lt}
+use Rattle.std.proofs.Common.{◌≡◌, ◌+◌, ◌≤◌, ◌==◌, ◌||◌, ◌&&◌, not, ℕ, Bool, true, false, List, [], ◌∷◌, length, drop, replicate, cond, All, Option, Some, None, refl, subst, nat_lt, arith}
 use Rattle.std.specs.Prelude.{IfSome}
 use Rattle.std.specs.List.{slice_split}
 use Rattle.std.specs.Str.Parse.{digits_value}
@@ -28,68 +28,45 @@ names-if false here there p q = q
 
 names-by_times : (at : ℕ) (choice : Choice) (times count : ℕ) (rest : List ℕ) → choice.thread ≤ 63
     → Names (reading_by_times at choice times count rest)
-names-by_times at choice times count (byte ∷ rest) there = tt
-names-by_times at choice times count [] there =
-    names-if (count == 0) (Unfinished (fault.Byte at)) (reading_of_times at choice times) tt
-    (names-if (times == 0) (Unfinished (fault.Repeat at)) (Token (run_of choice times)) tt there)
+names-by_times at choice times count rest there = grind (arith, names-if)
 
 names-of_count : (at : ℕ) (choice : Choice) (count : ℕ) (rest : List ℕ) (times : Option ℕ) → choice.thread ≤ 63
     → Names (reading_of_count at choice count rest times)
-names-of_count at choice count rest None there = tt
-names-of_count at choice count rest (Some times) there = names-by_times at choice times count rest there
+names-of_count at choice count rest times there = grind (arith, names-by_times)
 
 names-by_thread : (at : ℕ) (choice : Choice) (count : ℕ) (rest : List ℕ) → choice.thread ≤ 63
     → Names (reading_by_thread at choice count rest)
-names-by_thread at choice count [] there =
-    names-if (count == 0) (Unfinished (fault.Byte at)) (Token (run_of choice 1)) tt there
-names-by_thread at choice count (byte ∷ rest) there =
-    names-if ((byte == 42) && not (count == 0)) (reading_after_star (at + count + 1) choice rest) (Faulty (fault.Byte (at + count)))
-    (names-of_count (at + count + 1) choice (length (digits_of rest)) (drop (length (digits_of rest)) rest)
-    (number_within rest 10 1000000000) there) tt
+names-by_thread at choice count rest there = grind (arith, names-if, names-of_count)
 
 names-of_thread : (at : ℕ) (expiry : Bool) (count : ℕ) (rest : List ℕ) (thread : Option ℕ) → IfSome thread (λ n. n ≤ 63)
     → Names (reading_of_thread at expiry count rest thread)
-names-of_thread at expiry count rest None there = tt
-names-of_thread at expiry count rest (Some thread) there = names-by_thread at (choice_of expiry thread) count rest there
+names-of_thread at expiry count rest thread there = grind (arith, names-by_thread)
 
 -- a number that isn't above the largest
 within_by : (long above : Bool) (n : ℕ) → nat_lt 63 n ≡ above → IfSome (cond (long || above) None (Some n)) (λ m. m ≤ 63)
-within_by true above n is = tt
-within_by false true n is = tt
 within_by false false n is = ltb-false 63 n is
+within_by _ _ n is = tt
 
 names-after_letter : (at : ℕ) (expiry : Bool) (part : List ℕ) → Names (reading_after_letter at expiry part)
-names-after_letter at expiry part =
-    let count = length (digits_of part) in
-    let number = digits_value 10 (digits_of part) in
-    names-of_thread at expiry count (drop count part) (number_within part 2 63) (within_by (nat_lt 2 count) (nat_lt 63 number) number refl)
+names-after_letter at expiry part = grind (arith, names-of_thread, within_by)
 
 names-of : (at : ℕ) (piece : List ℕ) → Names (reading_of at piece)
-names-of at [] = tt
-names-of at (byte ∷ part) =
-    let other = cond (byte == 120) (reading_after_letter (at + 1) true part) (Faulty (fault.Byte at)) in
-    names-if (byte == 116) (reading_after_letter (at + 1) false part) other (names-after_letter (at + 1) false part)
-    (names-if (byte == 120) (reading_after_letter (at + 1) true part) (Faulty (fault.Byte at)) (names-after_letter (at + 1) true part) tt)
+names-of at piece = grind (arith, names-if, names-after_letter)
 
 -- a piece and what comes after it
 named-with : (reading : Reading) (rest : Schedule) → Names reading → All HasName rest.runs
     → All HasName (schedule_with (whole reading) rest).runs
-named-with (Token run) rest there others = All-cons HasName run rest.runs there others
-named-with (Faulty fault) rest there others = All-nil HasName
-named-with (Unfinished fault) rest there others = All-nil HasName
+named-with reading rest there others = grind (arith, All-cons, All-nil)
 
 named-with_piece : (at : ℕ) (piece : List ℕ) (rest : Schedule) → All HasName rest.runs
     → All HasName (schedule_with_piece at piece rest).runs
-named-with_piece at [] rest others = others
-named-with_piece at (byte ∷ part) rest others =
-    named-with (reading_of at (byte ∷ part)) rest (names-of at (byte ∷ part)) others
+named-with_piece at piece rest others = grind (arith, named-with, names-of)
 
 named-in : (at : ℕ) (pieces : List (List ℕ)) → All HasName (schedule_in true at pieces).runs
-named-in at [] = All-nil HasName
-named-in at (piece ∷ []) = named-with_piece at piece no_runs (All-nil HasName)
 named-in at (piece ∷ next ∷ pieces) =
     let after = at + length piece + 1 in
     named-with_piece at piece (schedule_in true after (next ∷ pieces)) (named-in after (next ∷ pieces))
+named-in at pieces = grind (arith, All-nil, named-with_piece)
 
 named-choices : (runs : List Run) → All HasName runs → All IsNamed (choices_of runs)
 named-choices [] there = All-nil IsNamed

@@ -28,30 +28,17 @@ use Rattle.trace_compare.proofs.OwnTrace.{IsNamed, own-trace}
 
 after-same : (phasers : List Stored) (world : World) (choice : Choice)
     → (played (stored phasers world) choice).world ≡ stored phasers (played world choice).world
-after-same phasers world choice =
-    ap (λ (play : Played). play.world) (plays-same phasers world choice)
-    ∙ played-world phasers (outcome_of_choice world.program choice world.scene) world
+after-same phasers world choice = grind (arith, plays-same, played-world)
 
 event-same : (phasers : List Stored) (world : World) (choice : Choice)
     → (played (stored phasers world) choice).event ≡ (played world choice).event
-event-same phasers world choice =
-    ap (λ (play : Played). play.event) (plays-same phasers world choice)
-    ∙ played-event phasers (outcome_of_choice world.program choice world.scene) world
+event-same phasers world choice = grind (arith, plays-same, played-event)
 
 -- the lines, and the world that is left
 lines-by : (phasers : List Stored) (refusal : Option StepFault) (world : World) (choice : Choice) (rest : World → List ℕ)
     → ((after : World) → rest (stored phasers after) ≡ rest after)
     → lines_by refusal (stored phasers world) choice rest ≡ lines_by refusal world choice rest
-lines-by phasers (Some NoSuchThread) world choice rest same = refl
-lines-by phasers (Some StepLimit) world choice rest same = refl
-lines-by phasers (Some Memory) world choice rest same = refl
-lines-by phasers None world choice rest same =
-    ap (λ event. event_text (world.choices + 1) choice (thread_at world.scene choice.thread).pc event ++ rest (played (stored phasers world) choice).world)
-    (event-same phasers world choice)
-    ∙ ap (λ after. event_text (world.choices + 1) choice (thread_at world.scene choice.thread).pc (played world choice).event ++ rest after)
-    (after-same phasers world choice)
-    ∙ ap (λ lines. event_text (world.choices + 1) choice (thread_at world.scene choice.thread).pc (played world choice).event ++ lines)
-    (same (played world choice).world)
+lines-by phasers refusal world choice rest same = grind (arith, stored, event-same, after-same)
 
 lines-same : (choices : List Choice) (phasers : List Stored) (world : World)
     → lines_of (stored phasers world) choices ≡ lines_of world choices
@@ -63,9 +50,7 @@ lines-same (choice ∷ choices) phasers world =
 left-by : (phasers : List Stored) (refusal : Option StepFault) (world : World) (choice : Choice) (rest : World → Execution)
     → ((after : World) → (rest (stored phasers after)).world ≡ stored phasers (rest after).world)
     → (execution_by refusal (stored phasers world) choice rest).world ≡ stored phasers (execution_by refusal world choice rest).world
-left-by phasers (Some fault) world choice rest same = refl
-left-by phasers None world choice rest same =
-    ap (λ after. (rest after).world) (after-same phasers world choice) ∙ same (played world choice).world
+left-by phasers refusal world choice rest same = grind (arith, after-same)
 
 pub left-same : (choices : List Choice) (phasers : List Stored) (world : World)
     → (execution (stored phasers world) choices).world ≡ stored phasers (execution world choices).world
@@ -76,17 +61,12 @@ left-same (choice ∷ choices) phasers world =
 
 trace-same : (choices : List Choice) (phasers : List Stored) (world : World)
     → trace_of (stored phasers world) choices ≡ trace_of world choices
-trace-same choices phasers world =
-    ap (λ lines. lines ++ state_text (execution (stored phasers world) choices).world) (lines-same choices phasers world)
-    ∙ ap (λ after. lines_of world choices ++ state_text after) (left-same choices phasers world)
-    ∙ ap (λ text. lines_of world choices ++ text) (state-same phasers (execution world choices).world)
+trace-same choices phasers world = grind (arith, stored, lines-same, left-same, state-same)
 
 -- the trace is that of the image's first world
 pub trace-first : (image : Image) (limit : ℕ) (world : World) (choices : List Choice) → IsFirstOf image limit world
     → trace_of world choices ≡ trace_of (first_of image limit) choices
-trace-first image limit world choices is =
-    ap (λ w. trace_of w choices) (as-stored image limit world is)
-    ∙ trace-same choices world.program.phasers (first_of image limit)
+trace-first image limit world choices is = grind (arith, as-stored, trace-same)
 
 -- the verdict on a trace, beside the program that it is of
 begun-verdict : (image : Image) (world : World) (choices : List Choice) → Begins image world → All IsNamed choices
@@ -107,8 +87,7 @@ found-same : (image : Image) (one : World) (choices : List Choice) → Begins im
 found-same image one choices begins named left v (other, (bytes, (begins', consumed, inl (end, found)))) =
     let all : bytes ≡ trace_of one choices = sym (append-nil bytes) ∙ ap (λ rest. bytes ++ rest) (sym end) ∙ sym consumed in
     sym found ∙ ap (verdict_of other) all ∙ other-verdict image one other choices begins begins' named
-found-same image one choices begins named left v (other, (bytes, (begins', consumed, inr later))) =
-    sym (later left) ∙ ap (verdict_of other) (sym consumed) ∙ other-verdict image one other choices begins begins' named
+found-same image one choices begins named left v (other, (bytes, (begins', consumed, inr later))) = grind (arith, other-verdict)
 
 -- that of runs that a token can spell
 pub traced-same : (image : Image) (world : World) (runs : List Run) (end : RunEnd) (old new : Option (List ℕ))

@@ -1,5 +1,5 @@
 -- How the phasers of a program are stored makes no difference to a choice, nor to what is shown of the state.
-use Rattle.std.proofs.Common.{◌≡◌, ◌==◌, ◌&&◌, ◌||◌, ◌++◌, not, nat_le, codes, decimal, length, is_some, ℕ, Bool, List, cond, Option, Some, None, refl, ap}
+use Rattle.std.proofs.Common.{◌≡◌, ◌==◌, ◌&&◌, ◌||◌, ◌++◌, not, nat_le, codes, decimal, length, is_some, ℕ, Bool, List, cond, Option, Some, None, refl, ap, arith}
 use Rattle.row_code.specs.declared.image.Image.{Image}
 use Rattle.tier_tree.specs.Stored.{Stored}
 use Rattle.machine_scene.specs.Scene.{Outcome}
@@ -20,10 +20,7 @@ stored phasers world = record world { program = stored_in phasers world.program 
 
 pub refusal-same : (phasers : List Stored) (world : World) (choice : Choice)
     → refusal_of (stored phasers world) choice ≡ refusal_of world choice
-refusal-same phasers world choice =
-    ap (λ outcome. cond (nat_le (length world.scene.threads) choice.thread) (Some NoSuchThread)
-    (cond ((world.choices == 1000000000000) || (nat_le world.limit world.steps && is_some outcome)) (Some StepLimit) None))
-    (outcome-same phasers world.program choice world.scene)
+refusal-same phasers world choice = grind (arith, outcome-same)
 
 -- what is shown of how far the program is
 text_by : Bool → World → List ℕ
@@ -38,13 +35,11 @@ state-same phasers world = ap (λ ready. text_by ready world) (some_ready-same p
 
 pub played-world : (phasers : List Stored) (outcome : Option Outcome) (world : World)
     → (played_by outcome (stored phasers world)).world ≡ stored phasers (played_by outcome world).world
-played-world phasers (Some outcome) world = refl
-played-world phasers None world = refl
+played-world phasers outcome world = grind arith
 
 pub played-event : (phasers : List Stored) (outcome : Option Outcome) (world : World)
     → (played_by outcome (stored phasers world)).event ≡ (played_by outcome world).event
-played-event phasers (Some outcome) world = refl
-played-event phasers None world = refl
+played-event phasers outcome world = grind arith
 
 -- a choice is played by what it comes to
 pub plays-same : (phasers : List Stored) (world : World) (choice : Choice)

@@ -150,19 +150,10 @@ first_of bytes more line rest is (inr (behind, lf)) few =
 state_by : (word : Bool) (x n : ℕ) (rest : List ℕ) → (x ≡ 115 → ⊥)
     → bytes_eq (take (cond word (suc n) zero) (x ∷ rest)) (codes "state") ≡ false
 state_by false x n rest other = refl
-state_by true x n rest other =
-    false_from_ne_true _ (λ same.
-    let word : x ∷ take n rest ≡ codes "state" = (bytes_eq-Decides (x ∷ take n rest) (codes "state")).0 same in
-    let first : x ≡ 115 = cc in
-    other first)
+state_by true x n rest other = grind (arith, false_from_ne_true, bytes_eq-Decides)
 
 line_no_state : (all line rest : List ℕ) → all ≡ line ++ rest → (get_or all 0 0 ≡ 115 → ⊥) → is_state_line line ≡ false
-line_no_state all [] rest is other = refl
-line_no_state all (x ∷ line) rest is other =
-    let n = position_or_len is_space line in
-    let next : 1 + n ≡ suc n = omega arith in
-    ap (λ k. bytes_eq (take (cond (not (x == 32)) k zero) (x ∷ line)) (codes "state")) next
-    ∙ state_by (not (x == 32)) x n line (λ same. other (ap (λ l. get_or l 0 0) is ∙ same))
+line_no_state all line rest is other = grind (arith, state_by)
 
 -- any choice's line begins with its number, and something follows
 some_name : (expiry : Bool) (name rest : List ℕ) → 0 < length (((if expiry then codes " x" else codes " t") ++ name) ++ rest)
@@ -180,13 +171,12 @@ name_first step choice rest =
 
 number_by : (missing used : Bool) (world : World) (choice : Choice) → NumberFirst (world.choices + 1)
     (lines_by (cond missing (Some NoSuchThread) (cond used (Some StepLimit) None)) world choice (λ after. []))
-number_by true used world choice = name_first (world.choices + 1) choice _
-number_by false true world choice = name_first (world.choices + 1) choice _
 number_by false false world choice =
     let play : Played = played world choice in
     let pc = (thread_at world.scene choice.thread).pc in
     subst (NumberFirst (world.choices + 1)) (sym (append-nil (event_text (world.choices + 1) choice pc play.event)))
     (name_first (world.choices + 1) choice _)
+number_by _ _ world choice = name_first (world.choices + 1) choice _
 
 -- a line that begins with the number is that choice's, by the name that stands behind the number in the bytes
 named_there : (bytes more line rest : List ℕ) (lines : List (List ℕ)) (step : ℕ) (choice : Choice) → step < 10 ^ 13
@@ -243,12 +233,7 @@ by_name : (found : Option Choice) (accepted : Bool) (world : World) (n : ℕ) (l
     → is_state_line line ≡ false → choice_in line ≡ found
     → ((choice : Choice) → found ≡ Some choice → (accepted && bytes_eq (line ++ (10 ∷ [])) (lines_of world (choice ∷ []))) ≡ false)
     → lines_verdict accepted world n (line ∷ lines) ≡ named_verdict found n line
-by_name (Some choice) accepted world n line lines state named other =
-    lines-choice accepted world n line lines state
-    ∙ choice-other (choice_in line) choice accepted world n line (λ a after. lines_verdict a after (n + 1) lines) named (other choice refl)
-by_name None accepted world n line lines state named other =
-    lines-choice accepted world n line lines state
-    ∙ ap (λ c. choice_verdict c accepted world n line (λ more after. lines_verdict more after (n + 1) lines)) named
+by_name found accepted world n line lines state named other = grind (arith, lines-choice, choice-other)
 
 -- they don't begin with the run's line of a choice that is named where the next line names its own
 missed : (before after : Comparison) (choice : Choice) (text bytes more : List ℕ) → IsReading before
@@ -286,26 +271,5 @@ pub own-by : (before played after : Comparison) (choice : Choice) (digits : ℕ)
     × (after ≡ record played { number = played.number + 1 }))
     → (count ≡ 0 → (take (length played.expected) bytes ≢ played.expected) × (after ≡ record played { accepted = false }))
     → length played.expected ≤ 120 → GoesOver before after bytes count
-own-by before played after choice digits bytes zero reading few digits_is short room names p going number_is text_is at_is was wasnt size =
-    let (other, after_is) = wasnt refl in
-    let number : after.number ≡ before.number = ap (λ (c : Comparison). c.number) after_is ∙ number_is in
-    let none : line_ends (take 0 bytes) ≡ 0 = refl in
-    record {
-      within = omega arith;
-      left = λ more. missed before after choice played.expected bytes more reading
-          (ap (λ (c : Comparison). c.is_state) after_is ∙ going.0) (ap (λ (c : Comparison). c.accepted) after_is)
-          number few (omega (arith, room)) (omega (arith, room, short, digits_is))
-          (subst (λ n. NamesBehind bytes n choice) digits_is names) (sym p.lines) (omega (arith, size, room)) other;
-      counted = omega (arith, number, none);
-      number = omega (arith, number);
-      text = ap (λ (c : Comparison). c.text) after_is ∙ text_is;
-      at = ap (λ (c : Comparison). c.at) after_is ∙ at_is;
-    }
-own-by before played after choice digits bytes (suc n) reading few digits_is short room names p going number_is text_is at_is was wasnt size =
-    let (same, count_is, after_is) = was (λ none. cc) in
-    met before after choice played.expected bytes (suc n) reading
-    (ap (λ (c : Comparison). c.is_state) after_is ∙ going.0, ap (λ (c : Comparison). c.accepted) after_is ∙ going.1)
-    (ap (λ (c : Comparison). c.number) after_is ∙ ap (λ k. k + 1) number_is)
-    (ap (λ (c : Comparison). c.text) after_is ∙ text_is) (ap (λ (c : Comparison). c.at) after_is ∙ at_is) few names.1.0
-    (subst (λ (c : Comparison). Plays (world_of before.machine) (world_of c.machine) (choice ∷ []) true (Some []) (Some played.expected))
-    (sym after_is) p) same (omega (arith, size, room)) count_is
+own-by before played after choice digits bytes zero reading few digits_is short room names p going number_is text_is at_is was wasnt size = grind (arith, missed)
+own-by before played after choice digits bytes (suc n) reading few digits_is short room names p going number_is text_is at_is was wasnt size = grind (arith, met)

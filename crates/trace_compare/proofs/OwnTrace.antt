@@ -98,39 +98,21 @@ pub choice-same : (world : World) (choice : Choice) (rest : List ℕ) (n : ℕ) 
     → lines_verdict true world n (slice_split is_line_end (lines_of world (choice ∷ []) ++ rest))
     ≡ lines_verdict (is_none (execution world (choice ∷ [])).refusal) (execution world (choice ∷ [])).world (n + 1)
     (slice_split is_line_end rest)
-choice-same world choice rest n own =
-    let text = lines_of world (choice ∷ []) in
-    let line = own.line in
-    let lines = slice_split is_line_end rest in
-    let more = λ (accepted : Bool) (after : World). lines_verdict accepted after (n + 1) lines in
-    let same : bytes_eq (line ++ (10 ∷ [])) text ≡ true = (bytes_eq-Decides (line ++ (10 ∷ [])) text).1 (sym own.is) in
-    ap (λ t. lines_verdict true world n (slice_split is_line_end (t ++ rest))) own.is
-    ∙ ap (lines_verdict true world n) (split-line line rest own.within)
-    ∙ cond-no (is_state_line line) (state_verdict (state_text world) n (line ∷ lines)) _ own.no_state
-    ∙ ap (λ named. choice_verdict named true world n line more) own.names
-    ∙ cond-yes (bytes_eq (line ++ (10 ∷ [])) text) _ (otherwise n line) same
+choice-same world choice rest n own = grind (arith, bytes_eq-Decides, split-line, cond-no, cond-yes)
 
 accepted-few_by : (missing all limit : Bool)
     → cond missing (Some NoSuchThread) (cond (all || limit) (Some StepLimit) None) ≡ None → all ≡ false
-accepted-few_by true all limit is = let no : ⊥ = cc in absurd no
-accepted-few_by false true limit is = let no : ⊥ = cc in absurd no
 accepted-few_by false false limit is = refl
+accepted-few_by _ _ limit is = let no : ⊥ = cc in absurd no
 
 pub after_by : (refusal : Option StepFault) (world : World) (choice : Choice)
     → (execution_by refusal world choice (λ after. execution after [])).refusal ≡ None
     → (refusal ≡ None) × ((execution_by refusal world choice (λ after. execution after [])).world ≡ (played world choice).world)
-after_by (Some fault) world choice none = let no : ⊥ = cc in absurd no
-after_by None world choice none = (refl, refl)
+after_by refusal world choice none = grind arith
 
 pub counted : (world : World) (choice : Choice) → world.choices ≤ 1000000000000 → (execution world (choice ∷ [])).refusal ≡ None
     → (execution world (choice ∷ [])).world.choices ≤ 1000000000000
-counted world choice few none =
-    let played_is = after_by (refusal_of world choice) world choice none in
-    let left = accepted-few_by (nat_le (length world.scene.threads) choice.thread) (world.choices == 1000000000000) _ played_is.0 in
-    let other : world.choices ≢ 1000000000000 = eqb-false _ _ left in
-    let count : (execution world (choice ∷ [])).world.choices ≡ world.choices + 1 =
-    ap (λ (w : World). w.choices) played_is.1 ∙ played-choices (outcome_of_choice world.program choice world.scene) world in
-    omega (arith, few, other, count)
+counted world choice few none = grind (arith, after_by, accepted-few_by, eqb-false, played-choices)
 
 -- what follows a choice's line, by whether the choice was refused
 rest_by : (refusal : Option StepFault) (world : World) (choice : Choice) (choices : List Choice) (n : ℕ)
@@ -139,8 +121,7 @@ rest_by : (refusal : Option StepFault) (world : World) (choice : Choice) (choice
     → lines_verdict true after n (slice_split is_line_end (trace_of after choices)) ≡ verdict.Same)
     → lines_verdict (is_none refusal) (execution world (choice ∷ [])).world n
     (slice_split is_line_end (left_by (is_none refusal) (execution world (choice ∷ [])).world choices)) ≡ verdict.Same
-rest_by None world choice choices n is few rest = rest (execution world (choice ∷ [])).world (counted world choice few is)
-rest_by (Some fault) world choice choices n is few rest = states-same false (execution world (choice ∷ [])).world n
+rest_by refusal world choice choices n is few rest = grind (arith, counted, states-same)
 
 pub own-trace : (choices : List Choice) (world : World) (n : ℕ) → world.choices ≤ 1000000000000
     → All IsNamed choices

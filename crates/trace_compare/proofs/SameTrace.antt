@@ -39,9 +39,7 @@ passed false n line rest e = refuted (is_too_long line) n e
 
 -- something is left where the state text is due
 some_state : (text : List ℕ) (n : ℕ) (lines : List (List ℕ)) → state_verdict text n lines ≡ verdict.Same → 0 < length lines
-some_state [] n [] e = let no : ⊥ = cc in absurd no
-some_state (byte ∷ text) n [] e = let no : ⊥ = cc in absurd no
-some_state text n (line ∷ lines) e = omega arith
+some_state text n lines e = grind arith
 
 some_lines : (accepted : Bool) (world : World) (n : ℕ) (lines : List (List ℕ)) → lines_verdict accepted world n lines ≡ verdict.Same
     → 0 < length lines
@@ -50,11 +48,6 @@ some_lines accepted world n (line ∷ lines) e = omega arith
 
 -- the state text
 state-joined : (lines : List (List ℕ)) (text : List ℕ) (n : ℕ) → state_verdict text n lines ≡ verdict.Same → joined lines ≡ text
-state-joined [] [] n e = let no : ⊥ = cc in absurd no
-state-joined [] (byte ∷ text) n e = let no : ⊥ = cc in absurd no
-state-joined ([] ∷ []) [] n e = refl
-state-joined ([] ∷ next ∷ lines) [] n e = let no : ⊥ = cc in absurd no
-state-joined ((x ∷ line) ∷ lines) [] n e = refuted (is_too_long (x ∷ line)) n e
 state-joined (line ∷ lines) (byte ∷ text) n e =
     let whole = byte ∷ text in
     let p = passed (bytes_eq (line ++ (10 ∷ [])) (first_line whole)) n line (state_verdict (after_line whole) (n + 1) lines) e in
@@ -62,6 +55,7 @@ state-joined (line ∷ lines) (byte ∷ text) n e =
     ∙ ap (λ bytes. bytes ++ joined lines) ((bytes_eq-Decides (line ++ (10 ∷ [])) (first_line whole)).0 p.0)
     ∙ ap (λ bytes. first_line whole ++ bytes) (state-joined lines (after_line whole) (n + 1) p.1)
     ∙ take-append-drop (position_or_len is_line_end whole + 1) whole
+state-joined lines text n e = grind (arith, refuted, passed, joined-line, some_state, bytes_eq-Decides, take-append-drop)
 
 -- what is left of a trace, by whether all choices so far were accepted
 abbrev pub left_by : Bool → World → List Choice → List ℕ
@@ -83,10 +77,7 @@ after_choice world choice choices None is =
     sym (append_assoc (lines_of world (choice ∷ [])) (lines_of after choices) _)
     ∙ ap (λ text. text ++ state_text (execution after choices).world) (sym on.0)
     ∙ ap (λ (w : World). lines_of world (choice ∷ choices) ++ state_text w) (sym on.1)
-after_choice world choice choices (Some fault) is =
-    let end = stops (choice ∷ []) world choices fault is in
-    ap (λ text. text ++ state_text (execution world (choice ∷ [])).world) (sym end.0)
-    ∙ ap (λ (w : World). lines_of world (choice ∷ choices) ++ state_text w) (sym end.1)
+after_choice world choice choices (Some fault) is = grind (arith, stops)
 
 -- one line more
 line-joined : (state : Bool) (named : Option Choice) (accepted : Bool) (world : World) (n : ℕ) (line : List ℕ) (lines : List (List ℕ))
@@ -96,16 +87,7 @@ line-joined : (state : Bool) (named : Option Choice) (accepted : Bool) (world : 
     → joined (line ∷ lines) ≡ left_by accepted world (cond state [] (with_choice named (choices_in lines)))
 line-joined true named accepted world n line lines rest e =
     state-joined (line ∷ lines) (state_text world) n e ∙ left_by-none accepted world
-line-joined false None accepted world n line lines rest e = let no : ⊥ = cc in absurd no
-line-joined false (Some choice) false world n line lines rest e = refuted (is_too_long line) n e
-line-joined false (Some choice) true world n line lines rest e =
-    let played = execution world (choice ∷ []) in
-    let p = passed (bytes_eq (line ++ (10 ∷ [])) (lines_of world (choice ∷ []))) n line
-    (lines_verdict (is_none played.refusal) played.world (n + 1) lines) e in
-    joined-line line lines (some_lines (is_none played.refusal) played.world (n + 1) lines p.1)
-    ∙ ap (λ bytes. bytes ++ joined lines) ((bytes_eq-Decides (line ++ (10 ∷ [])) (lines_of world (choice ∷ []))).0 p.0)
-    ∙ ap (λ bytes. lines_of world (choice ∷ []) ++ bytes) (rest (is_none played.refusal) played.world p.1)
-    ∙ after_choice world choice (choices_in lines) played.refusal refl
+line-joined false named accepted world n line lines rest e = grind (arith, state-joined, left_by-none, refuted, passed, joined-line, some_lines, bytes_eq-Decides, after_choice)
 
 lines-joined : (lines : List (List ℕ)) (accepted : Bool) (world : World) (n : ℕ) → lines_verdict accepted world n lines ≡ verdict.Same
     → joined lines ≡ left_by accepted world (choices_in lines)

@@ -1,5 +1,5 @@
 -- A choice comes to the same however the phasers of its program are stored.
-use Rattle.std.proofs.Common.{◌≡◌, ◌∙◌, ◌&&◌, ◌||◌, ℕ, ℤ, pos, Bool, not, false, true, List, [], ◌∷◌, cond, Option, Some, None, is_some, refl, ap}
+use Rattle.std.proofs.Common.{◌≡◌, ◌∙◌, ◌&&◌, ◌||◌, ℕ, ℤ, pos, Bool, not, false, true, List, [], ◌∷◌, cond, Option, Some, None, is_some, refl, ap, arith}
 use Rattle.std.specs.Prelude.{int_lt, length}
 use Rattle.std.specs.List.{list_any, range_with_len}
 use Rattle.instruction_table.specs.declared.register.Reg.{Reg}
@@ -38,24 +38,15 @@ stored_in phasers program = record program { phasers = phasers }
 turning-same : (phasers : List Stored) (ends : Option Bool) (manner : Manner) (root : ℕ) (phase : ℤ) (t : ℕ) (program : Program)
     (scene : Scene) → outcome_of_pending_end ends manner root phase t (stored_in phasers program) scene
     ≡ outcome_of_pending_end ends manner root phase t program scene
-turning-same phasers (Some terminates) manner root phase t program scene = refl
-turning-same phasers None manner root phase t program scene = refl
+turning-same phasers ends manner root phase t program scene = grind arith
 
 arrived-same : (phasers : List Stored) (answer : Arrived) (manner : Manner) (t : ℕ) (program : Program) (scene : Scene)
     → outcome_of_arrived answer manner t (stored_in phasers program) scene ≡ outcome_of_arrived answer manner t program scene
-arrived-same phasers (arrived.At phase) manner t program scene = refl
-arrived-same phasers (arrived.Turning root phase parties) manner t program scene =
-    turning-same phasers (answer_of_policy root.0 scene) manner root.0 phase t program scene
-arrived-same phasers (arrived.Dead view) manner t program scene = refl
-arrived-same phasers arrived.NotThere manner t program scene = refl
+arrived-same phasers answer manner t program scene = grind (arith, turning-same)
 
 arrival-same : (phasers : List Stored) (manner : Manner) (p t : ℕ) (program : Program) (scene : Scene)
     → outcome_of_arrival manner p t (stored_in phasers program) scene ≡ outcome_of_arrival manner p t program scene
-arrival-same phasers manner p t program scene =
-    let all : Arrives = arrival p manner.leaves scene.phasers in
-    ap (λ outcome. cond (has_routine p scene && is_full (thread_at scene t))
-    (outcome_of_turn (turn_of_throw (pos 6) (thread_at scene t)) t scene) outcome)
-    (arrived-same phasers all.answer manner t program (with_phasers all.phasers scene))
+arrival-same phasers manner p t program scene = grind (arith, arrived-same)
 
 counted-same : (phasers : List Stored) (manner : Manner) (p t : ℕ) (program : Program) (scene : Scene)
     → unless_own p t scene (Some (outcome_of_arrival manner p t (stored_in phasers program) scene))
@@ -65,71 +56,36 @@ counted-same phasers manner p t program scene =
 
 phaser_row-same : (phasers : List Stored) (row : Row) (t : ℕ) (program : Program) (scene : Scene)
     → outcome_of_phaser_row row t (stored_in phasers program) scene ≡ outcome_of_phaser_row row t program scene
-phaser_row-same phasers (Parr into p) t program scene =
-    counted-same phasers (record { into = into; leaves = false; waits = false }) p t program scene
-phaser_row-same phasers (Pdereg into p) t program scene =
-    counted-same phasers (record { into = into; leaves = true; waits = false }) p t program scene
-phaser_row-same phasers (Paaa into p) t program scene =
-    counted-same phasers (record { into = into; leaves = false; waits = true }) p t program scene
-phaser_row-same phasers _ t program scene = refl
+phaser_row-same phasers row t program scene = grind (arith, counted-same)
 
 entered-same : (phasers : List Stored) (answer : Entered) (into : Reg) (b t : ℕ) (program : Program) (scene : Scene)
     → outcome_of_entered answer into b t (stored_in phasers program) scene ≡ outcome_of_entered answer into b t program scene
-entered-same phasers (entered.Wait index) into b t program scene = refl
-entered-same phasers entered.Run into b t program scene = refl
-entered-same phasers entered.Tripped into b t program scene = refl
-entered-same phasers entered.Broken into b t program scene = refl
-entered-same phasers entered.Interrupted into b t program scene = refl
-entered-same phasers entered.TimedOut into b t program scene = refl
-entered-same phasers entered.Own into b t program scene = refl
-entered-same phasers entered.Busy into b t program scene = refl
+entered-same phasers answer into b t program scene = grind arith
 
 await-same : (phasers : List Stored) (no_wait : Bool) (into : Reg) (b t : ℕ) (program : Program) (scene : Scene)
     → unless_busy b t scene (unless_runner b t scene (outcome_of_await_at no_wait into b t (stored_in phasers program) scene))
     ≡ unless_busy b t scene (unless_runner b t scene (outcome_of_await_at no_wait into b t program scene))
-await-same phasers no_wait into b t program scene =
-    let all : Entry = enter_timed t (thread_at scene t).interrupted no_wait (barrier_at scene b) in
-    ap (λ outcome. unless_busy b t scene (unless_runner b t scene (cond ((barrier_at scene b).action && is_full (thread_at scene t))
-    (Some (outcome_of_turn (turn_of_throw (pos 6) (thread_at scene t)) t scene)) outcome)))
-    (entered-same phasers all.answer into b t program (with_barrier all.barrier b scene))
+await-same phasers no_wait into b t program scene = grind (arith, entered-same)
 
 barrier_row-same : (phasers : List Stored) (row : Row) (t : ℕ) (program : Program) (scene : Scene)
     → outcome_of_barrier_row row t (stored_in phasers program) scene ≡ outcome_of_barrier_row row t program scene
-barrier_row-same phasers (Cawait into b) t program scene = await-same phasers false into b t program scene
-barrier_row-same phasers (Cawaitt into b time) t program scene =
-    await-same phasers (not (int_lt (pos 0) (value_in (thread_at scene t).registers time))) into b t program scene
-barrier_row-same phasers _ t program scene = refl
+barrier_row-same phasers row t program scene = grind (arith, await-same)
 
 ret-same : (phasers : List Stored) (top : Option Frame) (t : ℕ) (program : Program) (scene : Scene)
     → outcome_of_ret top t (stored_in phasers program) scene ≡ outcome_of_ret top t program scene
-ret-same phasers None t program scene = refl
-ret-same phasers (Some (frame.Call row)) t program scene = refl
-ret-same phasers (Some (frame.Handler row)) t program scene = refl
-ret-same phasers (Some (frame.Advance root registers row)) t program scene = refl
-ret-same phasers (Some (frame.Action b registers row)) t program scene = refl
+ret-same phasers top t program scene = grind arith
 
 call_row-same : (phasers : List Stored) (row : Row) (t : ℕ) (program : Program) (scene : Scene)
     → outcome_of_call_row row t (stored_in phasers program) scene ≡ outcome_of_call_row row t program scene
-call_row-same phasers Ret t program scene = ap (λ outcome. Some outcome) (ret-same phasers (top_of (thread_at scene t).stack) t program scene)
-call_row-same phasers _ t program scene = refl
+call_row-same phasers row t program scene = grind (arith, ret-same)
 
 group-same : (phasers : List Stored) (group : Group) (row : Row) (t : ℕ) (program : Program) (scene : Scene)
     → outcome_in_group group row t (stored_in phasers program) scene ≡ outcome_in_group group row t program scene
-group-same phasers Own row t program scene = refl
-group-same phasers Calls row t program scene = call_row-same phasers row t program scene
-group-same phasers Data row t program scene = refl
-group-same phasers Phasers row t program scene = phaser_row-same phasers row t program scene
-group-same phasers Getters row t program scene = refl
-group-same phasers Barriers row t program scene = barrier_row-same phasers row t program scene
+group-same phasers group row t program scene = grind (arith, call_row-same, phaser_row-same, barrier_row-same)
 
 turn_by-same : (phasers : List Stored) (now : Status) (row : Row) (t : ℕ) (program : Program) (scene : Scene)
     → outcome_in now row t (stored_in phasers program) scene ≡ outcome_in now row t program scene
-turn_by-same phasers status.Runs row t program scene = group-same phasers (group_of row) row t program scene
-turn_by-same phasers (status.Throws code) row t program scene = refl
-turn_by-same phasers (status.AwaitsPhase phase) row t program scene = refl
-turn_by-same phasers (status.AwaitsBarrier index) row t program scene = refl
-turn_by-same phasers status.Ended row t program scene = refl
-turn_by-same phasers (status.Died code) row t program scene = refl
+turn_by-same phasers now row t program scene = grind (arith, group-same)
 
 turn-same : (phasers : List Stored) (t : ℕ) (program : Program) (scene : Scene)
     → outcome_of t (stored_in phasers program) scene ≡ outcome_of t program scene
@@ -138,24 +94,16 @@ turn-same phasers t program scene =
 
 expiry-same : (phasers : List Stored) (t : ℕ) (program : Program) (scene : Scene)
     → outcome_of_expiry t (stored_in phasers program) scene ≡ outcome_of_expiry t program scene
-expiry-same phasers t program scene =
-    ap (λ turn. cond (is_some turn) None (timeout_in (thread_at scene t).status (row_at program.rows (thread_at scene t).pc) t scene))
-    (turn-same phasers t program scene)
+expiry-same phasers t program scene = grind (arith, turn-same)
 
 -- a turn, or an expiry
 pub outcome-same : (phasers : List Stored) (program : Program) (choice : Choice) (scene : Scene)
     → outcome_of_choice (stored_in phasers program) choice scene ≡ outcome_of_choice program choice scene
-outcome-same phasers program choice scene =
-    ap (λ expiry. cond choice.expiry expiry (outcome_of choice.thread (stored_in phasers program) scene))
-    (expiry-same phasers choice.thread program scene)
-    ∙ ap (λ turn. cond choice.expiry (outcome_of_expiry choice.thread program scene) turn)
-    (turn-same phasers choice.thread program scene)
+outcome-same phasers program choice scene = grind (arith, expiry-same, turn-same)
 
 goes_on-same : (phasers : List Stored) (program : Program) (scene : Scene) (t : ℕ)
     → can_go_on (stored_in phasers program) scene t ≡ can_go_on program scene t
-goes_on-same phasers program scene t =
-    ap (λ turn. is_some turn || can_expire t (stored_in phasers program) scene) (turn-same phasers t program scene)
-    ∙ ap (λ expiry. is_ready t program scene || is_some expiry) (expiry-same phasers t program scene)
+goes_on-same phasers program scene t = grind (arith, turn-same, expiry-same)
 
 any-same : (one other : ℕ → Bool) (ts : List ℕ) → ((t : ℕ) → one t ≡ other t) → list_any one ts ≡ list_any other ts
 any-same one other [] same = refl
@@ -165,6 +113,4 @@ any-same one other (t ∷ ts) same =
 -- whether any choice may take a step
 pub some_ready-same : (phasers : List Stored) (program : Program) (scene : Scene)
     → some_ready (stored_in phasers program) scene ≡ some_ready program scene
-some_ready-same phasers program scene =
-    any-same (can_go_on (stored_in phasers program) scene) (can_go_on program scene) (range_with_len 0 (length scene.threads))
-    (goes_on-same phasers program scene)
+some_ready-same phasers program scene = grind (arith, any-same, goes_on-same)

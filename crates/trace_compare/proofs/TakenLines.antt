@@ -19,14 +19,7 @@ read-more n m a b few (front, (piece, (gone, size, before))) = (front, (piece, (
 
 -- before the first line
 pub come-first : (now : Comparison) (a : Option (List ℕ)) → now.number ≡ 1 → HasComeTo now now none_read 0 a a
-come-first now a is = record {
-  bytes = [];
-  gone = (Consumes-nil (prepend_known [] a), omega arith);
-  left = λ more. refl;
-  counted = omega (arith, is);
-  some = omega arith;
-  far = ([], ([], (Consumes-nil a, omega arith, omega (arith, is))));
-}
+come-first now a is = grind (arith, Consumes-nil)
 
 -- some of what is held
 consumes-held : (a : Option (List ℕ)) (count : ℕ) (held : List ℕ)
@@ -153,9 +146,7 @@ come-verdict first now next x y turns a b c ended line v come judged gone (got, 
 
 -- and no more was read than it needs
 stands-far : (n : ℕ) (v : Verdict) (a c : Option (List ℕ)) → StandsFrom n v → IsReadUpTo n a c → IsReadNoFurther a c v
-stands-far n verdict.Same a c stands far = absurd stands
-stands-far n (verdict.Differs line) a c stands far = read-more n line a c stands far
-stands-far n (verdict.NotATrace line) a c stands far = read-more n line a c stands far
+stands-far n v a c stands far = grind (arith, read-more)
 
 pub come-far : (now next : Comparison) (y : Lines) (a c : Option (List ℕ)) (ended : LineEnded) (line : List ℕ) (v : Verdict)
     → HasJudged now next ended line (Some v) → IsReadUpTo now.number a c → HasCome ended line (prepend_known y.held c)
@@ -163,5 +154,4 @@ pub come-far : (now next : Comparison) (y : Lines) (a c : Option (List ℕ)) (en
 come-far now next y a c how.Whole line v (stands, judged) far came all = stands-far now.number v a c stands far
 come-far now next y a c how.TooLong line v (stands, judged) far came all = stands-far now.number v a c stands far
 come-far now next y a c how.AtEnd line v (inr stands, judged) far came all = stands-far now.number v a c stands far
-come-far now next y a c how.AtEnd line v (inl same, judged) far came all =
-    subst (IsReadNoFurther a c) (sym same) (subst IsAtEnd (ap (λ h. prepend_known h c) (all refl) ∙ prepend_known-nil c) came.1)
+come-far now next y a c how.AtEnd line v (inl same, judged) far came all = grind (arith, prepend_known-nil)

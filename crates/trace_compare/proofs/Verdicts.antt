@@ -1,5 +1,5 @@
 -- The verdict on lines that are the run's.
-use Rattle.std.proofs.Common.{◌≡◌, ◌∙◌, ◌↔◌, ◌+◌, ◌<◌, ◌≤◌, ◌&&◌, ◌⊎◌, ℕ, Bool, true, false, List, [], ◌∷◌, ◌++◌, length, drop, Option, Some, None, IsTrue, ◌==◌, zero, suc, refl, ap, sym, subst, arith, is_none, cond, inl, inr, take, min, append-nil, length-append, take-append-drop}
+use Rattle.std.proofs.Common.{◌≡◌, ◌∙◌, ◌↔◌, ◌+◌, ◌<◌, ◌≤◌, ◌&&◌, ◌⊎◌, ℕ, Bool, true, false, List, [], ◌∷◌, ◌++◌, length, drop, Option, Some, None, IsTrue, ◌==◌, zero, suc, refl, ap, sym, subst, arith, is_none, cond, inl, inr, take, min, append-nil, length-append, take-append-drop, rules}
 use Rattle.std.specs.Prelude.{Result, Ok, Err, IfOk}
 use Rattle.trace_compare.specs.declared.comparison.Comparison.{Comparison}
 use Rattle.trace_compare.specs.Comparing.{HasCounted, HasJudged, HasLeft, IsOpen, StandsFrom, bytes_left, decided, lines_left}
@@ -42,8 +42,7 @@ same_bytes xs ys same = (bytes_eq-Decides xs ys).1 same
 -- a text begins with a line, and an LF stands behind it
 as_well : (a b : Bool) → (a ≡ true → b ≡ true) → (b ≡ true → a ≡ true) → a ≡ b
 as_well true b to from = sym (to refl)
-as_well false true to from = from refl
-as_well false false to from = refl
+as_well false b to from = grind arith
 
 pub line-eq : (line text : List ℕ)
     → (bytes_eq line (take (length line) text) && bytes_eq (drop (length line) text) (10 ∷ [])) ≡ bytes_eq (line ++ (10 ∷ [])) text
@@ -72,18 +71,13 @@ state-by byte text n line lines same is =
 pub state-same : (text : List ℕ) (n : ℕ) (line : List ℕ) (lines : List (List ℕ)) → 0 < length text
     → line ++ (10 ∷ []) ≡ first_line text
     → state_verdict text n (line ∷ lines) ≡ state_verdict (after_line text) (n + 1) lines
-state-same [] n line lines some same = absurd (omega (arith, some))
-state-same (byte ∷ text) n line lines some same =
-    state-by byte text n line lines true (same_bytes (line ++ (10 ∷ [])) _ same)
+state-same text n line lines some same = grind (arith, state-by, same_bytes)
 
 -- where another one is due, or nothing
 state-other : (text : List ℕ) (n : ℕ) (line : List ℕ) (lines : List (List ℕ)) → 0 < length text + (length line + length lines)
     → (0 < length text → bytes_eq (line ++ (10 ∷ [])) (first_line text) ≡ false)
     → state_verdict text n (line ∷ lines) ≡ otherwise n line
-state-other [] n [] [] due_or_left other = absurd (omega (arith, due_or_left))
-state-other [] n [] (next ∷ lines) due_or_left other = refl
-state-other [] n (x ∷ line) lines due_or_left other = refl
-state-other (byte ∷ text) n line lines due_or_left other = state-by byte text n line lines false (other (omega arith))
+state-other text n line lines due_or_left other = grind (arith, state-by)
 
 -- whether no choice was refused
 none_by : (refusal : Option StepFault) (all : Bool) → (IsTrue all ↔ (refusal ≡ None)) → is_none refusal ≡ all
@@ -96,25 +90,14 @@ pub choice-same : (named : Option Choice) (choice : Choice) (accepted more : Boo
     (line text : List ℕ) (rest : Bool → World → Verdict) → named ≡ Some choice → accepted ≡ true
     → bytes_eq (line ++ (10 ∷ [])) text ≡ true → Plays world after (choice ∷ []) more (Some []) (Some text)
     → choice_verdict named accepted world n line rest ≡ rest more after
-choice-same named choice accepted more world after n line text rest named_is accepted_is same p =
-    let lines : bytes_eq (line ++ (10 ∷ [])) (lines_of world (choice ∷ [])) ≡ true =
-    ap (bytes_eq (line ++ (10 ∷ []))) (sym p.lines) ∙ same in
-    rw (named_is, accepted_is, lines) (ap (λ b. rest b (execution world (choice ∷ [])).world) (none_by _ more p.answer) ∙ ap (λ w. rest more w) (sym p.world))
+choice-same named choice accepted more world after n line text rest named_is accepted_is same p = grind (arith, none_by)
 
 -- as many bytes as there are
 take_up_to : (bytes : List ℕ) (n m : ℕ) → n ≡ min m (length bytes) → take n bytes ≡ take m bytes
-take_up_to bytes n m is =
-    elim (cases_lt m (length bytes)) as (λ _. take n bytes ≡ take m bytes) [
-      | inl less ↦ ap (λ k. take k bytes) (omega (arith, is, less))
-      | inr more ↦ take_all n bytes (omega (arith, is, more)) ∙ sym (take_all m bytes more)
-    ]
+take_up_to bytes n m is = grind (arith, cases_lt, take_all)
 
 drop_up_to : (bytes : List ℕ) (n m : ℕ) → n ≡ min m (length bytes) → drop n bytes ≡ drop m bytes
-drop_up_to bytes n m is =
-    elim (cases_lt m (length bytes)) as (λ _. drop n bytes ≡ drop m bytes) [
-      | inl less ↦ ap (λ k. drop k bytes) (omega (arith, is, less))
-      | inr more ↦ drop_all n bytes (omega (arith, is, more)) ∙ sym (drop_all m bytes more)
-    ]
+drop_up_to bytes n m is = grind (arith, cases_lt, drop_all)
 
 pub state-further : (text due : List ℕ) (at first end n : ℕ) (line part : List ℕ) (lines : List (List ℕ))
     → due ≡ drop at text → 0 < length due → first ≡ position_or_len is_line_end due
@@ -141,19 +124,14 @@ left-lines now lines is =
 pub lines-choice : (accepted : Bool) (world : World) (n : ℕ) (line : List ℕ) (lines : List (List ℕ)) → is_state_line line ≡ false
     → lines_verdict accepted world n (line ∷ lines)
     ≡ choice_verdict (choice_in line) accepted world n line (λ accepted after. lines_verdict accepted after (n + 1) lines)
-lines-choice accepted world n line lines is =
-    ap (λ b. cond b (state_verdict (state_text world) n (line ∷ lines))
-    (choice_verdict (choice_in line) accepted world n line (λ accepted after. lines_verdict accepted after (n + 1) lines))) is
+lines-choice accepted world n line lines is = grind arith
 
 -- a line that names a choice and isn't the run's
 pub choice-other : (named : Option Choice) (choice : Choice) (accepted : Bool) (world : World) (n : ℕ) (line : List ℕ)
     (rest : Bool → World → Verdict) → named ≡ Some choice
     → (accepted && bytes_eq (line ++ (10 ∷ [])) (lines_of world (choice ∷ []))) ≡ false
     → choice_verdict named accepted world n line rest ≡ otherwise n line
-choice-other named choice accepted world n line rest named_is other =
-    ap (λ c. choice_verdict c accepted world n line rest) named_is
-    ∙ ap (λ b. cond b (rest (is_none (execution world (choice ∷ [])).refusal) (execution world (choice ∷ [])).world) (otherwise n line))
-    other
+choice-other named choice accepted world n line rest named_is other = grind arith
 
 pub line-choice : {E : Type 0} (result : Result (Option Verdict) E) (before after : Comparison) (line : List ℕ) (lines : List (List ℕ))
     → before.is_state ≡ false → after.is_state ≡ before.is_state → is_state_line line ≡ false
@@ -161,36 +139,22 @@ pub line-choice : {E : Type 0} (result : Result (Option Verdict) E) (before afte
     (λ accepted world. lines_verdict accepted world (before.number + 1) lines)
     ≡ decided v (lines_verdict after.accepted (world_of after.machine) after.number lines))
     → IfOk result (λ v. lines_left before (line ∷ lines) ≡ decided v (lines_left after lines))
-line-choice (Ok v) before after line lines is same no_state q =
-    left-lines before (line ∷ lines) is
-    ∙ lines-choice before.accepted (world_of before.machine) before.number line lines no_state
-    ∙ q ∙ ap (decided v) (sym (left-lines after lines (same ∙ is)))
-line-choice (Err e) before after line lines is same no_state q = q
+line-choice result before after line lines is same no_state q = grind (arith, left-lines, lines-choice)
 
 -- not all has come
 pub more_to_come : (state came : Bool) (due line : ℕ) → came ≡ (state && ((due == 0) && (line == 0))) → came ≡ false
     → state ≡ true → 0 < due + (line + 0)
 more_to_come true came zero zero is isnt state_is = let wrong : true ≡ false = sym is ∙ isnt in let bad : ⊥ = cc in absurd bad
-more_to_come true came (suc due) line is isnt state_is = omega arith
-more_to_come true came zero (suc line) is isnt state_is = omega arith
 more_to_come false came due line is isnt state_is = let bad : ⊥ = cc in absurd bad
+more_to_come true came _ _ is isnt state_is = omega arith
 
 -- a line with its LF
 pub judged-whole : {E : Type 0} (result : Result (Option Verdict) E) (before after : Comparison) (line : List ℕ) → IsOneLine line
     → ((lines : List (List ℕ)) → IsOpen before line lines
     → IfOk result (λ v. lines_left before (line ∷ lines) ≡ decided v (lines_left after lines)))
     → IfOk result (λ v. HasCounted before.number after.number v) → IfOk result (λ v. HasJudged before after how.Whole line v)
-judged-whole (Ok None) before after line one same counted = (
-  refl,
-  counted,
-  λ rest. ap (lines_left before) (whole-line line rest one)
-      ∙ same (slice_split is_line_end rest) (λ state. omega (arith, length-slice_split is_line_end rest)),
-)
-judged-whole (Ok (Some v)) before after line one same counted = (
-  counted,
-  λ rest. ap (lines_left before) (whole-line line rest one)
-      ∙ same (slice_split is_line_end rest) (λ state. omega (arith, length-slice_split is_line_end rest)),
-)
+judged-whole (Ok None) before after line one same counted = grind (arith, whole-line, length-slice_split)
+judged-whole (Ok (Some v)) before after line one same counted = grind (arith, whole-line, length-slice_split)
 judged-whole (Err e) before after line one same counted = tt
 
 -- what is left at the end
@@ -216,35 +180,16 @@ longer line text less =
 -- a line that is too long isn't the run's: not in the state
 long_state : (text : List ℕ) (n : ℕ) (line : List ℕ) (lines : List (List ℕ)) → position_or_len is_line_end text ≤ 65536
     → 65536 < length line → state_verdict text n (line ∷ lines) ≡ verdict.NotATrace n
-long_state text n line lines few many =
-    state-other text n line lines (omega (arith, many))
-    (λ some. longer line (first_line text)
-    (omega (arith, length-take (position_or_len is_line_end text + 1) text, few, many)))
-    ∙ long-otherwise n line many
+long_state text n line lines few many = grind (arith, state-other, longer, length-take, long-otherwise)
 
 -- nor of a choice
 own-few_by : (refusal : Option StepFault) (world : World) (choice : Choice) → length (lines_by refusal world choice (λ after. [])) ≤ 408
 own-few_by (Some NoSuchThread) world choice = refusal-few (world.choices + 1) choice None
-own-few_by (Some StepLimit) world choice = refusal-few (world.choices + 1) choice (Some (thread_at world.scene choice.thread).pc)
-own-few_by (Some Memory) world choice = omega arith
-own-few_by None world choice =
-    let pc = (thread_at world.scene choice.thread).pc in
-    let play : Played = played world choice in
-    let few = event-few (world.choices + 1) choice pc play.event in
-    omega (arith, few, ap length (append-nil (event_text (world.choices + 1) choice pc play.event)))
+own-few_by refusal world choice = search (rules, refusal-few, event-few)
 
 long_choice : (named : Option Choice) (accepted : Bool) (world : World) (n : ℕ) (line : List ℕ) (rest : Bool → World → Verdict)
     → 65536 < length line → choice_verdict named accepted world n line rest ≡ verdict.NotATrace n
-long_choice None accepted world n line rest many = refl
-long_choice (Some choice) accepted world n line rest many =
-    let few : length (lines_of world (choice ∷ [])) ≤ 408 = own-few_by (refusal_of world choice) world choice in
-    choice-other (Some choice) choice accepted world n line rest refl
-    (ap (λ b. accepted && b) (longer line (lines_of world (choice ∷ [])) (omega (arith, few, many))) ∙ never accepted)
-    ∙ long-otherwise n line many
-  where
-    never : (b : Bool) → (b && false) ≡ false
-    never true = refl
-    never false = refl
+long_choice named accepted world n line rest many = grind (arith, own-few_by, choice-other, longer, long-otherwise)
 
 long_line : (accepted : Bool) (world : World) (n : ℕ) (line : List ℕ) (lines : List (List ℕ)) → 65536 < length line
     → lines_verdict accepted world n (line ∷ lines) ≡ verdict.NotATrace n
@@ -296,5 +241,4 @@ compared (Err e) image now machine before after begins machine_is start number_i
 -- a verdict that is handed on
 pub with_verdict : {E : Type 0} (P : Verdict → Type 0) (result : Result Judged E) (v : Verdict) → P v
     → IfOk result (λ judged. judged.verdict ≡ v) → IfOk result (λ judged. P judged.verdict)
-with_verdict P (Ok judged) v holds same = subst P (sym same) holds
-with_verdict P (Err fault) v holds same = tt
+with_verdict P result v holds same = grind arith

@@ -29,16 +29,14 @@ choices-both (run ∷ runs) more =
 
 -- the last run has another of its choice
 joined-last : (runs : List Run) (a b : Run) → b.choice ≡ a.choice → AreJoined (runs ++ a ∷ []) → AreJoined (runs ++ b ∷ [])
-joined-last [] a b same joined = tt
-joined-last (run ∷ []) a b same joined = (λ e. joined.0 (e ∙ same), tt)
 joined-last (run ∷ next ∷ runs) a b same joined = (joined.0, joined-last (next ∷ runs) a b same joined.1)
+joined-last runs a b same joined = grind arith
 
 -- another run behind it
 joined-next : (runs : List Run) (a b : Run) → (a.choice ≡ b.choice → a.times ≡ 1000000000) → AreJoined (runs ++ a ∷ [])
     → AreJoined ((runs ++ a ∷ []) ++ b ∷ [])
-joined-next [] a b apart joined = (apart, tt)
-joined-next (run ∷ []) a b apart joined = (joined.0, (apart, tt))
 joined-next (run ∷ next ∷ runs) a b apart joined = (joined.0, joined-next (next ∷ runs) a b apart joined.1)
+joined-next runs a b apart joined = grind arith
 
 closed-next : (runs : List Run) (run : Run) → closed_text (runs ++ run ∷ []) ≡ closed_text runs ++ (token_of run ++ 32 ∷ [])
 closed-next [] run = refl
@@ -132,8 +130,7 @@ end-some is_trace start old new choices run pushed (runs, (all, spelled-all, one
 written-runs : (start new : Option (List ℕ)) (last : Option Run) (choices : List Choice) → HasWritten start last new choices
     → (runs : List Run) × ((rest : List Choice) × ((choices ≡ choices_of runs ++ rest) × Appends start new (closed_text runs)))
 written-runs start new None choices (none, same) = ([], ([], (none, subst (λ o. Appends start o []) (sym same) (Appends-nil start))))
-written-runs start new (Some run) choices (runs, (all, spelled-all, one, joined, text)) =
-    (runs, (choices_of (run ∷ []), (all ∙ choices-both runs (run ∷ []), text)))
+written-runs start new (Some run) choices (runs, (all, spelled-all, one, joined, text)) = grind (arith, choices-both)
 
 pub written-part : (n : ℕ) (choices : List Choice) (y z : Lines) (a b c start new : Option (List ℕ)) (last : Option Run)
     → HasTaken 1 choices n none_read y a b → Consumes (prepend_known y.held b) (prepend_known z.held c) [] → HasWritten start last new choices
@@ -159,14 +156,12 @@ written-part n choices y z a b c start new last (one, (gone, many, names)) on wr
     )
 
 pub on-ok : {T E P Q : Type 0} (r : Result T E) → (P → Q) → OnOk r P → OnOk r Q
-on-ok (Ok x) then p = then p
-on-ok (Err e) then p = tt
+on-ok r then p = grind arith
 
 -- where the line's end was written
 pub ended-ok : {T E F : Type 0} (u : T) (r : Result (Option ℕ) F) (w : Result T E) (stop : Option ℕ) (P : Option ℕ → Type 0) (Q : Type 0)
     → OnOk r (w ≡ Ok u) → IfOk r (λ answer. answer ≡ stop) → OnOk w Q → (Q → P stop) → IfOk r P
-ended-ok u (Ok answer) w stop P Q ok is done then = subst P (sym is) (then (subst (λ x. OnOk x Q) ok done))
-ended-ok u (Err e) w stop P Q ok is done then = tt
+ended-ok u r w stop P Q ok is done then = grind arith
 
 -- what was read and written then
 abbrev pub HasEndedSo : Option (List ℕ) → Option (List ℕ) → Option (List ℕ) → Option (List ℕ) → Option ℕ → Type 0
