@@ -1,15 +1,13 @@
 -- A schedule names threads from 0 to 63.
-use Rattle.std.proofs.Common.{◌≡◌, ◌+◌, ◌≤◌, ◌==◌, ◌||◌, ◌&&◌, not, ℕ, Bool, true, false, List, [], ◌∷◌, length, drop, replicate, cond, All, Option, Some, None, refl, subst, nat_lt, arith}
+use Rattle.std.proofs.Common.{◌≡◌, ◌+◌, ◌≤◌, ◌||◌, ℕ, Bool, true, false, List, [], ◌∷◌, length, replicate, cond, All, Option, Some, None, subst, nat_lt, arith}
 use Rattle.std.specs.Prelude.{IfSome}
 use Rattle.std.specs.List.{slice_split}
-use Rattle.std.specs.Str.Parse.{digits_value}
 use Rattle.std.proofs.lemmas.Bool.{ltb-false}
 use Rattle.std.proofs.lemmas.List.Elements.{All-append, All-cons, All-head, All-nil, All-replicate, All-tail}
 use Rattle.thread_machine.specs.declared.choice.Choice.{Choice}
 use Rattle.schedule_reader.specs.declared.fault.ScheduleFault.{ScheduleFault}
-use Rattle.schedule_reader.specs.declared.fault.ScheduleFault.TheVariants as fault
 use Rattle.schedule_reader.specs.declared.run.Run.{Run}
-use Rattle.schedule_reader.specs.Schedule.{IsRun, Reading, Token, Faulty, Unfinished, Schedule, choice_of, choices_of, digits_of, finished_schedule, is_blank, no_runs, number_within, reading_after_letter, reading_after_star, reading_by_thread, reading_by_times, reading_of, reading_of_count, reading_of_thread, reading_of_times, run_of, schedule_in, schedule_with, schedule_with_piece, whole}
+use Rattle.schedule_reader.specs.Schedule.{IsRun, Reading, Token, Faulty, Unfinished, Schedule, choices_of, finished_schedule, is_blank, reading_after_letter, reading_by_thread, reading_by_times, reading_of, reading_of_count, reading_of_thread, schedule_in, schedule_with, schedule_with_piece, whole}
 use Rattle.trace_compare.proofs.OwnTrace.{IsNamed}
 
 -- a run of such a thread

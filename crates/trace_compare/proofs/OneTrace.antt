@@ -1,23 +1,18 @@
 -- An image's program shows the same under the same choices, however its phasers are stored. So a trace that was written is found
 -- the same.
-use Rattle.std.proofs.Common.{◌≡◌, ◌∙◌, ◌+◌, ℕ, List, [], ◌∷◌, ◌++◌, All, Option, Some, None, inl, inr, refl, ap, append-nil, arith, sym}
+use Rattle.std.proofs.Common.{◌≡◌, ◌∙◌, ℕ, List, [], ◌∷◌, ◌++◌, All, Option, None, inl, inr, refl, ap, append-nil, arith, sym}
 use Rattle.row_code.specs.declared.image.Image.{Image}
 use Rattle.tier_tree.specs.Stored.{Stored}
-use Rattle.machine_scene.specs.Scene.{thread_at}
 use Rattle.schedule_reader.specs.declared.run.Run.{Run}
 use Rattle.schedule_reader.specs.Schedule.{IsRun, choices_of}
 use Rattle.thread_machine.specs.declared.choice.Choice.{Choice}
 use Rattle.thread_machine.specs.declared.fault.StepFault.{StepFault}
-use Rattle.thread_machine.specs.declared.fault.StepFault.TheVariants.{NoSuchThread, StepLimit, Memory}
 use Rattle.thread_machine.specs.World.{World, IsFirstOf, first_of}
-use Rattle.thread_machine.specs.Ready.{outcome_of_choice}
-use Rattle.thread_machine.specs.Step.{Played, played, refusal_of}
+use Rattle.thread_machine.specs.Step.{played, refusal_of}
 use Rattle.thread_machine.specs.Execution.{Execution, execution, execution_by}
-use Rattle.trace_text.specs.Lines.{event_text}
 use Rattle.trace_text.specs.Outcome.{EndsFrom}
 use Rattle.trace_text.specs.RunText.{AreTraced}
 use Rattle.trace_text.specs.Start.{Begins}
-use Rattle.trace_text.specs.State.{state_text}
 use Rattle.trace_text.specs.Trace.{lines_by, lines_of, trace_of}
 use Rattle.trace_text.specs.declared.run_end.RunEnd.{RunEnd}
 use Rattle.trace_compare.specs.declared.comparison.Verdict.TheVariants as verdict

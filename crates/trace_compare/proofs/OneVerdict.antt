@@ -1,10 +1,9 @@
 -- How the phasers of a program are stored makes no difference to a choice, nor to what is shown of the state.
-use Rattle.std.proofs.Common.{◌≡◌, ◌==◌, ◌&&◌, ◌||◌, ◌++◌, not, nat_le, codes, decimal, length, is_some, ℕ, Bool, List, cond, Option, Some, None, refl, ap, arith}
+use Rattle.std.proofs.Common.{◌≡◌, ◌&&◌, ◌++◌, not, codes, decimal, ℕ, Bool, List, cond, Option, ap, arith}
 use Rattle.row_code.specs.declared.image.Image.{Image}
 use Rattle.tier_tree.specs.Stored.{Stored}
 use Rattle.machine_scene.specs.Scene.{Outcome}
 use Rattle.thread_machine.specs.declared.choice.Choice.{Choice}
-use Rattle.thread_machine.specs.declared.fault.StepFault.TheVariants.{NoSuchThread, StepLimit}
 use Rattle.thread_machine.specs.World.{World, IsFirstOf, first_of}
 use Rattle.thread_machine.specs.Standing.{name_of}
 use Rattle.thread_machine.specs.declared.standing.Standing.TheVariants as standing

@@ -1,7 +1,7 @@
 -- The run's own lines at the beginning of bytes of a trace, and another line there that names a choice.
-use Rattle.std.proofs.Common.{◌≡◌, ◌≢◌, ◌∙◌, ◌+◌, ◌<◌, ◌≤◌, ◌^◌, ◌==◌, ◌&&◌, ◌⊎◌, ℕ, Bool, true, false, zero, suc, List, [], ◌∷◌, ◌++◌, length, drop, take, cond, Option, Some, None, is_none, nat_le, not, refl, ap, sym, subst, arith, append_assoc, append-nil, length-append, length-drop, take-append-drop, inl, inr, decimal, codes, get_or}
+use Rattle.std.proofs.Common.{◌≡◌, ◌≢◌, ◌∙◌, ◌+◌, ◌<◌, ◌≤◌, ◌^◌, ◌&&◌, ◌⊎◌, ℕ, Bool, true, false, zero, suc, List, [], ◌∷◌, ◌++◌, length, drop, take, cond, Option, Some, None, is_none, nat_le, refl, ap, sym, subst, arith, append_assoc, append-nil, length-append, length-drop, take-append-drop, inl, inr, decimal, codes, get_or}
 use Rattle.std.specs.Prelude.{Err, IfOk, Ok, Result, if◌then◌else◌}
-use Rattle.std.specs.List.{join_with_byte, position_or_len, slice_split}
+use Rattle.std.specs.List.{join_with_byte, slice_split}
 use Rattle.std.specs.Str.{bytes_eq}
 use Rattle.std.proofs.lemmas.Bool.{false_from_ne_true}
 use Rattle.std.proofs.Math.ListN.{get_or-append}
@@ -22,8 +22,8 @@ use Rattle.thread_machine.specs.Execution.{execution}
 use Rattle.trace_compare.specs.declared.comparison.Comparison.{Comparison}
 use Rattle.trace_compare.specs.declared.comparison.Verdict.{Verdict}
 use Rattle.trace_compare.specs.declared.comparison.Verdict.TheVariants as verdict
-use Rattle.trace_text.specs.Reading.{choice_in, is_space, is_state_line, BeginsWithName, NamesBehind}
-use Rattle.trace_compare.specs.Compare.{choice_verdict, lines_verdict, otherwise}
+use Rattle.trace_text.specs.Reading.{choice_in, is_state_line, BeginsWithName, NamesBehind}
+use Rattle.trace_compare.specs.Compare.{lines_verdict, otherwise}
 use Rattle.trace_compare.specs.Comparing.{GoesOver, IsReading, bytes_left, line_ends, lines_left}
 use Rattle.trace_text.specs.Lines.{choice_text, event_text}
 use Rattle.trace_text.specs.Trace.{Plays, lines_by, lines_of}

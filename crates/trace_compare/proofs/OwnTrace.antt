@@ -1,22 +1,20 @@
 -- The trace of any choices has the verdict `Same`.
-use Rattle.std.proofs.Common.{◌≡◌, ◌∙◌, ◌+◌, ◌<◌, ◌≤◌, ◌==◌, ◌||◌, ℕ, Bool, true, false, List, [], ◌∷◌, ◌++◌, length, cond, Option, Some, None, is_none, refl, ap, sym, subst, arith, append_assoc, append-nil, All, ◌≢◌, nat_le}
+use Rattle.std.proofs.Common.{◌≡◌, ◌∙◌, ◌+◌, ◌<◌, ◌≤◌, ◌||◌, ℕ, Bool, true, false, List, [], ◌∷◌, ◌++◌, length, cond, Option, Some, None, is_none, refl, ap, sym, subst, arith, append_assoc, append-nil, All, nat_le}
 use Rattle.std.proofs.lemmas.Bool.{eqb-false}
 use Rattle.std.proofs.lemmas.List.Elements.{All-head, All-tail}
 use Rattle.std.proofs.lemmas.Slice.Eq.{bytes_eq-Decides}
 use Rattle.std.specs.List.{slice_split}
-use Rattle.std.specs.Str.{bytes_eq}
 use Rattle.line_reader.specs.Words.{is_line_end}
 use Rattle.machine_scene.specs.Scene.{thread_at}
 use Rattle.thread_machine.specs.declared.choice.Choice.{Choice}
 use Rattle.thread_machine.specs.declared.fault.StepFault.{StepFault}
 use Rattle.thread_machine.specs.declared.fault.StepFault.TheVariants.{NoSuchThread, StepLimit}
 use Rattle.thread_machine.specs.World.{World}
-use Rattle.thread_machine.specs.Ready.{outcome_of_choice}
-use Rattle.thread_machine.specs.Step.{Played, is_used_up, played, refusal_of}
+use Rattle.thread_machine.specs.Step.{Played, is_used_up, played}
 use Rattle.thread_machine.specs.Execution.{execution, execution_by}
 use Rattle.trace_compare.specs.declared.comparison.Verdict.TheVariants as verdict
 use Rattle.trace_text.specs.Brief.{IsBrief}
-use Rattle.trace_compare.specs.Compare.{choice_verdict, lines_verdict, otherwise, state_verdict}
+use Rattle.trace_compare.specs.Compare.{lines_verdict, state_verdict}
 use Rattle.trace_text.specs.Reading.{is_state_line}
 use Rattle.trace_text.specs.Lines.{event_text}
 use Rattle.trace_text.specs.State.{state_text}

@@ -1,35 +1,23 @@
 -- A choice comes to the same however the phasers of its program are stored.
-use Rattle.std.proofs.Common.{◌≡◌, ◌∙◌, ◌&&◌, ◌||◌, ℕ, ℤ, pos, Bool, not, false, true, List, [], ◌∷◌, cond, Option, Some, None, is_some, refl, ap, arith}
-use Rattle.std.specs.Prelude.{int_lt, length}
-use Rattle.std.specs.List.{list_any, range_with_len}
+use Rattle.std.proofs.Common.{◌≡◌, ◌∙◌, ◌||◌, ℕ, ℤ, Bool, List, [], ◌∷◌, Option, Some, refl, ap, arith}
+use Rattle.std.specs.List.{list_any}
 use Rattle.instruction_table.specs.declared.register.Reg.{Reg}
 use Rattle.instruction_table.specs.declared.row.Row.{Row}
-use Rattle.instruction_table.specs.declared.row.Row.TheVariants.{Cawait, Cawaitt, Paaa, Parr, Pdereg, Ret}
-use Rattle.instruction_table.specs.Registers.{value_in}
 use Rattle.cyclic_barrier.specs.declared.answer.Entered.{Entered}
-use Rattle.cyclic_barrier.specs.declared.answer.Entered.TheVariants as entered
-use Rattle.cyclic_barrier.specs.Barrier.{Entry, enter_timed}
 use Rattle.tier_tree.specs.declared.arrived.Arrived.{Arrived}
-use Rattle.tier_tree.specs.declared.arrived.Arrived.TheVariants as arrived
-use Rattle.tier_tree.specs.Arrival.{Arrives, arrival}
 use Rattle.tier_tree.specs.Stored.{Stored}
 use Rattle.loader.specs.Program.{Program, row_at}
 use Rattle.thread_state.specs.declared.frame.Frame.{Frame}
-use Rattle.thread_state.specs.declared.frame.Frame.TheVariants as frame
 use Rattle.thread_state.specs.declared.status.Status.{Status}
-use Rattle.thread_state.specs.declared.status.Status.TheVariants as status
-use Rattle.thread_state.specs.Thread.{is_full, top_of, turn_of_throw}
 use Rattle.machine_scene.specs.declared.group.Group.{Group}
-use Rattle.machine_scene.specs.declared.group.Group.TheVariants.{Own, Calls, Data, Phasers, Getters, Barriers}
 use Rattle.machine_scene.specs.declared.manner.Manner.{Manner}
-use Rattle.machine_scene.specs.Scene.{Scene, barrier_at, outcome_of_turn, thread_at, with_barrier, with_phasers}
-use Rattle.machine_scene.specs.Group.{group_of}
+use Rattle.machine_scene.specs.Scene.{Scene, thread_at}
 use Rattle.machine_scene.specs.BarrierRows.{outcome_of_await_at, outcome_of_barrier_row, outcome_of_entered, unless_busy, unless_runner}
 use Rattle.machine_scene.specs.CallRows.{outcome_of_call_row, outcome_of_ret}
-use Rattle.machine_scene.specs.PhaserRows.{answer_of_policy, has_routine, outcome_of_arrival, outcome_of_arrived, outcome_of_phaser_row, outcome_of_pending_end, unless_own}
-use Rattle.machine_scene.specs.Outcomes.{is_ready, outcome_in, outcome_in_group, outcome_of, outcome_of_expiry, timeout_in}
+use Rattle.machine_scene.specs.PhaserRows.{outcome_of_arrival, outcome_of_arrived, outcome_of_phaser_row, outcome_of_pending_end, unless_own}
+use Rattle.machine_scene.specs.Outcomes.{outcome_in, outcome_in_group, outcome_of, outcome_of_expiry}
 use Rattle.thread_machine.specs.declared.choice.Choice.{Choice}
-use Rattle.thread_machine.specs.Ready.{can_expire, can_go_on, outcome_of_choice, some_ready}
+use Rattle.thread_machine.specs.Ready.{can_go_on, outcome_of_choice, some_ready}
 
 -- a program whose phasers are stored otherwise
 abbrev pub stored_in : List Stored → Program → Program

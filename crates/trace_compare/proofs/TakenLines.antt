@@ -7,7 +7,6 @@ use Rattle.byte_ports.specs.declared.source_lines.LineEnded.{LineEnded}
 use Rattle.byte_ports.specs.declared.source_lines.LineEnded.TheVariants as how
 use Rattle.trace_compare.specs.declared.comparison.Comparison.{Comparison}
 use Rattle.trace_compare.specs.declared.comparison.Verdict.{Verdict}
-use Rattle.trace_compare.specs.declared.comparison.Verdict.TheVariants as verdict
 use Rattle.trace_compare.specs.Compare.{IsReadNoFurther, IsReadUpTo}
 use Rattle.trace_compare.specs.Comparing.{GoesOver, HasComeTo, HasJudged, HasLeft, StandsFrom, bytes_left}
 use Rattle.trace_compare.specs.NamedLines.{none_read}

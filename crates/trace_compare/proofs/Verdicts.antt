@@ -1,5 +1,5 @@
 -- The verdict on lines that are the run's.
-use Rattle.std.proofs.Common.{◌≡◌, ◌∙◌, ◌↔◌, ◌+◌, ◌<◌, ◌≤◌, ◌&&◌, ◌⊎◌, ℕ, Bool, true, false, List, [], ◌∷◌, ◌++◌, length, drop, Option, Some, None, IsTrue, ◌==◌, zero, suc, refl, ap, sym, subst, arith, is_none, cond, inl, inr, take, min, append-nil, length-append, take-append-drop, rules}
+use Rattle.std.proofs.Common.{◌≡◌, ◌∙◌, ◌↔◌, ◌+◌, ◌<◌, ◌≤◌, ◌&&◌, ◌⊎◌, ℕ, Bool, true, false, List, [], ◌∷◌, ◌++◌, length, drop, Option, Some, None, IsTrue, ◌==◌, zero, suc, refl, ap, sym, arith, is_none, cond, inl, inr, take, min, length-append, take-append-drop, rules}
 use Rattle.std.specs.Prelude.{Result, Ok, Err, IfOk}
 use Rattle.trace_compare.specs.declared.comparison.Comparison.{Comparison}
 use Rattle.trace_compare.specs.Comparing.{HasCounted, HasJudged, HasLeft, IsOpen, StandsFrom, bytes_left, decided, lines_left}
@@ -7,7 +7,7 @@ use Rattle.std.proofs.Math.Seq.{drop-append_seam, take-append_seam}
 use Rattle.std.proofs.lemmas.Bool.{and_from, and_parts, cases_lt, lt-ltb, false_from_ne_true}
 use Rattle.std.proofs.lemmas.List.Splits.{slice_split_none, length-slice_split}
 use Rattle.std.proofs.lemmas.List.{drop_all, length-take, take_all, drop-drop}
-use Rattle.std.specs.List.{position_or_len, slice_split}
+use Rattle.std.specs.List.{position_or_len}
 use Rattle.std.specs.Str.{bytes_eq}
 use Rattle.std.proofs.lemmas.Slice.Eq.{bytes_eq-Decides}
 use Rattle.std.specs.Io.KnownBytes.{Consumes}
@@ -18,19 +18,15 @@ use Rattle.trace_text.specs.Start.{Begins}
 use Rattle.line_reader.specs.Words.{is_line_end}
 use Rattle.thread_machine.specs.declared.choice.Choice.{Choice}
 use Rattle.thread_machine.specs.declared.fault.StepFault.{StepFault}
-use Rattle.thread_machine.specs.declared.fault.StepFault.TheVariants.{Memory, NoSuchThread, StepLimit}
+use Rattle.thread_machine.specs.declared.fault.StepFault.TheVariants.{NoSuchThread}
 use Rattle.thread_machine.specs.World.{StoredWorld, World, world_of}
-use Rattle.thread_machine.specs.Execution.{execution}
 use Rattle.trace_compare.specs.declared.comparison.Verdict.{Verdict}
 use Rattle.trace_compare.specs.declared.comparison.Judged.{Judged}
 use Rattle.trace_compare.specs.declared.comparison.Verdict.TheVariants as verdict
 use Rattle.trace_compare.specs.Compare.{HasCompared, HasVerdict, verdict_of, choice_verdict, state_verdict, lines_verdict, otherwise}
 use Rattle.trace_text.specs.Reading.{HasNoLongLine, first_line, after_line, is_state_line, choice_in}
-use Rattle.trace_text.specs.Lines.{event_text}
 use Rattle.trace_text.specs.State.{state_text}
 use Rattle.trace_text.specs.Trace.{Plays, lines_by, lines_of}
-use Rattle.machine_scene.specs.Scene.{thread_at}
-use Rattle.thread_machine.specs.Step.{Played, played, refusal_of}
 use Rattle.trace_compare.proofs.NamedLines.{begun-line, whole-line}
 use Rattle.trace_text.proofs.Naming.{event-few, refusal-few}
 use Rattle.trace_text.proofs.StateLines.{parts_text, state-line}

@@ -1,13 +1,13 @@
 -- The number that a line begins with, by the first byte that is no digit.
-use Rattle.std.proofs.Common.{◌≡◌, ◌∙◌, ◌+◌, ◌<◌, ◌≤◌, ℕ, Bool, true, false, List, length, take, drop, get_or, None, cond, ap, refl, sym, arith, inl, inr, length-take, length-take-le, get_or-take}
+use Rattle.std.proofs.Common.{◌≡◌, ◌∙◌, ◌+◌, ◌<◌, ◌≤◌, ℕ, Bool, true, false, List, length, take, drop, get_or, None, cond, ap, refl, sym, arith, length-take, length-take-le, get_or-take, rules}
 use Rattle.std.specs.Prelude.{Option}
 use Rattle.std.specs.Char.{is_ascii_digit}
-use Rattle.std.specs.List.{before_first, after_first, list_all, position_or_len}
+use Rattle.std.specs.List.{before_first, list_all, position_or_len}
 use Rattle.std.proofs.lemmas.Bool.{and_from, and_parts, cases_lt, eqb-true, le-leb, leb-true, lt-ltb, ltb-true, ne_eqb, not-false, not_from_true}
 use Rattle.std.proofs.lemmas.List.{drop_all}
 use Rattle.std.proofs.lemmas.List.Sums.{AllPass-from_list_all, fails_before_first, list_all-from_AllPass, passes_at_first, position_or_len_is, prefix_len-le-length}
 use Rattle.thread_machine.specs.declared.choice.Choice.{Choice}
-use Rattle.trace_text.specs.Reading.{is_space, is_step, choice_named, choice_in, is_no_digit}
+use Rattle.trace_text.specs.Reading.{is_space, choice_named, choice_in, is_no_digit}
 
 space-no_digit : (b : ℕ) → is_space b ≡ true → is_no_digit b ≡ true
 space-no_digit b is = let same : b ≡ 32 = eqb-true b 32 is in ap is_no_digit same
@@ -30,10 +30,7 @@ digits_end line digits =
 -- where a space follows the digits, they are the first word
 space_end : (line : List ℕ) (end : ℕ) → end ≡ position_or_len is_no_digit line → end < length line → get_or line end 0 ≡ 32
     → position_or_len is_space line ≡ end
-space_end line end is there space =
-    position_or_len_is is_space line end 0 (omega (arith, there))
-    (λ k before. digit-no_space _ (fails_before_first is_no_digit line k 0 (omega (arith, before, is))))
-    (λ _. ap is_space space)
+space_end line end is there space = grind (arith, position_or_len_is, digit-no_space, fails_before_first)
 
 digits_word : (line : List ℕ) (end : ℕ) → end ≡ position_or_len is_no_digit line → end ≤ length line
     → list_all is_ascii_digit (take end line) ≡ true
@@ -46,15 +43,7 @@ digits_word line end is within =
 -- what a line names whose digits end in a space
 pub named_behind : (line : List ℕ) (end : ℕ) → end ≡ position_or_len is_no_digit line → 0 < end → end ≤ 13 → end < length line
     → get_or line end 0 ≡ 32 → choice_named (before_first is_space (drop (end + 1) line)) ≡ choice_in line
-named_behind line end is some few there space =
-    let word = space_end line end is there space in
-    let size : length (take end line) ≡ end = length-take-le end line (omega (arith, there)) in
-    let step : is_step (take end line) ≡ true =
-    and_from _ _ (lt-ltb 0 (length (take end line)) (omega (arith, size, some)))
-    (and_from _ _ (le-leb (length (take end line)) 13 (omega (arith, size, few))) (digits_word line end is (omega (arith, there)))) in
-    sym (
-    ap (λ n. cond (is_step (take n line)) (choice_named (before_first is_space (drop (n + 1) line))) None) word
-    ∙ ap (λ b. cond b (choice_named (before_first is_space (drop (end + 1) line))) None) step)
+named_behind line end is some few there space = search (rules, space_end, and_from, lt-ltb, le-leb, digits_word)
 
 -- what one names whose digits aren't the number of a choice, or that ends with them
 unnamed : (b : Bool) (rest : Option Choice) → (b ≡ true → rest ≡ None) → None ≡ cond b rest None
@@ -63,19 +52,4 @@ unnamed false rest none = refl
 
 pub named_none : (line : List ℕ) (end : ℕ) → end ≡ position_or_len is_no_digit line
     → (0 < end → end ≤ 13 → end < length line → get_or line end 0 ≡ 32 → ⊥) → None ≡ choice_in line
-named_none line end is never =
-    unnamed (is_step (before_first is_space line)) (choice_named (before_first is_space (after_first is_space line))) (λ step.
-    let parts = and_parts _ _ step in
-    let more = and_parts _ _ parts.1 in
-    let same : end ≡ position_or_len is_space line = is ∙ digits_end line more.1 in
-    let upto : position_or_len is_space line ≤ length line = prefix_len-le-length _ line in
-    let within : end ≤ length line = omega (arith, same, upto) in
-    let size : length (before_first is_space line) ≡ end = ap (λ n. length (take n line)) (sym same) ∙ length-take-le end line within in
-    let some : 0 < end = omega (arith, size, ltb-true 0 _ parts.0) in
-    let few : end ≤ 13 = omega (arith, size, leb-true _ 13 more.0) in
-    elim (cases_lt end (length line)) as (λ _. choice_named (before_first is_space (after_first is_space line)) ≡ None) [
-      | inl there ↦ absurd (never some few there
-          (ap (λ n. get_or line n 0) same ∙ eqb-true _ 32 (passes_at_first is_space line 0 (omega (arith, same, there)))))
-      | inr all ↦ ap (λ rest. choice_named (before_first is_space rest))
-          (drop_all (position_or_len is_space line + 1) line (omega (arith, same, all)))
-    ])
+named_none line end is never = search (rules, unnamed, and_parts, digits_end, prefix_len-le-length, ltb-true, leb-true, cases_lt, eqb-true, passes_at_first, drop_all)

@@ -31,12 +31,7 @@ longer_by_count old new n k is few = omega (arith, ap length is, length-append (
 pub sign_before : (bytes : List ℕ) (at d : ℕ) (z : ℤ) (rest : List ℕ) → 1 ≤ at → at ≤ length bytes
     → drop at bytes ≡ decimal d ++ rest → d ≡ unsigned_abs z → int_le (pos 0) z ≡ false
     → drop (at - 1) (set bytes (at - 1) 45) ≡ signed_decimal z ++ rest
-sign_before bytes at d z rest some within digits is below =
-    drop-set bytes (at - 1) 45 (omega arith)
-    ∙ ap (λ n. 45 ∷ drop n bytes) (omega arith)
-    ∙ ap (λ xs. 45 ∷ xs) digits
-    ∙ ap (λ n. 45 ∷ (decimal n ++ rest)) is
-    ∙ ap (λ xs. xs ++ rest) (minus_first z below)
+sign_before bytes at d z rest some within digits is below = grind (arith, drop-set, minus_first)
 
 -- a number's text by its last digit, and the next number's where that isn't a 9
 pub last_digit : (n : ℕ) → n + 1 < 2 ^ 64

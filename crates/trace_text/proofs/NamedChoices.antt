@@ -1,5 +1,5 @@
 -- The choice that bytes name, as a test of four or five of them finds it.
-use Rattle.std.proofs.Common.{◌≡◌, ◌≢◌, ◌∙◌, ◌+◌, ◌<◌, ◌≤◌, ◌==◌, ◌-◌, ◌*◌, ◌/◌, ◌%◌, ℕ, Bool, true, false, List, [], ◌∷◌, ◌++◌, length, drop, cond, Option, Some, None, ap, sym, subst, arith, append_assoc, decimal, codes, get_or}
+use Rattle.std.proofs.Common.{◌≡◌, ◌≢◌, ◌∙◌, ◌+◌, ◌<◌, ◌≤◌, ◌==◌, ◌-◌, ◌*◌, ◌/◌, ◌%◌, ℕ, Bool, true, false, List, [], ◌∷◌, ◌++◌, length, drop, cond, Option, ap, sym, arith, append_assoc, decimal, codes, get_or}
 use Rattle.std.specs.Prelude.{IfSome, if◌then◌else◌}
 use Rattle.std.specs.Char.{is_ascii_digit}
 use Rattle.std.proofs.lemmas.Bool.{eq-eqb}
@@ -39,26 +39,18 @@ digit_from b digit = grind (arith, nat_tests)
 pub named_by_one : (bytes : List ℕ) (expiry : Bool) → 5 ≤ length bytes → get_or bytes 0 0 ≡ 32
     → cond expiry 120 116 ≡ get_or bytes 1 0 → is_ascii_digit (get_or bytes 2 0) ≡ true → get_or bytes 3 0 ≡ 32
     → BeginsWithName bytes (record { thread = get_or bytes 2 0 - 48; expiry = expiry })
-named_by_one [] expiry long space letter digit after = absurd (omega arith)
-named_by_one (a ∷ []) expiry long space letter digit after = absurd (omega arith)
-named_by_one (a ∷ b ∷ []) expiry long space letter digit after = absurd (omega arith)
-named_by_one (a ∷ b ∷ c ∷ []) expiry long space letter digit after = absurd (omega arith)
 named_by_one (a ∷ b ∷ c ∷ d ∷ rest) expiry long space letter digit after =
     let small = digit_under c digit in
     name_is (record { thread = c - 48; expiry = expiry }) b (c ∷ []) rest (a ∷ b ∷ c ∷ d ∷ rest) letter
     (decimal_digit (c - 48) small ∙ ap (λ n. n ∷ []) (digit_from c digit)) (omega (arith, small))
     (ap (λ n. n ∷ b ∷ c ∷ d ∷ rest) space ∙ ap (λ n. 32 ∷ b ∷ c ∷ n ∷ rest) after)
+named_by_one _ expiry long space letter digit after = absurd (omega arith)
 
 pub named_by_two : (bytes : List ℕ) (expiry : Bool) → 5 ≤ length bytes → get_or bytes 0 0 ≡ 32
     → cond expiry 120 116 ≡ get_or bytes 1 0 → is_ascii_digit (get_or bytes 2 0) ≡ true → get_or bytes 2 0 - 48 ≢ 0
     → is_ascii_digit (get_or bytes 3 0) ≡ true → get_or bytes 4 0 ≡ 32
     → (get_or bytes 2 0 - 48) * 10 + (get_or bytes 3 0 - 48) ≤ 63
     → BeginsWithName bytes (record { thread = (get_or bytes 2 0 - 48) * 10 + (get_or bytes 3 0 - 48); expiry = expiry })
-named_by_two [] expiry long space letter ten some digit after few = absurd (omega arith)
-named_by_two (a ∷ []) expiry long space letter ten some digit after few = absurd (omega arith)
-named_by_two (a ∷ b ∷ []) expiry long space letter ten some digit after few = absurd (omega arith)
-named_by_two (a ∷ b ∷ c ∷ []) expiry long space letter ten some digit after few = absurd (omega arith)
-named_by_two (a ∷ b ∷ c ∷ d ∷ []) expiry long space letter ten some digit after few = absurd (omega arith)
 named_by_two (a ∷ b ∷ c ∷ d ∷ e ∷ rest) expiry long space letter ten some digit after few =
     let thread = (c - 48) * 10 + (d - 48) in
     let small = digit_under d digit in
@@ -67,13 +59,13 @@ named_by_two (a ∷ b ∷ c ∷ d ∷ e ∷ rest) expiry long space letter ten s
     name_is (record { thread = thread; expiry = expiry }) b (c ∷ d ∷ []) rest (a ∷ b ∷ c ∷ d ∷ e ∷ rest) letter
     (two_digits thread (omega (arith, some)) (omega (arith, few)) ∙ ap (λ n. n ∷ (48 + thread % 10) ∷ []) first ∙ ap (λ n. c ∷ n ∷ []) last) few
     (ap (λ n. n ∷ b ∷ c ∷ d ∷ e ∷ rest) space ∙ ap (λ n. 32 ∷ b ∷ c ∷ d ∷ n ∷ rest) after)
+named_by_two _ expiry long space letter ten some digit after few = absurd (omega arith)
 
 -- a choice that was found behind so many bytes
 pub named_there : (found : Option Choice) (bytes : List ℕ) (count : ℕ) (behind : List ℕ) → (get_or bytes 0 0 ≡ 115 → ⊥)
     → behind ≡ drop count bytes → IfSome found (λ choice. BeginsWithName behind choice)
     → IfSome found (λ choice. NamesBehind bytes count choice)
-named_there (Some choice) bytes count behind other is p = (other, subst (λ bs. BeginsWithName bs choice) is p)
-named_there None bytes count behind other is p = p
+named_there found bytes count behind other is p = grind arith
 
 -- the letter of an expiry, and of a turn
 pub letter_x : (letter : ℕ) → letter ≡ 120 → cond (letter == 120) 120 116 ≡ letter

@@ -1,5 +1,5 @@
 -- What a choice's own line names.
-use Rattle.std.proofs.Common.{◌≡◌, ◌∙◌, ◌+◌, ◌^◌, ◌<◌, ◌≤◌, ◌==◌, ◌&&◌, not, ℕ, Bool, true, false, List, [], ◌∷◌, ◌++◌, length, take, drop, cond, if◌then◌else◌, Option, Some, None, codes, decimal, refl, ap, sym, subst, arith, append_assoc, length-append, ℤ}
+use Rattle.std.proofs.Common.{◌≡◌, ◌∙◌, ◌+◌, ◌^◌, ◌<◌, ◌≤◌, ◌==◌, ◌&&◌, not, ℕ, Bool, true, false, List, [], ◌∷◌, ◌++◌, length, take, drop, cond, if◌then◌else◌, Option, Some, None, codes, decimal, refl, ap, arith, append_assoc, length-append, ℤ, rules}
 use Rattle.std.specs.Fmt.{signed_decimal, digits}
 use Rattle.std.specs.Char.{is_ascii_digit}
 use Rattle.std.specs.List.{before_first, after_first, list_all, position_or_len}
@@ -53,16 +53,8 @@ named_is : (expiry : Bool) (n : ℕ) (named : Option Choice) → names expiry n 
     → named ≡ Some (record { thread = n; expiry = expiry })
 unfolding names
 named_is expiry n None is = let no : ⊥ = cc in absurd no
-named_is true n (Some choice) is =
-    let parts = and_parts _ _ is in
-    let number : choice.thread ≡ n = eqb-true _ _ parts.1 in
-    let yes : choice.expiry ≡ true = parts.0 in
-    rw (number, yes) refl
-named_is false n (Some choice) is =
-    let parts = and_parts _ _ is in
-    let number : choice.thread ≡ n = eqb-true _ _ parts.1 in
-    let no : choice.expiry ≡ false = not-true _ parts.0 in
-    rw (number, no) refl
+named_is true n (Some choice) is = grind (arith, and_parts, eqb-true)
+named_is false n (Some choice) is = grind (arith, and_parts, eqb-true, not-true)
 
 digits_named : (expiry : Bool) (n : ℕ) → n ≤ 63
     → choice_of_digits expiry (decimal n) ≡ Some (record { thread = n; expiry = expiry })
@@ -112,29 +104,14 @@ step_word step few =
 -- a line that begins with a choice names that choice
 pub line_names : (step : ℕ) (choice : Choice) (rest : List ℕ) → step < 10 ^ 13 → choice.thread ≤ 63
     → choice_in (choice_text step choice ++ rest) ≡ Some choice
-line_names step choice rest few there =
-    let name = name_text choice in
-    let first = before_space (decimal step) (name ++ 32 ∷ rest) (decimal-no_space step) in
-    let after = after_space (decimal step) (name ++ 32 ∷ rest) (decimal-no_space step) in
-    ap choice_in (words-is step choice rest)
-    ∙ ap (λ b. cond b (choice_named (before_first is_space (after_first is_space (decimal step ++ 32 ∷ (name ++ 32 ∷ rest))))) None)
-    (ap is_step first ∙ step_word step few)
-    ∙ ap (λ t. choice_named (before_first is_space t)) after
-    ∙ ap choice_named (before_space name rest (name-no_space choice.expiry choice.thread))
-    ∙ name-named choice.expiry choice.thread there
+line_names step choice rest few there = search (rules, before_space, decimal-no_space, after_space, words-is, step_word, name-no_space, name-named)
 
 -- it isn't the state line
 not_state : (word : List ℕ) → list_all is_ascii_digit word ≡ true → bytes_eq word (codes "state") ≡ false
-not_state word digits = false_from_ne_true _ (λ same.
-    let is = (bytes_eq-Decides word (codes "state")).0 same in
-    let no : list_all is_ascii_digit (codes "state") ≡ true = subst (λ w. list_all is_ascii_digit w ≡ true) is digits in true≢false (sym no))
+not_state word digits = grind (arith, false_from_ne_true, bytes_eq-Decides, true≢false)
 
 pub line-no_state : (step : ℕ) (choice : Choice) (rest : List ℕ) → is_state_line (choice_text step choice ++ rest) ≡ false
-line-no_state step choice rest =
-    let name = name_text choice in
-    ap is_state_line (words-is step choice rest)
-    ∙ ap (λ w. bytes_eq w (codes "state")) (before_space (decimal step) (name ++ 32 ∷ rest) (decimal-no_space step))
-    ∙ not_state (decimal step) (decimal-number step).digits
+line-no_state step choice rest = grind (arith, words-is, before_space, decimal-no_space, not_state, decimal-number)
 
 -- the beginning of a choice's line
 pub choice-part : (step : ℕ) (choice : Choice) → IsPart 131 (choice_text step choice)
@@ -148,17 +125,12 @@ after_word : (n : ℕ) (word : List ℕ) (value : ℤ) → IsPart n word → n �
 after_word n word value p few = Part-more (n + 65) 71 _ (omega (arith, few)) (Part-append n 65 word _ p (signed-part value))
 
 what-part : (w : What) → IsPart 71 (what_text w)
-what-part what.Idle = record { within = refl; few = omega arith }
-what-part what.Done = record { within = refl; few = omega arith }
 what-part (what.Value value) = after_word 2 (codes "= ") value (record { within = refl; few = omega arith }) (omega arith)
 what-part (what.Out value) = after_word 4 (codes "out ") value (record { within = refl; few = omega arith }) (omega arith)
-what-part what.Waits = record { within = refl; few = omega arith }
 what-part (what.Throws code) = after_word 6 (codes "throw ") code (record { within = refl; few = omega arith }) (omega arith)
-what-part what.Enters = record { within = refl; few = omega arith }
-what-part what.Unwinds = record { within = refl; few = omega arith }
 what-part (what.Catches code) = after_word 6 (codes "catch ") code (record { within = refl; few = omega arith }) (omega arith)
 what-part (what.Dies code) = after_word 4 (codes "die ") code (record { within = refl; few = omega arith }) (omega arith)
-what-part what.Ends = record { within = refl; few = omega arith }
+what-part _ = record { within = refl; few = omega arith }
 
 -- the mark after it
 mark-part : (m : Mark) → IsPart 140 (mark_text m)

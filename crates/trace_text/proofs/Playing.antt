@@ -1,5 +1,5 @@
 -- One part of a schedule after another.
-use Rattle.std.proofs.Common.{◌≡◌, ℕ, Bool, true, false, IsTrue, List, Option, Result, Ok, Err, refl, subst, sym}
+use Rattle.std.proofs.Common.{◌≡◌, ℕ, Bool, true, false, IsTrue, List, Option, Result, Ok, Err, refl, subst, sym, arith}
 use Rattle.std.specs.Prelude.{IfErr, IfOk}
 use Rattle.schedule_reader.specs.declared.fault.ScheduleFault.{ScheduleFault}
 use Rattle.schedule_reader.specs.declared.run.Run.{Run}
@@ -9,7 +9,6 @@ use Rattle.thread_machine.specs.World.{World}
 use Rattle.trace_text.specs.declared.play.PlayFault.{PlayFault}
 use Rattle.trace_text.specs.declared.play.PlayFault.TheVariants as play
 use Rattle.trace_text.specs.declared.run.RunFault.{RunFault}
-use Rattle.trace_text.specs.declared.run.RunFault.TheVariants as fault
 use Rattle.trace_text.specs.Playing.{IsToldOf, PlaysOn, StopsAt, WritesPartOn, played_fault}
 use Rattle.trace_text.specs.Trace.{AppendsPartOf, Plays, lines_of}
 use Rattle.trace_text.proofs.Plays.{Plays-append, Plays-refused, Part-append, Part-whole}
@@ -42,26 +41,14 @@ pub told-plays : (result : Result Bool RunFault) (told : Result (Unit {0}) Sched
     (runs given : List Run) (known new : Option (List ℕ)) → runs ≡ given → PlaysOn before after was played (choices_of runs) known new
     → IfOk result (λ all. (told ≡ Ok tt) × (all ≡ played))
     → IfOk result (λ all. PlaysOn before after was all (choices_of given) known new)
-told-plays (Ok all) told before after was played runs given known new are on (is, same) =
-    subst (λ rs. PlaysOn before after was all (choices_of rs) known new) are
-    (subst (λ a. PlaysOn before after was a (choices_of runs) known new) (sym same) on)
-told-plays (Err e) told before after was played runs given known new are on is = is
+told-plays result told before after was played runs given known new are on is = grind arith
 
 -- what stops behind it where it told one
 pub told-stops : (result : Result Bool RunFault) (told : Result (Unit {0}) ScheduleFault) (before after : World) (was played : Bool)
     (runs given : List Run) (known new : Option (List ℕ)) (failed : Bool) → runs ≡ given
     → PlaysOn before after was played (choices_of runs) known new → IfErr result (λ f. IsToldOf f told)
     → IfErr result (λ f. StopsAt f told before was (choices_of given) known new failed)
-told-stops (Ok all) told before after was played runs given known new failed are on is = is
-told-stops (Err (fault.Schedule f)) told before after was played runs given known new failed are on (is, other) =
-    let whole = subst (λ rs. PlaysOn before after was played (choices_of rs) known new) are on in
-    (is, other, λ first earlier old plays. (whole first earlier old plays).lines)
-told-stops (Err fault.Memory) told before after was played runs given known new failed are on is =
-    let whole = subst (λ rs. PlaysOn before after was played (choices_of rs) known new) are on in
-    λ first earlier old plays. Part-whole old new _ (whole first earlier old plays).lines
-told-stops (Err (fault.Load f)) told before after was played runs given known new failed are on never = absurd never
-told-stops (Err fault.Read) told before after was played runs given known new failed are on never = absurd never
-told-stops (Err fault.Write) told before after was played runs given known new failed are on never = absurd never
+told-stops result told before after was played runs given known new failed are on never = grind (arith, Part-whole)
 
 -- what stops where choices can't be played on
 pub played-stops : (result : RunFault) (f : PlayFault) (told : Result (Unit {0}) ScheduleFault) (before : World) (was : Bool) (runs given : List Run)
@@ -71,5 +58,4 @@ pub played-stops : (result : RunFault) (f : PlayFault) (told : Result (Unit {0})
 played-stops result play.Memory told before was runs given known new failed of_play is are part write =
     subst (λ f. StopsAt f told before was (choices_of given) known new failed) (sym of_play)
     (subst (λ rs. WritesPartOn before was (choices_of rs) known new) are (writes_part-on before was (choices_of runs) known new is (part refl)))
-played-stops result play.Write told before was runs given known new failed of_play is are part write =
-    subst (λ f. StopsAt f told before was (choices_of given) known new failed) (sym of_play) (write refl)
+played-stops result play.Write told before was runs given known new failed of_play is are part write = grind arith

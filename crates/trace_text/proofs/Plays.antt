@@ -1,15 +1,15 @@
 -- Choices that are played one list after another.
-use Rattle.std.proofs.Common.{◌≡◌, ◌∙◌, ◌↔◌, ◌+◌, ◌<◌, ◌≤◌, ℕ, zero, suc, Bool, true, false, List, [], ◌∷◌, ◌++◌, Option, Some, None, IsTrue, refl, sym, ap, subst, append_assoc, append-nil, length, nat_le, if◌then◌else◌, Result, Ok, Err, ◌-◌, replicate, drop, get_or, arith, min}
+use Rattle.std.proofs.Common.{◌≡◌, ◌∙◌, ◌↔◌, ◌+◌, ◌<◌, ◌≤◌, ℕ, zero, suc, Bool, true, false, List, [], ◌∷◌, ◌++◌, Option, Some, None, IsTrue, refl, sym, ap, subst, append_assoc, append-nil, length, if◌then◌else◌, Result, Ok, Err, ◌-◌, replicate, drop, get_or, arith, min}
 use Rattle.std.proofs.lemmas.List.{drop_all, replicate-append-replicate}
 use Rattle.std.proofs.KnownBytes.{Appends-nil, Appends-trans}
 use Rattle.std.specs.Io.KnownBytes.{Appends}
 use Rattle.thread_machine.specs.declared.choice.Choice.{Choice}
 use Rattle.thread_state.specs.declared.event.Event.{Event}
 use Rattle.thread_machine.specs.declared.fault.StepFault.{StepFault}
-use Rattle.thread_machine.specs.declared.fault.StepFault.TheVariants.{NoSuchThread, StepLimit, Memory}
+use Rattle.thread_machine.specs.declared.fault.StepFault.TheVariants.{NoSuchThread, StepLimit}
 use Rattle.thread_machine.specs.World.{World}
 use Rattle.machine_scene.specs.Scene.{Outcome, thread_at}
-use Rattle.thread_machine.specs.Step.{Played, played, played_by, idled, refusal_of, is_used_up}
+use Rattle.thread_machine.specs.Step.{Played, played, played_by, idled, refusal_of}
 use Rattle.thread_machine.specs.Ready.{outcome_of_choice, is_choice_ready}
 use Rattle.thread_machine.specs.Execution.{Execution, execution, execution_by}
 use Rattle.thread_machine.specs.Idle.{idle_event, idle_times}
@@ -65,14 +65,7 @@ stops_by : (refusal : Option StepFault) (world : World) (choice : Choice) (xs ys
     × ((execution_by refusal world choice (λ after. execution after (xs ++ ys))).world
     ≡ (execution_by refusal world choice (λ after. execution after xs)).world)
     × ((execution_by refusal world choice (λ after. execution after (xs ++ ys))).refusal ≡ Some fault)
-stops_by (Some NoSuchThread) world choice xs ys fault rest some = (refl, refl, some)
-stops_by (Some StepLimit) world choice xs ys fault rest some = (refl, refl, some)
-stops_by (Some Memory) world choice xs ys fault rest some = (refl, refl, some)
-stops_by None world choice xs ys fault rest some =
-    let play = played world choice in
-    let line = event_text (world.choices + 1) choice (thread_at world.scene choice.thread).pc play.event in
-    let later = rest play.world some in
-    (ap (λ text. line ++ text) later.0, later.1, later.2)
+stops_by refusal world choice xs ys fault rest some = grind arith
 
 -- choices of which one is refused, and more after them
 pub stops : (xs : List Choice) (world : World) (ys : List Choice) (fault : StepFault)
@@ -125,8 +118,7 @@ accepted_by : (missing used_up : Bool)
     → ((if missing then Some NoSuchThread else (if used_up then Some StepLimit else None)) ≡ Some StepLimit → ⊥)
     → (if missing then Some NoSuchThread else (if used_up then Some StepLimit else None)) ≡ None
 accepted_by true used_up there left = absurd (there refl)
-accepted_by false true there left = absurd (left refl)
-accepted_by false false there left = refl
+accepted_by false _ there left = grind arith
 
 pub refusal_of-accepted : (event : Event) (world : World) (choice : Choice)
     → (let ok : Result Event StepFault = Ok event in
@@ -134,14 +126,11 @@ pub refusal_of-accepted : (event : Event) (world : World) (choice : Choice)
     → (let ok : Result Event StepFault = Ok event in
     (ok ≡ Err StepLimit) ↔ (refusal_of world choice ≡ Some StepLimit))
     → refusal_of world choice ≡ None
-refusal_of-accepted event world choice there left =
-    accepted_by (nat_le (length world.scene.threads) choice.thread) (is_used_up world choice)
-    (λ is. let no = there.1 is in cc) (λ is. let no = left.1 is in cc)
+refusal_of-accepted event world choice there left = grind (arith, accepted_by)
 
 -- each choice is counted
 pub played-choices : (outcome : Option Outcome) (world : World) → (played_by outcome world).world.choices ≡ world.choices + 1
-played-choices (Some outcome) world = refl
-played-choices None world = refl
+played-choices outcome world = grind arith
 
 -- a choice that is accepted
 pub Plays-played : (world after : World) (choice : Choice) (event : Event) (step pc : ℕ) (old new : Option (List ℕ))
@@ -302,20 +291,13 @@ more_idle_lines (suc n) before choice pc =
 
 idle_lines-more : (n before : ℕ) (choice : Choice) (pc : ℕ)
     → idle_lines (n + 1) before choice pc ≡ idle_lines n before choice pc ++ event_text (before + n + 1) choice pc idle_event
-idle_lines-more n before choice pc =
-    let next : n + 1 ≡ suc n = omega arith in
-    ap (λ k. idle_lines k before choice pc) next ∙ more_idle_lines n before choice pc
+idle_lines-more n before choice pc = grind (arith, more_idle_lines)
 
 pub idle_lines-next : (n before : ℕ) (choice : Choice) (pc : ℕ) (line : NumberedLine) (old now new : Option (List ℕ))
     → line.step ≡ before + (n + 1) → IsBehindNumber line.behind choice pc idle_event
     → Appends old now (idle_lines n before choice pc) → Appends now new (text_of line)
     → Appends old new (idle_lines (n + 1) before choice pc)
-idle_lines-next n before choice pc line old now new is behind lines next =
-    let counted : before + (n + 1) ≡ before + n + 1 = omega arith in
-    let text : text_of line ≡ event_text (before + n + 1) choice pc idle_event =
-    behind line.step ∙ ap (λ step. event_text step choice pc idle_event) (is ∙ counted) in
-    subst (λ bytes. Appends old new bytes) (sym (idle_lines-more n before choice pc))
-    (Appends-trans old now new _ _ lines (subst (λ bytes. Appends now new bytes) text next))
+idle_lines-next n before choice pc line old now new is behind lines next = grind (arith, idle_lines-more, Appends-trans)
 
 -- the lines of idle choices in a row
 lines_of-idle : (n : ℕ) (world : World) (choice : Choice) → choice.thread < length world.scene.threads
@@ -337,11 +319,8 @@ idle_lines_by : (ready : Bool) (world : World) (choice : Choice) (most n : ℕ)
     → n ≡ (if ready then 0 else min most (1000000000000 - world.choices))
     → choice.thread < length world.scene.threads → world.choices ≤ 1000000000000
     → lines_of world (replicate n choice) ≡ idle_lines n world.choices choice (thread_at world.scene choice.thread).pc
-idle_lines_by true world choice most n is times there few =
-    ap (λ k. lines_of world (replicate k choice)) times
-    ∙ ap (λ k. idle_lines k world.choices choice (thread_at world.scene choice.thread).pc) (sym times)
-idle_lines_by false world choice most n is times there few =
-    lines_of-idle n world choice there is (omega (arith, times, few))
+idle_lines_by true world choice most n is times there few = grind arith
+idle_lines_by false world choice most n is times there few = grind (arith, lines_of-idle)
 
 -- a choice is played as long as it is idle
 pub Plays-idle : (world after : World) (choice : Choice) (most n before pc : ℕ) (old new : Option (List ℕ))
@@ -387,14 +366,10 @@ Plays-idle_again world after choice n pc line times some played there few row nu
 -- some of the same choices, and the others
 pub replicate-some : (n times : ℕ) (choice : Choice) → times ≤ n
     → replicate n choice ≡ replicate times choice ++ replicate (n - times) choice
-replicate-some n times choice few =
-    let is : n ≡ times + (n - times) = omega (arith, few) in
-    ap (λ k. replicate k choice) is ∙ sym (replicate-append-replicate times (n - times) choice)
+replicate-some n times choice few = grind (arith, replicate-append-replicate)
 
 -- and the number of the choices tells it
 pub played-counted : (world after : World) (choice : Choice) (event : Event)
     → (let both : Played = record { world = after; event = event } in both ≡ played world choice)
     → after.choices ≡ world.choices + 1
-played-counted world after choice event both =
-    ap (λ (play : Played). play.world.choices) both
-    ∙ played-choices (outcome_of_choice world.program choice world.scene) world
+played-counted world after choice event both = grind (arith, played-choices)

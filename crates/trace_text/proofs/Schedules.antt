@@ -1,12 +1,12 @@
 -- Runs that a reader adds to a list, and what is played with them.
-use Rattle.std.proofs.Common.{◌≡◌, ◌≢◌, ◌∙◌, ◌++◌, ◌⊎◌, ◌≤◌, ℕ, Bool, true, false, inl, inr, List, [], Ok, Err, None, Result, ap, sym, subst, refl, append-nil, append_assoc, Option, Some, length, arith}
+use Rattle.std.proofs.Common.{◌≡◌, ◌≢◌, ◌∙◌, ◌++◌, ◌⊎◌, ◌≤◌, ℕ, Bool, false, inl, inr, List, [], Ok, Err, None, Result, ap, sym, subst, refl, append-nil, append_assoc, Option, Some, length, arith, rules}
 use Rattle.std.specs.Prelude.{IfOk, IfErr, OnOk, replicate}
 use Rattle.std.proofs.lemmas.Grind.{flat_map-append}
 use Rattle.std.specs.Io.KnownBytes.{Appends, Consumes, IsAtEnd}
 use Rattle.schedule_reader.specs.declared.fault.ScheduleFault.{ScheduleFault}
 use Rattle.schedule_reader.specs.declared.fault.ScheduleFault.TheVariants.{Memory}
 use Rattle.schedule_reader.specs.declared.run.Run.{Run}
-use Rattle.schedule_reader.specs.Places.{Progress, HasRead, rest_by_fault, with_runs, schedule_from}
+use Rattle.schedule_reader.specs.Places.{Progress, HasRead}
 use Rattle.schedule_reader.specs.Reading.{Adds, answer_by, answer_of}
 use Rattle.schedule_reader.specs.Schedule.{Schedule, open_schedule, finished_schedule, choices_of}
 use Rattle.thread_machine.specs.World.{World}
@@ -79,8 +79,7 @@ has_read told reader bytes enough (inr read) = read
 -- an answer that is no fault
 no_fault : (fault : Option ScheduleFault)
     → (let ok : Result (Unit {0}) ScheduleFault = Ok tt in ok ≡ answer_by fault) → fault ≡ None
-no_fault None is = refl
-no_fault (Some fault) is = let no : ⊥ = cc in absurd no
+no_fault fault is = grind arith
 
 end_without_fault : (told : Result (Unit {0}) ScheduleFault) (schedule : Schedule) → told ≡ Ok tt
     → (told ≡ Err Memory) ⊎ (told ≡ answer_of schedule) → schedule.fault ≡ None
@@ -109,11 +108,7 @@ piece-plays (Err e) told bytes longer first before after was old known new start
 -- behind a fault nothing makes a difference
 pub faulty_then : (reader : Progress) (bytes rest : List ℕ) (fault : ScheduleFault) → reader.fault ≡ Some fault → HasRead reader bytes
     → finished_schedule (bytes ++ rest) ≡ faulty_after (open_schedule bytes).runs fault
-faulty_then reader bytes rest fault is read =
-    let given = (open_schedule bytes).runs in
-    read.rest true rest
-    ∙ ap (λ (f : Option ScheduleFault). with_runs given (rest_by_fault f (schedule_from true reader.place reader.read rest))) is
-    ∙ ap (λ runs. faulty_after runs fault) (append-nil given)
+faulty_then reader bytes rest fault is read = search rules
 
 -- a fault that was told is not want of memory
 pub told_other : (told : Result (Unit {0}) ScheduleFault) (fault : ScheduleFault) → told ≡ Err fault → fault ≢ Memory → told ≢ Err Memory
@@ -127,8 +122,7 @@ fault_told told fault reader is err = subst (λ (t : Result (Unit {0}) ScheduleF
 -- a fault that was answered
 fault_by : (fault : Option ScheduleFault) (e : ScheduleFault)
     → ◌≡◌ {A = Result (Unit {0}) ScheduleFault} (Err e) (answer_by fault) → fault ≡ Some e
-fault_by None e is = let no : ⊥ = cc in absurd no
-fault_by (Some fault) e is = let same : fault ≡ e = cc in ap Some same
+fault_by fault e is = grind arith
 
 pub end_with_fault : (told : Result (Unit {0}) ScheduleFault) (schedule : Schedule) (fault : ScheduleFault) → told ≡ Err fault
     → told ≢ Err Memory → (told ≡ Err Memory) ⊎ (told ≡ answer_of schedule) → schedule.fault ≡ Some fault
@@ -182,10 +176,7 @@ stops-behind fault.Memory told shorter longer bytes first before was schedule_be
     (sound, (bytes, (longer, (consumed, at, part))))
 stops-behind fault.Write told shorter longer bytes first before was schedule_before schedule_after old known new failed other start runs
     empty plays consumed sound adds faulty at writes = writes
-stops-behind fault.Read told shorter longer bytes first before was schedule_before schedule_after old known new failed other start runs
-    empty plays consumed sound adds faulty at never = absurd never
-stops-behind (fault.Load f) told shorter longer bytes first before was schedule_before schedule_after old known new failed other start runs
-    empty plays consumed sound adds faulty at never = absurd never
+stops-behind _ told shorter longer bytes first before was schedule_before schedule_after old known new failed other start runs empty plays consumed sound adds faulty at never = absurd never
 
 -- behind a piece of its schedule
 pub piece-stops : (f : RunFault) (told : Result (Unit {0}) ScheduleFault) (bytes piece : List ℕ) (first before : World) (was : Bool)

@@ -1,9 +1,8 @@
 -- No image is refused for want of memory.
-use Rattle.std.proofs.Common.{◌≡◌, ◌∙◌, ◌+◌, ℕ, Bool, true, false, List, [], ◌∷◌, cond, Option, Some, None, refl, ap, sym, not, ◌-◌, ◌==◌, nat_lt, length}
+use Rattle.std.proofs.Common.{◌≡◌, ◌∙◌, ◌+◌, ℕ, Bool, true, false, List, [], ◌∷◌, cond, Option, Some, None, refl, ap, sym, arith}
 use Rattle.std.specs.Option.{option_or, option_map}
 use Rattle.tier_tree.specs.declared.fault.DeclareFault.TheVariants as declare
 use Rattle.row_code.specs.declared.phasers.DeclaredPolicy.{DeclaredPolicy}
-use Rattle.row_code.specs.declared.phasers.DeclaredPolicy.TheVariants as declared
 use Rattle.row_code.specs.declared.phasers.DeclaredPhaser.{DeclaredPhaser}
 use Rattle.row_code.specs.declared.barriers.DeclaredBarrier.{DeclaredBarrier}
 use Rattle.row_code.specs.declared.image.Image.{Image}
@@ -11,10 +10,7 @@ use Rattle.loader.specs.declared.counts.Counts.{Counts}
 use Rattle.loader.specs.declared.load_fault.LoadFault.{LoadFault}
 use Rattle.loader.specs.declared.load_fault.LoadFault.TheVariants as fault
 use Rattle.loader.specs.declared.named.Named.{Named}
-use Rattle.loader.specs.declared.named.Named.TheVariants as named
-use Rattle.loader.specs.Named.{named_by, stops}
-use Rattle.loader.specs.Fault.{action_fault, barrier_fault, counts_in, earliest_in, first_fault, last_fault, listed_phaser_fault, named_fault, routine_fault, row_fault, thread_fault, unless}
-use Rattle.loader.specs.Program.{row_at}
+use Rattle.loader.specs.Fault.{action_fault, barrier_fault, earliest_in, first_fault, listed_phaser_fault, named_fault, routine_fault, unless}
 use Rattle.trace_text.specs.Start.{is_want_of_memory}
 
 -- whether a fault is told that is want of memory
@@ -23,8 +19,7 @@ wants None = false
 wants (Some fault) = is_want_of_memory fault
 
 wants-or : (one other : Option LoadFault) → wants one ≡ false → wants other ≡ false → wants (option_or one other) ≡ false
-wants-or None other p q = q
-wants-or (Some fault) other p q = p
+wants-or one other p q = grind arith
 
 wants-unless : (test : Bool) (fault : LoadFault) → is_want_of_memory fault ≡ false → wants (unless test fault) ≡ false
 unfolding wants
@@ -44,17 +39,11 @@ why_by : (n : ℕ) (many orphan parties phase deep full : Bool) → wants (optio
     (cond phase (Some declare.PhaseOnChild) (cond deep (Some declare.TooDeep) (cond full (Some declare.TooMany) None))))))) ≡ false
 unfolding wants
 why_by n true orphan parties phase deep full = refl
-why_by n false true parties phase deep full = refl
-why_by n false false true phase deep full = refl
-why_by n false false false true deep full = refl
-why_by n false false false false true full = refl
-why_by n false false false false false true = refl
-why_by n false false false false false false = refl
+why_by n false _ _ phase deep full = grind arith
 
 wants-routine : (rows n : ℕ) (policy : DeclaredPolicy) → wants (routine_fault rows n policy) ≡ false
 unfolding wants
-wants-routine rows n (declared.Routine row) = wants-unless (nat_lt row rows) _ refl
-wants-routine rows n _ = refl
+wants-routine rows n policy = grind (arith, wants-unless)
 
 wants-phaser : (rows : ℕ) (phasers : List DeclaredPhaser) (n : ℕ) (phaser : DeclaredPhaser)
     → wants (listed_phaser_fault rows phasers n phaser) ≡ false
@@ -63,39 +52,18 @@ wants-phaser rows phasers n phaser =
 
 wants-action : (rows n : ℕ) (action : Option ℕ) → wants (action_fault rows n action) ≡ false
 unfolding wants
-wants-action rows n None = refl
-wants-action rows n (Some row) = wants-unless (nat_lt row rows) _ refl
+wants-action rows n action = grind (arith, wants-unless)
 
 wants-barrier : (rows n : ℕ) (barrier : DeclaredBarrier) → wants (barrier_fault rows n barrier) ≡ false
-wants-barrier rows n barrier =
-    wants-or (unless (not (barrier.parties == 0)) (fault.BarrierParties n)) (action_fault rows n barrier.action)
-    (wants-unless (not (barrier.parties == 0)) (fault.BarrierParties n) refl) (wants-action rows n barrier.action)
+wants-barrier rows n barrier = grind (arith, wants-or, wants-unless, wants-action)
 
 wants-named : (counts : Counts) (n : ℕ) (thing : Named) → wants (named_fault counts n thing) ≡ false
 unfolding wants
-wants-named counts n named.Nothing = refl
-wants-named counts n (named.Target row) = wants-unless (nat_lt row counts.rows) _ refl
-wants-named counts n (named.Cell cell) = wants-unless (nat_lt cell 32) _ refl
-wants-named counts n (named.Thread thread) = wants-unless (nat_lt thread counts.threads) _ refl
-wants-named counts n (named.Phaser phaser) = wants-unless (nat_lt phaser counts.phasers) _ refl
-wants-named counts n (named.Barrier barrier) = wants-unless (nat_lt barrier counts.barriers) _ refl
+wants-named counts n thing = grind (arith, wants-unless)
 
 wants-first : (image : Image) → wants (first_fault image) ≡ false
 unfolding wants
-wants-first image =
-    let rows = length image.rows in
-    wants-or (unless (nat_lt 0 (length image.threads)) fault.NoThread) _
-    (wants-unless (nat_lt 0 (length image.threads)) fault.NoThread refl)
-    (wants-or (earliest_in (listed_phaser_fault rows image.phasers) 0 image.phasers) _
-    (wants-in (listed_phaser_fault rows image.phasers) (wants-phaser rows image.phasers) 0 image.phasers)
-    (wants-or (earliest_in (barrier_fault rows) 0 image.barriers) _
-    (wants-in (barrier_fault rows) (wants-barrier rows) 0 image.barriers)
-    (wants-or (earliest_in (thread_fault rows) 0 image.threads) _
-    (wants-in (thread_fault rows) (λ n thread. wants-unless (nat_lt thread.first_row rows) _ refl) 0 image.threads)
-    (wants-or (earliest_in (row_fault (counts_in image)) 0 image.rows) _
-    (wants-in (row_fault (counts_in image)) (λ n row. wants-named (counts_in image) n (named_by row)) 0 image.rows)
-    (wants-or (last_fault image.rows) None
-    (wants-unless (stops (row_at image.rows (length image.rows - 1))) fault.FallsOff refl) refl)))))
+wants-first image = grind (arith, wants-or, wants-unless, wants-in, wants-phaser, wants-barrier, wants-named)
 
 pub no_want : (image : Image) (told : LoadFault) → first_fault image ≡ Some told → is_want_of_memory told ≡ false
 unfolding wants

@@ -1,5 +1,5 @@
 -- The state text by its lines.
-use Rattle.std.proofs.Common.{◌≡◌, ◌+◌, ◌*◌, ◌≤◌, ℕ, ℤ, pos, Bool, true, false, All, List, [], ◌∷◌, ◌++◌, length, length-append, codes, decimal, refl, arith, cond, flat_map}
+use Rattle.std.proofs.Common.{◌≡◌, ◌+◌, ◌*◌, ◌≤◌, ℕ, ℤ, pos, Bool, true, false, All, List, [], ◌∷◌, ◌++◌, length, length-append, codes, decimal, refl, arith, cond, flat_map, rules}
 use Rattle.std.proofs.lemmas.List.Elements.{All-head, All-tail}
 use Rattle.std.specs.Fmt.{signed_decimal}
 use Rattle.std.specs.List.{list_all}
@@ -50,18 +50,16 @@ value-part value = Part-append 1 65 (codes " ") (signed_decimal value) (literal 
 
 word-part : (ended stuck : Bool) → IsPart 5 (name_of (cond ended standing.All (cond stuck standing.Stuck standing.Live)))
 word-part true stuck = literal 5 (codes "all") refl (omega arith)
-word-part false true = literal 5 (codes "stuck") refl (omega arith)
-word-part false false = literal 5 (codes "live") refl (omega arith)
+word-part false stuck = grind (arith, literal)
 
 status-part : (s : Status) → IsPart 72 (status_text s)
 status-part status.Runs = literal 72 (codes "runs") refl (omega arith)
 status-part (status.Throws code) =
     Part-append 7 65 (codes "throws:") (signed_decimal code) (literal 7 (codes "throws:") refl (omega arith)) (signed-part code)
-status-part (status.AwaitsPhase phase) = literal 72 (codes "waits") refl (omega arith)
-status-part (status.AwaitsBarrier index) = literal 72 (codes "waits") refl (omega arith)
 status-part status.Ended = literal 72 (codes "ended") refl (omega arith)
 status-part (status.Died code) =
     Part-append 7 65 (codes "died:") (signed_decimal code) (literal 7 (codes "died:") refl (omega arith)) (signed-part code)
+status-part _ = literal 72 (codes "waits") refl (omega arith)
 
 entry-part : (e : Entry) → IsPart 66 (entry_text e)
 entry-part (entry.Call row) = Part-append 2 64 (codes " C") (decimal row) (literal 2 (codes " C") refl (omega arith)) (decimal-part row)
@@ -185,12 +183,7 @@ parts_text world =
     ++ numbered_texts cell_text 0 world.scene.cells))
 
 pub parts-whole : (world : World) → IsWhole (All IsBrief world.scene.threads) (parts_text world)
-parts-whole world =
-    let brief : Type 0 = All IsBrief world.scene.threads in
-    Whole-append brief _ _ (numbered-whole IsBrief thread_text thread-whole 0 world.scene.threads)
-    (Whole-append brief _ _ (all-whole phaser_text phaser-whole world.scene.phasers brief)
-    (Whole-append brief _ _ (all-whole barrier_text barrier-whole world.scene.barriers brief)
-    (all-whole cell_text cell-whole world.scene.cells brief)))
+parts-whole world = search (rules, Whole-append, numbered-whole, thread-whole, all-whole, phaser-whole, barrier-whole, cell-whole)
 
 -- the first line, behind its first word
 counts-line : (world : World) → IsLine 135 (decimal world.choices ++ (codes " " ++ (decimal world.steps ++ (codes " "

@@ -1,9 +1,9 @@
 -- Bytes that are read one piece after another.
-use Rattle.std.proofs.Common.{◌≡◌, ◌↔◌, inr, refl, ◌∙◌, ◌+◌, ◌<◌, ◌≤◌, ◌++◌, ℕ, Bool, true, false, not, IsTrue, List, Option, Some, length, take, ap, sym, subst, append-nil, length-append, arith}
+use Rattle.std.proofs.Common.{◌≡◌, ◌↔◌, inr, refl, ◌∙◌, ◌+◌, ◌<◌, ◌≤◌, ◌++◌, ℕ, Bool, true, false, not, IsTrue, List, Option, length, take, ap, sym, subst, length-append, arith}
 use Rattle.std.proofs.lemmas.List.{length-take}
 use Rattle.std.proofs.KnownBytes.{Appends-trans, Consumes-trans}
 use Rattle.std.specs.Io.KnownBytes.{Appends, Consumes, IsAtEnd}
-use Rattle.std.specs.Prelude.{Result, Ok, Err, IfOk, OnOk, None, is_err, is_some}
+use Rattle.std.specs.Prelude.{Result, Ok, Err, IfOk, OnOk, None, is_some}
 use Rattle.byte_ports.specs.Port.{FailsForGood}
 use Rattle.schedule_reader.specs.Schedule.{Schedule, finished_schedule, choices_of}
 use Rattle.thread_machine.specs.declared.fault.StepFault.{StepFault}
@@ -30,9 +30,7 @@ use Rattle.trace_text.specs.declared.run_end.RunEnd.{RunEnd}
 -- a read of nothing
 pub consumes-none : (a b c : Option (List ℕ)) (bytes buffer : List ℕ) (n : ℕ) → n ≡ 0
     → Consumes a b bytes → Consumes b c (take n buffer) → Consumes a c bytes
-consumes-none a b c bytes buffer n none first second =
-    subst (Consumes a c) (ap (λ k. bytes ++ take k buffer) none ∙ append-nil bytes)
-    (Consumes-trans a b c bytes (take n buffer) first second)
+consumes-none a b c bytes buffer n none first second = grind (arith, Consumes-trans)
 
 -- a read gives a byte at least
 pub longer_by_piece : (bytes buffer piece : List ℕ) (n turns : ℕ) → piece ≡ take n buffer → n ≤ length buffer → 0 < n
@@ -45,28 +43,22 @@ pub played-all : {E : Type 0} (result : Result Bool E) (first last : World) (byt
     → Consumes schedule_before schedule_after bytes → IsAtEnd schedule_after
     → IfOk result (λ all. ((finished_schedule bytes).fault ≡ None) × Plays first last (choices_of (finished_schedule bytes).runs) all old new)
     → IfOk result (λ all. HasPlayedAll first last all schedule_before schedule_after old new)
-played-all (Ok all) first last bytes schedule_before schedule_after old new consumed end p =
-    (bytes, ((finished_schedule bytes).runs, (consumed, end, schedule_by_fault (finished_schedule bytes) None p.0, p.1)))
-played-all (Err e) first last bytes schedule_before schedule_after old new consumed end p = p
+played-all result first last bytes schedule_before schedule_after old new consumed end p = grind (arith, schedule_by_fault)
 
 -- what holds whatever is answered holds where there is a value
 pub on_ok : {T E : Type 0} (result : Result T E) (P : Type 0) → P → OnOk result P
-on_ok (Ok x) P p = p
-on_ok (Err e) P p = tt
+on_ok result P p = grind arith
 
 -- a source that answers hasn't failed
 pub has_answered : {T E : Type 0} (x : T) (before after : Bool) (result : Result T E) → result ≡ Ok x → FailsForGood before after result
     → after ≡ false
 has_answered x before false result is fails = refl
-has_answered x before true result is fails =
-    let failed : is_err result ≡ true = fails.answer.1 refl in
-    let no : false ≡ true = sym (ap is_err is) ∙ failed in absurd (cc no)
+has_answered x before true result is fails = grind arith
 
 -- a choice was refused, where not all were accepted
 refused_where : (all : Bool) (refusal : Option StepFault) → (IsTrue all ↔ (refusal ≡ None)) → not all ≡ is_some refusal
 refused_where true refusal answer = ap is_some (sym (answer.0 refl))
-refused_where false None answer = absurd (cc (answer.1 refl))
-refused_where false (Some fault) answer = refl
+refused_where false refusal answer = grind arith
 
 -- what is told of a run's end, beside the world that it leaves
 abbrev pub TellsEnd : World → Bool → RunEnd → Type 0
@@ -77,8 +69,7 @@ pub tells_end : {E : Type 0} (result : Result RunEnd E) (last : World) (all : Bo
     → is_some refused ≡ not all
     → IfOk result (λ end. (end.standing ≡ standing_of last) × (end.state.items ≡ state_text last) × (end.refused ≡ refused))
     → IfOk result (TellsEnd last all)
-tells_end (Ok end) last all refused is (standing, text, same) = (standing, text, ap is_some same ∙ is)
-tells_end (Err e) last all refused is told = told
+tells_end result last all refused is told = grind arith
 
 end_of : (first last : World) (choices : List Choice) (all : Bool) (end : RunEnd) (old new : Option (List ℕ))
     → Plays first last choices all old new → TellsEnd last all end → IsEndOf (execution first choices) end
@@ -92,12 +83,7 @@ end_of first last choices all end old new plays (standing, text, refused) = (
 traced_by : (end : RunEnd) (first last : World) (choices : List Choice) (all : Bool) (old between new : Option (List ℕ))
     → Plays first last choices all old between → TellsEnd last all end → Appends between new (state_text last)
     → AreTraced first choices end old new
-traced_by end first last choices all old between new plays tells appends =
-    let state = λ (world : World). state_text world in (
-      end_of first last choices all end old between plays tells,
-      subst (λ text. Appends old new (lines_of first choices ++ text)) (ap state plays.world)
-          (Appends-trans old between new _ (state_text last) plays.lines appends),
-    )
+traced_by end first last choices all old between new plays tells appends = grind (arith, end_of, Appends-trans)
 
 pub are_traced : {E : Type 0} (result : Result RunEnd E) (first last : World) (choices : List Choice) (all : Bool)
     (old between new : Option (List ℕ)) → Plays first last choices all old between
@@ -139,11 +125,7 @@ broken_off first last all schedule_before schedule_after old between new failed 
 pub stops : (f : RunFault) (image : Image) (world : World) (schedule_before schedule_after old new : Option (List ℕ)) (failed other : Bool)
     → Begins image world → StopsFrom world f schedule_before schedule_after failed old new other
     → Stops image f schedule_before schedule_after failed old new other
-stops (fault.Schedule f) image world schedule_before schedule_after old new failed other begins from = (world, (begins, from))
-stops fault.Memory image world schedule_before schedule_after old new failed other begins from = inr (world, (begins, from))
-stops fault.Read image world schedule_before schedule_after old new failed other begins from = (world, (begins, from))
-stops fault.Write image world schedule_before schedule_after old new failed other begins from = (world, (begins, from))
-stops (fault.Load f) image world schedule_before schedule_after old new failed other begins never = absurd never
+stops f image world schedule_before schedule_after old new failed other begins from = grind arith
 
 -- a run stops whose state can't be written
 pub unfinished : (f : PlayFault) (image : Image) (first last : World) (all : Bool) (schedule_before schedule_after old between new : Option (List ℕ))
@@ -152,5 +134,4 @@ pub unfinished : (f : PlayFault) (image : Image) (first last : World) (all : Boo
     → Stops image (played_fault f) schedule_before schedule_after failed old new other
 unfinished play.Memory image first last all schedule_before schedule_after old between new failed other begins played sound same write =
     inr (first, (begins, broken_off first last all schedule_before schedule_after old between new failed other played sound (same refl)))
-unfinished play.Write image first last all schedule_before schedule_after old between new failed other begins played sound same write =
-    (first, (begins, write refl))
+unfinished play.Write image first last all schedule_before schedule_after old between new failed other begins played sound same write = grind arith

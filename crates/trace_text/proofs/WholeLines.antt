@@ -47,9 +47,7 @@ Number-more : (m n : ℕ) (text : List ℕ) → m ≤ n → IsNumber m text → 
 Number-more m n text more p = record { digits = p.digits; few = let a = p.few in omega (arith, a, more); some = p.some }
 
 glyph-digit : (d : ℕ) → d < 10 → is_ascii_digit (digit_glyph false d) ≡ true
-glyph-digit d small =
-    ap (λ b. is_ascii_digit (cond b (48 + d) (87 + d))) (lt-ltb d 10 small)
-    ∙ and_from _ _ (le-leb 48 (48 + d) (omega arith)) (le-leb (48 + d) 57 (omega (arith, small)))
+glyph-digit d small = grind (arith, lt-ltb, and_from, le-leb)
 
 -- by whether a digit is the last to come
 number_by : (last : Bool) (k : ℕ) (xs ys : List ℕ) → IsNumber k xs → IsNumber k ys → IsNumber k (cond last xs ys)
@@ -170,9 +168,7 @@ Whole-where short more text so p = record { lines = p.lines; within = p.within; 
 
 -- from any place of them on, an LF stands within as many bytes
 none-short : (at : ℕ) → position_or_len is_line_end (drop at []) ≤ 65536
-none-short at =
-    let none : position_or_len is_line_end [] ≡ 0 = refl in
-    omega (arith, ap (position_or_len is_line_end) (drop_all at [] (omega arith)), none)
+none-short at = grind (arith, drop_all)
 
 line-short : (line rest : List ℕ) → list_all is_within line ≡ true → length line ≤ 65536 → HasNoLongLine rest
     → (at : ℕ) → position_or_len is_line_end (drop at (line ++ 10 ∷ rest)) ≤ 65536
