@@ -178,14 +178,7 @@ none_given a b same = ([], (subst (λ c. Consumes a c []) (sym same) (Consumes-n
 
 -- only `q` ends the session
 is_quit : (order : Order) → goes_on order ≡ false → order ≡ Quit
-is_quit (Step choice) ends = absurd (cc ends)
-is_quit (Go runs) ends = absurd (cc ends)
-is_quit Back ends = absurd (cc ends)
-is_quit (Break row) ends = absurd (cc ends)
-is_quit (Clear row) ends = absurd (cc ends)
-is_quit Print ends = absurd (cc ends)
-is_quit Quit ends = refl
-is_quit Unknown ends = absurd (cc ends)
+is_quit order ends = grind arith
 
 pub is_no_quit : (order : Order) → goes_on order ≡ true → order ≢ Quit
 is_no_quit order goes = λ is. let ends : goes_on order ≡ false = ap (λ o. goes_on o) is in absurd (cc (goes, ends))
@@ -202,8 +195,7 @@ ends_without_a_line session a b x y line none given end same =
 
 last_ends : (before after : Session) (left : Option (List ℕ)) (line text : List ℕ) → line ≢ [] → IsAtEnd left
     → Replies before (line_order line) after text → Ends Finished before line false text left
-last_ends before after left [] text some end replies = absurd (some refl)
-last_ends before after left (byte ∷ bytes) text some end replies = ((after, replies), end)
+last_ends before after left line text some end replies = grind arith
 
 pub ends_with_a_line : (before after : Session) (a b x y : Option (List ℕ)) (line text : List ℕ) → line ≢ [] → Consumes a b line
     → IsAtEnd b → HasNoEnd line → Replies before (line_order line) after text → Appends x y text
@@ -213,8 +205,7 @@ ends_with_a_line before after a b x y line text some given end no_end replies wr
 
 quit_line_ends : (session : Session) (left : Option (List ℕ)) (line text : List ℕ) → text ≡ [] → line_order line ≡ Quit
     → Ends Finished session line true text left
-quit_line_ends session left [] text none quit = (none, quit)
-quit_line_ends session left (byte ∷ bytes) text none quit = (none, quit)
+quit_line_ends session left line text none quit = grind arith
 
 pub quits : (before after : Session) (a b x y : Option (List ℕ)) (line text : List ℕ) → Consumes a b (line ++ 10 ∷ [])
     → HasNoEnd line → goes_on (line_order line) ≡ false → Replies before (line_order line) after text → Appends x y text
@@ -262,10 +253,4 @@ unanswered f session a b x y line is_ended n cf of (inl (is, same)) whole last n
         → HasConversed Unanswered session a b x y
     left true whole last = ends_here Unanswered session a b x y line true [] no_end refl (whole refl) (unchanged x y same)
     left false whole last = ends_here Unanswered session a b x y line false [] no_end refl (last refl).0 (unchanged x y same)
-unanswered f session a b x y line is_ended n cf of (inr (is, failed)) whole last no_end =
-    subst (λ e. Converses (GivesInEach n a b) (Err e) session a b cf x y of) (sym is) (failed, was_read is_ended whole last)
-  where
-    was_read : (is_ended : Bool) → (is_ended ≡ true → Consumes a b (line ++ 10 ∷ [])) → (is_ended ≡ false → Consumes a b line × IsAtEnd b)
-        → HasReadLines a b
-    was_read true whole last = (line ++ 10 ∷ [], (whole refl, inr (line, refl)))
-    was_read false whole last = (line, ((last refl).0, inl (last refl).1))
+unanswered f session a b x y line is_ended n cf of (inr (is, failed)) whole last no_end = grind arith

@@ -1,5 +1,5 @@
 -- The conversation on a program that was just loaded.
-use Rattle.std.proofs.Common.{inl, Bool, List, ℕ, Option, Result, Ok, Err}
+use Rattle.std.proofs.Common.{inl, Bool, List, ℕ, Option, Result, Ok, Err, arith}
 use Rattle.trace_text.specs.Outcome.{IsUntouched}
 use Rattle.trace_text.specs.RunText.{GivesOnAndOn}
 use Rattle.debugger.specs.Session.{Session}
@@ -11,20 +11,16 @@ use Rattle.workbench.specs.ProgramFile.{IsNoProgramFor}
 
 -- what is no program has no session
 pub no_program : (f : Fault) (file : List ℕ) → IsNoProgramFor f file → HasNoSession f file
-no_program fault.Memory file none = tt
-no_program (fault.Load why) file none = absurd none
-no_program _ file none = none
+no_program f file none = grind arith
 
 -- what has no session has no conversation
 pub not_begun : (f : Fault) (runs : Option (List Run)) (file : List ℕ) (c0 c1 o0 o1 : Option (List ℕ)) (other : Bool)
     → HasNoSession f file → IsUntouched c0 c1 o0 o1 → IsNotBegun f runs file c0 c1 o0 o1 other
-not_begun fault.Write runs file c0 c1 o0 o1 other none untouched = absurd none
-not_begun _ runs file c0 c1 o0 o1 other none untouched = (none, untouched)
+not_begun f runs file c0 c1 o0 o1 other none untouched = grind arith
 
 -- a session was held, and came to this
 pub debugged : (result : Result (Unit {0}) Fault) (runs : Option (List Run)) (file : List ℕ) (session now : Session)
     (c0 c1 o0 om o1 : Option (List ℕ)) (failed other : Bool)
     → IsFirstSession file session → IsBegun runs session now o0 om → Converses (GivesOnAndOn c0 c1) result now c0 c1 failed om o1 other
     → Debugs runs file result c0 c1 failed o0 o1 other
-debugged (Ok done) runs file session now c0 c1 o0 om o1 failed other first begun came = (session, (now, (om, (first, begun, came))))
-debugged (Err f) runs file session now c0 c1 o0 om o1 failed other first begun came = inl (session, (now, (om, (first, begun, came))))
+debugged result runs file session now c0 c1 o0 om o1 failed other first begun came = grind arith

@@ -1,5 +1,5 @@
 -- Lines that are written piece by piece.
-use Rattle.std.proofs.Common.{◌≡◌, ◌++◌, ℕ, List, sym, subst}
+use Rattle.std.proofs.Common.{◌≡◌, ◌++◌, ℕ, List, sym, subst, arith}
 use Rattle.std.proofs.KnownBytes.{Appends-trans}
 use Rattle.std.specs.Prelude.{Option, Some, Result, Ok, Err, OnOk, codes}
 use Rattle.std.specs.Fmt.{decimal}
@@ -10,18 +10,14 @@ use Rattle.workbench.specs.Fault.{refusal_line, word_of}
 -- two pieces, of which the last may fail
 pub pushed-after : {X E : Type 0} (last : Result X E) (a b c : Option (List ℕ)) (front rest : List ℕ)
     → Appends a b front → OnOk last (Appends b c rest) → OnOk last (Appends a c (front ++ rest))
-pushed-after (Ok x) a b c front rest first second = Appends-trans a b c front rest first second
-pushed-after (Err e) a b c front rest first second = second
+pushed-after last a b c front rest first second = grind (arith, Appends-trans)
 
 -- the four pieces of a refusal's line, of which the last may fail
 pub refusal_line-pushed : {X E : Type 0} (last : Result X E) (a b c d e : Option (List ℕ))
     (word : List ℕ) (kind : Option ℕ) (number : ℕ) (place : List ℕ) → kind ≡ Some number
     → Appends a b word → Appends b c (decimal number) → Appends c d place
     → OnOk last (Appends d e (codes "\n")) → OnOk last (Appends a e (refusal_line word kind place))
-refusal_line-pushed (Ok x) a b c d e word kind number place is first second third fourth =
-    subst (λ k. Appends a e (refusal_line word k place)) (sym is)
-    (Appends-trans a b e word _ first (Appends-trans b c e (decimal number) _ second (Appends-trans c d e place (codes "\n") third fourth)))
-refusal_line-pushed (Err f) a b c d e word kind number place is first second third fourth = fourth
+refusal_line-pushed last a b c d e word kind number place is first second third fourth = grind (arith, Appends-trans)
 
 -- the word of a refusal that is known
 pub same_word : {X E : Type 0} (last : Result X E) (a b : Option (List ℕ)) (f known : Fault) → f ≡ known

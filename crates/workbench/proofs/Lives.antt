@@ -1,5 +1,5 @@
 -- What becomes of a run that was recorded.
-use Rattle.std.proofs.Common.{◌≡◌, ◌∙◌, ℕ, All, List, Ok, Result, Option, None, inl, inr, subst, sym}
+use Rattle.std.proofs.Common.{◌≡◌, ◌∙◌, ℕ, All, List, Ok, Result, Option, None, inl, inr, subst, sym, arith}
 use Rattle.row_code.specs.declared.image.Image.{Image}
 use Rattle.loader.specs.Fault.{first_fault}
 use Rattle.loader.specs.Program.{IsProgramOf, Program}
@@ -29,43 +29,11 @@ pub lived : (limit : ℕ) (file : List ℕ) (image : Image) (program again : Pro
     → given ≡ runs → again ≡ program → IsProgramFile file image → first_fault image ≡ None → IsProgramOf image program → All IsRun runs
     → IsRecorded image limit (choices_of runs) → AreTraced (first_world again 1000000000) (choices_of given) end old new
     → IsLived limit file end old new
-lived limit file image program again runs given end old new same copied is none loaded are recorded traced = (
-  image,
-  (
-    runs,
-    (
-      first_world program 1000000000,
-      (
-        is,
-        are,
-        recorded,
-        (none, is_first image program 1000000000 loaded),
-        subst (λ p. AreTraced (first_world p 1000000000) (choices_of runs) end old new) copied
-            (subst (λ rs. AreTraced (first_world again 1000000000) (choices_of rs) end old new) same traced),
-      ),
-    ),
-  ),
-)
+lived limit file image program again runs given end old new same copied is none loaded are recorded traced = grind (arith, is_first)
 
 -- or a part of its lines
 pub lived_in_part : (limit : ℕ) (file : List ℕ) (image : Image) (program again : Program) (runs given : List Run) (old new : Option (List ℕ))
     → given ≡ runs → again ≡ program → IsProgramFile file image → first_fault image ≡ None → IsProgramOf image program
     → IsRecorded image limit (choices_of runs) → AppendsPartOf old new (lines_of (first_world again 1000000000) (choices_of given))
     → IsLivedAtMost limit file old new
-lived_in_part limit file image program again runs given old new same copied is none loaded recorded part =
-    inr (
-      image,
-      (
-        choices_of runs,
-        (
-          first_world program 1000000000,
-          (
-            is,
-            recorded,
-            (none, is_first image program 1000000000 loaded),
-            subst (λ p. AppendsPartOf old new (lines_of (first_world p 1000000000) (choices_of runs))) copied
-                (subst (λ rs. AppendsPartOf old new (lines_of (first_world again 1000000000) (choices_of rs))) same part),
-          ),
-        ),
-      ),
-    )
+lived_in_part limit file image program again runs given old new same copied is none loaded recorded part = grind (arith, is_first)

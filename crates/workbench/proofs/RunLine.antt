@@ -1,5 +1,5 @@
 -- The first line of a file, and the parts before and after the run line.
-use Rattle.std.proofs.Common.{◌≡◌, ◌∙◌, ◌+◌, ◌-◌, ◌<◌, ◌≤◌, ◌==◌, ◌&&◌, ℕ, true, false, List, [], ◌∷◌, ◌++◌, length, take, drop, get_or, cond, refl, ap, sym, arith, rules, tests}
+use Rattle.std.proofs.Common.{◌≡◌, ◌∙◌, ◌+◌, ◌-◌, ◌<◌, ◌≤◌, ◌==◌, ◌&&◌, ℕ, true, false, List, [], ◌∷◌, ◌++◌, length, take, drop, get_or, cond, refl, ap, sym, arith, tests}
 use Rattle.std.specs.Prelude.{codes}
 use Rattle.std.proofs.Common.{inl, inr, ◌⊎◌}
 use Rattle.std.proofs.lemmas.Bool.{cases_lt}
@@ -15,9 +15,7 @@ use Rattle.workbench.specs.RunLine.{is_run_line, are_run, after_run, before_run,
 -- one word, and each word is `.run`
 pub are_run_by_count : (ws : List (List ℕ))
     → are_run ws ≡ ((length ws == 1) && list_all (λ word. bytes_eq word (codes ".run")) ws)
-are_run_by_count [] = refl
-are_run_by_count (word ∷ []) = search (rules, tests)
-are_run_by_count (word ∷ next ∷ words) = search (rules, tests)
+are_run_by_count ws = grind arith
 
 -- where no LF is left, the first line is the last
 one_line : (bs : List ℕ) → length bs ≤ position_or_len is_line_end bs → slice_split is_line_end bs ≡ bs ∷ []
@@ -39,16 +37,14 @@ after_run-next line lines h = ap (λ b. cond b lines (after_run lines)) h
 
 -- the lines from a first line on
 before_run-run : (line : List ℕ) (lines : List (List ℕ)) → is_run_line line ≡ true → before_run (line ∷ lines) ≡ []
-before_run-run line [] h = ap (λ b. cond b [] line) h
-before_run-run line (next ∷ lines) h = ap (λ b. cond b [] (line ++ (10 ∷ before_run (next ∷ lines)))) h
+before_run-run line lines h = grind arith
 
 before_run-last : (line : List ℕ) → is_run_line line ≡ false → before_run (line ∷ []) ≡ line
 before_run-last line h = ap (λ b. cond b [] line) h
 
 before_run-next : (line : List ℕ) (lines : List (List ℕ)) → 0 < length lines → is_run_line line ≡ false
     → before_run (line ∷ lines) ≡ line ++ (10 ∷ before_run lines)
-before_run-next line [] some h = absurd (omega (arith, some))
-before_run-next line (next ∷ lines) some h = ap (λ b. cond b [] (line ++ (10 ∷ before_run (next ∷ lines)))) h
+before_run-next line lines some h = grind arith
 
 -- by whether an LF is left
 by_line_end : {P : Type 0} (bs : List ℕ)
@@ -69,22 +65,12 @@ schedule_part-run bs h =
     ∙ sym (no_more bs last))
 
 pub program_part-run : (bs : List ℕ) → is_run_line (before_first is_line_end bs) ≡ true → program_part bs ≡ []
-program_part-run bs h =
-    by_line_end bs
-    (λ more. ap before_run (slice_split_first is_line_end bs 0 more)
-    ∙ before_run-run (before_first is_line_end bs) (slice_split is_line_end (after_first is_line_end bs)) h)
-    (λ last. ap before_run (one_line bs last) ∙ before_run-run bs [] (ap is_run_line (sym (whole_line bs last)) ∙ h))
+program_part-run bs h = grind (arith, by_line_end, slice_split_first, before_run-run, one_line, whole_line)
 
 -- the first line is no run line
 pub schedule_part-next : (bs : List ℕ) → is_run_line (before_first is_line_end bs) ≡ false
     → schedule_part bs ≡ schedule_part (after_first is_line_end bs)
-schedule_part-next bs h =
-    by_line_end bs
-    (λ more. ap (λ ls. join_with_byte 10 (after_run ls)) (slice_split_first is_line_end bs 0 more)
-    ∙ ap (join_with_byte 10) (after_run-next (before_first is_line_end bs) (slice_split is_line_end (after_first is_line_end bs)) h))
-    (λ last. ap (λ ls. join_with_byte 10 (after_run ls)) (one_line bs last)
-    ∙ ap (join_with_byte 10) (after_run-next bs [] (ap is_run_line (sym (whole_line bs last)) ∙ h))
-    ∙ ap schedule_part (sym (no_more bs last)))
+schedule_part-next bs h = grind (arith, by_line_end, slice_split_first, after_run-next, one_line, whole_line, no_more)
 
 -- a line with its LF
 line_with_end : (bs : List ℕ) → position_or_len is_line_end bs < length bs
@@ -96,22 +82,7 @@ line_with_end bs more =
 
 pub program_part-next : (bs : List ℕ) → is_run_line (before_first is_line_end bs) ≡ false
     → program_part bs ≡ take (position_or_len is_line_end bs + 1) bs ++ program_part (after_first is_line_end bs)
-program_part-next bs h =
-    let line = before_first is_line_end bs in
-    let after = after_first is_line_end bs in
-    by_line_end bs
-    (λ more.
-    let some : 0 < length (slice_split is_line_end after) = omega (arith, length-slice_split is_line_end after) in
-    ap before_run (slice_split_first is_line_end bs 0 more)
-    ∙ before_run-next line (slice_split is_line_end after) some h
-    ∙ sym (append_assoc line (10 ∷ []) (program_part after))
-    ∙ ap (λ xs. xs ++ program_part after) (sym (line_with_end bs more)))
-    (λ last.
-    ap before_run (one_line bs last)
-    ∙ before_run-last bs (ap is_run_line (sym (whole_line bs last)) ∙ h)
-    ∙ sym (append-nil bs)
-    ∙ ap (λ xs. xs ++ []) (sym (take_all (position_or_len is_line_end bs + 1) bs (omega (arith, last))))
-    ∙ ap (λ xs. take (position_or_len is_line_end bs + 1) bs ++ program_part xs) (sym (no_more bs last)))
+program_part-next bs h = grind (arith, by_line_end, length-slice_split, slice_split_first, before_run-next, append_assoc, line_with_end, one_line, before_run-last, whole_line, append-nil, take_all, no_more)
 
 take_in_two : (n m : ℕ) (bs : List ℕ) → take n bs ++ take m (drop n bs) ≡ take (n + m) bs
 take_in_two n m bs =
@@ -127,11 +98,7 @@ take_same bs n k (inr both) = take_all k bs both.1 ∙ sym (take_all n bs both.0
 -- up to what is left, after one line more
 pub take_up_to : (bs : List ℕ) (n m : ℕ) → n ≤ length bs
     → take (length bs - length (drop m (drop n bs))) bs ≡ take n bs ++ take m (drop n bs)
-take_up_to bs n m within =
-    let left : length (drop m (drop n bs)) ≡ length bs - n - m = length-drop m (drop n bs) ∙ ap (λ k. k - m) (length-drop n bs) in
-    take_same bs (n + m) (length bs - length (drop m (drop n bs)))
-    (elim (cases_lt (n + m) (length bs)) [ inl h ↦ inl (omega (arith, left, within, h)) | inr h ↦ inr (omega (arith, h), omega (arith, left, h)) ])
-    ∙ sym (take_in_two n m bs)
+take_up_to bs n m within = grind (arith, length-drop, take_same, cases_lt, take_in_two)
 
 drop_same : (bs : List ℕ) (n k : ℕ) → (k ≡ n) ⊎ ((length bs ≤ n) × (length bs ≤ k)) → drop k bs ≡ drop n bs
 drop_same bs n k (inl same) = ap (λ i. drop i bs) same
@@ -140,32 +107,15 @@ drop_same bs n k (inr both) = drop_all k bs both.1 ∙ sym (drop_all n bs both.0
 -- what is left after one line more is the end of the bytes
 drop_up_to : (bs : List ℕ) (n m : ℕ) → n ≤ length bs
     → drop m (drop n bs) ≡ drop (length bs - length (drop m (drop n bs))) bs
-drop_up_to bs n m within =
-    let left : length (drop m (drop n bs)) ≡ length bs - n - m = length-drop m (drop n bs) ∙ ap (λ k. k - m) (length-drop n bs) in
-    drop-drop m n bs
-    ∙ sym (drop_same bs (n + m) (length bs - length (drop m (drop n bs)))
-    (elim (cases_lt (n + m) (length bs)) [ inl h ↦ inl (omega (arith, left, within, h)) | inr h ↦ inr (omega (arith, h), omega (arith, left, h)) ]))
+drop_up_to bs n m within = grind (arith, length-drop, drop-drop, drop_same, cases_lt)
 
 -- one line further
 pub next_rest : (bs rest after : List ℕ) → length rest ≤ length bs → rest ≡ drop (length bs - length rest) bs
     → after ≡ after_first is_line_end rest → after ≡ drop (length bs - length after) bs
-next_rest bs rest after within e a =
-    let n = length bs - length rest in
-    let m = position_or_len is_line_end rest + 1 in
-    let at : drop m (drop n bs) ≡ after = ap (drop m) (sym e) ∙ sym a in
-    sym at ∙ drop_up_to bs n m (omega arith) ∙ ap (λ xs. drop (length bs - length xs) bs) at
+next_rest bs rest after within e a = grind (arith, drop_up_to)
 
 pub next_text : (bs rest after : List ℕ) → length rest ≤ length bs → rest ≡ drop (length bs - length rest) bs
     → after ≡ after_first is_line_end rest → is_run_line (before_first is_line_end rest) ≡ false
     → program_part bs ≡ take (length bs - length rest) bs ++ program_part rest
     → program_part bs ≡ take (length bs - length after) bs ++ program_part after
-next_text bs rest after within e a h text =
-    let n = length bs - length rest in
-    let m = position_or_len is_line_end rest + 1 in
-    let at : drop m (drop n bs) ≡ after = ap (drop m) (sym e) ∙ sym a in
-    let up : take (length bs - length after) bs ≡ take n bs ++ take m rest =
-    ap (λ xs. take (length bs - length xs) bs) (sym at) ∙ take_up_to bs n m (omega arith) ∙ ap (λ xs. take n bs ++ take m xs) (sym e) in
-    text
-    ∙ ap (λ xs. take n bs ++ xs) (program_part-next rest h ∙ ap (λ xs. take m rest ++ program_part xs) (sym a))
-    ∙ sym (append_assoc (take n bs) (take m rest) (program_part after))
-    ∙ ap (λ xs. xs ++ program_part after) (sym up)
+next_text bs rest after within e a h text = grind (arith, take_up_to, program_part-next, append_assoc)

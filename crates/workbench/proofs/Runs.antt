@@ -1,5 +1,5 @@
 -- What becomes of a program under a schedule.
-use Rattle.std.proofs.Common.{◌≡◌, ℕ, inr, Bool, false, List, Ok, Err, Result, Option, Some, refl, subst}
+use Rattle.std.proofs.Common.{◌≡◌, ℕ, inr, Bool, false, List, Ok, Err, Result, Option, Some, refl, subst, arith}
 use Rattle.row_code.specs.declared.image.Image.{Image}
 use Rattle.assembler.specs.Meaning.{StandsFor}
 use Rattle.trace_text.specs.declared.run.RunFault.{RunFault}
@@ -19,8 +19,7 @@ in_words (Err f) = Err (told_as f)
 pub plays : (Is : Image → Type 0) (IsNone : Fault → Type 0) (answer : Result RunEnd RunFault) (image : Image)
     (s0 s1 : Option (List ℕ)) (failed : Bool) (o0 o1 : Option (List ℕ)) (other : Bool)
     → Is image → ComesTo image answer s0 s1 failed o0 o1 other → Plays Is IsNone (in_words answer) s0 s1 failed o0 o1 other
-plays Is IsNone (Ok end) image s0 s1 failed o0 o1 other is comes = (image, (is, comes))
-plays Is IsNone (Err f) image s0 s1 failed o0 o1 other is comes = inr (image, (f, (refl, is, comes)))
+plays Is IsNone answer image s0 s1 failed o0 o1 other is comes = grind arith
 
 -- a text that holds both was
 pub plays_text : (answer : Result RunEnd RunFault) (image : Image) (text schedule after : List ℕ) (o0 o1 : Option (List ℕ)) (other : Bool)

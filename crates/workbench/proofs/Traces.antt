@@ -1,5 +1,5 @@
 -- A session behind the choices of a trace.
-use Rattle.std.proofs.Common.{◌≡◌, ◌⊎◌, inl, inr, sym, ℕ, Bool, List, [], ◌∷◌, Option, Some, Result, Ok, Err, IsTrue, refl, ap, subst}
+use Rattle.std.proofs.Common.{◌≡◌, ◌⊎◌, inl, inr, sym, ℕ, Bool, List, [], ◌∷◌, Option, Some, Result, Ok, Err, IsTrue, refl, ap, subst, arith}
 use Rattle.std.specs.Prelude.{IfErr, IfOk, OnOk}
 use Rattle.std.specs.Io.KnownBytes.{Appends}
 use Rattle.thread_machine.specs.declared.choice.Choice.{Choice}
@@ -56,25 +56,17 @@ pub answered_at : (answer : Result (Unit {0}) Fault) (result : Result Done Fault
     → OnOk answer (result ≡ Ok done.AsAsked) → IfErr answer (λ f. result ≡ Err f) → IsFirstSession file session
     → HasNamed t0 t1 (Ok choices) → IsBegun (Some (runs_of choices)) session now o0 om
     → Converses (GivesOnAndOn c0 c1) answer now c0 c1 cf om o1 of → DebugsAt file result t0 t1 tf c0 c1 cf o0 o1 of
-answered_at (Ok tt) result file session now choices t0 t1 c0 c1 o0 om o1 tf cf of asked told first named begun came =
-    subst (λ r. DebugsAt file r t0 t1 tf c0 c1 cf o0 o1 of) (sym asked)
-    (runs_of choices, (named_at choices t0 t1 named, (session, (now, (om, (first, begun, came))))))
-answered_at (Err f) result file session now choices t0 t1 c0 c1 o0 om o1 tf cf of asked told first named begun came =
-    subst (λ r. DebugsAt file r t0 t1 tf c0 c1 cf o0 o1 of) (sym told)
-    (inl (runs_of choices, (named_at choices t0 t1 named, (session, (now, (om, (first, begun, came)))))))
+answered_at answer result file session now choices t0 t1 c0 c1 o0 om o1 tf cf of asked told first named begun came = grind (arith, runs_of, named_at)
 
 -- there is no session, and nothing was looked at
 pub not_begun_at : (f : Fault) (file : List ℕ) (t0 t1 c0 c1 o0 o1 : Option (List ℕ)) (tf of : Bool) → HasNoSession f file → t1 ≡ t0
     → IsUntouched c0 c1 o0 o1 → IsNotBegunAt f file t0 t1 tf c0 c1 o0 o1 of
-not_begun_at fault.Write file t0 t1 c0 c1 o0 o1 tf of none same untouched = absurd none
-not_begun_at fault.Read file t0 t1 c0 c1 o0 o1 tf of none same untouched = absurd none
-not_begun_at _ file t0 t1 c0 c1 o0 o1 tf of none same untouched = (none, same, untouched)
+not_begun_at f file t0 t1 c0 c1 o0 o1 tf of none same untouched = grind arith
 
 -- the trace couldn't be read
 pub unread_at : (f : Fault) (file : List ℕ) (session : Session) (t0 t1 c0 c1 o0 o1 : Option (List ℕ)) (tf of : Bool)
     → ((f ≡ fault.Memory) × (t1 ≡ t0)) ⊎ ((f ≡ fault.Read) × (IsTrue tf ⊎ GivesOnAndOn t0 t1)) → IsFirstSession file session
     → IsUntouched c0 c1 o0 o1 → IsNotBegunAt f file t0 t1 tf c0 c1 o0 o1 of
-unread_at f file session t0 t1 c0 c1 o0 o1 tf of (inl (is, same)) first untouched =
-    subst (λ e. IsNotBegunAt e file t0 t1 tf c0 c1 o0 o1 of) (sym is) (tt, same, untouched)
+unread_at f file session t0 t1 c0 c1 o0 o1 tf of (inl (is, same)) first untouched = grind arith
 unread_at f file session t0 t1 c0 c1 o0 o1 tf of (inr (is, why)) first untouched =
     subst (λ e. IsNotBegunAt e file t0 t1 tf c0 c1 o0 o1 of) (sym is) ((session, first), why, untouched)
