@@ -1,5 +1,5 @@
 -- The lines of phasers, barriers and threads as words, and what they say.
-use Rattle.std.proofs.Common.{inl, inr, ℕ, zero, suc, ◌<◌, ◌≤◌, ℤ, pos, negsuc, List, [], ◌∷◌, ◌++◌, length, length-append, Option, Some, None, IfSome, option_map, refl, arith, codes, decimal}
+use Rattle.std.proofs.Common.{inl, inr, ℕ, zero, suc, ◌<◌, ◌≤◌, ℤ, pos, negsuc, List, [], ◌∷◌, ◌++◌, length, length-append, Option, Some, None, IfSome, option_map, refl, arith, codes, decimal, rules}
 use Rattle.std.specs.Fmt.{signed_decimal}
 use Rattle.std.proofs.lemmas.Int.{ints}
 use Rattle.row_code.specs.declared.barriers.DeclaredBarrier.{DeclaredBarrier}
@@ -66,9 +66,7 @@ parties_word : (n : ℕ) → n < 65536 → IsWord (decimal n)
 parties_word n small = digits_word n (decimal n) (decimal_digits n (omega arith))
 
 parent_are : (parent : Option ℕ) → IfSome parent (λ n. n < 64) → AreWords (parent_words parent)
-parent_are None h = tt
-parent_are (Some n) h =
-    (record { some = omega arith; short = omega arith; plain = refl }, (number_is_word n (omega arith), tt))
+parent_are parent h = grind (arith, number_is_word)
 
 phase_are : (phase : ℤ) → IsCount phase → AreWords (phase_words phase)
 phase_are (pos zero) h = tt
@@ -77,17 +75,10 @@ phase_are (pos (suc n)) h =
 phase_are (negsuc n) h = absurd (omega (arith, ints, h.0))
 
 policy_are : (p : DeclaredPolicy) → IsPolicy p → AreWords (policy_words p)
-policy_are declared.Default h = tt
-policy_are declared.Never h = (record { some = omega arith; short = omega arith; plain = refl }, tt)
-policy_are (declared.Until phase) h =
-    (record { some = omega arith; short = omega arith; plain = refl }, (int_word phase (omega (arith, ints, h.0)) (omega (arith, ints, h.1)), tt))
-policy_are (declared.Routine row) h =
-    (record { some = omega arith; short = omega arith; plain = refl }, (number_is_word row h, tt))
+policy_are p h = grind (arith, int_word, ints, number_is_word)
 
 action_are : (action : Option ℕ) → IfSome action (λ n. n < 65536) → AreWords (action_words action)
-action_are None h = tt
-action_are (Some n) h =
-    (record { some = omega arith; short = omega arith; plain = refl }, (number_is_word n h, tt))
+action_are action h = grind (arith, number_is_word)
 
 -- ---- and spell what is said
 
@@ -110,9 +101,7 @@ phase_spelled (negsuc n) h = absurd (omega (arith, ints, h.0))
 
 policy_spelled : (p : DeclaredPolicy) → IsPolicy p → SpellPolicy (policy_words p) (policy_said p)
 policy_spelled declared.Default h = refl
-policy_spelled declared.Never h = refl
-policy_spelled (declared.Until phase) h = (signed_decimal phase, refl, count_spelled phase h)
-policy_spelled (declared.Routine row) h = (number_word row, refl, reference_spelled greatest_number row (omega arith) h)
+policy_spelled p h = search (rules, count_spelled, reference_spelled)
 
 action_spelled : (action : Option ℕ) → IfSome action (λ n. n < 65536) →
     SpellReference (codes "action") greatest_number (action_words action) (option_map number_said action)
@@ -122,23 +111,16 @@ action_spelled (Some n) h = (number_word n, refl, reference_spelled greatest_num
 -- ---- so the lines say it
 
 few_parent : (parent : Option ℕ) → length (parent_words parent) ≤ 2
-few_parent None = omega arith
-few_parent (Some n) = omega arith
+few_parent parent = grind arith
 
 few_phase : (phase : ℤ) → length (phase_words phase) ≤ 2
-few_phase (pos zero) = omega arith
-few_phase (pos (suc n)) = omega arith
-few_phase (negsuc n) = omega arith
+few_phase phase = grind arith
 
 few_policy : (p : DeclaredPolicy) → length (policy_words p) ≤ 2
-few_policy declared.Default = omega arith
-few_policy declared.Never = omega arith
-few_policy (declared.Until phase) = omega arith
-few_policy (declared.Routine row) = omega arith
+few_policy p = grind arith
 
 few_action : (action : Option ℕ) → length (action_words action) ≤ 2
-few_action None = omega arith
-few_action (Some n) = omega arith
+few_action action = grind arith
 
 pub phaser_says : (n : ℕ) (p : DeclaredPhaser) → n < 64 → IsPhaser p → Says (joined (phaser_words n p)) (phaser_said n p)
 phaser_says n p small h =

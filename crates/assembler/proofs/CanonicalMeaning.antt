@@ -1,5 +1,5 @@
 -- The canonical text of an image stands for it.
-use Rattle.std.proofs.Common.{◌≡◌, ℕ, true, List, [], ◌∷◌, ◌++◌, Option, Some, None, option_map, refl, sym, ap, subst, ◌∙◌, arith, append-nil}
+use Rattle.std.proofs.Common.{◌≡◌, ℕ, true, List, [], ◌∷◌, ◌++◌, Option, Some, None, option_map, refl, sym, ap, subst, ◌∙◌, arith, append-nil, rules}
 use Rattle.std.specs.List.{flat_map, list_all}
 use Rattle.std.proofs.lemmas.Bool.{and_from}
 use Rattle.std.proofs.lemmas.Grind.{flat_map-append}
@@ -67,9 +67,7 @@ all_listed i =
 -- what is made of four lists
 four : {A B : Type 0} (f : A → List B) (a b c d : List A) →
     flat_map f (a ++ (b ++ (c ++ d))) ≡ flat_map f a ++ (flat_map f b ++ (flat_map f c ++ flat_map f d))
-four f a b c d =
-    flat_map-append f a (b ++ (c ++ d))
-    ∙ ap (λ rest. flat_map f a ++ rest) (flat_map-append f b (c ++ d) ∙ ap (λ rest. flat_map f b ++ rest) (flat_map-append f c d))
+four f a b c d = grind (arith, flat_map-append)
 
 all_say : (i : Image) → IsImage i → SayEach (all_lines i) (all_said i)
 all_say i h =
@@ -145,46 +143,25 @@ all_follow i h =
 
 parent_known : (lines : List (Line Name)) (k : OperandKind) (n : Option ℕ) →
     is_known_or_none lines k (option_map number_said n) ≡ true
-parent_known lines k None = refl
-parent_known lines k (Some n) = refl
+parent_known lines k n = grind arith
 
 policy_known : (lines : List (Line Name)) (p : DeclaredPolicy) → is_policy_known lines (policy_said p) ≡ true
-policy_known lines declared.Default = refl
-policy_known lines declared.Never = refl
-policy_known lines (declared.Until phase) = refl
-policy_known lines (declared.Routine row) = refl
+policy_known lines p = grind arith
 
 all_known : (lines : List (Line Name)) (i : Image) → list_all (are_known lines) (all_said i) ≡ true
-all_known lines i =
-    let p = numbered_all (are_known lines) phaser_said
-    (λ n p. and_from _ _ (parent_known lines kind.Phaser p.parent) (policy_known lines p.policy)) 0 i.phasers in
-    let b = numbered_all (are_known lines) barrier_said (λ n b. parent_known lines kind.Target b.action) 0 i.barriers in
-    let t = numbered_all (are_known lines) thread_said (λ n t. refl) 0 i.threads in
-    let r = numbered_all (are_known lines) row_numbered (λ n row. row_known lines row) 0 i.rows in
-    list_all-append (are_known lines) (phasers_said i) (barriers_said i ++ (threads_said i ++ rows_said i))
-    ∙ and_from _ _ p (list_all-append (are_known lines) (barriers_said i) (threads_said i ++ rows_said i)
-    ∙ and_from _ _ b (list_all-append (are_known lines) (threads_said i) (rows_said i) ∙ and_from _ _ t r))
+all_known lines i = search (rules, numbered_all, phaser_said, and_from, parent_known, policy_known, barrier_said, thread_said, row_known, list_all-append)
 
 -- ---- the image that they make
 
 number_back : (lines : List (Line Name)) (k : OperandKind) (n : Option ℕ) →
     option_map (referent_or_0 lines k) (option_map number_said n) ≡ n
-number_back lines k None = refl
-number_back lines k (Some n) = refl
+number_back lines k n = grind arith
 
 policy_back : (lines : List (Line Name)) (p : DeclaredPolicy) → policy_of lines (policy_said p) ≡ p
-policy_back lines declared.Default = refl
-policy_back lines declared.Never = refl
-policy_back lines (declared.Until phase) = refl
-policy_back lines (declared.Routine row) = refl
+policy_back lines p = grind arith
 
 phaser_back : (lines : List (Line Name)) (n : ℕ) (p : DeclaredPhaser) → phasers_in lines (phaser_said n p) ≡ p ∷ []
-phaser_back lines n p = λ k. record {
-  parent = number_back lines kind.Phaser p.parent k;
-  policy = policy_back lines p.policy k;
-  parties = p.parties;
-  first_phase = p.first_phase;
-} ∷ []
+phaser_back lines n p = grind (arith, number_back, policy_back)
 
 barrier_back : (lines : List (Line Name)) (n : ℕ) (b : DeclaredBarrier) →
     barriers_in lines (barrier_said n b) ≡ b ∷ []
@@ -195,9 +172,7 @@ in_four : {B : Type 0} (f : Statement Name → List B) (i : Image) (a b c d : Li
     flat_map f (phasers_said i) ≡ a → flat_map f (barriers_said i) ≡ b → flat_map f (threads_said i) ≡ c →
     flat_map f (rows_said i) ≡ d →
     flat_map (λ line. f line.statement) (lines_from 1 (all_said i)) ≡ a ++ (b ++ (c ++ d))
-in_four f i a b c d ea eb ec ed =
-    lines_from-flat_map f 1 (all_said i) ∙ four f (phasers_said i) (barriers_said i) (threads_said i) (rows_said i)
-    ∙ (λ k. ea k ++ (eb k ++ (ec k ++ ed k)))
+in_four f i a b c d ea eb ec ed = grind (arith, lines_from-flat_map, four)
 
 image_back : (lines : List (Line Name)) (i : Image) → lines ≡ lines_from 1 (all_said i) → i ≡ image_of lines
 image_back lines i is =

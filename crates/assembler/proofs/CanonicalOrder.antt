@@ -35,11 +35,7 @@ EachFollows-append before n (said ∷ a) b h k =
 -- ---- names
 
 not_same : (a b : List ℕ) → (a ≡ b → ⊥) → bytes_eq a b ≡ false
-not_same a b differ = by (bytes_eq a b) refl
-  where
-    by : (t : Bool) → bytes_eq a b ≡ t → bytes_eq a b ≡ false
-    by true e = absurd (differ ((bytes_eq-Decides a b).0 e))
-    by false e = e
+not_same a b differ = grind (arith, bytes_eq-Decides)
 
 other_number : (letter m n : ℕ) → m < 64 → n < 64 → (m ≡ n → ⊥) →
     bytes_eq (letter ∷ decimal m) (letter ∷ decimal n) ≡ false
@@ -73,13 +69,7 @@ free_more : (letter : ℕ) (k : OperandKind) (n d : ℕ) (before : List (Line Na
     adds k line.statement ≡ d → is_code line.statement ≡ false →
     ((m : ℕ) → n + d ≤ m → m < 64 → gives (letter ∷ decimal m) line.statement ≡ false) →
     IsFree letter k (n + d) (before ++ (line ∷ []))
-free_more letter k n d before line free more no_code other = record {
-  counted = omega (arith, count-append k before (line ∷ []), free.counted, more);
-  no_code = list_any-append (λ l. is_code l.statement) before (line ∷ []) ∙ (λ i. free.no_code i || (no_code i || false));
-  fresh = λ m from small.
-      list_any-append (λ l. gives (letter ∷ decimal m) l.statement) before (line ∷ [])
-      ∙ (λ i. free.fresh m (omega arith) small i || (other m from small i || false));
-}
+free_more letter k n d before line free more no_code other = grind (arith, count-append, list_any-append)
 
 -- a line that declares the next of the same kind
 free_next : {A : Type 0} (letter : ℕ) (k : OperandKind) (said : ℕ → A → Statement Name) → IsDirective letter k said →

@@ -58,14 +58,7 @@ OperandsFit (_ ∷ kinds) registers imm = IsNumbered imm × OperandsFit kinds re
 -- ---- one operand
 
 below_eight : (reg : Reg) → number_of reg < 8
-below_eight R0 = omega arith
-below_eight R1 = omega arith
-below_eight R2 = omega arith
-below_eight R3 = omega arith
-below_eight R4 = omega arith
-below_eight R5 = omega arith
-below_eight R6 = omega arith
-below_eight R7 = omega arith
+below_eight reg = grind arith
 
 register_word : (register : ℕ) → number_of (register_at register) ≡ register → IsWord (114 ∷ decimal register)
 register_word register e =
@@ -73,9 +66,7 @@ register_word register e =
 
 register_spelled : (register : ℕ) → number_of (register_at register) ≡ register →
     114 ∷ decimal register ≡ 114 ∷ (48 + number_of (register_at register)) ∷ []
-register_spelled register e =
-    ap (λ digits. 114 ∷ digits) (decimal_digit register (omega (arith, below_eight (register_at register), e))
-    ∙ ap (λ n. (48 + n) ∷ []) (sym e))
+register_spelled register e = grind (arith, decimal_digit, below_eight)
 
 number_is_word : (imm : ℤ) → FitsSigned w32 imm → IsWord (signed_decimal imm)
 number_is_word imm h = int_word imm (omega (arith, ints, h.sfits)) (omega (arith, ints, h.sfits))
@@ -101,11 +92,10 @@ operands_are (_ ∷ kinds) registers imm h = (object_word imm h.0, operands_are 
 
 operands_few : (kinds : List OperandKind) (registers : List ℕ) (imm : ℤ) →
     length (operand_words kinds registers imm) ≤ length kinds
-operands_few [] registers imm = omega arith
-operands_few (kind.Register ∷ kinds) [] imm = omega arith
 operands_few (kind.Register ∷ kinds) (register ∷ registers) imm = omega (arith, operands_few kinds registers imm)
 operands_few (kind.Number ∷ kinds) registers imm = omega (arith, operands_few kinds registers imm)
 operands_few (_ ∷ kinds) registers imm = omega (arith, operands_few kinds registers imm)
+operands_few kinds registers imm = grind arith
 
 operands_spelled : (kinds : List OperandKind) (registers : List ℕ) (imm : ℤ) → OperandsFit kinds registers imm →
     SpellOperands kinds (operand_words kinds registers imm) (operands_said kinds registers imm)
@@ -143,30 +133,15 @@ record IsEntry (e : Entry) : Type 0 where
   found : entry_named table e.word ≡ Some e
 
 is_entry : (row : Row) → IsEntry (entry_for row)
-is_entry Halt = record { word = refl; few = refl; found = refl }
-is_entry row = record { word = refl; few = refl; found = refl }
+is_entry row = grind arith
 
 entry_word : (e : Entry) → IsEntry e → IsWord e.word
-entry_word e h =
-    let a = and_parts (nat_lt 0 (length e.word)) (nat_lt (length e.word) 13 && list_all is_plain e.word) h.word in
-    let b = and_parts (nat_lt (length e.word) 13) (list_all is_plain e.word) a.1 in
-    record {
-      some = ltb-true 0 (length e.word) a.0;
-      short = omega (arith, ltb-true (length e.word) 13 b.0);
-      plain = b.1;
-    }
+entry_word e h = search (rules, and_parts, is_plain)
 
 -- ---- what each row says
 
 register_back : (reg : Reg) → register_at (number_of reg) ≡ reg
-register_back R0 = refl
-register_back R1 = refl
-register_back R2 = refl
-register_back R3 = refl
-register_back R4 = refl
-register_back R5 = refl
-register_back R6 = refl
-register_back R7 = refl
+register_back reg = grind arith
 
 number_back : (reg : Reg) → number_of (register_at (number_of reg)) ≡ number_of reg
 number_back reg = ap number_of (register_back reg)
@@ -179,13 +154,11 @@ ruleset operand_facts = (number_back, number_fits)
 -- each operand refers to something by its number
 pub row_known : (lines : List (Line Name)) (row : Row) →
     list_all (is_operand_known lines) (operands_in (symbolic row)) ≡ true
-row_known lines Halt = refl
-row_known lines row = refl
+row_known lines row = grind arith
 
 -- what is said of a row is that row
 pub row_back : (lines : List (Line Name)) (row : Row) → row_of lines (symbolic row) ≡ row
-row_back lines Halt = refl
-row_back lines row = first_of (simp register_back, search rules)
+row_back lines row = grind (arith, register_back)
 
 row_fits : (row : Row) → IsRow row →
     OperandsFit (entry_for row).operands ((fields_of row).a ∷ (fields_of row).b ∷ (fields_of row).c ∷ []) (fields_of row).imm

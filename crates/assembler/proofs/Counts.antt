@@ -26,12 +26,7 @@ one_more k named before room few = by_test (is_kind k named) refl
 
 room_kept : (k : OperandKind) (before : List (Line Name)) (s : Statement Name) → has_room before s ≡ true →
     count k before ≤ most k → count k before + adds k s ≤ most k
-room_kept k before (statement.Phaser p) room few = one_more k kind.Phaser before room few
-room_kept k before (statement.Barrier b) room few = one_more k kind.Barrier before room few
-room_kept k before (statement.Thread t) room few = one_more k kind.Thread before room few
-room_kept k before (statement.Cell name) room few = one_more k kind.Cell before room few
-room_kept k before (statement.Label name) room few = omega (arith, few)
-room_kept k before (statement.Row label row) room few = one_more k kind.Target before room few
+room_kept k before s room few = grind (arith, one_more)
 
 few_behind : (k : OperandKind) (before lines : List (Line Name)) → count k before ≤ most k → EachFollows before lines →
     count k (before ++ lines) ≤ most k
@@ -52,8 +47,7 @@ few_of_each lines follow k = few_behind k [] lines (omega arith) follow
 
 -- the number of a thing is at most how many there are: it is as many, where a label stands last
 later : (n more : ℕ) (found : Option ℕ) → IfSome found (λ m. m ≤ n) → IfSome (option_map (λ m. more + m) found) (λ m. m ≤ more + n)
-later n more None h = tt
-later n more (Some m) h = omega (arith, h)
+later n more found h = grind arith
 
 pub number_within : (k : OperandKind) (name : Name) (lines : List (Line Name)) → IfSome (number_named k name lines) (λ n. n ≤ count k lines)
 number_within k name [] = tt
@@ -66,24 +60,14 @@ number_within k name (line ∷ lines) = by_test (gives_to k name line.statement)
 
 -- a phaser's number is below their count
 below : (n more : ℕ) (found : Option ℕ) → IfSome found (λ m. m < n) → IfSome (option_map (λ m. more + m) found) (λ m. m < more + n)
-below n more None h = tt
-below n more (Some m) h = omega (arith, h)
+below n more found h = grind arith
 
 abbrev IsBelow : Name → List (Line Name) → Type 0
 IsBelow name lines = IfSome (number_named kind.Phaser name lines) (λ n. n < count kind.Phaser lines)
 
 next_below : (name : Name) (number : ℕ) (s : Statement Name) (lines : List (Line Name)) → IsBelow name lines →
     IsBelow name (record { number = number; statement = s } ∷ lines)
-next_below name number (statement.Phaser p) lines h = by_test (bytes_eq p.name name)
-  where
-    by_test : (here : Bool) → IfSome (cond here (Some 0) (option_map (λ n. 1 + n) (number_named kind.Phaser name lines))) (λ n. n < 1 + count kind.Phaser lines)
-    by_test true = omega arith
-    by_test false = below (count kind.Phaser lines) 1 (number_named kind.Phaser name lines) h
-next_below name number (statement.Barrier b) lines h = below (count kind.Phaser lines) 0 (number_named kind.Phaser name lines) h
-next_below name number (statement.Thread t) lines h = below (count kind.Phaser lines) 0 (number_named kind.Phaser name lines) h
-next_below name number (statement.Cell c) lines h = below (count kind.Phaser lines) 0 (number_named kind.Phaser name lines) h
-next_below name number (statement.Label l) lines h = below (count kind.Phaser lines) 0 (number_named kind.Phaser name lines) h
-next_below name number (statement.Row label row) lines h = below (count kind.Phaser lines) 0 (number_named kind.Phaser name lines) h
+next_below name number s lines h = grind (arith, below)
 
 pub phaser_below : (name : Name) (lines : List (Line Name)) → IfSome (number_named kind.Phaser name lines) (λ n. n < count kind.Phaser lines)
 phaser_below name [] = tt

@@ -1,5 +1,5 @@
 -- Numbers as they are printed, read as words, names and numbers.
-use Rattle.std.proofs.Common.{◌≡◌, ℕ, suc, ◌<◌, ◌≤◌, ℤ, pos, negsuc, neg_ℤ, ◌≤ℤ◌, Bool, true, false, cond, not, ◌&&◌, nat_lt, ◌==◌, List, [], ◌∷◌, length, refl, ap, ◌∙◌, arith, ne_eqb, decimal}
+use Rattle.std.proofs.Common.{◌≡◌, ℕ, suc, ◌<◌, ◌≤◌, ℤ, pos, negsuc, neg_ℤ, ◌≤ℤ◌, Bool, true, false, cond, not, ◌&&◌, nat_lt, ◌==◌, List, [], ◌∷◌, length, refl, ap, ◌∙◌, arith, ne_eqb, decimal, rules}
 use Rattle.std.specs.Char.{is_ascii_digit}
 use Rattle.std.specs.Fmt.{signed_decimal}
 use Rattle.std.specs.List.{list_all}
@@ -55,31 +55,19 @@ digits_word n ds h = record { some = h.some; short = omega (arith, h.short); pla
 
 -- with a plain byte before them
 pub marked_word : (mark n : ℕ) (ds : List ℕ) → is_plain mark ≡ true → AreDigits n ds → IsWord (mark ∷ ds)
-marked_word mark n ds plain h = record {
-  some = omega arith;
-  short = omega (arith, h.short);
-  plain = and_from (is_plain mark) (list_all is_plain ds) plain (all_digits is_plain digit_plain ds h.digits);
-}
+marked_word mark n ds plain h = grind (arith, and_from, is_plain, all_digits, digit_plain)
 
 pub marked_name : (letter n : ℕ) (ds : List ℕ) → begins_name letter ≡ true → goes_on_name letter ≡ true →
     AreDigits n ds → is_name (letter ∷ ds) ≡ true
-marked_name letter n ds begins goes_on h =
-    let all = and_from (goes_on_name letter) (list_all goes_on_name ds) goes_on (all_digits goes_on_name digit_in_name ds h.digits) in
-    let some : nat_lt 0 (length (letter ∷ ds)) ≡ true = grind (arith, nat_tests) in
-    let short : nat_lt (length (letter ∷ ds)) 33 ≡ true = grind (arith, nat_tests, h.short) in
-    and_from _ _ (and_from _ _ (and_from _ _ some short) begins) all
+marked_name letter n ds begins goes_on h = grind (arith, and_from, all_digits, digit_in_name, nat_tests)
 
 -- ---- numbers
 
 digits_in-digits : (ds : List ℕ) → AllDigits 10 ds → digits_in ds ≡ ds
-digits_in-digits [] d = refl
-digits_in-digits (c ∷ cs) d =
-    let k = digit_from_value c d.0 in
-    ap (λ b. cond b cs (c ∷ cs)) (ne_eqb c 45 (λ e. omega arith))
+digits_in-digits ds d = grind (arith, digit_from_value)
 
 not_negative : (ds : List ℕ) → AllDigits 10 ds → is_negative ds ≡ false
-not_negative [] d = refl
-not_negative (c ∷ cs) d = let k = digit_from_value c d.0 in ne_eqb c 45 (λ e. omega arith)
+not_negative ds d = grind (arith, digit_from_value)
 
 not_none : (ds : List ℕ) → 0 < length ds → not (length ds == 0) ≡ true
 not_none ds some = grind (arith, nat_tests)
@@ -89,26 +77,11 @@ are_number n ds h = and_from _ _ (not_none ds h.some) (all_digits is_ascii_digit
 
 pub digits_spell : (low high : ℤ) (n : ℕ) (ds : List ℕ) → AreDigits n ds → low ≤ℤ pos n → pos n ≤ℤ high →
     SpellsNumber low high ds (pos n)
-digits_spell low high n ds h least greatest =
-    let same = digits_in-digits ds h.digits in
-    record {
-      spelled = ap (λ all. not (length all == 0) && list_all is_ascii_digit all) same ∙ are_number n ds h;
-      short = omega (arith, ap length same, h.short);
-      value = ap (λ b. cond b (neg_ℤ (pos (digits_value 10 (digits_in ds)))) (pos (digits_value 10 (digits_in ds)))) (not_negative ds h.digits)
-          ∙ ap (λ all. pos (digits_value 10 all)) same ∙ ap pos h.value;
-      least = least;
-      greatest = greatest;
-    }
+digits_spell low high n ds h least greatest = search (rules, digits_in-digits, are_number, not_negative)
 
 minus_spell : (low high : ℤ) (n : ℕ) (ds : List ℕ) → AreDigits (suc n) ds → low ≤ℤ negsuc n → negsuc n ≤ℤ high →
     SpellsNumber low high (45 ∷ ds) (negsuc n)
-minus_spell low high n ds h least greatest = record {
-  spelled = are_number (suc n) ds h;
-  short = h.short;
-  value = ap (λ m. neg_ℤ (pos m)) h.value;
-  least = least;
-  greatest = greatest;
-}
+minus_spell low high n ds h least greatest = grind (arith, are_number)
 
 -- a count of parties, a phase or the number of a row or an object
 pub decimal_spells : (high n : ℕ) → n ≤ high → n < 10000000000 → SpellsNumber (pos 0) (pos high) (decimal n) (pos n)

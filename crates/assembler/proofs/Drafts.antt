@@ -1,5 +1,5 @@
 -- What is kept beside the lines, with one line more.
-use Rattle.std.proofs.Common.{◌≡◌, ◌∙◌, ℕ, ◌+◌, Bool, true, false, cond, ◌||◌, not, List, [], ◌∷◌, ◌++◌, Option, Some, None, option_map, is_some, bytes_eq, refl, sym, ap, arith}
+use Rattle.std.proofs.Common.{◌≡◌, ◌∙◌, ℕ, ◌+◌, Bool, true, false, cond, ◌||◌, not, List, [], ◌∷◌, ◌++◌, Option, Some, None, option_map, is_some, bytes_eq, refl, sym, ap, arith, rules}
 use Rattle.std.specs.List.{flat_map, list_any}
 use Rattle.std.proofs.lemmas.Grind.{flat_map-append}
 use Rattle.std.proofs.lemmas.List.{append-nil}
@@ -46,8 +46,7 @@ moved : (first : Bool) (before : ℕ) (a b : Option ℕ) (c : Option ℕ) →
     cond first (Some 0) (option_map (λ n. before + n) (or_else a b))
     ≡ or_else (cond first (Some 0) (option_map (λ n. before + n) a)) c
 moved true before a b c is = refl
-moved false before (Some n) b c is = refl
-moved false before None b c is = is
+moved false before a b c is = grind arith
 
 counted_on : (here : Bool) (before n : ℕ) →
     option_map (λ n. before + n) (cond here (Some n) None) ≡ cond here (Some (before + n)) None
@@ -84,22 +83,14 @@ unnamed k name (l ∷ lines) h =
     rw (not_given_to (is_kind k (kind_named l.statement)) (gives name l.statement) both.0, unnamed k name lines both.1) refl
 
 none_else : (o : Option ℕ) → or_else o None ≡ o
-none_else None = refl
-none_else (Some n) = refl
+none_else o = grind arith
 
 or_true : (b : Bool) → (b || true) ≡ true
 or_true true = refl
 or_true false = refl
 
 pub same_kind : (a b : OperandKind) → is_kind a b ≡ true → a ≡ b
-same_kind kind.Register kind.Register h = refl
-same_kind kind.Number kind.Number h = refl
-same_kind kind.Target kind.Target h = refl
-same_kind kind.Phaser kind.Phaser h = refl
-same_kind kind.Barrier kind.Barrier h = refl
-same_kind kind.Thread kind.Thread h = refl
-same_kind kind.Cell kind.Cell h = refl
-same_kind _ _ h = absurd (cc)
+same_kind a b h = grind arith
 
 -- whether a name is given, with one name more
 given_there : (b : Bool) (place : Place) (o : Option Place) →
@@ -109,8 +100,7 @@ given_there false place o = sym (or_false (is_some o))
 
 given_with : (given : Option Name) (place : Place) (names : Borrowed → Option Place) (q : Borrowed) →
     is_some (named_with given place names q) ≡ (is_some (names q) || is_named q.now given)
-given_with None place names q = sym (or_false (is_some (names q)))
-given_with (Some name) place names q = given_there (bytes_eq name q.now) place (names q)
+given_with given place names q = grind (arith, or_false, given_there)
 
 module _ (k : OperandKind) (lines : List (Line Name)) (names : Borrowed → Option Place) (counts : Counts)
     (code : Bool) (order : List (Symbol Name)) (kept : IsKept lines names order counts code) (named : OperandKind) (q : Borrowed) where
@@ -152,29 +142,15 @@ module _ (k : OperandKind) (lines : List (Line Name)) (names : Borrowed → Opti
       (λ same. ap (λ n. is_given n lines) (sym (is_bytes name q.now same)) ∙ not_true (is_given name lines) new)
 
 differ : (a b : Name) → bytes_eq a b ≡ false → bytes_eq b a ≡ false
-differ a b h = by (bytes_eq b a) refl
-  where
-    by : (same : Bool) → bytes_eq b a ≡ same → same ≡ false
-    by true e = let p : b ≡ a = is_bytes b a e in cc
-    by false e = refl
+differ a b h = search (rules, is_bytes)
 
 -- a name names the same where another name stands behind the lines
 named_before : (k : OperandKind) (name : Name) (lines : List (Line Name)) (line : Line Name) →
     gives name line.statement ≡ false → number_named k name (lines ++ (line ∷ [])) ≡ number_named k name lines
-named_before k name lines line other =
-    named-append k name lines line
-    ∙ ap (λ b. or_else (number_named k name lines) (cond b (Some (count k lines)) None))
-    (not_given_to (is_kind k (kind_named line.statement)) (gives name line.statement) other)
-    ∙ none_else (number_named k name lines)
+named_before k name lines line other = grind (arith, named-append, not_given_to, none_else)
 
 one_kind : (k : OperandKind) → is_kind k k ≡ true
-one_kind kind.Register = refl
-one_kind kind.Number = refl
-one_kind kind.Target = refl
-one_kind kind.Phaser = refl
-one_kind kind.Barrier = refl
-one_kind kind.Thread = refl
-one_kind kind.Cell = refl
+one_kind k = grind arith
 
 gives_it : (s : Statement Name) (name : Name) → name_in s ≡ Some name → gives_to (kind_named s) name s ≡ true
 gives_it s name is = rw (one_kind (kind_named s), is) ((bytes_eq-Decides name name).1 refl)
@@ -182,24 +158,18 @@ gives_it s name is = rw (one_kind (kind_named s), is) ((bytes_eq-Decides name na
 -- where a name is new behind some lines, it is so behind those but the first
 new_behind : (first : Line Name) (lines : List (Line Name)) (last : Option Name) → is_new (first ∷ lines) last ≡ true →
     is_new lines last ≡ true
-new_behind first lines None new = refl
-new_behind first lines (Some name) new =
-    ap not (either_false (gives name first.statement) (is_given name lines) (not_true (is_given name (first ∷ lines)) new)).1
+new_behind first lines last new = grind (arith, either_false, not_true)
 
 -- and isn't the first one's
 other_name : (first : Line Name) (lines : List (Line Name)) (last : Option Name) → is_new (first ∷ lines) last ≡ true →
     (name : Name) → name_in first.statement ≡ Some name → is_named name last ≡ false
-other_name first lines None new name is = refl
-other_name first lines (Some last) new name is =
-    let both = either_false (gives last first.statement) (is_given last lines) (not_true (is_given last (first ∷ lines)) new) in
-    differ name last (sym (ap (is_named last) is) ∙ both.0)
+other_name first lines last new name is = grind (arith, either_false, not_true, differ)
 
 -- a symbol, where the number of its name is this
 symbol_as : (k : OperandKind) (all : List (Line Name)) (number : Option ℕ) (name : Option Name) →
     ((n : Name) → name ≡ Some n → number_named k n all ≡ number) →
     symbol_by k name (number_by all k name) ≡ symbol_by k name number
-symbol_as k all number None same = refl
-symbol_as k all number (Some name) same = ap (symbol_by k (Some name)) (same name refl)
+symbol_as k all number name same = grind arith
 
 module _ (lines : List (Line Name)) (line : Line Name) where
   abbrev all : List (Line Name)

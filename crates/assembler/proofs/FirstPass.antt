@@ -36,8 +36,7 @@ next_line texts k middle line more met left =
 alone : (r : Result (List (Line Name)) AsmFault) (after : List (Line Name)) (n : ℕ) → r ≡ Ok after →
     (r >>= (λ lines. lines_read n lines [])) ≡ Ok after
 unfolding lines_read
-alone (Ok lines) after n is = is
-alone (Err e) after n is = absurd (cc)
+alone r after n is = grind arith
 
 -- the lines up to that one
 pub one_more : (texts : List (List ℕ)) (k : ℕ) (middle after : List (Line Name)) (line : List ℕ)
@@ -70,5 +69,4 @@ no_lines [] h = refl
 no_lines (byte ∷ bytes) h = absurd (grind (arith, nat_tests, h))
 
 pub some_text : (text : List ℕ) → false ≡ (length text == 0) → 0 < length text
-some_text [] h = absurd (cc)
-some_text (byte ∷ bytes) h = omega arith
+some_text text h = grind arith

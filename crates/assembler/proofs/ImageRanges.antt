@@ -48,36 +48,16 @@ counted k added one (line ∷ lines) =
     omega (arith, length-append (added line.statement) (flat_map (λ line. added line.statement) lines), one line.statement, counted k added one lines)
 
 phaser_counted : (all : List (Line Name)) (s : Statement Name) → length (phasers_in all s) ≡ adds kind.Phaser s
-phaser_counted all (statement.Phaser p) = refl
-phaser_counted all (statement.Barrier b) = refl
-phaser_counted all (statement.Thread t) = refl
-phaser_counted all (statement.Cell name) = refl
-phaser_counted all (statement.Label name) = refl
-phaser_counted all (statement.Row label row) = refl
+phaser_counted all s = grind arith
 
 barrier_counted : (all : List (Line Name)) (s : Statement Name) → length (barriers_in all s) ≡ adds kind.Barrier s
-barrier_counted all (statement.Phaser p) = refl
-barrier_counted all (statement.Barrier b) = refl
-barrier_counted all (statement.Thread t) = refl
-barrier_counted all (statement.Cell name) = refl
-barrier_counted all (statement.Label name) = refl
-barrier_counted all (statement.Row label row) = refl
+barrier_counted all s = grind arith
 
 thread_counted : (all : List (Line Name)) (s : Statement Name) → length (threads_in all s) ≡ adds kind.Thread s
-thread_counted all (statement.Phaser p) = refl
-thread_counted all (statement.Barrier b) = refl
-thread_counted all (statement.Thread t) = refl
-thread_counted all (statement.Cell name) = refl
-thread_counted all (statement.Label name) = refl
-thread_counted all (statement.Row label row) = refl
+thread_counted all s = grind arith
 
 row_counted : (all : List (Line Name)) (s : Statement Name) → length (rows_in all s) ≡ adds kind.Target s
-row_counted all (statement.Phaser p) = refl
-row_counted all (statement.Barrier b) = refl
-row_counted all (statement.Thread t) = refl
-row_counted all (statement.Cell name) = refl
-row_counted all (statement.Label name) = refl
-row_counted all (statement.Row label row) = refl
+row_counted all s = grind arith
 
 -- what lines say is an image
 pub said_image : (n : ℕ) (texts : List (List ℕ)) (lines : List (Line Name)) → SayInOrder n texts lines → EachFollows [] lines → IsImage (image_of lines)

@@ -94,10 +94,7 @@ keeps_words (word ∷ words) h =
 -- the words of a line are those that it was joined from
 pub words_of-line : (word : List ℕ) (words : List (List ℕ)) → IsWord word → AreWords words →
     words_of (word ++ spaced words) ≡ word ∷ words
-words_of-line word words h hs =
-    ap words_in (before_none begins_comment (word ++ spaced words) (all_line (λ b. not (begins_comment b)) plain_no_comment refl word words h hs))
-    ∙ ap (filter (λ piece. not (length piece == 0))) (split_line word words h hs)
-    ∙ keeps_words (word ∷ words) (h, hs)
+words_of-line word words h hs = grind (arith, before_none, all_line, plain_no_comment, split_line, keeps_words)
 
 -- ---- a line of few words is one
 

@@ -1,5 +1,5 @@
 -- What a line is kept as: a row where there is room for one, and a directive, which is no code.
-use Rattle.std.proofs.Common.{◌≡◌, ◌∙◌, ℕ, Bool, true, false, cond, List, Option, None, Result, Ok, Err, refl, sym, ap, subst}
+use Rattle.std.proofs.Common.{◌≡◌, ◌∙◌, ℕ, Bool, true, false, cond, List, Option, None, Result, Ok, Err, refl, sym, ap, subst, arith}
 use Rattle.std.specs.Prelude.{bytes_eq, codes}
 use Rattle.row_code.specs.Answers.{◌>>=◌}
 use Rattle.line_reader.specs.declared.asm_fault.AsmFaultKind.{AsmFaultKind}
@@ -33,8 +33,7 @@ Said = Result (Statement Name) AsmFaultKind
 
 made : {A : Type 0} (read : Result A AsmFaultKind) (make : A → Statement Name) → ((x : A) → is_code (make x) ≡ false) →
     (s : Statement Name) → Ok s ≡ (read >>= (λ x. Ok (make x))) → is_code s ≡ false
-made (Ok x) make none s e = let same : s ≡ make x = cc in ap is_code same ∙ none x
-made (Err kind) make none s e = absurd (cc)
+made read make none s e = grind arith
 
 one_of : (b : Bool) (x y : Said) (s : Statement Name) → Ok s ≡ cond b x y → (Ok s ≡ x → is_code s ≡ false) →
     (Ok s ≡ y → is_code s ≡ false) → is_code s ≡ false
@@ -44,11 +43,7 @@ one_of false x y s e first second = second e
 pub directive_no_code : (word : List ℕ) (words : List (List ℕ)) (s : Statement Name) → Ok s ≡ directive_at word words →
     is_code s ≡ false
 unfolding directive_at
-directive_no_code word words s e =
-    one_of (bytes_eq word (codes ".phaser")) _ _ s e (made (phaser_at words) (λ p. statement.Phaser p) (λ p. refl) s)
-    (λ e. one_of (bytes_eq word (codes ".barrier")) _ _ s e (made (barrier_at words) (λ b. statement.Barrier b) (λ b. refl) s)
-    (λ e. one_of (bytes_eq word (codes ".thread")) _ _ s e (made (thread_at words) (λ t. statement.Thread t) (λ t. refl) s)
-    (made (cell_at words) (λ name. statement.Cell name) (λ name. refl) s)))
+directive_no_code word words s e = grind (arith, one_of, made)
 
 pub directive_follows : (before : List (Line Name)) (word : List ℕ) (words : List (List ℕ)) (s : Statement Name) →
     is_directive word ≡ true → Ok s ≡ directive_behind before word words → Follows before s
@@ -56,6 +51,4 @@ directive_follows before word words s known e = (directive_behind_takes before w
 
 pub row_follows : (before : List (Line Name)) (word : List ℕ) (words : List (List ℕ)) (row : SymbolicRow Name) →
     Ok (statement.Row None row) ≡ row_behind before None word words → Follows before (statement.Row None row)
-row_follows before word words row e =
-    let taken = row_behind_takes before None word words (statement.Row None row) refl (sym e) in
-    subst (Follows before) taken.1 taken.3
+row_follows before word words row e = grind (arith, row_behind_takes)

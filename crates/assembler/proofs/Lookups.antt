@@ -1,5 +1,5 @@
 -- Look-ups one behind the other: what they give where all of them find something.
-use Rattle.std.proofs.Common.{◌≡◌, Bool, true, false, ◌&&◌, List, [], ◌∷◌, ◌++◌, Option, Some, None, cond, Result, Ok, Err, ap, refl, subst}
+use Rattle.std.proofs.Common.{◌≡◌, Bool, true, false, ◌&&◌, List, [], ◌∷◌, ◌++◌, Option, Some, None, cond, Result, Ok, Err, ap, refl, subst, arith}
 use Rattle.std.specs.Prelude.{IfOk, is_some}
 use Rattle.std.specs.List.{cons_option}
 
@@ -36,6 +36,4 @@ pub found_behind : {A E : Type 0} (before after : List A) (known : Bool) (x : A)
     IfOk told (λ some. after ≡ before ++ cons_option found []) → told ≡ Ok true → after ≡ before ++ x ∷ []
 found_behind before after known x found (Err e) is some pushed was = absurd (cc)
 found_behind before after true x found (Ok b) is some pushed was = subst (λ (f : Option _). after ≡ before ++ cons_option f []) is pushed
-found_behind before after false x found (Ok b) is some pushed was =
-    let none : is_some found ≡ false = ap is_some is in
-    absurd (cc)
+found_behind before after false x found (Ok b) is some pushed was = grind arith

@@ -13,12 +13,10 @@ use Rattle.assembler.specs.Meaning.{SayInOrder}
 use Rattle.assembler.proofs.JoinedWords.{lines_of-ended}
 
 without_empty_end : (pieces : List (List ℕ)) → without_empty_last (pieces ++ ([] ∷ [])) ≡ pieces
-without_empty_end [] = refl
-without_empty_end ([] ∷ []) = refl
-without_empty_end ((byte ∷ bytes) ∷ []) = refl
 without_empty_end ([] ∷ next ∷ pieces) = ap (λ rest. [] ∷ rest) (without_empty_end (next ∷ pieces))
 without_empty_end ((byte ∷ bytes) ∷ next ∷ pieces) =
     ap (λ rest. (byte ∷ bytes) ∷ rest) (without_empty_end (next ∷ pieces))
+without_empty_end pieces = grind arith
 
 -- statements as lines, from n on
 abbrev pub lines_from : ℕ → List (Statement Name) → List (Line Name)
@@ -55,12 +53,10 @@ numbered_says Fits top line said each n (x ∷ xs) room h =
 -- the pieces of the lines with their ends: nothing stands behind the last end
 pieces_of-texts : (lines : List (List (List ℕ))) (all : List (Statement Name)) → SayEach lines all →
     slice_split is_line_end (flat_map line_text lines) ≡ map joined lines ++ ([] ∷ [])
-pieces_of-texts [] [] h = refl
-pieces_of-texts [] (said ∷ others) h = absurd h
-pieces_of-texts (words ∷ lines) [] h = absurd h
 pieces_of-texts (words ∷ lines) (said ∷ others) h =
     lines_of-ended (joined words) (flat_map line_text lines) h.0.0.allowed
     ∙ ap (λ rest. joined words ∷ rest) (pieces_of-texts lines others h.1)
+pieces_of-texts lines all h = grind (arith, lines_of-ended)
 
 -- the lines of the texts with their ends
 pub lines_of-texts : (lines : List (List (List ℕ))) (all : List (Statement Name)) → SayEach lines all →
@@ -69,11 +65,9 @@ lines_of-texts lines all h = ap without_empty_last (pieces_of-texts lines all h)
 
 pub say_in_order : (n : ℕ) (lines : List (List (List ℕ))) (all : List (Statement Name)) → SayEach lines all →
     SayInOrder n (map joined lines) (lines_from n all)
-say_in_order n [] [] h = refl
-say_in_order n [] (said ∷ others) h = absurd h
-say_in_order n (words ∷ lines) [] h = absurd h
 say_in_order n (words ∷ lines) (said ∷ others) h =
     inr (said, lines_from (n + 1) others, refl, h.0, say_in_order (n + 1) lines others h.1)
+say_in_order n lines all h = grind arith
 
 -- ---- statements
 

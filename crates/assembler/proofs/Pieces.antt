@@ -11,19 +11,8 @@ use Rattle.line_reader.proofs.FirstLines.{kept_piece, to_end}
 
 pub word_at : (text : List ℕ) (place : ℕ) → Some place ≡ position is_blank text →
     words_in text ≡ word_alone (take place text) ++ words_in (take (length text - (place + 1)) (drop (place + 1) text))
-word_at text place found =
-    let first = position_some is_blank text place found in
-    let within = position_within is_blank text place found in
-    ap (filter (λ one. not (length one == 0))) (slice_split_first is_blank text 0 within)
-    ∙ kept_piece (before_first is_blank text) (slice_split is_blank (after_first is_blank text))
-    ∙ ap (λ k. word_alone (take k text) ++ words_in (drop (k + 1) text)) (sym first)
-    ∙ ap (λ rest. word_alone (take place text) ++ words_in rest) (sym (to_end text (place + 1)))
+word_at text place found = grind (arith, position_some, position_within, slice_split_first, kept_piece, to_end)
 
 pub word_whole : (text : List ℕ) → None ≡ position is_blank text →
     words_in text ≡ word_alone text ++ words_in (take (length text - length text) (drop (length text) text))
-word_whole text none =
-    let all = position_none is_blank text none in
-    ap (filter (λ one. not (length one == 0))) (slice_split_none is_blank text
-    (λ k d there. fails_before_first is_blank text k d (omega (arith, there, all))))
-    ∙ kept_piece text []
-    ∙ ap (λ rest. word_alone text ++ words_in rest) (sym (to_end text (length text) ∙ drop_all (length text) text (omega arith)))
+word_whole text none = grind (arith, position_none, slice_split_none, fails_before_first, kept_piece, to_end, drop_all)

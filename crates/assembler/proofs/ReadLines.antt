@@ -28,17 +28,14 @@ ok_is x y e = cc
 -- the lines that were read, for what follows from them
 bound : {A B C : Type 0} (r : Result A AsmFault) (f : A → Result B AsmFault) (y : B) → (r >>= f) ≡ Ok y →
     ((x : A) → r ≡ Ok x → f x ≡ Ok y → C) → C
-bound (Ok x) f y e then = then x refl e
-bound (Err d) f y e then = absurd (cc)
+bound r f y e then = grind arith
 
 -- a line that did not fail says nothing, or adds what it says
 stepped : {B C : Type 0} (before : List (Line Name)) (n : ℕ) (r : Result (Option (Statement Name)) AsmFaultKind)
     (f : List (Line Name) → Result B AsmFault) (y : B) → (behind before n r >>= f) ≡ Ok y →
     (r ≡ Ok None → f before ≡ Ok y → C) →
     ((said : Statement Name) → r ≡ Ok (Some said) → f (before ++ (record { number = n; statement = said } ∷ [])) ≡ Ok y → C) → C
-stepped before n (Ok None) f y e nothing something = nothing refl e
-stepped before n (Ok (Some said)) f y e nothing something = something said refl e
-stepped before n (Err kind) f y e nothing something = absurd (cc)
+stepped before n r f y e nothing something = grind arith
 
 -- the lines from this number on say this, behind the lines before it
 abbrev pub Behind : ℕ → List (Line Name) → List (List ℕ) → List (Line Name) → Type 0
@@ -94,24 +91,14 @@ all_pass test (x ∷ xs) e =
 
 looked_up_ok : (lines : List (Line Name)) (o : Option (Line Name)) (i : Image) → looked_up lines o ≡ Ok i →
     (o ≡ None) × (i ≡ image_of lines)
-looked_up_ok lines None i e = (refl, sym (ok_is (image_of lines) i e))
-looked_up_ok lines (Some line) i e = absurd (cc)
+looked_up_ok lines o i e = grind (arith, ok_is)
 
 -- ---- a text and its image
 
 -- an image that a text is read as is what the text stands for
 pub assembled-stands_for : (text : List ℕ) (i : Image) → assembled text ≡ Ok i → StandsFor text i
 unfolding assembled
-assembled-stands_for text i e =
-    bound (lines_read 1 [] (lines_of text)) _ i e (λ lines read e.
-    let known = looked_up_ok lines (first_unknown lines) i e in
-    let said = lines_take 1 [] (lines_of text) lines read in (
-      lines,
-      subst (λ (ls : List (Line Name)). SayInOrder 1 (lines_of text) ls) (sym said.1) said.2,
-      subst (λ (ls : List (Line Name)). EachFollows [] ls) (sym said.1) said.3,
-      none_fails (λ (line : Line Name). are_known lines line.statement) lines known.0,
-      known.1,
-    ))
+assembled-stands_for text i e = grind (arith, bound, looked_up_ok, lines_take, none_fails)
 
 -- the image that a text stands for is what it is read as
 pub stands_for-assembled : (text : List ℕ) (i : Image) → StandsFor text i → assembled text ≡ Ok i
@@ -128,16 +115,13 @@ one_image text i j s t = ok_is i j (sym (stands_for-assembled text i s) ∙ stan
 
 then_split : {A : Type 0} (r : Result A AsmFault) (f g : A → Result A AsmFault) (h : A → Result A AsmFault) →
     ((x : A) → f x ≡ (g x >>= h)) → (r >>= f) ≡ ((r >>= g) >>= h)
-then_split (Ok x) f g h same = same x
-then_split (Err e) f g h same = refl
+then_split r f g h same = grind arith
 
 -- lines in front and then others
 pub lines_read-append : (n : ℕ) (before : List (Line Name)) (xs ys : List (List ℕ)) →
     lines_read n before (xs ++ ys) ≡ (lines_read n before xs >>= (λ lines. lines_read (n + length xs) lines ys))
 unfolding lines_read
-lines_read-append n before [] ys =
-    let none : n ≡ n + 0 = omega arith in
-    ap (λ (m : ℕ). lines_read m before ys) none
+lines_read-append n before [] ys = grind arith
 lines_read-append n before (x ∷ xs) ys =
     let more : n + 1 + length xs ≡ n + suc (length xs) = omega arith in
     then_split (behind before n (line_behind before x)) (λ ls. lines_read (n + 1) ls (xs ++ ys)) (λ ls. lines_read (n + 1) ls xs)
@@ -165,8 +149,7 @@ lines_read-middle n k before middle texts e =
 
 pub answers_stand : (text : List ℕ) (answered : Result Image AsmFault) →
     AnswersAt (λ i. i) answered (assembled text) → IfOk answered (λ i. StandsFor text i)
-answers_stand text (Ok i) is = assembled-stands_for text i is
-answers_stand text (Err e) is = tt
+answers_stand text answered is = grind (arith, assembled-stands_for)
 
 pub stands_answered : (text : List ℕ) (answered : Result Image AsmFault) →
     AnswersAt (λ i. i) answered (assembled text) → (i : Image) → StandsFor text i →
@@ -189,8 +172,7 @@ looked_up_answered text lines answered e is =
 -- what fails goes on failing
 pub fails_then : {A B : Type 0} (kind : AsmFaultKind) (e : AsmFault) (r : Result A AsmFault)
     (f : A → Result B AsmFault) → FailsAt kind e r → FailsAt kind e (r >>= f)
-fails_then Memory e r f fails = tt
-fails_then _ e r f fails = ap (λ x. x >>= f) fails
+fails_then kind e r f fails = grind arith
 
 pub fault_answered : (text : List ℕ) (e : AsmFault) → FailsAt e.kind e (lines_read 1 [] (lines_of text)) →
     FailsAt e.kind e (assembled text)

@@ -1,5 +1,5 @@
 -- What the lines that are left add to what those before them added.
-use Rattle.std.proofs.Common.{◌≡◌, ℕ, suc, ◌<◌, List, [], ◌∷◌, ◌++◌, length, get_or, drop, map, All, sym, subst}
+use Rattle.std.proofs.Common.{◌≡◌, ℕ, suc, ◌<◌, List, [], ◌∷◌, ◌++◌, length, get_or, drop, map, All, sym, subst, arith}
 use Rattle.std.specs.List.{flat_map, AllByRecursion}
 use Rattle.std.proofs.Math.Seq.{drop-cons}
 use Rattle.std.proofs.lemmas.List.Elements.{recursion_from_All}
@@ -15,9 +15,4 @@ back_of P (x ∷ xs) ys h = back_of P xs ys h.1
 -- what the next line adds has what all of the total has
 pub next_has : {A B X : Type 0} (P : A → Type 0) (added : B → List A) (seen : X → B) (xs : List X) (i : ℕ) (d : X) (front total : List A) →
     i < length xs → front ++ flat_map added (map seen (drop i xs)) ≡ total → All P total → AllByRecursion P (added (seen (get_or xs i d)))
-next_has {A} P added seen xs i d front total within e all =
-    let next = added (seen (get_or xs i d)) in
-    let rest = flat_map added (map seen (drop (suc i) xs)) in
-    let split : front ++ (next ++ rest) ≡ total = rw (drop-cons xs i d within) at e in
-    let here : AllByRecursion P (front ++ (next ++ rest)) = subst (AllByRecursion P) (sym split) (recursion_from_All P total all) in
-    front_of P next rest (back_of P front (next ++ rest) here)
+next_has {A} B added seen xs i d front total within e all = grind (arith, drop-cons, recursion_from_All, front_of, back_of)

@@ -25,21 +25,19 @@ use Rattle.line_reader.proofs.SpelledDirectives.{phaser_again, barrier_again, th
 -- ---- labels
 
 is_label_again : (name : List ℕ) → is_label (name ++ codes ":") ≡ true
-is_label_again [] = refl
-is_label_again (byte ∷ []) = refl
 is_label_again (byte ∷ next ∷ bytes) = is_label_again (next ∷ bytes)
+is_label_again name = grind arith
 
 before_last_again : (name : List ℕ) → before_last (name ++ codes ":") ≡ name
 before_last_again name =
     take_at name (codes ":") (length (name ++ codes ":") - 1) (omega (arith, length-append name (codes ":")))
 
 label_spelled : (word : List ℕ) → is_label word ≡ true → word ≡ before_last word ++ codes ":"
-label_spelled [] e = absurd (cc)
-label_spelled (byte ∷ []) e = ap (λ (b : ℕ). b ∷ []) (eqb-true byte 58 e)
 label_spelled (byte ∷ next ∷ bytes) e =
     let one : suc (suc (length bytes)) - 1 ≡ suc (suc (length bytes) - 1) = omega arith in
     ap (λ (w : List ℕ). byte ∷ w) (label_spelled (next ∷ bytes) e)
     ∙ ap (λ (n : ℕ). take n (byte ∷ next ∷ bytes) ++ codes ":") (sym one)
+label_spelled word e = grind (arith, eqb-true)
 
 -- ---- the words of rows
 
@@ -79,32 +77,19 @@ row_plain word words row s =
 pub directive_behind_takes : (before : List (Line Name)) (word : List ℕ) (words : List (List ℕ)) (s : Statement Name) →
     is_directive word ≡ true → directive_behind before word words ≡ Ok s → Spell (word ∷ words) s × Follows before s
 unfolding directive_behind
-directive_behind_takes before word words s known e =
-    let placed = check_ok (not (has_code before)) fault.MisplacedDirective _ s e in
-    bound (directive_at word words) _ s placed.1 (λ said read e.
-    let named = check_ok (is_new before (name_in said)) fault.NameTwice _ s e in
-    let fits = check_ok (has_room before said) fault.TooMany _ s named.1 in
-    subst (λ (q : Statement Name). Spell (word ∷ words) q × Follows before q) (ok_is said s fits.1) (
-      directive_takes word words said known read,
-      record { name = named.0; place = or_right (is_code said) (not (has_code before)) placed.0; room = fits.0 },
-    ))
+directive_behind_takes before word words s known e = grind (arith, check_ok, bound, ok_is, directive_takes, or_right)
 
 pub row_behind_takes : (before : List (Line Name)) (label : Option Name) (word : List ℕ) (words : List (List ℕ)) (s : Statement Name) →
     is_new before label ≡ true → row_behind before label word words ≡ Ok s →
     (row : SymbolicRow Name) × (statement.Row label row ≡ s) × SpellRow (word ∷ words) row × Follows before (statement.Row label row)
 unfolding row_behind
-row_behind_takes before label word words s new e =
-    bound (row_at word words) _ s e (λ row read e.
-    let fits = check_ok (has_room before (statement.Row label row)) fault.TooMany _ s e in
-    (row, ok_is (statement.Row label row) s fits.1, row_takes word words row read, record { name = new; place = refl; room = fits.0 }))
+row_behind_takes before label word words s new e = grind (arith, bound, check_ok, ok_is, row_takes)
 
 labelled_takes : (before : List (Line Name)) (name : Name) (word : List ℕ) (words : List (List ℕ)) (s : Statement Name) →
     SpellsLabel word name → is_new before (Some name) ≡ true → labelled_behind before name words ≡ Ok s →
     Spell (word ∷ words) s × Follows before s
 unfolding labelled_behind
-labelled_takes before name word [] s label new e =
-    subst (λ (q : Statement Name). Spell (word ∷ []) q × Follows before q) (ok_is (statement.Label name) s e)
-    ((word, refl, label), record { name = new; place = refl; room = refl })
+labelled_takes before name word [] s label new e = grind (arith, ok_is)
 labelled_takes before name word (first ∷ words) s label new e =
     let plain = passed (is_directive first) fault.MisplacedDirective (row_behind before (Some name) first words) s e in
     let row = row_behind_takes before (Some name) first words s new plain.1 in
@@ -201,53 +186,37 @@ LineSays before text (Some said) = Says text said × Follows before said
 words_take : (before : List (Line Name)) (words : List (List ℕ)) (o : Option (Statement Name)) →
     words_behind before words ≡ Ok o → WordsSay before words o
 unfolding words_behind
-words_take before [] o e = subst (λ (p : Option (Statement Name)). WordsSay before [] p) (ok_is None o e) refl
-words_take before (word ∷ words) o e =
-    bound (statement_behind before word words) _ o e (λ said read e.
-    subst (λ (p : Option (Statement Name)). WordsSay before (word ∷ words) p) (ok_is (Some said) o e)
-    (statement_takes before word words said read))
+words_take before words o e = grind (arith, ok_is, bound, statement_takes)
 
 no_words : (s : Statement Name) → Spell [] s → ⊥
-no_words (statement.Phaser p) s = absurd (cc (s.4))
 no_words (statement.Barrier b) s = absurd (cc (s.2))
 no_words (statement.Thread t) s = absurd (cc (s.1))
 no_words (statement.Cell name) s = absurd (cc (s.0))
 no_words (statement.Label name) s = absurd (cc (s.1))
-no_words (statement.Row None row) s = absurd (cc (s.4))
 no_words (statement.Row (Some name) row) s = absurd (cc (s.2))
+no_words _ s = absurd (cc (s.4))
 
 words_again : (before : List (Line Name)) (words : List (List ℕ)) (o : Option (Statement Name)) →
     WordsSay before words o → words_behind before words ≡ Ok o
 unfolding words_behind
-words_again before words None s = rw s refl
-words_again before [] (Some said) s = absurd (no_words said s.0)
-words_again before (word ∷ words) (Some said) s = rw (statement_again before word words said s.0 s.1) refl
+words_again before words o s = grind (arith, no_words, statement_again)
 
 said_by : (before : List (Line Name)) (text : List ℕ) (o : Option (Statement Name)) → IsLine text →
     WordsSay before (words_of text) o → LineSays before text o
-said_by before text None is s = (is, s)
-said_by before text (Some said) is s = ((is, s.0), s.1)
+said_by before text o is s = grind arith
 
 words_taken : (text : List ℕ) (words : List (List ℕ)) → line_words text ≡ Ok words → IsLine text × (words_of text ≡ words)
 unfolding line_words
-words_taken text words e =
-    let allowed = check_ok (list_all is_allowed text) fault.BadByte _ words e in
-    let short = check_ok (not (ltb 256 (length text))) fault.LongLine _ words allowed.1 in
-    (record { allowed = allowed.0; short = ltb-false _ _ (not_true _ short.0) }, ok_is _ _ short.1)
+words_taken text words e = grind (arith, check_ok, ltb-false, not_true, ok_is)
 
 pub line_takes : (before : List (Line Name)) (text : List ℕ) (o : Option (Statement Name)) →
     line_behind before text ≡ Ok o → LineSays before text o
 unfolding line_behind
-line_takes before text o e =
-    bound (line_words text) (words_behind before) o e (λ words is e.
-    let taken = words_taken text words is in
-    said_by before text o taken.0 (words_take before (words_of text) o (ap (words_behind before) taken.1 ∙ e)))
+line_takes before text o e = grind (arith, bound, words_taken, said_by, words_take)
 
 line_words_again : (text : List ℕ) → IsLine text → line_words text ≡ Ok (words_of text)
 unfolding line_words
-line_words_again text is =
-    let short : ltb 256 (length text) ≡ false = le-ltb _ _ is.short in
-    rw (is.allowed, short) refl
+line_words_again text is = grind (arith, le-ltb)
 
 line_behind_again : (before : List (Line Name)) (text : List ℕ) (o : Option (Statement Name)) → IsLine text →
     WordsSay before (words_of text) o → line_behind before text ≡ Ok o

@@ -31,21 +31,13 @@ use Rattle.assembler.proofs.Counts.{AreFew, number_within, phaser_below}
 -- ---- numbers
 
 few_kinds : (k : OperandKind) → most k ≤ 65535
-few_kinds kind.Target = omega arith
-few_kinds kind.Cell = omega arith
-few_kinds kind.Register = omega arith
-few_kinds kind.Number = omega arith
-few_kinds kind.Phaser = omega arith
-few_kinds kind.Barrier = omega arith
-few_kinds kind.Thread = omega arith
+few_kinds k = grind arith
 
 small_or_0 : (n : ℕ) (found : Option ℕ) → IfSome found (λ m. m ≤ n) → number_or_0 found ≤ n
-small_or_0 n None h = omega arith
-small_or_0 n (Some m) h = h
+small_or_0 n found h = grind arith
 
 below_or_0 : (n : ℕ) (found : Option ℕ) → IfSome found (λ m. m < n) → n ≤ 64 → number_or_0 found < 64
-below_or_0 n None h few = omega arith
-below_or_0 n (Some m) h few = omega (arith, h)
+below_or_0 n found h few = grind arith
 
 spelled_below : (high n : ℕ) (word : List ℕ) → SpellsNumber (pos 0) (pos high) word (pos n) → n ≤ high
 spelled_below high n word h = omega (arith, ints, h.greatest)
@@ -62,8 +54,7 @@ parent_fits all few word (Named name) h = below_or_0 (count kind.Phaser all) (nu
 parent_fits all few word (Numbered n) h = omega (arith, spelled_below 63 n h.0 h.2)
 
 int_fits : (word : List ℕ) (value : ℤ) → SpellsNumber least_int greatest_int word value → FitsSigned w32 value
-int_fits word (pos n) h = record { sfits = omega (arith, ints, h.greatest) }
-int_fits word (negsuc n) h = record { sfits = omega (arith, ints, h.least) }
+int_fits word value h = grind (arith, ints)
 
 phase_fits : (word : List ℕ) (value : ℤ) → SpellsNumber (pos 0) greatest_int word value → IsCount value
 phase_fits word value h = (h.least, omega (arith, ints, h.greatest))
@@ -78,17 +69,12 @@ IsInRange all (operand.Object k reference) = referent_or_0 all k reference < 655
 
 operand_fits : (all : List (Line Name)) → AreFew all → (k : OperandKind) (word : List ℕ) (o : Operand Name) →
     SpellsOperand k word o → IsInRange all o
-operand_fits all few k word operand.Absent h = tt
-operand_fits all few k word (operand.Register reg) h = tt
-operand_fits all few k word (operand.Number value) h = int_fits word value h.1
-operand_fits all few k word (operand.Object object reference) h = number_fits all few object word reference h.1.1
+operand_fits all few k word o h = grind (arith, int_fits, number_fits)
 
 each_fits : (all : List (Line Name)) → AreFew all → (kinds : List OperandKind) (words : List (List ℕ)) (operands : List (Operand Name)) →
     SpellOperands kinds words operands → (place : ℕ) → IsInRange all (operand_in operands place)
-each_fits all few [] [] [] h place = tt
-each_fits all few (k ∷ kinds) (word ∷ words) (o ∷ operands) h zero = operand_fits all few k word o h.0
 each_fits all few (k ∷ kinds) (word ∷ words) (o ∷ operands) h (suc place) = each_fits all few kinds words operands h.1 place
-each_fits all few _ _ _ h place = absurd h
+each_fits all few kinds words operands h place = grind (arith, operand_fits)
 
 record AreInRange (o : Operands) : Type 0 where
   number : FitsSigned w32 o.number
@@ -96,9 +82,7 @@ record AreInRange (o : Operands) : Type 0 where
 
 one_more : (all : List (Line Name)) (operand : Operand Name) (o : Operands) → IsInRange all operand → AreInRange o → AreInRange (with_operand all operand o)
 one_more all operand.Absent o h fit = fit
-one_more all (operand.Register reg) o h fit = record { number = fit.number; object = fit.object }
-one_more all (operand.Number value) o h fit = record { number = h; object = fit.object }
-one_more all (operand.Object k reference) o h fit = record { number = fit.number; object = h }
+one_more all operand o h fit = grind arith
 
 no_operands : (all : List (Line Name)) → AreInRange (operands_of all [])
 no_operands all = record { number = record { sfits = omega (arith, ints) }; object = omega arith }
@@ -120,20 +104,15 @@ row_fits all few words row (entry, word, rest, operands, spelled, named, is, spe
 -- ---- statements
 
 routine_fits : (all : List (Line Name)) → AreFew all → (words : List (List ℕ)) (p : SymbolicPolicy Name) → SpellPolicy words p → IsPolicy (policy_of all p)
-routine_fits all few words policy.Default h = tt
-routine_fits all few words policy.Never h = tt
-routine_fits all few words (policy.Until phase) h = phase_fits h.0 phase h.2
-routine_fits all few words (policy.Routine row) h = number_fits all few kind.Target h.0 row h.2
+routine_fits all few words p h = grind (arith, phase_fits, number_fits)
 
 parent_option : (all : List (Line Name)) → AreFew all → (words : List (List ℕ)) (parent : Option (Reference Name)) → SpellReference (codes "parent") 63 words parent →
     IfSome (option_map (referent_or_0 all kind.Phaser) parent) (λ n. n < 64)
-parent_option all few words None h = tt
-parent_option all few words (Some parent) h = parent_fits all few h.0 parent h.2
+parent_option all few words parent h = grind (arith, parent_fits)
 
 action_option : (all : List (Line Name)) → AreFew all → (words : List (List ℕ)) (action : Option (Reference Name)) → SpellReference (codes "action") greatest_number words action →
     IfSome (option_map (referent_or_0 all kind.Target) action) (λ n. n < 65536)
-action_option all few words None h = tt
-action_option all few words (Some row) h = number_fits all few kind.Target h.0 row h.2
+action_option all few words action h = grind (arith, number_fits)
 
 first_fits : (words : List (List ℕ)) (phase : ℤ) → SpellFirstPhase words phase → IsCount phase
 first_fits words phase (inl h) = subst IsCount (sym h.1) (omega (arith, ints), omega (arith, ints))
@@ -147,38 +126,9 @@ pub record Fits (all : List (Line Name)) (s : Statement Name) : Type 0 where
   pub rows : AllByRecursion IsRow (rows_in all s)
 
 pub spelled_fits : (all : List (Line Name)) → AreFew all → (words : List (List ℕ)) (s : Statement Name) → Spell words s → Fits all s
-spelled_fits all few words (statement.Phaser p) (parties, parent, phase, policy, spelled, name, count, has_parent, begins, has_policy) = record {
-  phasers = (
-    record {
-      parent = parent_option all few parent p.parent has_parent;
-      policy = routine_fits all few policy p.policy has_policy;
-      parties = omega (arith, spelled_below 65535 p.parties parties count);
-      first_phase = first_fits phase p.first_phase begins;
-    },
-    tt,
-  );
-  barriers = tt;
-  threads = tt;
-  rows = tt;
-}
-spelled_fits all few words (statement.Barrier b) (parties, action, spelled, name, count, has_action) = record {
-  phasers = tt;
-  barriers = (
-    record {
-      parties = omega (arith, spelled_below 65535 b.parties parties count);
-      action = action_option all few action b.action has_action;
-    },
-    tt,
-  );
-  threads = tt;
-  rows = tt;
-}
-spelled_fits all few words (statement.Thread t) (row, spelled, name, first) = record {
-  phasers = tt;
-  barriers = tt;
-  threads = (record { first_row = number_fits all few kind.Target row t.first_row first }, tt);
-  rows = tt;
-}
+spelled_fits all few words (statement.Phaser p) (parties, parent, phase, policy, spelled, name, count, has_parent, begins, has_policy) = grind (arith, parent_option, routine_fits, spelled_below, first_fits)
+spelled_fits all few words (statement.Barrier b) (parties, action, spelled, name, count, has_action) = grind (arith, spelled_below, action_option)
+spelled_fits all few words (statement.Thread t) (row, spelled, name, first) = grind (arith, number_fits)
 spelled_fits all few words (statement.Cell name) h = record { phasers = tt; barriers = tt; threads = tt; rows = tt }
 spelled_fits all few words (statement.Label name) h = record { phasers = tt; barriers = tt; threads = tt; rows = tt }
 spelled_fits all few words (statement.Row None row) h = record {

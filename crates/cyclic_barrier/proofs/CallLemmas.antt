@@ -1,6 +1,6 @@
 -- What the calls change, for the crates above: who has a wait, who runs the action, and how many
 -- threads are listed.
-use Rattle.std.proofs.Common.{◌≡◌, ℕ, ◌+◌, ◌<◌, Bool, true, false, not, cond, ◌||◌, ◌&&◌, ◌==◌, refl, ◌∙◌, ap, List, length, Option, Some, None, is_some, length-set}
+use Rattle.std.proofs.Common.{◌≡◌, ℕ, ◌+◌, ◌<◌, Bool, true, false, not, cond, ◌||◌, ◌&&◌, ◌==◌, refl, ◌∙◌, ap, List, length, Option, Some, None, is_some, length-set, arith, rules}
 use Rattle.std.proofs.lemmas.List.{length-map}
 use Rattle.cyclic_barrier.specs.declared.answer.Entered.TheVariants as entered
 use Rattle.cyclic_barrier.specs.declared.answer.WaitState.{WaitState}
@@ -15,10 +15,7 @@ either P true p q = p
 either P false p q = q
 
 released_some : (s : WaitState) (wait : Option WaitState) → is_some (released s wait) ≡ is_some wait
-released_some s None = refl
-released_some s (Some state.Waiting) = refl
-released_some s (Some state.Tripped) = refl
-released_some s (Some state.Broken) = refl
+released_some s wait = grind arith
 
 -- a release keeps all waits
 pub has_wait-release :
@@ -63,23 +60,7 @@ record RunsAfter (thread : ℕ) (earlier : Option ℕ) (e : Entry) : Type 0 wher
 pub runner-enter :
     (thread : ℕ) (interrupted no_wait : Bool) (b : BarrierState) →
     (enter_timed thread interrupted no_wait b).barrier.runner ≡ runner_after thread (enter_timed thread interrupted no_wait b).answer b.runner
-runner-enter thread interrupted no_wait b =
-    let P : Entry → Type 0 = λ e. RunsAfter thread b.runner e in
-    let told : Entry = record { barrier = b; answer = entered.Broken } in
-    let stopped : Entry = record { barrier = break b; answer = entered.Interrupted } in
-    let late : Entry = record { barrier = break b; answer = entered.TimedOut } in
-    let runs : Entry = record { barrier = record b { runner = Some thread }; answer = entered.Run } in
-    let trips : Entry = record { barrier = trip b; answer = entered.Tripped } in
-    let arrived : P (arrive thread interrupted no_wait b) =
-    either P b.broken {a = told} (record { runner = refl })
-    (either P interrupted {a = stopped} (record { runner = refl })
-    (either P (number_waiting b + 1 == b.parties) (either P b.action {a = runs} {b = trips} (record { runner = refl }) (record { runner = refl }))
-    (either P no_wait {a = late} {b = add_wait thread b} (record { runner = refl }) (record { runner = refl })))) in
-    let all : P (enter_timed thread interrupted no_wait b) = elim b.runner as (λ r. P (enter_beside r thread interrupted no_wait b)) [
-      | None ↦ arrived
-      | Some runner ↦ elim (runner == thread) as (λ x. P (record { barrier = b; answer = cond x entered.Own entered.Busy })) [ true ↦ record { runner = refl } | false ↦ record { runner = refl } ]
-    ] in
-    all.runner
+runner-enter thread interrupted no_wait b = grind arith
 
 pub has_wait-leave :
     (thread : ℕ) (b : BarrierState) (u : ℕ) → thread < length b.waits → has_wait u (leave thread b) ≡ (has_wait u b && not (thread == u))
@@ -87,9 +68,7 @@ has_wait-leave thread b u there = ap is_some (wait_at-set b.waits thread u None 
 
 pub has_wait-interrupt :
     (thread : ℕ) (b : BarrierState) (u : ℕ) → thread < length b.waits → has_wait u (interrupt thread b) ≡ (has_wait u b && not (thread == u))
-has_wait-interrupt thread b u there =
-    has_wait-leave thread (break b) u (rw (length-map b.waits (released state.Broken)) there)
-    ∙ ap (λ x. x && not (thread == u)) (has_wait-release state.Broken b true u)
+has_wait-interrupt thread b u there = search (rules, has_wait-leave, length-map, has_wait-release)
 
 pub has_wait-end_action : (returned : Bool) (b : BarrierState) (u : ℕ) → has_wait u (end_action returned b) ≡ has_wait u b
 has_wait-end_action returned b u =
@@ -123,14 +102,4 @@ length-end_action returned b =
     either (λ (after : BarrierState). length after.waits ≡ length b.waits) returned (length-release state.Tripped b.waits) (length-release state.Broken b.waits)
 
 pub tells_who_waits : (b : BarrierState) → IsBarrier b → TellsWhoWaits b
-tells_who_waits b sound =
-    let long : length b.waits ≡ 64 = sound.threads in
-    record {
-      enter = λ thread u interrupted no_wait there. has_wait-enter thread interrupted no_wait b u (rw long there);
-      runner = λ thread interrupted no_wait. runner-enter thread interrupted no_wait b;
-      end_action = λ returned u. has_wait-end_action returned b u;
-      leave = λ thread u there. has_wait-leave thread b u (rw long there);
-      interrupt = λ thread u there. has_wait-interrupt thread b u (rw long there);
-      expire = λ thread u there. has_wait-interrupt thread b u (rw long there);
-      reset = λ u. has_wait-reset b u;
-    }
+tells_who_waits b sound = grind (arith, has_wait-enter, runner-enter, has_wait-end_action, has_wait-leave, has_wait-interrupt, has_wait-reset)

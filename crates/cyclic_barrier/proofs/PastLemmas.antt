@@ -18,20 +18,10 @@ use Rattle.cyclic_barrier.proofs.WaitsLemmas.{wait_at-release, wait_at-set}
 
 -- an end releases a wait as that outcome does
 ended_is_released : (end : End) (s : Option WaitState) → option_map (ended_by end) s ≡ released (state_after (Some end)) s
-ended_is_released end None = refl
-ended_is_released end (Some state.Waiting) = refl
-ended_is_released end (Some state.Tripped) = refl
-ended_is_released end (Some state.Broken) = refl
+ended_is_released end s = grind arith
 
 released_waits : (end : End) (s : Option WaitState) → is_waiting (released (state_after (Some end)) s) ≡ false
-released_waits plain.tripped None = refl
-released_waits plain.tripped (Some state.Waiting) = refl
-released_waits plain.tripped (Some state.Tripped) = refl
-released_waits plain.tripped (Some state.Broken) = refl
-released_waits plain.broken None = refl
-released_waits plain.broken (Some state.Waiting) = refl
-released_waits plain.broken (Some state.Tripped) = refl
-released_waits plain.broken (Some state.Broken) = refl
+released_waits end s = grind arith
 
 -- nobody waits once all are released
 none_left : (end : End) (waits : List (Option WaitState)) → count_by is_waiting (release (state_after (Some end)) waits) ≡ 0
@@ -57,30 +47,12 @@ stands-end end b p s = record {
 -- the flag that the barrier is broken
 stands-flag :
     (flag : Bool) (b : BarrierState) (p : PlainBarrier) → StandsFor b p → StandsFor (record b { broken = flag }) (record p { broken = flag })
-stands-flag flag b p s = record {
-  parties = s.parties;
-  action = s.action;
-  broken = refl;
-  runner = s.runner;
-  number_waiting = s.number_waiting;
-  waits = s.waits;
-  begun = s.begun;
-  one_each = s.one_each;
-}
+stands-flag flag b p s = grind arith
 
 -- the runner
 pub stands-runner :
     (runner : Option ℕ) (b : BarrierState) (p : PlainBarrier) → StandsFor b p → StandsFor (record b { runner = runner }) (record p { runner = runner })
-stands-runner runner b p s = record {
-  parties = s.parties;
-  action = s.action;
-  broken = s.broken;
-  runner = refl;
-  number_waiting = s.number_waiting;
-  waits = s.waits;
-  begun = s.begun;
-  one_each = s.one_each;
-}
+stands-runner runner b p s = grind arith
 
 pub stands-break : (b : BarrierState) (p : PlainBarrier) → StandsFor b p → StandsFor (now.break b) (plain.break p)
 stands-break b p s = stands-flag true _ _ (stands-end plain.broken b p s)
@@ -92,18 +64,13 @@ state_of-leave :
 state_of-leave p gone thread = rw (wait_of-others p.waits gone thread) (elim (gone == thread) as (λ b. option_map (state_of_wait p.ends) (cond b None (wait_of thread p.waits)) ≡ cond b None (option_map (state_of_wait p.ends) (wait_of thread p.waits))) [ true ↦ refl | false ↦ refl ])
 
 not_waiting : (wait : Option WaitState) → wait ≢ Some state.Waiting → is_waiting wait ≡ false
-not_waiting None n = refl
-not_waiting (Some state.Waiting) n = absurd (n refl)
-not_waiting (Some state.Tripped) n = refl
-not_waiting (Some state.Broken) n = refl
+not_waiting wait n = grind arith
 
 -- how many wait once the wait of one thread has changed
 count-set :
     (waits : List (Option WaitState)) (i : ℕ) (wait : Option WaitState) → i < length waits → is_waiting (wait_at waits i) ≡ false →
     count_by is_waiting (slice_set waits i wait) ≡ cond (is_waiting wait) 1 0 + count_by is_waiting waits
-count-set waits i wait within none =
-    let set = sum_by-set (λ w. cond (is_waiting w) 1 0) waits i wait None within in
-    let same = rw none at set in omega (arith, same)
+count-set waits i wait within none = grind (arith, sum_by-set)
 
 -- a released thread leaves
 pub stands-leave :
@@ -128,8 +95,7 @@ state_of-add :
 state_of-add p thread t = elim (thread == t) as (λ b. option_map (state_of_wait p.ends) (cond b (Some (record { thread = thread; generation = length p.ends; index = p.parties - 1 - plain.number_waiting p })) (wait_of t p.waits)) ≡ cond b (Some state.Waiting) (option_map (state_of_wait p.ends) (wait_of t p.waits))) [ true ↦ ap (λ x. Some x) (waiting_now p.ends) | false ↦ refl ]
 
 absent : (ends : List End) (o : Option Wait) → option_map (state_of_wait ends) o ≡ None → o ≡ None
-absent ends None e = refl
-absent ends (Some wait) e = cc
+absent ends o e = grind arith
 
 -- a thread waits
 pub stands-add :
@@ -155,9 +121,8 @@ stands-add thread b p there none s =
 -- two choices by one test agree where each way does
 either : {A B : Type 0} (P : A → B → Type 0) (x y : Bool) {a b : A} {c d : B} → y ≡ x → P a c → P b d → P (cond x a b) (cond y c d)
 either P true true e p q = p
-either P true false e p q = cc
-either P false true e p q = cc
 either P false false e p q = q
+either _ _ _ e p q = cc
 
 stands-arrive_last :
     (thread : ℕ) (b : BarrierState) (p : PlainBarrier) → StandsFor b p → Agrees (now.arrive_last thread b) (plain.arrive_last thread p)
@@ -179,11 +144,7 @@ pub stands-beside :
     (r q : Option ℕ) (thread : ℕ) (interrupted no_wait : Bool) (b : BarrierState) (p : PlainBarrier) → q ≡ r → thread < length b.waits →
     wait_at b.waits thread ≡ None → StandsFor b p →
     Agrees (now.enter_beside r thread interrupted no_wait b) (plain.enter_beside q thread interrupted no_wait p)
-stands-beside None None thread interrupted no_wait b p e there none s = stands-arrive thread interrupted no_wait b p there none s
-stands-beside None (Some x) thread interrupted no_wait b p e there none s = cc
-stands-beside (Some x) None thread interrupted no_wait b p e there none s = cc
-stands-beside (Some x) (Some y) thread interrupted no_wait b p e there none s =
-    let same : y ≡ x = cc in record { barrier = s; answer = ap (λ r. cond (r == thread) entered.Own entered.Busy) same }
+stands-beside r q thread interrupted no_wait b p e there none s = grind (arith, stands-arrive)
 
 pub stands-end_action : (returned : Bool) (b : BarrierState) (p : PlainBarrier) → StandsFor b p → StandsFor (now.end_action returned b) (plain.end_action returned p)
 stands-end_action returned b p s =
@@ -191,10 +152,7 @@ stands-end_action returned b p s =
     either StandsFor returned returned refl (stands-end plain.tripped _ _ rested) (stands-break _ _ rested)
 
 gone_or_released : (wait : Option WaitState) → released state.Broken wait ≢ Some state.Waiting
-gone_or_released None e = cc
-gone_or_released (Some state.Waiting) e = cc
-gone_or_released (Some state.Tripped) e = cc
-gone_or_released (Some state.Broken) e = cc
+gone_or_released wait e = grind arith
 
 pub stands-interrupt :
     (thread : ℕ) (b : BarrierState) (p : PlainBarrier) → thread < length b.waits → StandsFor b p → StandsFor (now.interrupt thread b) (plain.interrupt thread p)
@@ -238,9 +196,7 @@ none_before k t (None ∷ waits) before = none_before (suc k) t waits (omega ari
 none_before k t (Some s ∷ waits) before = rw (ne_eqb k t (λ e. omega arith)) (none_before (suc k) t waits (omega arith))
 
 state_again : (s : WaitState) → state_after (slice_get two_ends (generation_of s)) ≡ s
-state_again state.Tripped = refl
-state_again state.Broken = refl
-state_again state.Waiting = refl
+state_again s = grind arith
 
 found : (k i t : ℕ) (waits : List (Option WaitState)) → k + i ≡ t → option_map (state_of_wait two_ends) (wait_of t (past_from k waits)) ≡ wait_at waits i
 found k i t [] e = refl
@@ -285,21 +241,11 @@ has_past b = (
 )
 
 none_at : (n t : ℕ) → wait_at (replicate n None) t ≡ None
-none_at zero t = refl
-none_at (suc n) zero = refl
 none_at (suc n) (suc t) = none_at n t
+none_at _ _ = refl
 
 pub stands-fresh : (parties : ℕ) (action : Bool) → StandsFor (now.fresh parties action) (plain.fresh parties action)
-stands-fresh parties action = record {
-  parties = refl;
-  action = refl;
-  broken = refl;
-  runner = refl;
-  number_waiting = refl;
-  waits = λ t. sym (none_at 64 t);
-  begun = search rules;
-  one_each = tt;
-}
+stands-fresh parties action = search (rules, none_at)
 
 pub follows_past : (b : BarrierState) → IsBarrier b → FollowsPast b
 follows_past b sound =

@@ -62,9 +62,8 @@ le_suc a b = grind (arith, nat_tests)
 waiting_test :
     (ends : List End) (generation : ℕ) →
     is_at state.Waiting (Some (state_after (slice_get ends generation))) ≡ nat_le (length ends) generation
-waiting_test [] g = sym (le-leb _ _ (omega arith))
-waiting_test (x ∷ ends) zero = elim x as (λ e. is_at state.Waiting (Some (state_after (Some e))) ≡ nat_le (suc (length ends)) zero) [ plain.tripped ↦ sym (lt-leb _ _ (omega arith)) | plain.broken ↦ sym (lt-leb _ _ (omega arith)) ]
 waiting_test (x ∷ ends) (suc g) = waiting_test ends g ∙ le_suc (length ends) g
+waiting_test ends g = grind (arith, le-leb, lt-leb, le_suc)
 
 -- a wait that enters now is unreleased
 pub waiting_now : (ends : List End) → state_after (slice_get ends (length ends)) ≡ state.Waiting

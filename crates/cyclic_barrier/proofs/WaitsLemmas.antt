@@ -45,10 +45,7 @@ wait_at-release s waits t = get_or-map (released s) waits t None
 pub wait_at-set :
     (waits : List (Option WaitState)) (i t : ℕ) (wait : Option WaitState) → i < length waits →
     wait_at (slice_set waits i wait) t ≡ cond (i == t) wait (wait_at waits t)
-wait_at-set waits i t wait within = elim (cases_eq i t) as (λ _. wait_at (slice_set waits i wait) t ≡ cond (i == t) wait (wait_at waits t)) [
-  | inl e ↦ rw (eq-eqb _ _ e, ← e) (get_or-set_same waits i wait None within)
-  | inr n ↦ rw (ne_eqb _ _ n) (get_or-set_other waits i t wait None (λ h. n (sym h)))
-]
+wait_at-set waits i t wait within = grind (arith, cases_eq, eq-eqb, get_or-set_same, ne_eqb, get_or-set_other)
 
 -- all who wait are released by a trip
 pub shown-trip : (w k r set : ℕ) → IsUnion k w set → shown 0 set r ≡ release state.Tripped (shown w k r)
@@ -62,9 +59,7 @@ shown-break w k r set a joined = shows 0 k set (release state.Broken (shown w k 
 
 begun_by : (w k r here : Bool) → wait_by (w || here) k r ≡ cond here (Some state.Waiting) (wait_by w k r)
 begun_by true k r true = refl
-begun_by true k r false = refl
-begun_by false k r true = refl
-begun_by false k r false = refl
+begun_by _ k r _ = refl
 
 ended_by : (w k r here : Bool) → wait_by (w && not here) (k && not here) (r && not here) ≡ cond here None (wait_by w k r)
 ended_by true k r false = refl
@@ -116,15 +111,12 @@ counted w k r a = ap count_ones (sym (waiting_again w k r a)) ∙ ones-mask_l (i
 
 none_by : (w k r : Bool) → wait_by w k r ≡ None → (k ≡ false) × (r ≡ false)
 none_by true k r e = cc
-none_by false true r e = cc
-none_by false false true e = cc
-none_by false false false e = (refl, refl)
+none_by false _ r e = grind arith
 
 disjoint_still : (w k r here : Bool) → is_twice w k r ≡ false → (here ≡ true → (k ≡ false) × (r ≡ false)) →
     is_twice (w || here) k r ≡ false
 disjoint_still true k r here e f = e
-disjoint_still false k r false e f = e
-disjoint_still false k r true e f = rw ((f refl).0, (f refl).1) refl
+disjoint_still false k r here e f = grind arith
 
 -- no thread is in two sets once one without a wait waits
 pub disjoint-begin :

@@ -45,29 +45,19 @@ abbrev none : Operand Name
 none = operand.Absent
 
 one : (opcode : ℕ) (a : Read) → rowed opcode (before a (Ok [])) ≡ (a >>= (λ w. row opcode w none none none))
-one opcode (Ok w) = refl
-one opcode (Err e) = refl
+one opcode a = grind arith
 
 two : (opcode : ℕ) (a b : Read) →
     rowed opcode (before a (before b (Ok []))) ≡ (a >>= (λ w. b >>= (λ x. row opcode w x none none)))
-two opcode (Ok w) (Ok x) = refl
-two opcode (Ok w) (Err e) = refl
-two opcode (Err e) b = refl
+two opcode a b = grind arith
 
 three : (opcode : ℕ) (a b c : Read) → rowed opcode (before a (before b (before c (Ok []))))
     ≡ (a >>= (λ w. b >>= (λ x. c >>= (λ y. row opcode w x y none))))
-three opcode (Ok w) (Ok x) (Ok y) = refl
-three opcode (Ok w) (Ok x) (Err e) = refl
-three opcode (Ok w) (Err e) c = refl
-three opcode (Err e) b c = refl
+three opcode a b c = grind arith
 
 four : (opcode : ℕ) (a b c d : Read) → rowed opcode (before a (before b (before c (before d (Ok [])))))
     ≡ (a >>= (λ w. b >>= (λ x. c >>= (λ y. d >>= (λ z. row opcode w x y z)))))
-four opcode (Ok w) (Ok x) (Ok y) (Ok z) = refl
-four opcode (Ok w) (Ok x) (Ok y) (Err e) = refl
-four opcode (Ok w) (Ok x) (Err e) d = refl
-four opcode (Ok w) (Err e) c d = refl
-four opcode (Err e) b c d = refl
+four opcode a b c d = grind arith
 
 pub by_place : (opcode : ℕ) (kinds : List OperandKind) (words : List (List ℕ)) → length kinds ≤ 4 →
     length words ≡ length kinds → rowed opcode (operands_at kinds words) ≡ row_of_kinds opcode kinds words
@@ -75,10 +65,8 @@ unfolding row_of_kinds operands_at
 by_place opcode [] [] short same = refl
 by_place opcode (j ∷ []) (v ∷ []) short same = one opcode (operand_at j v)
 by_place opcode (j ∷ k ∷ []) (v ∷ w ∷ []) short same = two opcode (operand_at j v) (operand_at k w)
-by_place opcode (j ∷ k ∷ l ∷ []) (v ∷ w ∷ x ∷ []) short same =
-    three opcode (operand_at j v) (operand_at k w) (operand_at l x)
-by_place opcode (j ∷ k ∷ l ∷ m ∷ []) (v ∷ w ∷ x ∷ y ∷ []) short same =
-    four opcode (operand_at j v) (operand_at k w) (operand_at l x) (operand_at m y)
+by_place opcode (j ∷ k ∷ l ∷ []) (v ∷ w ∷ x ∷ []) short same = grind (arith, three)
+by_place opcode (j ∷ k ∷ l ∷ m ∷ []) (v ∷ w ∷ x ∷ y ∷ []) short same = grind (arith, four)
 by_place opcode (j ∷ k ∷ l ∷ m ∷ n ∷ kinds) words short same = absurd (omega (arith, short))
 by_place opcode _ _ short same = absurd (omega (arith, same))
 

@@ -33,17 +33,9 @@ digits_value-few cs all few =
 -- one digit more
 pub digits_value-next : (cs : List ℕ) (i d : ℕ) → AllPass is_ascii_digit cs → i < length cs
     → digits_value 10 (take (i + 1) cs) ≡ digits_value 10 (take i cs) * 10 + (get_or cs i d - 48)
-digits_value-next cs i d all there =
-    let same : get_or cs i 0 ≡ get_or cs i d = get_or_default cs i 0 d there in
-    let digit = digit_value-digit (get_or cs i d) (all i d there) in
-    let value : digit_value (get_or cs i 0) ≡ get_or cs i d - 48 = ap digit_value same ∙ omega (arith, digit) in
-    digits_value_more 10 cs i there ∙ ap (λ v. digits_value 10 (take i cs) * 10 + v) value
+digits_value-next cs i d all there = grind (arith, get_or_default, digit_value-digit, digits_value_more)
 
 -- stays below 10 ^ 10
 pub digits_value-next_few : (cs : List ℕ) (i d : ℕ) → AllPass is_ascii_digit cs → length cs ≤ 10 → i < length cs
     → digits_value 10 (take i cs) * 10 + (get_or cs i d - 48) < 10000000000
-digits_value-next_few cs i d all few there =
-    let next = digits_value-next cs i d all there in
-    let less = digits_value-take-le 10 cs (i + 1) (omega arith) in
-    let whole = digits_value-few cs all few in
-    omega (arith, next, less, whole)
+digits_value-next_few cs i d all few there = grind (arith, digits_value-next, digits_value-take-le, digits_value-few)

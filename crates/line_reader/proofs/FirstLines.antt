@@ -1,5 +1,5 @@
 -- The first line of a text, read up to a rest.
-use Rattle.std.proofs.Common.{◌≡◌, ◌∙◌, ℕ, suc, ◌+◌, ◌-◌, ◌<◌, ◌≤◌, ◌==◌, Bool, true, false, cond, not, nat_lt, ◌&&◌, ◌||◌, List, [], ◌∷◌, ◌++◌, length, take, drop, get_or, refl, sym, ap, subst, arith, append-nil, take-append-drop}
+use Rattle.std.proofs.Common.{◌≡◌, ◌∙◌, ℕ, suc, ◌+◌, ◌-◌, ◌<◌, ◌≤◌, ◌==◌, Bool, true, false, cond, not, nat_lt, ◌&&◌, ◌||◌, List, [], ◌∷◌, ◌++◌, length, take, drop, get_or, refl, sym, ap, subst, arith, append-nil, take-append-drop, rules}
 use Rattle.std.specs.List.{filter, position_or_len, slice_split, before_first, after_first, list_all}
 use Rattle.std.proofs.Math.Seq.{drop-append-add, take-append-add}
 use Rattle.std.proofs.lemmas.Bool.Decides.{nat_tests}
@@ -32,12 +32,7 @@ letter_no_blank : (byte : ℕ) → is_letter byte ≡ true → is_blank byte ≡
 letter_no_blank byte h = let above : nat_lt 32 byte ≡ true = (both_true _ _ h).0 in grind (arith, nat_tests, above)
 
 letter_calm : (byte : ℕ) → is_letter byte ≡ true → is_calm byte ≡ true
-letter_calm byte h =
-    let above : nat_lt 32 byte ≡ true = (both_true _ _ h).0 in
-    let low : nat_lt 31 byte ≡ true = grind (arith, nat_tests, above) in
-    let rest = both_true _ _ (both_true _ _ h).1 in
-    both (is_allowed byte) (not (begins_comment byte))
-    (or_right ((byte == 9) || (byte == 13)) (nat_lt 31 byte && nat_lt byte 127) (both (nat_lt 31 byte) (nat_lt byte 127) low rest.0)) rest.1
+letter_calm byte h = grind (arith, both_true, nat_tests, both, or_right)
 
 -- what is allowed and no letter is a blank, where it begins no comment
 other_by : (tab return low high letter blank : Bool) → (tab || return || (low && high)) ≡ true →
@@ -51,17 +46,12 @@ other_by false false true false letter false a l is = absurd (cc)
 other_by false false false high letter false a l is = absurd (cc)
 
 other_is_blank : (byte : ℕ) → is_allowed byte ≡ true → is_letter byte ≡ false → begins_comment byte ≡ false → is_blank byte ≡ true
-other_is_blank byte a l c =
-    other_by (byte == 9) (byte == 13) (nat_lt 31 byte) (nat_lt byte 127) (nat_lt 32 byte) (byte == 32) a
-    (subst (λ b. (nat_lt 32 byte && (nat_lt byte 127 && not b)) ≡ false) c l)
-    (λ low high. grind (arith, nat_tests, low, high))
+other_is_blank byte a l c = grind (arith, other_by, nat_tests)
 
 blank_by : (byte : ℕ) (a b c : Bool) → (byte == 32) ≡ a → (byte == 9) ≡ b → (byte == 13) ≡ c → (a || b || c) ≡ true →
     is_calm byte ≡ true
 blank_by byte true b c e f g h = ap is_calm (eqb-true byte 32 e)
-blank_by byte false true c e f g h = ap is_calm (eqb-true byte 9 f)
-blank_by byte false false true e f g h = ap is_calm (eqb-true byte 13 g)
-blank_by byte false false false e f g h = absurd (cc)
+blank_by byte false _ c e f g h = grind (arith, eqb-true)
 
 blank_calm : (byte : ℕ) → is_blank byte ≡ true → is_calm byte ≡ true
 blank_calm byte h = blank_by byte (byte == 32) (byte == 9) (byte == 13) refl refl refl h
@@ -106,11 +96,7 @@ before_beyond p piece rest h =
 
 after_beyond : (p : ℕ → Bool) (piece rest : List ℕ) → list_all (λ b. not (p b)) piece ≡ true →
     after_first p (piece ++ rest) ≡ after_first p rest
-after_beyond p piece rest h =
-    let n = position_or_len p rest in
-    let more : length piece + n + 1 ≡ length piece + (n + 1) = omega arith in
-    ap (λ k. drop (k + 1) (piece ++ rest)) (beyond p piece rest h) ∙ ap (λ k. drop k (piece ++ rest)) more
-    ∙ drop-append-add piece rest (n + 1)
+after_beyond p piece rest h = grind (arith, beyond, drop-append-add)
 
 -- ---- a calm piece, and what is left behind it
 
@@ -123,27 +109,14 @@ calm_no_end : (piece : List ℕ) → list_all is_calm piece ≡ true → list_al
 calm_no_end piece h = all_are is_calm _ (λ byte calm. ap not (allowed_no_end byte (both_true _ _ calm).0)) piece h
 
 pub moved : (text rest piece tail : List ℕ) → IsLeft text rest → piece ++ tail ≡ rest → list_all is_calm piece ≡ true → IsLeft text tail
-moved text rest piece tail left whole calm =
-    let within = calm_no_end piece calm in
-    let long = ap (position_or_len is_line_end) (sym whole) ∙ beyond is_line_end piece tail within in
-    let all = ap length (sym whole) ∙ length-append piece tail in
-    record {
-      after = left.after ∙ ap after_line (sym whole) ∙ after_beyond is_line_end piece tail within;
-      allowed = left.allowed ∙ ap (λ t. list_all is_allowed (first_line t)) (sym whole)
-          ∙ ap (list_all is_allowed) (before_beyond is_line_end piece tail within) ∙ list_all-append is_allowed piece (first_line tail)
-          ∙ ap (λ b. b && list_all is_allowed (first_line tail)) (all_are is_calm is_allowed (λ byte h. (both_true _ _ h).0) piece calm);
-      within = omega (arith, left.within, all);
-      long = omega (arith, left.long, long, all);
-    }
+moved text rest piece tail left whole calm = grind (arith, calm_no_end, beyond, length-append, after_beyond, before_beyond, list_all-append, all_are, both_true)
 
 -- what stands before the comment of the first line
 abbrev spoken : List ℕ → List ℕ
 spoken text = before_first begins_comment (first_line text)
 
 spoken_beyond : (piece tail : List ℕ) → list_all is_calm piece ≡ true → spoken (piece ++ tail) ≡ piece ++ spoken tail
-spoken_beyond piece tail calm =
-    ap (before_first begins_comment) (before_beyond is_line_end piece tail (calm_no_end piece calm))
-    ∙ before_beyond begins_comment piece (first_line tail) (all_are is_calm _ (λ byte h. (both_true _ _ h).1) piece calm)
+spoken_beyond piece tail calm = grind (arith, before_beyond, calm_no_end, all_are, both_true)
 
 -- where neither a letter nor a blank comes next, nothing does
 silent : (byte : ℕ) (tail : List ℕ) (end comment : Bool) → is_line_end byte ≡ end → begins_comment byte ≡ comment →
@@ -157,8 +130,7 @@ silent byte tail false false e c l b a =
 
 spoken_none : (tail : List ℕ) → is_letter (get_or tail 0 10) ≡ false → is_blank (get_or tail 0 10) ≡ false →
     list_all is_allowed (first_line tail) ≡ true → spoken tail ≡ []
-spoken_none [] l b a = refl
-spoken_none (byte ∷ tail) l b a = silent byte tail (is_line_end byte) (begins_comment byte) refl refl l b a
+spoken_none tail l b a = grind (arith, silent)
 
 -- ---- words
 
@@ -166,10 +138,7 @@ abbrev kept : List (List ℕ) → List (List ℕ)
 kept pieces = filter (λ one. not (length one == 0)) pieces
 
 pub kept_piece : (piece : List ℕ) (pieces : List (List ℕ)) → kept (piece ∷ pieces) ≡ word_alone piece ++ kept pieces
-kept_piece [] pieces = refl
-kept_piece (byte ∷ bytes) pieces =
-    let some : (length (byte ∷ bytes) == 0) ≡ false = grind (arith, nat_tests) in
-    ap (λ b. cond (not b) ((byte ∷ bytes) ∷ kept pieces) (kept pieces)) some
+kept_piece piece pieces = grind (arith, nat_tests)
 
 no_blanks : (piece : List ℕ) → list_all is_letter piece ≡ true → (k d : ℕ) → k < length piece → is_blank (get_or piece k d) ≡ false
 no_blanks piece letters k d there =
@@ -179,9 +148,7 @@ no_blanks piece letters k d there =
 
 -- a slice to its end
 pub to_end : (text : List ℕ) (n : ℕ) → take (length text - n) (drop n text) ≡ drop n text
-to_end text n =
-    let all = length-drop n text in
-    take_all (length text - n) (drop n text) (omega (arith, all))
+to_end text n = grind (arith, length-drop, take_all)
 
 abbrev is_end : ℕ → Bool
 is_end byte = not (is_letter byte)
@@ -241,11 +208,7 @@ words_behind words all rest piece (byte ∷ tail) more is blank =
 -- the last word
 pub words_end : (rest piece tail : List ℕ) → IsPiece rest piece tail → is_blank (get_or tail 0 10) ≡ false →
     list_all is_allowed (first_line tail) ≡ true → words_of (first_line rest) ≡ word_alone piece
-words_end rest piece tail is blank a =
-    ap (λ t. words_of (first_line t)) (sym is.whole)
-    ∙ ap words_in (spoken_beyond piece tail (all_are is_letter is_calm letter_calm piece is.letters)
-    ∙ ap (λ t. piece ++ t) (spoken_none tail is.next blank a) ∙ append-nil piece)
-    ∙ ap kept (slice_split_none is_blank piece (no_blanks piece is.letters)) ∙ kept_piece piece [] ∙ append-nil (word_alone piece)
+words_end rest piece tail is blank a = search (rules, spoken_beyond, all_are, letter_calm, spoken_none, slice_split_none, no_blanks, kept_piece)
 
 -- ---- the end of a line
 
@@ -259,18 +222,13 @@ further_allowed byte bytes e = ap (list_all is_allowed) (before_later is_line_en
 end_here : (byte : ℕ) (bytes : List ℕ) (end : Bool) → is_line_end byte ≡ end → is_allowed byte ≡ false →
     is_line_end byte ≡ list_all is_allowed (first_line (byte ∷ bytes))
 end_here byte bytes true e a = e ∙ sym (ap (list_all is_allowed) (before_here is_line_end byte bytes e))
-end_here byte bytes false e a =
-    e ∙ sym (further_allowed byte bytes e ∙ ap (λ b. b && list_all is_allowed (first_line bytes)) a)
+end_here byte bytes false e a = grind (arith, further_allowed)
 
 end_by : (byte : ℕ) (bytes : List ℕ) (allowed : Bool) → is_allowed byte ≡ allowed →
     is_line_end (get_or bytes (position_or_len is_forbidden bytes) 10) ≡ list_all is_allowed (first_line bytes) →
     is_line_end (get_or (byte ∷ bytes) (position_or_len is_forbidden (byte ∷ bytes)) 10) ≡ list_all is_allowed (first_line (byte ∷ bytes))
-end_by byte bytes true a h =
-    ap (λ n. is_line_end (get_or (byte ∷ bytes) n 10)) (later is_forbidden byte bytes (ap not a)) ∙ h
-    ∙ sym (further_allowed byte bytes (allowed_no_end byte a) ∙ ap (λ b. b && list_all is_allowed (first_line bytes)) a)
-end_by byte bytes false a h =
-    ap (λ n. is_line_end (get_or (byte ∷ bytes) n 10)) (here is_forbidden byte bytes (ap not a))
-    ∙ end_here byte bytes (is_line_end byte) refl a
+end_by byte bytes true a h = grind (arith, later, further_allowed, allowed_no_end)
+end_by byte bytes false a h = grind (arith, here, end_here)
 
 -- the first byte that is not allowed ends the line, where each byte of it is allowed
 pub end_of : (text : List ℕ) → is_line_end (get_or text (position_or_len is_forbidden text) 10) ≡ list_all is_allowed (first_line text)
@@ -292,30 +250,17 @@ first_long text =
 -- a piece with more behind it is a line, also an empty one
 piece_first : (piece : List ℕ) (pieces : List (List ℕ)) → 0 < length pieces →
     without_empty_last (piece ∷ pieces) ≡ piece ∷ without_empty_last pieces
-piece_first piece [] some = absurd (omega (arith, some))
-piece_first [] (next ∷ pieces) some = refl
-piece_first (byte ∷ bytes) (next ∷ pieces) some = refl
+piece_first piece pieces some = grind arith
 
 -- the only piece
 piece_only : (piece : List ℕ) → 0 < length piece → without_empty_last (piece ∷ []) ≡ piece ∷ []
-piece_only [] some = absurd (omega (arith, some))
-piece_only (byte ∷ bytes) some = refl
+piece_only piece some = grind arith
 
 -- the lines of a text are its first one, and those behind it
 lines_by : (text : List ℕ) → 0 < length text → (ends : Bool) → nat_lt (position_or_len is_line_end text) (length text) ≡ ends →
     lines_of text ≡ first_line text ∷ lines_of (after_line text)
-lines_by text some true ends =
-    let within : position_or_len is_line_end text < length text = grind (arith, nat_tests, ends) in
-    let more : 0 < length (slice_split is_line_end (after_line text)) = omega (arith, length-slice_split is_line_end (after_line text)) in
-    ap without_empty_last (slice_split_first is_line_end text 0 within)
-    ∙ piece_first (first_line text) (slice_split is_line_end (after_line text)) more
-lines_by text some false ends =
-    let all : length text ≤ position_or_len is_line_end text = grind (arith, nat_tests, ends) in
-    ap without_empty_last (slice_split_none is_line_end text
-    (λ k d there. fails_before_first is_line_end text k d (omega (arith, there, all))))
-    ∙ piece_only text some
-    ∙ ap (λ line. line ∷ []) (sym (take_all (position_or_len is_line_end text) text all))
-    ∙ ap (λ rest. first_line text ∷ lines_of rest) (sym (drop_all (position_or_len is_line_end text + 1) text (omega (arith, all))))
+lines_by text some true ends = grind (arith, nat_tests, length-slice_split, slice_split_first, piece_first)
+lines_by text some false ends = grind (arith, nat_tests, slice_split_none, fails_before_first, piece_only, take_all, drop_all)
 
 pub lines_first : (text : List ℕ) → 0 < length text → lines_of text ≡ first_line text ∷ lines_of (after_line text)
 lines_first text some = lines_by text some (nat_lt (position_or_len is_line_end text) (length text)) refl

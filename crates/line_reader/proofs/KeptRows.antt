@@ -1,5 +1,5 @@
 -- Rows as they are kept: at most one of a row's operands is no register.
-use Rattle.std.proofs.Common.{◌≡◌, ◌∙◌, ℕ, Bool, true, false, not, ◌&&◌, ◌||◌, List, [], ◌∷◌, Some, cond, Ok, refl, sym, ap}
+use Rattle.std.proofs.Common.{◌≡◌, ◌∙◌, ℕ, Bool, true, false, not, ◌&&◌, ◌||◌, List, [], ◌∷◌, Some, cond, Ok, refl, sym, ap, arith}
 use Rattle.std.specs.Prelude.{bytes_eq}
 use Rattle.std.specs.List.{list_all}
 use Rattle.instruction_table.specs.declared.shape.OperandKind.{OperandKind}
@@ -35,11 +35,7 @@ entry_has_one word e found = found_passes word table e table_has_one (sym found)
 -- a place that holds what stands there by itself
 by_itself : (before after : Held) (operand : KeptOperand) → is_register operand ≡ true →
     operand_kept after operand ≡ operand_kept before operand
-by_itself before after kept.Absent is = refl
-by_itself before after (kept.Register reg) is = refl
-by_itself before after kept.Number is = absurd (cc)
-by_itself before after (kept.Numbered k) is = absurd (cc)
-by_itself before after (kept.Named k) is = absurd (cc)
+by_itself before after operand is = grind arith
 
 -- an operand stays what it was where what is held behind it is not replaced
 stays : (before after : Held) (operand : KeptOperand) (here later : Bool) → not (here && later) ≡ true →

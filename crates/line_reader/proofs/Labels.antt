@@ -13,8 +13,7 @@ some : (n : ℕ) → (suc n == 0) ≡ false
 some n = grind (arith, nat_tests)
 
 pub label_by_last : (word : List ℕ) → is_label word ≡ (not (length word == 0) && (slice_index word (length word - 1) == 58))
-label_by_last [] = refl
-label_by_last (byte ∷ []) = refl
 label_by_last (byte ∷ next ∷ bytes) =
     label_by_last (next ∷ bytes)
     ∙ rw (some (length bytes), some (suc (length bytes)), shorter (length bytes)) refl
+label_by_last word = grind (arith, some, shorter)

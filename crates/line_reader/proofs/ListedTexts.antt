@@ -1,5 +1,5 @@
 -- Texts of lists, element by element, and words of options, one behind the other.
-use Rattle.std.proofs.Common.{◌≡◌, ◌≢◌, ◌∙◌, ◌+◌, ◌<◌, ℕ, zero, suc, ℤ, pos, negsuc, List, [], ◌∷◌, ◌++◌, length, get_or, drop, map, ap, sym, refl, subst, Bool, true, false, nat_lt, arith, codes, append_assoc, append-nil}
+use Rattle.std.proofs.Common.{◌≡◌, ◌≢◌, ◌∙◌, ◌+◌, ◌<◌, ℕ, zero, suc, ℤ, pos, negsuc, List, [], ◌∷◌, ◌++◌, length, get_or, drop, map, ap, sym, refl, subst, Bool, true, false, nat_lt, arith, codes, append_assoc, append-nil, rules}
 use Rattle.std.proofs.lemmas.Bool.{ltb-true, ltb-false}
 use Rattle.std.proofs.lemmas.List.{drop_more, get_or_default}
 use Rattle.std.specs.Fmt.{signed_decimal}
@@ -29,9 +29,7 @@ spaced-append (word ∷ words) b =
 
 -- a first phase that isn't 0 has its option
 pub phase_there : (phase : ℤ) → phase ≢ pos 0 → phase_words phase ≡ codes "phase" ∷ signed_decimal phase ∷ []
-phase_there (pos zero) other = absurd (other refl)
-phase_there (pos (suc n)) other = refl
-phase_there (negsuc n) other = refl
+phase_there phase other = grind arith
 
 pub ruleset word_steps = (append_assoc, append-nil)
 
@@ -44,9 +42,4 @@ pub ruleset operand_steps = (drop_more, append_assoc)
 -- what holds of the elements before a place, and of the one there
 pub one_more : {A : Type 0} (P : A → Type 0) (xs : List A) (n : ℕ) (x : A) → n < length xs
     → ((k : ℕ) → (d : A) → k < n → P (get_or xs k d)) → P (get_or xs n x) → (k : ℕ) → (d : A) → k < n + 1 → P (get_or xs k d)
-one_more P xs n x within before here k d below =
-    by_order (nat_lt k n) (λ less. before k d (ltb-true k n less))
-    (λ not-less.
-    let same : n ≡ k = omega (arith, below, ltb-false k n not-less) in
-    let there : k < length xs = omega (arith, same, within) in
-    subst P (get_or_default xs k x d there) (subst (λ (i : ℕ). P (get_or xs i x)) same here))
+one_more P xs n x within before here k d below = search (rules, by_order, ltb-true, ltb-false, get_or_default)

@@ -5,7 +5,6 @@ use Rattle.std.proofs.lemmas.Int.{ints}
 use Rattle.std.specs.Fmt.{signed_decimal}
 
 pub one_digit : (z : ℤ) → pos 0 ≤ℤ z → z <ℤ pos 10 → signed_decimal z ≡ (48 + unsigned_abs z) ∷ []
-one_digit (pos n) there small = decimal_digit n (omega (arith, ints, small))
-one_digit (negsuc n) there small = absurd (omega (arith, ints, there))
+one_digit z there small = grind (arith, decimal_digit, ints)
 
 pub ruleset digit_steps = (append_assoc, one_digit)

@@ -18,10 +18,7 @@ not_found true n h = cc
 not_found false n h = refl
 
 pub position_none : (p : ℕ → Bool) (bs : List ℕ) → None ≡ position p bs → length bs ≡ position_or_len p bs
-position_none p bs h =
-    let far = not_found (nat_lt (position_or_len p bs) (length bs)) (position_or_len p bs) h in
-    let within = prefix_len-le-length (λ b. not (p b)) bs in
-    grind (arith, nat_tests, far, within)
+position_none p bs h = grind (arith, not_found, prefix_len-le-length, nat_tests)
 
 found : (b : Bool) (k n : ℕ) → Some k ≡ cond b (Some n) None → b ≡ true
 found true k n h = refl
@@ -29,6 +26,4 @@ found false k n h = absurd (cc)
 
 -- a found place is in the list
 pub position_within : (p : ℕ → Bool) (bs : List ℕ) (k : ℕ) → Some k ≡ position p bs → position_or_len p bs < length bs
-position_within p bs k h =
-    let there = found (nat_lt (position_or_len p bs) (length bs)) k (position_or_len p bs) h in
-    grind (arith, nat_tests, there)
+position_within p bs k h = grind (arith, found, nat_tests)

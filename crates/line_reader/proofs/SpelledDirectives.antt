@@ -1,5 +1,5 @@
 -- Directives and their options: what is read is spelled so, and what is spelled so is read.
-use Rattle.std.proofs.Common.{◌≡◌, inl, inr, ℕ, ℤ, pos, true, List, [], ◌∷◌, ◌++◌, codes, bytes_eq, Option, Some, None, Result, Ok, refl, sym, ap, subst, ◌∙◌}
+use Rattle.std.proofs.Common.{◌≡◌, inl, inr, ℕ, ℤ, pos, true, List, [], ◌∷◌, ◌++◌, codes, bytes_eq, Option, Some, None, Result, Ok, refl, sym, ap, subst, ◌∙◌, arith}
 use Rattle.std.proofs.lemmas.List.{append-nil}
 use Rattle.line_reader.specs.declared.asm_fault.AsmFaultKind.{AsmFaultKind}
 use Rattle.line_reader.specs.declared.reference.Reference.{Reference}
@@ -66,11 +66,7 @@ pub reference_option_again : (option : List ℕ) (high : ℕ) → bytes_eq optio
     (words rest : List (List ℕ)) (reference : Option (Reference Name)) → SpellReference option high words reference →
     reference_option_at option high rest ≡ Ok (None, rest) → reference_option_at option high (words ++ rest) ≡ Ok (reference, rest)
 unfolding reference_option_at
-reference_option_again option high same words rest None s none =
-    subst (λ (ws : List (List ℕ)). reference_option_at option high (ws ++ rest) ≡ Ok (None, rest)) (sym s) none
-reference_option_again option high same words rest (Some reference) s none =
-    subst (λ (ws : List (List ℕ)). reference_option_at option high (ws ++ rest) ≡ Ok (Some reference, rest)) (sym s.1)
-    (rw (same, reference_again high s.0 reference s.2) refl)
+reference_option_again option high same words rest reference s none = grind (arith, reference_again)
 
 abbrev parent_at : List (List ℕ) → Result (Option (Reference Name) × List (List ℕ)) AsmFaultKind
 parent_at words = reference_option_at (codes "parent") 63 words
@@ -95,9 +91,7 @@ first_phase_takes (word ∷ rest) x e =
 pub first_phase_again : (words rest : List (List ℕ)) (phase : ℤ) → SpellFirstPhase words phase →
     first_phase_at rest ≡ Ok (pos 0, rest) → first_phase_at (words ++ rest) ≡ Ok (phase, rest)
 unfolding first_phase_at
-first_phase_again words rest phase (inl s) none =
-    subst (λ (z : ℤ). first_phase_at (words ++ rest) ≡ Ok (z, rest)) (sym s.1)
-    (subst (λ (ws : List (List ℕ)). first_phase_at (ws ++ rest) ≡ Ok (pos 0, rest)) (sym s.0) none)
+first_phase_again words rest phase (inl s) none = grind arith
 first_phase_again words rest phase (inr s) none =
     subst (λ (ws : List (List ℕ)). first_phase_at (ws ++ rest) ≡ Ok (phase, rest)) (sym s.1)
     (rw (number_again (pos 0) greatest_int s.0 phase s.2) refl)
@@ -106,10 +100,8 @@ first_phase_again words rest phase (inr s) none =
 pub phase_no_parent : (words rest : List (List ℕ)) (phase : ℤ) → SpellFirstPhase words phase →
     parent_at rest ≡ Ok (None, rest) → parent_at (words ++ rest) ≡ Ok (None, words ++ rest)
 unfolding reference_option_at
-phase_no_parent words rest phase (inl s) none =
-    subst (λ (ws : List (List ℕ)). parent_at (ws ++ rest) ≡ Ok (None, ws ++ rest)) (sym s.0) none
-phase_no_parent words rest phase (inr s) none =
-    subst (λ (ws : List (List ℕ)). parent_at (ws ++ rest) ≡ Ok (None, ws ++ rest)) (sym s.1) refl
+phase_no_parent words rest phase (inl s) none = grind arith
+phase_no_parent words rest phase (inr s) none = grind arith
 
 until_spelled : (word : List ℕ) (phase : ℤ) → number_at (pos 0) greatest_int word ≡ Ok phase →
     SpellPolicy (codes "until" ∷ word ∷ []) (policy.Until phase)
@@ -142,27 +134,20 @@ policy_takes (word ∷ rest) x e =
 
 pub policy_again : (words : List (List ℕ)) (q : SymbolicPolicy Name) → SpellPolicy words q → policy_at words ≡ Ok (q, [])
 unfolding policy_at
-policy_again words policy.Default s = rw s refl
-policy_again words policy.Never s = rw s refl
 policy_again words (policy.Until phase) s = rw (s.1, number_again (pos 0) greatest_int s.0 phase s.2) refl
 policy_again words (policy.Routine row) s = rw (s.1, reference_again greatest_number s.0 row s.2) refl
+policy_again words _ s = rw s refl
 
 -- where a policy is spelled, no first phase and no parent are
 pub policy_no_phase : (words : List (List ℕ)) (q : SymbolicPolicy Name) → SpellPolicy words q →
     first_phase_at words ≡ Ok (pos 0, words)
 unfolding first_phase_at
-policy_no_phase words policy.Default s = rw s refl
-policy_no_phase words policy.Never s = rw s refl
-policy_no_phase words (policy.Until phase) s = rw s.1 refl
-policy_no_phase words (policy.Routine row) s = rw s.1 refl
+policy_no_phase words q s = grind arith
 
 pub policy_no_parent : (words : List (List ℕ)) (q : SymbolicPolicy Name) → SpellPolicy words q →
     parent_at words ≡ Ok (None, words)
 unfolding reference_option_at
-policy_no_parent words policy.Default s = rw s refl
-policy_no_parent words policy.Never s = rw s refl
-policy_no_parent words (policy.Until phase) s = rw s.1 refl
-policy_no_parent words (policy.Routine row) s = rw s.1 refl
+policy_no_parent words q s = grind arith
 
 none_left : (option : List ℕ) (high : ℕ) → reference_option_at option high [] ≡ Ok (None, [])
 unfolding reference_option_at
@@ -175,8 +160,7 @@ action_again words action s =
     (reference_option_again (codes "action") greatest_number refl words [] action s (none_left (codes "action") greatest_number))
 
 end_takes : (words : List (List ℕ)) (x : Unit {0}) → end_at words ≡ Ok x → words ≡ []
-end_takes [] x e = refl
-end_takes (word ∷ rest) x e = absurd (cc)
+end_takes words x e = grind arith
 
 -- ---- directives
 
@@ -207,8 +191,6 @@ phaser_made name parties options p later last left n c s t u end =
 pub phaser_takes : (words : List (List ℕ)) (p : SymbolicPhaser Name) → phaser_at words ≡ Ok p →
     Spell (codes ".phaser" ∷ words) (statement.Phaser p)
 unfolding phaser_at
-phaser_takes [] p e = absurd (cc)
-phaser_takes (name ∷ []) p e = absurd (cc)
 phaser_takes (name ∷ parties ∷ options) p e =
     bound (name_at name) _ p e (λ n named e.
     bound (count_at 65535 parties) _ p e (λ count counted e.
@@ -220,6 +202,7 @@ phaser_takes (name ∷ parties ∷ options) p e =
     subst (λ (q : SymbolicPhaser Name). Spell (codes ".phaser" ∷ name ∷ parties ∷ options) (statement.Phaser q)) (ok_is made p e)
     (phaser_made name parties options made parent.1 phase.1 policy.1 named counted parent-is phase-is policy-is
     (end_takes policy.1 end end-is))))))))
+phaser_takes _ p e = absurd (cc)
 
 -- the words behind .phaser
 phaser_behind : (p : SymbolicPhaser Name) (parties : List ℕ) (parent phase policy : List (List ℕ)) → is_name p.name ≡ true →
@@ -239,11 +222,7 @@ phaser_behind p parties parent phase policy named counted s t u =
 
 pub phaser_again : (word : List ℕ) (words : List (List ℕ)) (p : SymbolicPhaser Name) → Spell (word ∷ words) (statement.Phaser p) →
     (word ≡ codes ".phaser") × (phaser_at words ≡ Ok p)
-phaser_again word words p s =
-    let behind : words ≡ p.name ∷ s.0 ∷ (s.1 ++ (s.2 ++ s.3)) = cc (s.4) in (
-      cc (s.4),
-      subst (λ (ws : List (List ℕ)). phaser_at ws ≡ Ok p) (sym behind) (phaser_behind p s.0 s.1 s.2 s.3 s.5 s.6 s.7 s.8 s.9),
-    )
+phaser_again word words p s = grind (arith, phaser_behind)
 
 barrier_made : (name parties : List ℕ) (options : List (List ℕ)) (b : SymbolicBarrier Name) (left : List (List ℕ)) →
     name_at name ≡ Ok b.name → count_at 65535 parties ≡ Ok b.parties → action_at options ≡ Ok (b.action, left) → left ≡ [] →
@@ -263,8 +242,6 @@ barrier_made name parties options b left n c s end =
 pub barrier_takes : (words : List (List ℕ)) (b : SymbolicBarrier Name) → barrier_at words ≡ Ok b →
     Spell (codes ".barrier" ∷ words) (statement.Barrier b)
 unfolding barrier_at
-barrier_takes [] b e = absurd (cc)
-barrier_takes (name ∷ []) b e = absurd (cc)
 barrier_takes (name ∷ parties ∷ options) b e =
     bound (name_at name) _ b e (λ n named e.
     bound (count_at 65535 parties) _ b e (λ count counted e.
@@ -273,6 +250,7 @@ barrier_takes (name ∷ parties ∷ options) b e =
     let made : SymbolicBarrier Name = record { name = n; parties = count; action = action.0 } in
     subst (λ (q : SymbolicBarrier Name). Spell (codes ".barrier" ∷ name ∷ parties ∷ options) (statement.Barrier q)) (ok_is made b e)
     (barrier_made name parties options made action.1 named counted action-is (end_takes action.1 end end-is))))))
+barrier_takes _ b e = absurd (cc)
 
 barrier_behind : (b : SymbolicBarrier Name) (parties : List ℕ) (action : List (List ℕ)) → is_name b.name ≡ true →
     SpellsParties parties b.parties → SpellReference (codes "action") greatest_number action b.action → barrier_at (b.name ∷ parties ∷ action) ≡ Ok b
@@ -282,16 +260,11 @@ barrier_behind b parties action named counted s =
 
 pub barrier_again : (word : List ℕ) (words : List (List ℕ)) (b : SymbolicBarrier Name) →
     Spell (word ∷ words) (statement.Barrier b) → (word ≡ codes ".barrier") × (barrier_at words ≡ Ok b)
-barrier_again word words b s =
-    let behind : words ≡ b.name ∷ s.0 ∷ s.1 = cc (s.2) in
-    (cc (s.2), subst (λ (ws : List (List ℕ)). barrier_at ws ≡ Ok b) (sym behind) (barrier_behind b s.0 s.1 s.3 s.4 s.5))
+barrier_again word words b s = grind (arith, barrier_behind)
 
 pub thread_takes : (words : List (List ℕ)) (t : SymbolicThread Name) → thread_at words ≡ Ok t →
     Spell (codes ".thread" ∷ words) (statement.Thread t)
 unfolding thread_at
-thread_takes [] t e = absurd (cc)
-thread_takes (name ∷ []) t e = absurd (cc)
-thread_takes (name ∷ row ∷ word ∷ words) t e = absurd (cc)
 thread_takes (name ∷ row ∷ []) t e =
     bound (name_at name) _ t e (λ n named e.
     bound (reference_at greatest_number row) _ t e (λ first first-is e.
@@ -303,6 +276,7 @@ thread_takes (name ∷ row ∷ []) t e =
       named.1,
       reference_takes greatest_number row first first-is,
     )))
+thread_takes _ t e = absurd (cc)
 
 thread_behind : (t : SymbolicThread Name) (row : List ℕ) → is_name t.name ≡ true → SpellsReference greatest_number row t.first_row →
     thread_at (t.name ∷ row ∷ []) ≡ Ok t
@@ -311,18 +285,15 @@ thread_behind t row named s = rw (name_again t.name named, reference_again great
 
 pub thread_again : (word : List ℕ) (words : List (List ℕ)) (t : SymbolicThread Name) →
     Spell (word ∷ words) (statement.Thread t) → (word ≡ codes ".thread") × (thread_at words ≡ Ok t)
-thread_again word words t s =
-    let behind : words ≡ t.name ∷ s.0 ∷ [] = cc (s.1) in
-    (cc (s.1), subst (λ (ws : List (List ℕ)). thread_at ws ≡ Ok t) (sym behind) (thread_behind t s.0 s.2 s.3))
+thread_again word words t s = grind (arith, thread_behind)
 
 pub cell_takes : (words : List (List ℕ)) (name : Name) → cell_at words ≡ Ok name →
     Spell (codes ".cell" ∷ words) (statement.Cell name)
 unfolding cell_at
-cell_takes [] name e = absurd (cc)
-cell_takes (first ∷ second ∷ words) name e = absurd (cc)
 cell_takes (first ∷ []) name e =
     let named = name_takes first name e in
     (ap (λ (n : List ℕ). codes ".cell" ∷ n ∷ []) named.0, named.1)
+cell_takes _ name e = absurd (cc)
 
 cell_behind : (name : Name) → is_name name ≡ true → cell_at (name ∷ []) ≡ Ok name
 unfolding cell_at
@@ -330,9 +301,7 @@ cell_behind name named = name_again name named
 
 pub cell_again : (word : List ℕ) (words : List (List ℕ)) (name : Name) → Spell (word ∷ words) (statement.Cell name) →
     (word ≡ codes ".cell") × (cell_at words ≡ Ok name)
-cell_again word words name s =
-    let behind : words ≡ name ∷ [] = cc (s.0) in
-    (cc (s.0), subst (λ (ws : List (List ℕ)). cell_at ws ≡ Ok name) (sym behind) (cell_behind name s.1))
+cell_again word words name s = grind (arith, cell_behind)
 
 -- ---- a directive by its word
 

@@ -37,8 +37,7 @@ find_passes {A} test (first ∷ xs) x e =
     (λ is-not. find_passes test xs x (rw is-not at e))
 
 found_takes : {A : Type 0} (fault : AsmFaultKind) (o : Option A) (x : A) → found_or fault o ≡ Ok x → o ≡ Some x
-found_takes fault (Some y) x e = cc
-found_takes fault None x e = absurd (cc)
+found_takes fault o x e = grind arith
 
 pub register_takes : (word : List ℕ) (reg : Reg) → register_at word ≡ Ok reg → word ≡ register_word reg
 unfolding register_at
@@ -47,31 +46,19 @@ register_takes word reg e =
 
 register_word_again : (reg : Reg) → register_at (register_word reg) ≡ Ok reg
 unfolding register_at
-register_word_again R0 = refl
-register_word_again R1 = refl
-register_word_again R2 = refl
-register_word_again R3 = refl
-register_word_again R4 = refl
-register_word_again R5 = refl
-register_word_again R6 = refl
-register_word_again R7 = refl
+register_word_again reg = grind arith
 
 pub register_again : (word : List ℕ) (reg : Reg) → word ≡ register_word reg → register_at word ≡ Ok reg
 register_again word reg e = subst (λ (w : List ℕ). register_at w ≡ Ok reg) (sym e) (register_word_again reg)
 
 object_takes : (k : OperandKind) (word : List ℕ) (o : Operand Name) → IsObject k →
     (reference_at greatest_number word >>= (λ r. Ok (operand.Object k r))) ≡ Ok o → SpellsOperand k word o
-object_takes k word o is e =
-    let a = bind_ok (reference_at greatest_number word) _ o e in
-    subst (λ (p : Operand Name). SpellsOperand k word p) (ok_is _ _ a.2)
-    (refl, (is, reference_takes greatest_number word a.0 a.1))
+object_takes k word o is e = grind (arith, bind_ok, ok_is, reference_takes)
 
 pub operand_takes : (k : OperandKind) (word : List ℕ) (o : Operand Name) → operand_at k word ≡ Ok o →
     SpellsOperand k word o
 unfolding operand_at
-operand_takes kind.Register word o e =
-    let a = bind_ok (register_at word) _ o e in
-    subst (λ (p : Operand Name). SpellsOperand kind.Register word p) (ok_is _ _ a.2) (refl, register_takes word a.0 a.1)
+operand_takes kind.Register word o e = grind (arith, bind_ok, ok_is, register_takes)
 operand_takes kind.Number word o e =
     let a = bind_ok (number_at least_int greatest_int word) _ o e in
     subst (λ (p : Operand Name). SpellsOperand kind.Number word p) (ok_is _ _ a.2)
@@ -85,13 +72,7 @@ operand_takes kind.Cell word o e = object_takes kind.Cell word o tt e
 object_again : (k : OperandKind) (word : List ℕ) (r : Reference Name) → IsObject k →
     reference_at greatest_number word ≡ Ok r → operand_at k word ≡ Ok (operand.Object k r)
 unfolding operand_at
-object_again kind.Register word r is e = elim is [ ]
-object_again kind.Number word r is e = elim is [ ]
-object_again kind.Target word r is e = rw e refl
-object_again kind.Phaser word r is e = rw e refl
-object_again kind.Barrier word r is e = rw e refl
-object_again kind.Thread word r is e = rw e refl
-object_again kind.Cell word r is e = rw e refl
+object_again k word r is e = grind arith
 
 pub operand_again : (k : OperandKind) (word : List ℕ) (o : Operand Name) → SpellsOperand k word o →
     operand_at k word ≡ Ok o
@@ -102,41 +83,29 @@ operand_again k word (operand.Register reg) s =
 operand_again k word (operand.Number value) s =
     subst (λ (j : OperandKind). operand_at j word ≡ Ok (operand.Number value)) (sym s.0)
     (rw (number_again least_int greatest_int word value s.1) refl)
-operand_again k word (operand.Object object r) s =
-    subst (λ (j : OperandKind). operand_at j word ≡ Ok (operand.Object object r)) (sym s.0)
-    (object_again object word r s.1.0 (reference_again greatest_number word r s.1.1))
+operand_again k word (operand.Object object r) s = grind (arith, object_again, reference_again)
 
 pub operands_take : (kinds : List OperandKind) (words : List (List ℕ)) (os : List (Operand Name)) →
     length words ≡ length kinds → operands_at kinds words ≡ Ok os → SpellOperands kinds words os
 unfolding operands_at
-operands_take [] [] os len e = subst (λ (ps : List (Operand Name)). SpellOperands [] [] ps) (ok_is [] os e) tt
-operands_take [] (word ∷ words) os len e = absurd (cc)
-operands_take (k ∷ kinds) [] os len e = absurd (cc)
 operands_take (k ∷ kinds) (word ∷ words) os len e =
     let a = bind_ok (operand_at k word) _ os e in
     let b = bind_ok (operands_at kinds words) _ os a.2 in
     subst (λ (ps : List (Operand Name)). SpellOperands (k ∷ kinds) (word ∷ words) ps) (ok_is _ _ b.2)
     (operand_takes k word a.0 a.1, operands_take kinds words b.0 (omega (arith, len)) b.1)
+operands_take kinds words os len e = grind (arith, ok_is, bind_ok, operands_at, operand_takes)
 
 pub operands_again : (kinds : List OperandKind) (words : List (List ℕ)) (os : List (Operand Name)) →
     SpellOperands kinds words os → operands_at kinds words ≡ Ok os
 unfolding operands_at
-operands_again [] [] [] s = refl
-operands_again [] [] (o ∷ os) s = elim s [ ]
-operands_again [] (word ∷ words) os s = elim s [ ]
-operands_again (k ∷ kinds) [] os s = elim s [ ]
-operands_again (k ∷ kinds) (word ∷ words) [] s = elim s [ ]
 operands_again (k ∷ kinds) (word ∷ words) (o ∷ os) s =
     rw (operand_again k word o s.0, operands_again kinds words os s.1) refl
+operands_again kinds words os s = grind (arith, operand_again)
 
 length_spelled : (kinds : List OperandKind) (words : List (List ℕ)) (os : List (Operand Name)) →
     SpellOperands kinds words os → length words ≡ length kinds
-length_spelled [] [] [] s = refl
-length_spelled [] [] (o ∷ os) s = elim s [ ]
-length_spelled [] (word ∷ words) os s = elim s [ ]
-length_spelled (k ∷ kinds) [] os s = elim s [ ]
-length_spelled (k ∷ kinds) (word ∷ words) [] s = elim s [ ]
 length_spelled (k ∷ kinds) (word ∷ words) (o ∷ os) s = omega (arith, length_spelled kinds words os s.1)
+length_spelled kinds words os s = grind arith
 
 -- ---- rows
 

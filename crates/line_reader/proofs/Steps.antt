@@ -1,5 +1,5 @@
 -- The steps of a reading, one after the other.
-use Rattle.std.proofs.Common.{◌≡◌, ℕ, Bool, true, false, cond, not, ◌&&◌, ◌||◌, List, bytes_eq, Result, Ok, Err, refl}
+use Rattle.std.proofs.Common.{◌≡◌, ℕ, Bool, true, false, cond, not, ◌&&◌, ◌||◌, List, bytes_eq, Result, Ok, Err, refl, arith}
 use Rattle.std.proofs.lemmas.Slice.Eq.{bytes_eq-Decides}
 use Rattle.line_reader.specs.declared.asm_fault.AsmFaultKind.{AsmFaultKind}
 use Rattle.row_code.specs.Answers.{◌>>=◌}
@@ -8,14 +8,12 @@ use Rattle.line_reader.specs.Reading.{check}
 -- the value of a step that did not fail
 pub bind_ok : {A B : Type 0} (r : Result A AsmFaultKind) (f : A → Result B AsmFaultKind) (y : B) →
     (r >>= f) ≡ Ok y → (x : A) × (r ≡ Ok x) × (f x ≡ Ok y)
-bind_ok (Ok x) f y e = (x, refl, e)
-bind_ok (Err d) f y e = absurd (cc)
+bind_ok r f y e = grind arith
 
 -- and what follows from the value
 pub bound : {A B C : Type 0} (r : Result A AsmFaultKind) (f : A → Result B AsmFaultKind) (y : B) → (r >>= f) ≡ Ok y →
     ((x : A) → r ≡ Ok x → f x ≡ Ok y → C) → C
-bound (Ok x) f y e then = then x refl e
-bound (Err d) f y e then = absurd (cc)
+bound r f y e then = grind arith
 
 abbrev pub done : {A : Type 0} → A → Result A AsmFaultKind
 done x = Ok x

@@ -87,10 +87,7 @@ first_line : (text : List ℕ) (d : Bool) → nat_lt (position_or_len is_line_en
 first_line text true is =
     let within : position_or_len is_line_end text < length text = grind (arith, nat_tests, is) in
     (slice_split is_line_end (drop (position_or_len is_line_end text + 1) text), lines_cut text within)
-first_line text false is =
-    let most = prefix_len-le-length (λ b. not (is_line_end b)) text in
-    let whole : position_or_len is_line_end text ≡ length text = grind (arith, nat_tests, is, most) in
-    ([], last_cut text whole)
+first_line text false is = grind (arith, nat_tests, prefix_len-le-length, last_cut)
 
 pub faulty_line : (names : List Name) (n : ℕ) (text : List ℕ) (before : Draft) (all : Result Draft PlanFault) (memory : Bool) (fault : PlanFault)
     → lines_behind names n before (slice_split is_line_end text) ≡ all

@@ -1,5 +1,5 @@
 -- What is left of a plan behind some of its words.
-use Rattle.std.proofs.Common.{◌≡◌, ◌∙◌, ◌-◌, ◌++◌, ℕ, List, [], ◌∷◌, sym, ap, append_assoc}
+use Rattle.std.proofs.Common.{◌≡◌, ◌∙◌, ◌-◌, ◌++◌, ℕ, List, [], ◌∷◌, sym, ap, append_assoc, arith}
 use Rattle.std.specs.Prelude.{Option, Some, None}
 use Rattle.std.proofs.lemmas.List.{append-nil}
 use Rattle.plans.specs.declared.word.Step.{Step}
@@ -26,18 +26,7 @@ step_left_by : (behind : List Word) (step : Step) (remaining plan : Plan) (tail 
     → after ≡ step_played step now → Left behind plan tail first after
 unfolding plays
 step_left_by behind step Done plan [] first now after is end played next = absurd (cc is)
-step_left_by behind step Done plan (word.Step one ∷ tail) first now after is end played next = absurd end
-step_left_by behind step Done plan (word.Open ∷ tail) first now after is end played next = absurd end
-step_left_by behind step Done plan (word.Close times ∷ tail) first now after is end played next = absurd (cc is)
-step_left_by behind step (Then one remaining) plan tail first now after is end played next =
-    let same : step ≡ one = cc is in
-    let words : behind ≡ words_of_plan remaining ++ tail = cc is in
-    record {
-      remaining = remaining;
-      words = words;
-      played = ap (plays remaining) (next ∙ ap (λ s. step_played s now) same) ∙ played;
-    }
-step_left_by behind step (Group body times remaining) plan tail first now after is end played next = absurd (cc is)
+step_left_by behind step remaining plan tail first now after is end played next = grind arith
 
 pub step_left : (words here behind : List Word) (step : Step) (first now after : Progress) → here ≡ word.Step step ∷ behind
     → after ≡ step_played step now → IsLeft words here first now → IsLeft words behind first after
@@ -50,17 +39,15 @@ open_left_by : (behind rest : List Word) (remaining plan : Plan) (tail : List Wo
     → word.Open ∷ behind ≡ words_of_plan remaining ++ tail → IsEnd tail → plays remaining now ≡ plays plan first
     → HasPlayedGroup behind rest now after → Left rest plan tail first after
 unfolding plays
-open_left_by behind rest Done plan [] first now after is end played group = absurd (cc is)
 open_left_by behind rest Done plan (word.Step one ∷ tail) first now after is end played group = absurd end
 open_left_by behind rest Done plan (word.Open ∷ tail) first now after is end played group = absurd end
-open_left_by behind rest Done plan (word.Close times ∷ tail) first now after is end played group = absurd (cc is)
-open_left_by behind rest (Then one remaining) plan tail first now after is end played group = absurd (cc is)
 open_left_by behind rest (Group body times remaining) plan tail first now after is end played group =
     let inner : behind ≡ (words_of_plan body ++ word.Close times ∷ words_of_plan remaining) ++ tail = cc is in
     let shape : behind ≡ words_of_plan body ++ word.Close times ∷ (words_of_plan remaining ++ tail) =
     inner ∙ append_assoc (words_of_plan body) (word.Close times ∷ words_of_plan remaining) tail in
     let done = group body times (words_of_plan remaining ++ tail) shape in
     record { remaining = remaining; words = done.behind; played = ap (plays remaining) done.after ∙ played }
+open_left_by behind rest _ plan _ first now after is end played group = absurd (cc is)
 
 pub open_left : (words here behind rest : List Word) (first now after : Progress) → here ≡ word.Open ∷ behind
     → HasPlayedGroup behind rest now after → IsLeft words here first now → IsLeft words rest first after
@@ -74,8 +61,7 @@ close_left_by : (times : ℕ) (behind : List Word) (remaining plan : Plan) (tail
     → Played plan tail (Some times) behind first now
 unfolding plays
 close_left_by times behind Done plan tail first now is played = record { ended = sym is; after = played }
-close_left_by times behind (Then one remaining) plan tail first now is played = absurd (cc is)
-close_left_by times behind (Group body more remaining) plan tail first now is played = absurd (cc is)
+close_left_by times behind remaining plan tail first now is played = grind arith
 
 pub close_left : (words here behind : List Word) (times : ℕ) (first now : Progress) → here ≡ word.Close times ∷ behind
     → IsLeft words here first now → HasPlayed words (Some times) behind first now
@@ -88,8 +74,7 @@ end_left_by : (remaining plan : Plan) (tail rest : List Word) (first now : Progr
     → plays remaining now ≡ plays plan first → Played plan tail None rest first now
 unfolding plays
 end_left_by Done plan tail rest first now is played = record { ended = sym is; after = played }
-end_left_by (Then one remaining) plan tail rest first now is played = absurd (cc is)
-end_left_by (Group body more remaining) plan tail rest first now is played = absurd (cc is)
+end_left_by remaining plan tail rest first now is played = grind arith
 
 pub end_left : (words here rest : List Word) (first now : Progress) → here ≡ [] → IsLeft words here first now
     → HasPlayed words None rest first now
@@ -113,15 +98,7 @@ settled_pass body before after is same =
 -- the first pass of a group, and those behind it
 pub again_group : (words rest : List Word) (times : ℕ) (before once after : Progress) → HasPlayed words (Some times) rest before once
     → HasPlayedAgain words times once after → HasPlayedGroup words rest before after
-again_group words rest times before once after played again body more tail whole =
-    let pass = played body (word.Close more ∷ tail) whole tt in
-    let same : times ≡ more = cc pass.ended in
-    record {
-      behind = cc pass.ended;
-      after = again body (word.Close more ∷ tail) whole tt
-          ∙ ap (λ n. repeated (n - 1) (λ p. plays body p) once) same
-          ∙ ap (repeated (more - 1) (λ p. plays body p)) pass.after;
-    }
+again_group words rest times before once after played again body more tail whole = grind arith
 
 -- a first pass that made no choice is the last
 pub settled_again : (words rest : List Word) (times : ℕ) (before once : Progress) → HasPlayed words (Some times) rest before once

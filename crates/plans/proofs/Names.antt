@@ -1,5 +1,5 @@
 -- The place of a name.
-use Rattle.std.proofs.Common.{◌≡◌, ◌∙◌, ◌+◌, ℕ, List, [], ◌∷◌, length, map, ap, refl, bytes_eq}
+use Rattle.std.proofs.Common.{◌≡◌, ◌∙◌, ◌+◌, ℕ, List, [], ◌∷◌, length, map, ap, refl, bytes_eq, arith}
 use Rattle.std.specs.Prelude.{not, cond, position, nat_lt, Some, None}
 use Rattle.std.specs.List.{position_or_len}
 use Rattle.line_reader.specs.Seen.{Borrowed, name_seen}
@@ -16,7 +16,4 @@ same_length (one ∷ names) = cc (same_length names)
 -- a borrowed name stands where its bytes stand
 pub same_position : (name : List ℕ) (names : List Borrowed)
     → position (λ (one : Borrowed). bytes_eq one.now name) names ≡ position (λ one. bytes_eq one name) (map name_seen names)
-same_position name names =
-    ap (λ n. cond (nat_lt n (length names)) (Some n) None) (same_place name names)
-    ∙ ap (λ l. cond (nat_lt (position_or_len (λ one. bytes_eq one name) (map name_seen names)) l)
-    (Some (position_or_len (λ one. bytes_eq one name) (map name_seen names))) None) (same_length names)
+same_position name names = grind (arith, same_place, same_length)

@@ -101,11 +101,7 @@ adds_same_draft draft after same =
 
 -- behind `(`
 opens : (draft : Draft) (opened : ℕ) → Adds draft (record draft { words = draft.words ++ word.Open ∷ []; depth = draft.depth + 1; opened = opened })
-opens draft opened = record {
-  added = word.Open ∷ [];
-  words = refl;
-  nests = λ rest nested. open_nests draft.depth rest (subst (λ k. IsNested k rest) (add-one draft.depth) nested);
-}
+opens draft opened = grind (arith, open_nests)
 
 adds_open : (deep : Bool) (draft after : Draft) (opened : ℕ)
     → ((if deep then Err fault.TooDeep else Ok (record draft { depth = draft.depth + 1; opened = opened })) >>= with_word word.Open) ≡ Ok after
@@ -122,33 +118,17 @@ adds_close : (none : Bool) (draft after : Draft) (times : ℕ) → (draft.depth 
     → ((if none then Err fault.NotOpened else Ok (record draft { depth = draft.depth - 1 })) >>= with_word (word.Close times)) ≡ Ok after
     → Adds draft after
 adds_close true draft after times is ok = absurd (cc ok)
-adds_close false draft after times is ok =
-    let some : draft.depth - 1 + 1 ≡ draft.depth = grind (arith, is) in
-    adds_same draft after _ ok (record {
-      added = word.Close times ∷ [];
-      words = refl;
-      nests = λ rest nested. closes draft.depth (draft.depth - 1) times rest some nested;
-    })
+adds_close false draft after times is ok = grind (arith, adds_same, closes)
 
 adds_word : (line : ℕ) (draft after : Draft) (one : Word) → (draft_open line draft one >>= with_word one) ≡ Ok after → Adds draft after
-adds_word line draft after (word.Step step) ok = adds_same draft after _ ok (record {
-  added = word.Step step ∷ [];
-  words = refl;
-  nests = λ rest nested. step_nests draft.depth step rest nested;
-})
-adds_word line draft after word.Open ok =
-    adds_open (nat_le 16 draft.depth) draft after (if draft.depth == 0 then line else draft.opened) ok
-adds_word line draft after (word.Close times) ok = adds_close (draft.depth == 0) draft after times refl ok
+adds_word line draft after one ok = grind (arith, adds_same, step_nests, adds_open, adds_close)
 
 placed_ok : {P : Type 0} (line : ℕ) (after : Draft) (said : Said Draft) → (said ≡ Ok after → P) → placed line said ≡ Ok after → P
-placed_ok line after (Ok draft) gives ok = gives (ap (λ d. Ok d) (cc ok))
-placed_ok line after (Err kind) gives ok = absurd (cc ok)
+placed_ok line after said gives ok = grind arith
 
 adds_said : (line : ℕ) (draft after : Draft) (said : Said Word)
     → placed line (said >>= (λ one. draft_open line draft one >>= with_word one)) ≡ Ok after → Adds draft after
-adds_said line draft after (Err kind) ok = absurd (cc ok)
-adds_said line draft after (Ok one) ok =
-    placed_ok line after (draft_open line draft one >>= with_word one) (adds_word line draft after one) ok
+adds_said line draft after said ok = grind (arith, placed_ok, adds_word)
 
 -- one after another
 adds_next : (read : Result Draft PlanFault) (next : Draft → Result Draft PlanFault) (draft after : Draft)
@@ -185,8 +165,7 @@ plan_finished true draft words is adds ok =
 
 plan_next : (read : Result Draft PlanFault) (words : List Word) → ((draft : Draft) → read ≡ Ok draft → Adds no_words draft)
     → (read >>= finished) ≡ Ok words → IsPlan words
-plan_next (Err fault) words adds ok = absurd (cc ok)
-plan_next (Ok draft) words adds ok = plan_finished (draft.depth == 0) draft words refl (adds draft refl) ok
+plan_next read words adds ok = grind (arith, plan_finished)
 
 pub plan_read : (names : List Name) (lines : List (List ℕ)) (words : List Word) → words_in_lines names lines ≡ Ok words → IsPlan words
 plan_read names lines words ok =
@@ -194,5 +173,4 @@ plan_read names lines words ok =
 
 pub answer_is_plan : {X : Type 0} (view : X → List Word) (names : List Name) (lines : List (List ℕ)) (result : Result X PlanFault)
     → AnswersPlan view result (words_in_lines names lines) → IfOk result (λ words. IsPlan (view words))
-answer_is_plan view names lines (Ok words) answers = plan_read names lines (view words) answers
-answer_is_plan view names lines (Err fault) answers = tt
+answer_is_plan view names lines result answers = grind (arith, plan_read)

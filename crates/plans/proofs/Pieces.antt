@@ -11,10 +11,7 @@ abbrev kept : List (List ℕ) → List (List ℕ)
 kept pieces = filter (λ piece. not (length piece == 0)) pieces
 
 kept_piece : (piece : List ℕ) (pieces : List (List ℕ)) → kept (piece ∷ pieces) ≡ word_alone piece ++ kept pieces
-kept_piece [] pieces = refl
-kept_piece (byte ∷ bytes) pieces =
-    let some : (length (byte ∷ bytes) == 0) ≡ false = grind (arith, nat_tests) in
-    ap (λ b. cond (not b) ((byte ∷ bytes) ∷ kept pieces) (kept pieces)) some
+kept_piece piece pieces = grind (arith, nat_tests)
 
 -- the first piece between blanks is what stands before the first byte that parts words, and the others hold the words of the rest
 record IsCut (text : List ℕ) : Type 0 where

@@ -35,13 +35,9 @@ comes_both first second third (Over over) (Over again) = Over again
 -- one choice
 chosen_comes : (none : Bool) (refusal : Option StepFault) (choice : Choice) (progress : Progress) → (progress.left == 0) ≡ none
     → Comes progress (if none then record progress { stopped = true } else chosen_by refusal choice progress)
-chosen_comes true refusal choice progress is =
-    let left : progress.left ≡ 0 = grind (arith, is) in
-    Over (record { none = left; stopped = refl })
+chosen_comes true refusal choice progress is = grind arith
 chosen_comes false (Some fault) choice progress is = Same refl
-chosen_comes false None choice progress is =
-    let some : progress.left - 1 < progress.left = grind (arith, is) in
-    Fewer some
+chosen_comes false None choice progress is = grind arith
 
 pub choice_comes : (choice : Choice) (progress : Progress) → Comes progress (chosen choice progress)
 unfolding chosen
@@ -53,9 +49,7 @@ same_progress progress stopped = ap (λ b. record progress { stopped = b }) (sym
 over_chosen : (none : Bool) (refusal : Option StepFault) (choice : Choice) (progress : Progress) → (progress.left == 0) ≡ none
     → IsOver progress → (if none then record progress { stopped = true } else chosen_by refusal choice progress) ≡ progress
 over_chosen true refusal choice progress is over = same_progress progress over.stopped
-over_chosen false refusal choice progress is over =
-    let wrong : ⊥ = grind (arith, is, over.none) in
-    absurd wrong
+over_chosen false refusal choice progress is over = grind arith
 
 pub choice_over : (choice : Choice) (progress : Progress) → IsOver progress → chosen choice progress ≡ progress
 unfolding chosen
@@ -79,9 +73,7 @@ repeated_same (suc times) play progress same = ap (repeated times play) same ∙
 -- the choices of a rule
 followed_comes_by : (next : Option Choice) (later : Progress → Progress) (progress : Progress) → ((p : Progress) → Comes p (later p))
     → Comes progress (followed_by next later progress)
-followed_comes_by None later progress comes = Same refl
-followed_comes_by (Some choice) later progress comes =
-    comes_both progress (chosen choice progress) (later (chosen choice progress)) (choice_comes choice progress) (comes (chosen choice progress))
+followed_comes_by next later progress comes = grind (arith, comes_both, choice_comes)
 
 pub followed_comes : (rule : Rule) (most k : ℕ) (progress : Progress) → Comes progress (followed rule most k progress)
 unfolding followed
@@ -92,8 +84,7 @@ followed_comes rule (suc most) k progress =
 
 followed_over_by : (next : Option Choice) (later : Progress → Progress) (progress : Progress) → IsOver progress → later progress ≡ progress
     → followed_by next later progress ≡ progress
-followed_over_by None later progress over same = refl
-followed_over_by (Some choice) later progress over same = ap later (choice_over choice progress over) ∙ same
+followed_over_by next later progress over same = grind (arith, choice_over)
 
 pub followed_over : (rule : Rule) (most k : ℕ) (progress : Progress) → IsOver progress → followed rule most k progress ≡ progress
 unfolding followed
@@ -105,13 +96,11 @@ followed_over rule (suc most) k progress over =
 -- a step
 step_comes : (one : Step) (progress : Progress) → Comes progress (step_played one progress)
 unfolding step_played
-step_comes (step.Make who times) progress = repeated_comes times (chosen (choice_of who)) progress (choice_comes (choice_of who))
-step_comes (step.Follow rule most) progress = followed_comes rule (most_of most progress) 0 progress
+step_comes one progress = grind (arith, repeated_comes, choice_comes, followed_comes)
 
 step_over : (one : Step) (progress : Progress) → IsOver progress → step_played one progress ≡ progress
 unfolding step_played
-step_over (step.Make who times) progress over = repeated_same times (chosen (choice_of who)) progress (choice_over (choice_of who) progress over)
-step_over (step.Follow rule most) progress over = followed_over rule (most_of most progress) 0 progress over
+step_over one progress over = grind (arith, repeated_same, choice_over, followed_over)
 
 -- a plan
 pub plan_comes : (plan : Plan) (progress : Progress) → Comes progress (plays plan progress)

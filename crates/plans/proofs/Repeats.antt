@@ -11,10 +11,7 @@ use Rattle.plans.proofs.Progresses.{IsOver, choice_over, repeated_same, followed
 over_by : (none stopped : Bool) (progress : Progress) → (progress.left == 0) ≡ none → progress.stopped ≡ stopped → (none && stopped) ≡ true
     → IsOver progress
 over_by false stopped progress left is both = absurd (cc both)
-over_by true false progress left is both = absurd (cc both)
-over_by true true progress left is both =
-    let none : progress.left ≡ 0 = grind (arith, left) in
-    record { none = none; stopped = is }
+over_by true _ progress left is both = grind arith
 
 pub is_over : (progress : Progress) → ((progress.left == 0) && progress.stopped) ≡ true → IsOver progress
 is_over progress both = over_by (progress.left == 0) progress.stopped progress refl refl both
@@ -60,10 +57,7 @@ followed_here rule k most progress there =
 pub next_followed : (rule : Rule) (k most : ℕ) (before after all : Progress) (choice : Choice) → k < most
     → followed rule (most - k) k before ≡ all → next_choice rule k before ≡ Some choice → after ≡ chosen choice before
     → followed rule (most - (k + 1)) (k + 1) after ≡ all
-next_followed rule k most before after all choice there so next is =
-    ap (λ p. followed rule (most - (k + 1)) (k + 1) p) is
-    ∙ ap (λ o. followed_by o (λ p. followed rule (most - (k + 1)) (k + 1) p) before) (sym next)
-    ∙ sym (followed_here rule k most before there) ∙ so
+next_followed rule k most before after all choice there so next is = grind (arith, followed_here)
 
 pub none_followed : (rule : Rule) (k most : ℕ) (before all : Progress) → k < most
     → followed rule (most - k) k before ≡ all → next_choice rule k before ≡ None → before ≡ all

@@ -17,8 +17,7 @@ counted takes one parts = sum_by-cons (λ x. cond (takes x) 1 0) one parts
 -- the rest of them is for the rest of the parts
 rest_for_by : (does : Bool) (numbers : List ℕ) (many : ℕ) → length numbers ≡ cond does 1 0 + many → length (left_of does numbers) ≡ many
 rest_for_by true [] many is = absurd (omega (arith, is))
-rest_for_by true (number ∷ numbers) many is = omega (arith, is)
-rest_for_by false numbers many is = omega (arith, is)
+rest_for_by _ _ many is = omega (arith, is)
 
 rest_for : (takes : Part → Bool) (one : Part) (parts : List Part) (numbers : List ℕ) → AreFor takes (one ∷ parts) numbers
     → AreFor takes parts (left_of (takes one) numbers)
@@ -28,14 +27,12 @@ rest_for takes one parts numbers is = rest_for_by (takes one) numbers (count_by 
 same_taken : (does : Bool) (numbers more : List ℕ) (many : ℕ) → length numbers ≡ cond does 1 0 + many
     → taken_of does (numbers ++ more) ≡ taken_of does numbers
 same_taken true [] more many is = absurd (omega (arith, is))
-same_taken true (number ∷ numbers) more many is = refl
-same_taken false numbers more many is = refl
+same_taken _ _ more many is = refl
 
 same_left : (does : Bool) (numbers more : List ℕ) (many : ℕ) → length numbers ≡ cond does 1 0 + many
     → left_of does (numbers ++ more) ≡ left_of does numbers ++ more
 same_left true [] more many is = absurd (omega (arith, is))
-same_left true (number ∷ numbers) more many is = refl
-same_left false numbers more many is = refl
+same_left _ _ more many is = refl
 
 none_left : (numbers : List ℕ) → length numbers ≡ 0 → numbers ≡ []
 none_left [] is = refl
@@ -49,14 +46,7 @@ put_first : (stored : Stored) (one : Word) → Holds stored one → (numbers see
     → AreFor takes_number [] numbers → AreFor takes_seed [] seeds
     → words_of_parts (stored.part ∷ []) (numbers ++ put_of (takes_number stored.part) stored.number) (seeds ++ put_of (takes_seed stored.part) stored.seed)
     ≡ one ∷ []
-put_first stored one holds numbers seeds n s =
-    let a = takes_number stored.part in
-    let b = takes_seed stored.part in
-    ap (λ ns. word_with stored.part (taken_of a (ns ++ put_of a stored.number)) (taken_of b (seeds ++ put_of b stored.seed)) ∷ []) (none_left numbers n)
-    ∙ ap (λ ss. word_with stored.part (taken_of a (put_of a stored.number)) (taken_of b (ss ++ put_of b stored.seed)) ∷ []) (none_left seeds s)
-    ∙ ap (λ k. word_with stored.part k (taken_of b (put_of b stored.seed)) ∷ []) (put_taken a stored.number holds.number)
-    ∙ ap (λ k. word_with stored.part stored.number k ∷ []) (put_taken b stored.seed holds.seed)
-    ∙ ap (λ w. w ∷ []) holds.word
+put_first stored one holds numbers seeds n s = grind (arith, none_left, put_taken)
 
 put_last : (stored : Stored) (one : Word) → Holds stored one → (parts : List Part) (numbers seeds : List ℕ)
     → AreFor takes_number parts numbers → AreFor takes_seed parts seeds
@@ -85,8 +75,4 @@ pub put_word : (stored : Stored) (one : Word) (parts parts_then : List Part) (nu
     → parts_then ≡ parts ++ stored.part ∷ [] → numbers_then ≡ numbers ++ put_of (takes_number stored.part) stored.number
     → seeds_then ≡ seeds ++ put_of (takes_seed stored.part) stored.seed → AreFor takes_number parts numbers → AreFor takes_seed parts seeds
     → words_of_parts parts_then numbers_then seeds_then ≡ words_of_parts parts numbers seeds ++ one ∷ []
-put_word stored one parts parts_then numbers numbers_then seeds seeds_then holds p n s are_numbers are_seeds =
-    ap (λ k. words_of_parts k numbers_then seeds_then) p
-    ∙ ap (λ k. words_of_parts (parts ++ stored.part ∷ []) k seeds_then) n
-    ∙ ap (λ k. words_of_parts (parts ++ stored.part ∷ []) (numbers ++ put_of (takes_number stored.part) stored.number) k) s
-    ∙ put_last stored one holds parts numbers seeds are_numbers are_seeds
+put_word stored one parts parts_then numbers numbers_then seeds seeds_then holds p n s are_numbers are_seeds = grind (arith, put_last)

@@ -40,10 +40,7 @@ cons_append items rest (Some choice) = append_assoc items (choice ∷ []) rest
 pub next_made : (made : ℕ → Option Choice) (t n : ℕ) (items more all : List Choice) → t < n
     → items ++ filter_map made (range_with_len t (n - t)) ≡ all → more ≡ items ++ cons_option (made t) []
     → more ++ filter_map made (range_with_len (t + 1) (n - (t + 1))) ≡ all
-next_made made t n items more all there so is =
-    let rest = filter_map made (range_with_len (t + 1) (n - (t + 1))) in
-    ap (λ cs. cs ++ rest) is ∙ cons_append items rest (made t)
-    ∙ ap (λ cs. items ++ cs) (sym (filter_map_here made t n there)) ∙ so
+next_made made t n items more all there so is = grind (arith, cons_append, filter_map_here)
 
 pub all_made : (made : ℕ → Option Choice) (t n : ℕ) (items all : List Choice) → n ≤ t
     → items ++ filter_map made (range_with_len t (n - t)) ≡ all → items ≡ all

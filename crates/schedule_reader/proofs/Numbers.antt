@@ -32,69 +32,31 @@ number_by-some count value most_digits most few small = grind (arith, nat_tests)
 -- one digit more before the rest
 pub thread-digit : (at : ℕ) (expiry : Bool) (digits number b : ℕ) (part : List ℕ) → is_ascii_digit b ≡ true
     → thread_from at expiry digits number (b ∷ part) ≡ thread_from (at + 1) expiry (digits + 1) (number * 10 + (b - 48)) part
-thread-digit at expiry digits number b part digit =
-    let ds = digits_of part in
-    let start : at - digits ≡ at + 1 - (digits + 1) = omega arith in
-    let count : digits + length (b ∷ ds) ≡ digits + 1 + length ds = omega arith in
-    ap (λ ms. thread_by (at - digits) expiry (digits + length ms) (digits_value_after 10 number ms) (drop (length ms) (b ∷ part))) (digits_of-digit b part digit)
-    ∙ ap (λ v. thread_by (at - digits) expiry (digits + length (b ∷ ds)) (digits_value_after 10 (number * 10 + v) ds) (drop (length ds) part)) (digit_value-digit b digit)
-    ∙ ap (λ n. thread_by (at - digits) expiry n (digits_value_after 10 (number * 10 + (b - 48)) ds) (drop (length ds) part)) count
-    ∙ ap (λ n. thread_by n expiry (digits + 1 + length ds) (digits_value_after 10 (number * 10 + (b - 48)) ds) (drop (length ds) part)) start
+thread-digit at expiry digits number b part digit = grind (arith, digits_of-digit, digit_value-digit)
 
 pub times-digit : (at : ℕ) (choice : Choice) (digits number b : ℕ) (part : List ℕ) → is_ascii_digit b ≡ true
     → times_from at choice digits number (b ∷ part) ≡ times_from (at + 1) choice (digits + 1) (number * 10 + (b - 48)) part
-times-digit at choice digits number b part digit =
-    let ds = digits_of part in
-    let start : at - digits ≡ at + 1 - (digits + 1) = omega arith in
-    let count : digits + length (b ∷ ds) ≡ digits + 1 + length ds = omega arith in
-    ap (λ ms. times_by (at - digits) choice (digits + length ms) (digits_value_after 10 number ms) (drop (length ms) (b ∷ part))) (digits_of-digit b part digit)
-    ∙ ap (λ v. times_by (at - digits) choice (digits + length (b ∷ ds)) (digits_value_after 10 (number * 10 + v) ds) (drop (length ds) part)) (digit_value-digit b digit)
-    ∙ ap (λ n. times_by (at - digits) choice n (digits_value_after 10 (number * 10 + (b - 48)) ds) (drop (length ds) part)) count
-    ∙ ap (λ n. times_by n choice (digits + 1 + length ds) (digits_value_after 10 (number * 10 + (b - 48)) ds) (drop (length ds) part)) start
+times-digit at choice digits number b part digit = grind (arith, digits_of-digit, digit_value-digit)
 
 -- with it there are too many, or the number is too large, whatever follows
 too_far : (digits number most_digits most b : ℕ) (part : List ℕ) → (digits ≡ most_digits) ⊎ (most < number * 10 + (b - 48))
     → let ds = digits_of part in
     number_by (digits + 1 + length ds) (digits_value_after 10 (number * 10 + (b - 48)) ds) most_digits most ≡ None
-too_far digits number most_digits most b part above =
-    let ds = digits_of part in
-    let larger = value-ge (number * 10 + (b - 48)) ds in
-    let past : (most_digits < digits + 1 + length ds) ⊎ (most < digits_value_after 10 (number * 10 + (b - 48)) ds)
-    = elim above as (λ _. (most_digits < digits + 1 + length ds) ⊎ (most < digits_value_after 10 (number * 10 + (b - 48)) ds)) [
-      | inl full ↦ inl (omega (arith, full))
-      | inr large ↦ inr (omega (arith, large, larger))
-    ] in
-    number_by-none (digits + 1 + length ds) (digits_value_after 10 (number * 10 + (b - 48)) ds) most_digits most past
+too_far digits number most_digits most b part above = grind (arith, value-ge, number_by-none)
 
 pub thread-too_far : (at : ℕ) (expiry : Bool) (digits number b : ℕ) (part : List ℕ) → is_ascii_digit b ≡ true → (digits ≡ 2) ⊎ (63 < number * 10 + (b - 48))
     → thread_from at expiry digits number (b ∷ part) ≡ Faulty (fault.Number (at - digits))
-thread-too_far at expiry digits number b part digit above =
-    let ds = digits_of part in
-    let start : at + 1 - (digits + 1) ≡ at - digits = omega arith in
-    thread-digit at expiry digits number b part digit
-    ∙ ap (λ n. reading_of_thread (at + 1 - (digits + 1)) expiry (digits + 1 + length ds) (drop (length ds) part) n) (too_far digits number 2 63 b part above)
-    ∙ ap (λ n. Faulty (fault.Number n)) start
+thread-too_far at expiry digits number b part digit above = grind (arith, thread-digit, too_far)
 
 pub times-too_far : (at : ℕ) (choice : Choice) (digits number b : ℕ) (part : List ℕ) → is_ascii_digit b ≡ true → (digits ≡ 10) ⊎ (1000000000 < number * 10 + (b - 48))
     → times_from at choice digits number (b ∷ part) ≡ Faulty (fault.Repeat (at - digits))
-times-too_far at choice digits number b part digit above =
-    let ds = digits_of part in
-    let start : at + 1 - (digits + 1) ≡ at - digits = omega arith in
-    times-digit at choice digits number b part digit
-    ∙ ap (λ n. reading_of_count (at + 1 - (digits + 1)) choice (digits + 1 + length ds) (drop (length ds) part) n) (too_far digits number 10 1000000000 b part above)
-    ∙ ap (λ n. Faulty (fault.Repeat n)) start
+times-too_far at choice digits number b part digit above = grind (arith, times-digit, too_far)
 
 -- nothing comes next
 pub thread-end : (at : ℕ) (expiry : Bool) (digits number : ℕ) → digits ≤ 2 → number ≤ 63
     → thread_from at expiry digits number [] ≡ reading_by_thread (at - digits) (choice_of expiry number) digits []
-thread-end at expiry digits number few small =
-    let count : digits + 0 ≡ digits = omega arith in
-    ap (λ n. thread_by (at - digits) expiry n number []) count
-    ∙ ap (λ n. reading_of_thread (at - digits) expiry digits [] n) (number_by-some digits number 2 63 few small)
+thread-end at expiry digits number few small = grind (arith, number_by-some)
 
 pub times-end : (at : ℕ) (choice : Choice) (digits number : ℕ) → digits ≤ 10 → number ≤ 1000000000
     → times_from at choice digits number [] ≡ reading_by_times (at - digits) choice number digits []
-times-end at choice digits number few small =
-    let count : digits + 0 ≡ digits = omega arith in
-    ap (λ n. times_by (at - digits) choice n number []) count
-    ∙ ap (λ n. reading_of_count (at - digits) choice digits [] n) (number_by-some digits number 10 1000000000 few small)
+times-end at choice digits number few small = grind (arith, number_by-some)

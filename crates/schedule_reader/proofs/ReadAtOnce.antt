@@ -1,5 +1,5 @@
 -- The runs that a reader makes of a whole schedule.
-use Rattle.std.proofs.Common.{◌≡◌, ◌∙◌, List, [], ◌++◌, Option, Some, None, Result, Ok, Err, refl, ap, ap₂, sym, append-nil, ℕ, Bool, true, false, ◌↔◌}
+use Rattle.std.proofs.Common.{◌≡◌, ◌∙◌, List, [], ◌++◌, Option, Some, None, Result, Ok, Err, refl, ap, ap₂, sym, append-nil, ℕ, Bool, true, false, ◌↔◌, arith, rules}
 use Rattle.std.proofs.Common.{◌⊎◌, inl, inr}
 use Rattle.schedule_reader.specs.declared.run.Run.{Run}
 use Rattle.schedule_reader.specs.declared.fault.ScheduleFault.{ScheduleFault}
@@ -8,12 +8,10 @@ use Rattle.schedule_reader.specs.Schedule.{open_schedule, finished_schedule}
 use Rattle.schedule_reader.specs.Reading.{Adds, answer_of, answer_by}
 
 no_fault : (fault : Option ScheduleFault) → answer_by fault ≡ Ok tt → fault ≡ None
-no_fault None is = refl
-no_fault (Some fault) is = absurd (cc is)
+no_fault fault is = grind arith
 
 some_fault : (fault : Option ScheduleFault) (why : ScheduleFault) → answer_by fault ≡ Err why → fault ≡ Some why
-some_fault None why is = absurd (cc is)
-some_fault (Some fault) why is = cc is
+some_fault fault why is = grind arith
 
 -- nothing is missing
 complete : (result : Result (Unit {0}) ScheduleFault) (missing : List Run) → (result ≡ Err fault.Memory → ⊥)
@@ -35,17 +33,7 @@ pub runs_read : (bytes : List ℕ) (first last : Result (Unit {0}) ScheduleFault
     → Adds last (open_schedule bytes) (finished_schedule bytes) middle end → last ≡ Ok tt
     → (last ≡ Err fault.Memory) ⊎ (last ≡ answer_of (finished_schedule bytes))
     → finished_schedule bytes ≡ record { runs = end; fault = None }
-runs_read bytes first last before middle end nothing some fed more is answer =
-    let other = not_memory last is in
-    let none = no_fault (finished_schedule bytes).fault (sym (answered last other answer) ∙ is) in
-    let begun = complete first some.missing fed some.all in
-    let whole = complete last more.missing other more.all in
-    let so_far : some.added ≡ middle = sym (some.list ∙ ap (λ l. l ++ some.added) nothing) in
-    let runs : (finished_schedule bytes).runs ≡ end =
-    more.schedule
-    ∙ ap (λ rs. rs ++ (more.added ++ more.missing)) (some.schedule ∙ ap (λ m. some.added ++ m) begun ∙ append-nil some.added ∙ so_far)
-    ∙ ap (λ m. middle ++ (more.added ++ m)) whole ∙ ap (λ a. middle ++ a) (append-nil more.added) ∙ sym more.list in
-    ap₂ (λ rs f. record { runs = rs; fault = f }) runs none
+runs_read bytes first last before middle end nothing some fed more is answer = search (rules, not_memory, no_fault, answered, complete)
 
 pub fault_read : (bytes : List ℕ) (last : Result (Unit {0}) ScheduleFault) (why : ScheduleFault) → last ≡ Err why
     → (last ≡ Err fault.Memory) ⊎ (last ≡ answer_of (finished_schedule bytes))

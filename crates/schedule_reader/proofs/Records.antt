@@ -1,5 +1,5 @@
 -- A record gets one choice more, and is read as its choices.
-use Rattle.std.proofs.Common.{suc, ◌≡◌, ◌∙◌, ◌+◌, ◌*◌, ◌/◌, ◌%◌, ◌<◌, ◌≤◌, ℕ, List, [], ◌∷◌, ◌++◌, length, refl, ap, sym, subst, arith, append_assoc, length-append}
+use Rattle.std.proofs.Common.{suc, ◌≡◌, ◌∙◌, ◌+◌, ◌*◌, ◌/◌, ◌%◌, ◌<◌, ◌≤◌, ℕ, List, [], ◌∷◌, ◌++◌, length, refl, ap, sym, subst, arith, append_assoc, length-append, rules}
 use Rattle.std.specs.Prelude.{All, None}
 use Rattle.std.specs.Fmt.{decimal}
 use Rattle.std.proofs.lemmas.Fmt.{decimal_digit, decimal_step, length-decimal-le}
@@ -56,18 +56,13 @@ once-more (first ∷ choices) choice = ap (λ runs. run_of first 1 ∷ runs) (on
 -- the first choice of a record
 pub record-first : (choices : List Choice) (choice : Choice) (old new : List ℕ) → old ≡ record_text choices → length old ≡ 0
     → new ≡ old ++ token_of (run_of choice 1) → new ≡ record_text (choices ++ choice ∷ [])
-record-first [] choice old new is none more =
-    more ∙ ap (λ t. t ++ token_of (run_of choice 1)) is ∙ sym (append-nil (token_of (run_of choice 1)))
-record-first (first ∷ choices) choice old new is none more =
-    let some : 0 < length (record_text (first ∷ choices)) = omega arith in
-    absurd (omega (arith, some, subst (λ t. length t ≡ 0) is none))
+record-first [] choice old new is none more = grind (arith, append-nil)
+record-first (first ∷ choices) choice old new is none more = grind arith
 
 -- and each further one
 pub record-more : (choices : List Choice) (choice : Choice) (old new : List ℕ) → old ≡ record_text choices → 0 < length old
     → new ≡ (old ++ 32 ∷ []) ++ token_of (run_of choice 1) → new ≡ record_text (choices ++ choice ∷ [])
-record-more [] choice old new is some more =
-    let none : 0 < 0 = subst (λ t. 0 < length t) is some in
-    absurd (omega (arith, none))
+record-more [] choice old new is some more = grind arith
 record-more (first ∷ choices) choice old new is some more =
     let run = run_of choice 1 in
     let token = token_of (run_of first 1) in
@@ -94,9 +89,7 @@ record-read choices all = text-read (once_each choices) (once-spelled choices al
 
 -- it has at most four bytes for each of them
 token-few : (choice : Choice) → choice.thread ≤ 63 → length (token_of (run_of choice 1)) ≤ 3
-token-few choice small =
-    let few = length-decimal-le 2 choice.thread (omega arith) (omega (arith, small)) (omega (arith, small)) in
-    omega (arith, few, ap length (token-once choice))
+token-few choice small = search (rules, length-decimal-le, token-once)
 
 spaced-few : (choices : List Choice) → All IsNamed choices → length (spaced_tokens (once_each choices)) ≤ 4 * length choices
 spaced-few [] all = omega arith

@@ -15,10 +15,7 @@ once_more times choice = sym (replicate-append-replicate times 1 choice)
 pub again : (runs : List Run) (n : ℕ) (d : Run) (choice : Choice) → n + 1 ≡ length runs → (slice_index_or runs n d).choice ≡ choice
     → choices_of (slice_set runs n (run_of choice ((slice_index_or runs n d).times + 1))) ≡ choices_of runs ++ choice ∷ []
 again [] n d choice last is = absurd (omega (arith, last))
-again (run ∷ []) zero d choice last is =
-    append-nil (replicate (run.times + 1) choice) ∙ once_more run.times choice
-    ∙ ap (λ c. replicate run.times c ++ choice ∷ []) (sym is)
-    ∙ ap (λ cs. cs ++ choice ∷ []) (sym (append-nil (replicate run.times run.choice)))
+again (run ∷ []) zero d choice last is = grind (arith, append-nil, once_more)
 again (run ∷ []) (suc n) d choice last is = absurd (omega (arith, last))
 again (run ∷ next ∷ runs) zero d choice last is = absurd (omega (arith, last))
 again (run ∷ next ∷ runs) (suc n) d choice last is =
@@ -34,23 +31,19 @@ joined_next run next runs (suc n) d more same apart rest = (apart, rest)
 
 pub joined-again : (runs : List Run) (n : ℕ) (d more : Run) → n + 1 ≡ length runs → more.choice ≡ (slice_index_or runs n d).choice
     → AreJoined runs → AreJoined (slice_set runs n more)
-joined-again [] n d more last same joined = absurd (omega (arith, last))
 joined-again (run ∷ []) zero d more last same joined = joined
-joined-again (run ∷ []) (suc n) d more last same joined = absurd (omega (arith, last))
-joined-again (run ∷ next ∷ runs) zero d more last same joined = absurd (omega (arith, last))
 joined-again (run ∷ next ∷ runs) (suc n) d more last same joined =
     joined_next run next runs n d more same joined.0 (joined-again (next ∷ runs) n d more (omega (arith, last)) same joined.1)
+joined-again _ _ d more last same joined = absurd (omega (arith, last))
 
 -- a run of its own
 pub joined-own : (runs : List Run) (n : ℕ) (d more : Run) → n + 1 ≡ length runs
     → ((slice_index_or runs n d).choice ≡ more.choice → (slice_index_or runs n d).times ≡ 1000000000)
     → AreJoined runs → AreJoined (runs ++ more ∷ [])
-joined-own [] n d more last apart joined = absurd (omega (arith, last))
 joined-own (run ∷ []) zero d more last apart joined = (apart, joined)
-joined-own (run ∷ []) (suc n) d more last apart joined = absurd (omega (arith, last))
-joined-own (run ∷ next ∷ runs) zero d more last apart joined = absurd (omega (arith, last))
 joined-own (run ∷ next ∷ runs) (suc n) d more last apart joined =
     (joined.0, joined-own (next ∷ runs) n d more (omega (arith, last)) apart joined.1)
+joined-own _ _ d more last apart joined = absurd (omega (arith, last))
 
 -- a run that a token can spell
 pub spelled : (choice : Choice) (times : ℕ) → choice.thread ≤ 63 → times < 1000000000 → IsRun (run_of choice (times + 1))

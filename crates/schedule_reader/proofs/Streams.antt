@@ -1,5 +1,5 @@
 -- A stream's bytes one by one, and the runs that they add.
-use Rattle.std.proofs.Common.{◌≡◌, ◌∙◌, ◌⊎◌, inl, inr, ◌+◌, ◌-◌, ◌<◌, ◌≤◌, ◌==◌, if◌then◌else◌, ℕ, Bool, true, false, List, [], ◌∷◌, ◌++◌, length, drop, refl, ap, sym, subst, arith, append_assoc, length-append}
+use Rattle.std.proofs.Common.{◌≡◌, ◌∙◌, ◌⊎◌, inl, inr, ◌+◌, ◌-◌, ◌<◌, ◌≤◌, ◌==◌, if◌then◌else◌, ℕ, Bool, true, false, List, [], ◌∷◌, ◌++◌, length, drop, refl, ap, sym, subst, arith, append_assoc, length-append, rules}
 use Rattle.std.specs.Prelude.{Some, None, Result, Ok, Err, IfOk}
 use Rattle.std.specs.List.{slice_split, onto_first}
 use Rattle.std.proofs.lemmas.List.{append-nil, drop_all}
@@ -22,9 +22,7 @@ last_by false reading = open_schedule_of reading
 -- a piece with a byte more is not empty
 piece_with-cons : (p : Place) (at b : ℕ) (part : List ℕ) (more : Schedule)
     → piece_with p at (b ∷ part) more ≡ schedule_with (whole (piece_from p at (b ∷ part))) more
-piece_with-cons place.Between at b part more = refl
-piece_with-cons (place.Thread expiry digits number) at b part more = refl
-piece_with-cons (place.Times choice digits number) at b part more = refl
+piece_with-cons p at b part more = grind arith
 
 last_from-cons : (finished : Bool) (p : Place) (at b : ℕ) (part : List ℕ)
     → last_from finished p at (b ∷ part) ≡ last_by finished (piece_from p at (b ∷ part))
@@ -38,9 +36,7 @@ last_from-cons false (place.Times choice digits number) at b part = refl
 -- nor is one of which a place stands inside
 piece_with-inside : (p : Place) (at : ℕ) (part : List ℕ) (more : Schedule) → IsInside p
     → piece_with p at part more ≡ schedule_with (whole (piece_from p at part)) more
-piece_with-inside place.Between at part more inside = absurd inside
-piece_with-inside (place.Thread expiry digits number) at part more inside = refl
-piece_with-inside (place.Times choice digits number) at part more inside = refl
+piece_with-inside p at part more inside = grind arith
 
 last_from-inside : (finished : Bool) (p : Place) (at : ℕ) (part : List ℕ) → IsInside p
     → last_from finished p at part ≡ last_by finished (piece_from p at part)
@@ -54,25 +50,12 @@ last_from-inside false (place.Times choice digits number) at part inside = refl
 plain-pieces : (finished : Bool) (p q : Place) (at b : ℕ) (pieces : List (List ℕ)) → IsInside q
     → ((part : List ℕ) → piece_from p at (b ∷ part) ≡ piece_from q (at + 1) part) → 0 < length pieces
     → pieces_from finished p at (onto_first b pieces) ≡ pieces_from finished q (at + 1) pieces
-plain-pieces finished p q at b [] inside same some = absurd (omega arith)
-plain-pieces finished p q at b (part ∷ []) inside same some =
-    last_from-cons finished p at b part ∙ ap (last_by finished) (same part) ∙ sym (last_from-inside finished q (at + 1) part inside)
-plain-pieces finished p q at b (part ∷ next ∷ pieces) inside same some =
-    let more = schedule_in finished (at + 1 + length part + 1) (next ∷ pieces) in
-    let place_of_next : at + length (b ∷ part) + 1 ≡ at + 1 + length part + 1 = omega arith in
-    ap (λ n. piece_with p at (b ∷ part) (schedule_in finished n (next ∷ pieces))) place_of_next
-    ∙ piece_with-cons p at b part more ∙ ap (λ r. schedule_with (whole r) more) (same part)
-    ∙ sym (piece_with-inside q (at + 1) part more inside)
+plain-pieces finished p q at b pieces inside same some = grind (arith, last_from-cons, last_from-inside, piece_with-cons, piece_with-inside)
 
 faulty-pieces : (finished : Bool) (p : Place) (at b : ℕ) (f : ScheduleFault) (pieces : List (List ℕ))
     → ((part : List ℕ) → piece_from p at (b ∷ part) ≡ Faulty f) → 0 < length pieces
     → pieces_from finished p at (onto_first b pieces) ≡ faulty f
-faulty-pieces finished p at b f [] same some = absurd (omega arith)
-faulty-pieces true p at b f (part ∷ []) same some = last_from-cons true p at b part ∙ ap (last_by true) (same part)
-faulty-pieces false p at b f (part ∷ []) same some = last_from-cons false p at b part ∙ ap (last_by false) (same part)
-faulty-pieces finished p at b f (part ∷ next ∷ pieces) same some =
-    let more = schedule_in finished (at + length (b ∷ part) + 1) (next ∷ pieces) in
-    piece_with-cons p at b part more ∙ ap (λ r. schedule_with (whole r) more) (same part)
+faulty-pieces finished p at b f pieces same some = grind (arith, last_from-cons, piece_with-cons)
 
 some_piece : (rest : List ℕ) → 0 < length (slice_split is_blank rest)
 some_piece rest = omega (arith, length-slice_split is_blank rest)
@@ -81,33 +64,23 @@ some_piece rest = omega (arith, length-slice_split is_blank rest)
 pub plain : (finished : Bool) (p : Place) (at b : ℕ) (rest : List ℕ) (result : Result Place ScheduleFault) → is_blank b ≡ false
     → ((part : List ℕ) → piece_from p at (b ∷ part) ≡ reading_left result (at + 1) part) → IfOk result (λ q. IsInside q)
     → IsLeft result (λ q. schedule_from finished q (at + 1) rest) (schedule_from finished p at (b ∷ rest))
-plain finished p at b rest (Ok q) no_blank same inside =
-    ap (pieces_from finished p at) (slice_split-cons_no is_blank b rest no_blank)
-    ∙ plain-pieces finished p q at b (slice_split is_blank rest) inside same (some_piece rest)
+plain finished p at b rest (Ok q) no_blank same inside = grind (arith, slice_split-cons_no, plain-pieces, some_piece)
 plain finished p at b rest (Err f) no_blank same inside = inr
     (ap (pieces_from finished p at) (slice_split-cons_no is_blank b rest no_blank)
     ∙ faulty-pieces finished p at b f (slice_split is_blank rest) same (some_piece rest))
 
 -- pieces between tokens are those of the definition
 pub between-pieces : (finished : Bool) (at : ℕ) (pieces : List (List ℕ)) → pieces_from finished place.Between at pieces ≡ schedule_in finished at pieces
-between-pieces finished at [] = refl
-between-pieces finished at (piece ∷ []) = refl
-between-pieces finished at (piece ∷ next ∷ pieces) = refl
+between-pieces finished at pieces = grind arith
 
 blank-pieces : (finished : Bool) (p : Place) (at : ℕ) (pieces : List (List ℕ)) → 0 < length pieces
     → pieces_from finished p at ([] ∷ pieces) ≡ piece_with p at [] (pieces_from finished place.Between (at + 1) pieces)
-blank-pieces finished p at [] some = absurd (omega arith)
-blank-pieces finished p at (next ∷ pieces) some =
-    let place_of_next : at + 0 + 1 ≡ at + 1 = omega arith in
-    ap (λ n. piece_with p at [] (schedule_in finished n (next ∷ pieces))) place_of_next
-    ∙ ap (piece_with p at []) (sym (between-pieces finished (at + 1) (next ∷ pieces)))
+blank-pieces finished p at pieces some = grind (arith, between-pieces)
 
 -- a blank ends the piece
 pub blank : (finished : Bool) (p : Place) (at b : ℕ) (rest : List ℕ) → is_blank b ≡ true
     → schedule_from finished p at (b ∷ rest) ≡ piece_with p at [] (schedule_from finished place.Between (at + 1) rest)
-blank finished p at b rest is =
-    ap (pieces_from finished p at) (slice_split-cons_yes is_blank b rest is)
-    ∙ blank-pieces finished p at (slice_split is_blank rest) (some_piece rest)
+blank finished p at b rest is = grind (arith, slice_split-cons_yes, blank-pieces, some_piece)
 
 -- the whole stream
 pub start : (finished : Bool) (bytes : List ℕ) → schedule_of finished bytes ≡ schedule_from finished place.Between 0 bytes
@@ -121,23 +94,14 @@ open-thread start run false = refl
 open-times : (start : ℕ) (run : Run) (none zero : Bool)
     → open_schedule_of (if none then Unfinished (fault.Byte start) else (if zero then Unfinished (fault.Repeat start) else Token run)) ≡ no_runs
 open-times start run true zero = refl
-open-times start run false true = refl
-open-times start run false false = refl
+open-times start run false _ = grind arith
 
 pub open-end : (p : Place) (at : ℕ) → IsPlace at p → schedule_from false p at [] ≡ no_runs
-open-end place.Between at is = refl
-open-end (place.Thread expiry digits number) at is =
-    ap open_schedule_of (thread-end at expiry digits number is.0 is.1)
-    ∙ open-thread (at - digits) (run_of (choice_of expiry number) 1) (digits == 0)
-open-end (place.Times choice digits number) at is =
-    ap open_schedule_of (times-end at choice digits number is.0 is.1)
-    ∙ open-times (at - digits) (run_of choice number) (digits == 0) (number == 0)
+open-end p at is = grind (arith, thread-end, open-thread, times-end, open-times)
 
 -- a finished one has its last token
 pub finished-end : (p : Place) (at : ℕ) → schedule_from true p at [] ≡ piece_with p at [] no_runs
-finished-end place.Between at = refl
-finished-end (place.Thread expiry digits number) at = refl
-finished-end (place.Times choice digits number) at = refl
+finished-end p at = grind arith
 
 -- runs before runs
 pub with_runs-append : (first second : List Run) (schedule : Schedule)
@@ -159,10 +123,7 @@ pub takes-byte : (p : Place) (at b : ℕ) (runs : List Run) (result : Result Pla
     → ((part : List ℕ) → piece_from p at (b ∷ part) ≡ reading_left result (at + 1) part) → IfOk result (λ q. IsInside q)
     → Takes result runs runs (λ (stream : Bool × List ℕ). schedule_from stream.0 p at (b ∷ stream.1))
     (λ stream next. schedule_from stream.0 next (at + 1) stream.1)
-takes-byte p at b runs result no_blank same inside =
-    takes-plain result runs (λ (stream : Bool × List ℕ). schedule_from stream.0 p at (b ∷ stream.1))
-    (λ stream next. schedule_from stream.0 next (at + 1) stream.1)
-    (λ stream. plain stream.0 p at b stream.1 result no_blank same inside)
+takes-byte p at b runs result no_blank same inside = search (rules, takes-plain, plain)
 
 -- a blank
 pub takes-blank : (p : Place) (at b : ℕ) (before after : List Run) → is_blank b ≡ true
@@ -204,8 +165,7 @@ answered (Err f) = Err f
 -- what an open stream's end leaves
 end-left : (result : Result Place ScheduleFault) (at : ℕ) (rest : Schedule) → IfOk result (λ next. IsPlace at next)
     → IsLeft result (λ next. schedule_from false next at []) rest → IsLeft (answered result) (λ (none : Unit {0}). no_runs) rest
-end-left (Ok next) at rest place left = left ∙ open-end next at place
-end-left (Err f) at rest place left = left
+end-left result at rest place left = grind (arith, open-end)
 
 err_memory : (f : ScheduleFault) → f ≡ fault.Memory → ◌≡◌ {A = Result (Unit {0}) ScheduleFault} (Err f) (Err fault.Memory)
 err_memory f is = ap Err is
@@ -236,12 +196,7 @@ adds-by shorter longer (Err f) before after added rest list is left = record {
 pub answers-by : (longer : Schedule) (result : Result (Unit {0}) ScheduleFault) (runs : List Run) (rest : Schedule)
     → longer ≡ with_runs runs rest → IsLeft result (λ none. no_runs) rest
     → (result ≡ Err fault.Memory) ⊎ (result ≡ answer_of longer)
-answers-by longer (Ok none) runs rest is left = inr (sym (ap answer_of is ∙ ap (λ (s : Schedule). answer_by s.fault) left))
-answers-by longer (Err f) runs rest is left =
-    elim left as (λ _. (◌≡◌ {A = Result (Unit {0}) ScheduleFault} (Err f) (Err fault.Memory)) ⊎ (◌≡◌ {A = Result (Unit {0}) ScheduleFault} (Err f) (answer_of longer))) [
-      | inl memory ↦ inl (err_memory f memory)
-      | inr is_faulty ↦ inr (sym (ap answer_of is ∙ ap (λ (s : Schedule). answer_by s.fault) is_faulty))
-    ]
+answers-by longer result runs rest is left = grind (arith, err_memory)
 
 -- what a reader of a stream told, and what is left, after a piece more
 told : {X : Type 0} (old : Progress) (bytes piece : List ℕ) (result : Result X ScheduleFault) (before after : List Run)
@@ -326,16 +281,12 @@ left-rest : (old : Progress) (piece : List ℕ) (result : Result Place ScheduleF
     → (answered result ≡ Err fault.Memory → ⊥)
     → IsLeft result (λ next. schedule_from finished next (old.read + length piece) rest) left
     → left ≡ rest_schedule (progress_after old (length piece) result) finished rest
-left-rest old piece (Ok next) finished rest left no_memory is = is
-left-rest old piece (Err f) finished rest left no_memory is =
-    elim is as (λ _. left ≡ faulty f) [ inl memory ↦ absurd (no_memory (err_memory f memory)) | inr is_faulty ↦ is_faulty ]
+left-rest old piece result finished rest left no_memory is = grind (arith, err_memory)
 
 open-rest : (old : Progress) (piece : List ℕ) (result : Result Place ScheduleFault) (left : Schedule)
     → (answered result ≡ Err fault.Memory → ⊥) → IfOk result (λ next. IsPlace (old.read + length piece) next)
     → IsLeft result (λ next. schedule_from false next (old.read + length piece) []) left → left.runs ≡ []
-open-rest old piece (Ok next) left no_memory place is = ap (λ (s : Schedule). s.runs) (is ∙ open-end next (old.read + length piece) place)
-open-rest old piece (Err f) left no_memory place is =
-    elim is as (λ _. left.runs ≡ []) [ inl memory ↦ absurd (no_memory (err_memory f memory)) | inr is_faulty ↦ ap (λ (s : Schedule). s.runs) is_faulty ]
+open-rest old piece result left no_memory place is = grind (arith, open-end, err_memory)
 
 read-after : (old : Progress) (bytes piece : List ℕ) (result : Result Place ScheduleFault) → old.read ≡ length bytes
     → (progress_after old (length piece) result).read ≡ length (bytes ++ piece)

@@ -62,16 +62,8 @@ not_zero n some = grind (arith, nat_tests)
 -- how often was written
 rest-read : (at : ℕ) (choice : Choice) (times count : ℕ) (once : Bool) → (times == 1) ≡ once → 0 < count → 1 ≤ times → times ≤ 1000000000
     → reading_by_thread at choice count (if once then [] else 42 ∷ decimal times) ≡ Token (run_of choice times)
-rest-read at choice times count true is some least most =
-    let one : 1 ≡ times = grind (arith, nat_tests) in
-    ap (λ t. if t then Unfinished (fault.Byte at) else Token (run_of choice 1)) (not_zero count some) ∙ ap (λ n. Token (run_of choice n)) one
-rest-read at choice times count false is some least most =
-    let star = at + count + 1 in
-    let numeral = decimal_is_IsNumeral times (omega arith) in
-    ap (λ t. if not t then reading_after_star star choice (decimal times) else Faulty (fault.Byte (at + count))) (not_zero count some)
-    ∙ times-read star choice times most
-    ∙ ap (λ t. if t then Unfinished (fault.Byte star) else reading_of_times star choice times) (not_zero (length (decimal times)) numeral.0.0)
-    ∙ ap (λ t. if t then Unfinished (fault.Repeat star) else Token (run_of choice times)) (not_zero times least)
+rest-read at choice times count true is some least most = grind (arith, nat_tests, not_zero)
+rest-read at choice times count false is some least most = grind (arith, not_zero, decimal_is_IsNumeral, times-read)
 
 stops-read : (times : ℕ) (once : Bool) → digits_of (if once then [] else 42 ∷ decimal times) ≡ []
 stops-read times true = refl
@@ -83,12 +75,7 @@ letter-read at true part = refl
 letter-read at false part = refl
 
 token-read : (at : ℕ) (run : Run) → IsRun run → reading_of at (token_of run) ≡ Token run
-token-read at run is =
-    let thread = run.choice.thread in
-    let numeral = decimal_is_IsNumeral thread (omega (arith, is.thread)) in
-    letter-read at run.choice.expiry (decimal thread ++ times_text run.times)
-    ∙ thread-read (at + 1) run.choice.expiry thread (times_text run.times) is.thread (stops-read run.times (run.times == 1))
-    ∙ rest-read (at + 1) run.choice run.times (length (decimal thread)) (run.times == 1) refl numeral.0.0 is.some is.few
+token-read at run is = grind (arith, decimal_is_IsNumeral, letter-read, thread-read, stops-read, rest-read)
 
 -- there is no blank in it
 no_blank : (c : ℕ) → 33 ≤ c → is_blank c ≡ false
@@ -133,8 +120,7 @@ token-blanks run is =
 -- pieces after the first
 schedule_in-cons : (at : ℕ) (piece : List ℕ) (pieces : List (List ℕ)) → 0 < length pieces
     → schedule_in true at (piece ∷ pieces) ≡ schedule_with_piece at piece (schedule_in true (at + length piece + 1) pieces)
-schedule_in-cons at piece [] some = absurd (omega arith)
-schedule_in-cons at piece (next ∷ pieces) some = refl
+schedule_in-cons at piece pieces some = grind arith
 
 -- the tokens from one on
 tokens-read : (at : ℕ) (run : Run) (runs : List Run) → IsRun run → All IsRun runs

@@ -38,11 +38,7 @@ first-piece : (finished : Bool) (at : ℕ) (piece : List ℕ) (run : Run) (piece
     → reading_of at piece ≡ Token run
     → pieces_from finished place.Between at (piece ∷ pieces)
     ≡ schedule_with (Ok run) (pieces_from finished place.Between (at + length piece + 1) pieces)
-first-piece finished at [] run pieces some more read = absurd (omega arith)
-first-piece finished at (b ∷ part) run [] some more read = absurd (omega arith)
-first-piece finished at (b ∷ part) run (next ∷ pieces) some more read =
-    ap (λ r. schedule_with (whole r) (schedule_in finished (at + length (b ∷ part) + 1) (next ∷ pieces))) read
-    ∙ ap (schedule_with (Ok run)) (sym (between-pieces finished (at + length (b ∷ part) + 1) (next ∷ pieces)))
+first-piece finished at piece run pieces some more read = grind (arith, between-pieces)
 
 -- what a test of three or four bytes finds
 digit_below : (b : ℕ) → is_ascii_digit b ≡ true → digit_value b < 10
@@ -53,9 +49,6 @@ two_values n m a b first second = ap (λ k. k * 10 + m) first ∙ ap (λ k. a * 
 
 pub begins-3 : (bytes : List ℕ) → 4 ≤ length bytes → get_or bytes 0 0 ≡ 116 → is_ascii_digit (get_or bytes 1 0) ≡ true → get_or bytes 2 0 ≡ 32
     → BeginsWithTurn bytes (get_or bytes 1 0 - 48) 3
-begins-3 [] long t digit space = absurd (omega arith)
-begins-3 (b ∷ []) long t digit space = absurd (omega arith)
-begins-3 (b ∷ d ∷ []) long t digit space = absurd (omega arith)
 begins-3 (b ∷ d ∷ e ∷ rest) long t digit space =
     let value = digit_value-digit d digit in
     record {
@@ -69,14 +62,11 @@ begins-3 (b ∷ d ∷ e ∷ rest) long t digit space =
       begins = ap (λ n. n ∷ d ∷ e ∷ rest) t ∙ ap (λ n. 116 ∷ d ∷ n ∷ rest) space;
       within = omega (arith, long);
     }
+begins-3 _ long t digit space = absurd (omega arith)
 
 pub begins-4 : (bytes : List ℕ) → 4 ≤ length bytes → get_or bytes 0 0 ≡ 116 → is_ascii_digit (get_or bytes 1 0) ≡ true
     → is_ascii_digit (get_or bytes 2 0) ≡ true → get_or bytes 3 0 ≡ 32 → (get_or bytes 1 0 - 48) * 10 + (get_or bytes 2 0 - 48) ≤ 63
     → BeginsWithTurn bytes ((get_or bytes 1 0 - 48) * 10 + (get_or bytes 2 0 - 48)) 4
-begins-4 [] long t ten digit space small = absurd (omega arith)
-begins-4 (b ∷ []) long t ten digit space small = absurd (omega arith)
-begins-4 (b ∷ d ∷ []) long t ten digit space small = absurd (omega arith)
-begins-4 (b ∷ d ∷ e ∷ []) long t ten digit space small = absurd (omega arith)
 begins-4 (b ∷ d ∷ e ∷ f ∷ rest) long t ten digit space small = record {
   digits = d ∷ e ∷ [];
   counted = refl;
@@ -88,6 +78,7 @@ begins-4 (b ∷ d ∷ e ∷ f ∷ rest) long t ten digit space small = record {
   begins = ap (λ n. n ∷ d ∷ e ∷ f ∷ rest) t ∙ ap (λ n. 116 ∷ d ∷ e ∷ n ∷ rest) space;
   within = omega (arith, long);
 }
+begins-4 _ long t ten digit space small = absurd (omega arith)
 
 -- a turn and the space behind it add one run
 turn-schedule : (finished : Bool) (at thread count : ℕ) (bytes rest : List ℕ) → BeginsWithTurn bytes thread count

@@ -1,5 +1,5 @@
 -- Executions of one choice more.
-use Rattle.std.proofs.Common.{◌≡◌, ◌∙◌, List, [], ◌∷◌, ◌++◌, refl, ap}
+use Rattle.std.proofs.Common.{◌≡◌, ◌∙◌, List, [], ◌∷◌, ◌++◌, refl, ap, arith}
 use Rattle.std.specs.Prelude.{Option, Some, None}
 use Rattle.thread_machine.specs.declared.choice.Choice.{Choice}
 use Rattle.thread_state.specs.declared.event.Event.{Event}
@@ -14,27 +14,18 @@ after_event event rest = record { world = rest.world; events = event ∷ rest.ev
 
 after_event-extended_by : (event : Event) (before now : Option StepFault) (done : Execution) (choice : Choice)
     → after_event event (extended_by before now done choice) ≡ extended_by before now (after_event event done) choice
-after_event-extended_by event (Some fault) now done choice = refl
-after_event-extended_by event None (Some fault) done choice = refl
-after_event-extended_by event None None done choice = refl
+after_event-extended_by event before now done choice = grind arith
 
 execution-single : (refusal : Option StepFault) (world : World) (choice : Choice)
     → execution_by refusal world choice (λ after. execution after [])
     ≡ extended_by None refusal (execution world []) choice
-execution-single (Some fault) world choice = refl
-execution-single None world choice = refl
+execution-single refusal world choice = grind arith
 
 execution-cons : (refusal : Option StepFault) (world : World) (first : Choice) (choices : List Choice) (choice : Choice)
     → ((after : World) → execution after (choices ++ choice ∷ []) ≡ extended (execution after choices) choice)
     → execution_by refusal world first (λ after. execution after (choices ++ choice ∷ []))
     ≡ extended (execution_by refusal world first (λ after. execution after choices)) choice
-execution-cons (Some fault) world first choices choice rest = refl
-execution-cons None world first choices choice rest =
-    let after = (played world first).world in
-    let event = (played world first).event in
-    let done = execution after choices in
-    ap (after_event event) (rest after)
-    ∙ after_event-extended_by event done.refusal (refusal_of done.world choice) done choice
+execution-cons refusal world first choices choice rest = grind (arith, after_event-extended_by)
 
 -- the execution of one more choice
 pub execution-snoc : (choices : List Choice) (world : World) (choice : Choice)

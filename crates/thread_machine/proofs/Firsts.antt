@@ -1,5 +1,5 @@
 -- A program of an image begins in the image's first world, however its phasers are stored.
-use Rattle.std.proofs.Common.{◌∙◌, ℕ, List, ap}
+use Rattle.std.proofs.Common.{◌∙◌, ℕ, List, ap, arith}
 use Rattle.row_code.specs.declared.image.Image.{Image}
 use Rattle.tier_tree.specs.Forest.{PhaserState}
 use Rattle.tier_tree.specs.Stored.{phasers_of}
@@ -21,6 +21,4 @@ world_by limit program phasers = record {
 
 pub is_first : (image : Image) (program : Program) (limit : ℕ) → IsProgramOf image program
     → IsFirstOf image limit (first_world program limit)
-is_first image program limit is =
-    ap (λ p. world_by limit p (phasers_of program.phasers)) (is_declared image program is)
-    ∙ ap (world_by limit (declared_by image program.phasers)) is.phasers
+is_first image program limit is = grind (arith, is_declared, declared_by)

@@ -25,9 +25,7 @@ pub idle_execution : (n : ℕ) (world : World) (choice : Choice) → choice.thre
     → is_choice_ready world.program choice world.scene ≡ false → world.choices + n ≤ 1000000000000
     → execution world (replicate n choice)
     ≡ record { world = after_idling n world; events = replicate n idle_event; refusal = None }
-idle_execution zero world choice there idle few =
-    let none : world.choices ≡ world.choices + 0 = omega arith in
-    ap (λ k. let done : Execution = record { world = record world { choices = k }; events = []; refusal = None } in done) none
+idle_execution zero world choice there idle few = grind arith
 idle_execution (suc n) world choice there idle few =
     let accepted = idle_accepted world choice there idle (omega (arith, few)) in
     let next = (idled world).world in

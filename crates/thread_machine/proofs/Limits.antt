@@ -21,8 +21,7 @@ accepted_too limit world choice higher accepted = grind (arith, higher, accepted
 
 played_by_under : (limit : ℕ) (outcome : Option Outcome) (world : World)
     → played_by outcome (with_limit limit world) ≡ played_under limit (played_by outcome world)
-played_by_under limit (Some outcome) world = refl
-played_by_under limit None world = refl
+played_by_under limit outcome world = grind arith
 
 -- what the rest makes of both worlds is the same, so what the choice and the rest make of them is
 steps_under : (limit : ℕ) (now later : Option StepFault) (world : World) (choice : Choice) (choices : List Choice)
@@ -33,20 +32,11 @@ steps_under : (limit : ℕ) (now later : Option StepFault) (world : World) (choi
     ≡ under_limit limit (execution (played world choice).world choices))
     → execution_by later (with_limit limit world) choice (λ after. execution after choices)
     ≡ under_limit limit (execution_by now world choice (λ after. execution after choices))
-steps_under limit (Some fault) later world choice choices kept accepted rest = absurd (cc accepted)
-steps_under limit None (Some fault) world choice choices kept accepted rest = absurd (cc (kept refl))
-steps_under limit None None world choice choices kept accepted rest =
-    let play = played world choice in
-    let same : played (with_limit limit world) choice ≡ played_under limit play = played_by_under limit (outcome_of_choice world.program choice world.scene) world in
-    ap (λ (p : Played). let later : Execution = execution p.world choices in
-    record { world = later.world; events = p.event ∷ later.events; refusal = later.refusal }) same
-    ∙ ap (λ (later : Execution). record { world = later.world; events = play.event ∷ later.events; refusal = later.refusal })
-    (rest accepted)
+steps_under limit now later world choice choices kept accepted rest = grind (arith, played_by_under)
 
 limit_kept : (limit : ℕ) (outcome : Option Outcome) (world : World) → world.limit ≤ limit
     → (played_by outcome world).world.limit ≤ limit
-limit_kept limit (Some outcome) world higher = higher
-limit_kept limit None world higher = higher
+limit_kept limit outcome world higher = grind arith
 
 pub execution_under : (limit : ℕ) (choices : List Choice) (world : World) → world.limit ≤ limit
     → (execution world choices).refusal ≡ None

@@ -24,21 +24,7 @@ record AreSame (origin other : Origin) : Type 0 where
 
 stands_same : (phasers : List PhaserState) (origin other : Origin) → AreSame origin other → AreTallied phasers origin
     → AreTallied phasers other
-stands_same phasers origin other same stands = record {
-  steady = stands.steady;
-  tallied = λ id there clean live.
-      let tally = stands.tallied id there (sym (same.stray (root_at phasers id)) ∙ clean) live in
-      let registered = same.registered id in
-      let unarrived = same.unarrived id in
-      let all = tally.registered in
-      let missing = tally.unarrived in
-      let within = tally.within in
-      record {
-        registered = omega (arith, registered, all);
-        unarrived = omega (arith, unarrived, missing);
-        within = omega (arith, registered, unarrived, within);
-      };
-}
+stands_same phasers origin other same stands = grind arith
 
 -- with these counts as they are where a phase ends, what follows stands for them, and no phase ends early
 pub record Fares (before after : List PhaserState) (counted : Origin) : Type 0 where
@@ -54,16 +40,7 @@ none_ended before after kept root =
 -- no phase ends
 pub fares_on : (before after : List PhaserState) (counted : Origin) → KeepsEnds before after → KeepsNumbers before after
     → AreTallied after counted → Fares before after counted
-fares_on before after counted kept numbers stands = record {
-  stands = stands_same after counted (set_back before after counted) (record {
-    registered = λ n. refl;
-    unarrived = λ n. ap (λ (b : Bool). if b then counted.registered n else counted.unarrived n)
-        (none_ended before after kept (root_at before n));
-    stray = λ n. refl;
-  }) stands;
-  safe = λ root ended. (let none = none_ended before after kept root in absurd (cc (none, ended)));
-  numbers = λ id none. numbers id;
-}
+fares_on before after counted kept numbers stands = grind (arith, stands_same, none_ended)
 
 -- nothing happens
 pub fares_same : (phasers : List PhaserState) (origin : Origin) → AreTallied phasers origin → Fares phasers phasers origin
@@ -82,34 +59,10 @@ in_step-ends root phase ended (x ∷ phasers) (suc n) = in_step-ends root phase 
 -- of the turned root, and of no other
 turn_ended : (root : ℕ) (ends : Bool) (before mid : List PhaserState) → KeepsEnds before mid → root < length mid → (r : ℕ)
     → has_ended_phase r before (after_phase_end root ends mid) ≡ (r == root)
-turn_ended root ends before mid kept within r =
-    let own = phaser_at mid root in
-    let flat = advance ends own.flat in
-    let new : PhaserState = record own { flat = flat; ends = own.ends + 1 } in
-    let moved = map (in_step root flat.phase flat.ended) mid in
-    let after = after_phase_end root ends mid in
-    elim (cases_eq r root) as (λ _. has_ended_phase r before after ≡ (r == root)) [
-      | inl is ↦
-          let many = length-map mid (in_step root flat.phase flat.ended) in
-          let up : (phaser_at after root).ends ≡ own.ends + 1 =
-          ap (λ (p : PhaserState). p.ends) (get_or-set_same moved root new no_phaser (omega (arith, many, within))) in
-          let was = kept root in
-          let apart : (phaser_at after root).ends ≢ (phaser_at before root).ends = λ same. omega (arith, up, was, same) in
-          subst (λ (n : ℕ). has_ended_phase n before after ≡ (n == root)) (sym is)
-          (ap not (other-is (phaser_at after root).ends (phaser_at before root).ends apart) ∙ sym (same-is root))
-      | inr apart ↦
-          let stays : (phaser_at after r).ends ≡ (phaser_at before r).ends =
-          ap (λ (p : PhaserState). p.ends) (get_or-set_other moved root r new no_phaser apart)
-          ∙ in_step-ends root flat.phase flat.ended mid r ∙ kept r in
-          ap (λ (n : ℕ). not (n == (phaser_at before r).ends)) stays ∙ ap not (same-is (phaser_at before r).ends)
-          ∙ sym (other-is r root apart)
-    ]
+turn_ended root ends before mid kept within r = grind (arith, cases_eq, length-map, get_or-set_same, other-is, same-is, get_or-set_other, in_step-ends)
 
 equal_of : (m n : ℕ) → (m == n) ≡ true → m ≡ n
-equal_of m n is = elim (cases_eq m n) as (λ _. m ≡ n) [
-  | inl same ↦ same
-  | inr apart ↦ (let no = other-is m n apart in absurd (cc (no, is)))
-]
+equal_of m n is = grind (arith, cases_eq, other-is)
 
 -- the phase of a turned root ends
 pub fares_ended : (root : ℕ) (ends : Bool) (before mid : List PhaserState) (counted : Origin) → IsForest mid → CanEnd root mid

@@ -1,5 +1,5 @@
 -- The number of a phase changes only as the phase ends.
-use Rattle.std.proofs.Common.{◌≡◌, ◌≢◌, ◌∙◌, ◌+◌, ℕ, zero, suc, ◌==◌, Bool, true, false, List, [], ◌∷◌, map, ap, refl, if◌then◌else◌}
+use Rattle.std.proofs.Common.{◌≡◌, ◌≢◌, ◌∙◌, ◌+◌, ℕ, zero, suc, ◌==◌, Bool, true, false, List, [], ◌∷◌, map, ap, refl, if◌then◌else◌, arith}
 use Rattle.std.proofs.lemmas.List.{get_or-set_other}
 use Rattle.packed_phaser.specs.Flat.{Flat, advance, force}
 use Rattle.tier_tree.specs.Forest.{PhaserState, no_phaser, phaser_at, flat_at, root_of, root_at}
@@ -26,9 +26,8 @@ forced_number true p = refl
 forced_number false p = refl
 
 terminated-numbers : (root : ℕ) (phasers : List PhaserState) → KeepsNumbers phasers (map (terminated root) phasers)
-terminated-numbers root [] q = refl
-terminated-numbers root (p ∷ phasers) zero = forced_number (root_of p == root) p
 terminated-numbers root (p ∷ phasers) (suc q) = terminated-numbers root phasers q
+terminated-numbers root phasers q = grind (arith, forced_number)
 
 pub force-numbers : (id : ℕ) (phasers : List PhaserState) → KeepsNumbers phasers (after_force id phasers)
 force-numbers id phasers q = terminated-numbers (root_at phasers id) phasers q
@@ -40,18 +39,9 @@ step_aside false p flat is = refl
 
 in_step-aside : (root phase : ℕ) (ended : Bool) (phasers : List PhaserState) (q : ℕ) → (root_at phasers q == root) ≡ false
     → phaser_at (map (in_step root phase ended) phasers) q ≡ phaser_at phasers q
-in_step-aside root phase ended [] q apart = refl
-in_step-aside root phase ended (p ∷ phasers) zero apart = step_aside (root_of p == root) p (follow phase ended p.flat) apart
 in_step-aside root phase ended (p ∷ phasers) (suc q) apart = in_step-aside root phase ended phasers q apart
+in_step-aside root phase ended phasers q apart = grind (arith, step_aside)
 
 pub turn-number : (root : ℕ) (ends : Bool) (phasers : List PhaserState) (q : ℕ) → root_at phasers root ≡ root
     → (root_at phasers q == root) ≡ false → (flat_at (after_phase_end root ends phasers) q).phase ≡ (flat_at phasers q).phase
-turn-number root ends phasers q top apart =
-    let before = phaser_at phasers root in
-    let flat = advance ends before.flat in
-    let moved = map (in_step root flat.phase flat.ended) phasers in
-    let other : q ≢ root = λ is. (let yes = ap (λ (n : ℕ). root_at phasers n == root) is ∙ ap (λ (n : ℕ). n == root) top ∙ same-is root in
-    cc (yes, apart)) in
-    ap (λ (p : PhaserState). p.flat.phase)
-    (get_or-set_other moved root q (record before { flat = flat; ends = before.ends + 1 }) no_phaser other
-    ∙ in_step-aside root flat.phase flat.ended phasers q apart)
+turn-number root ends phasers q top apart = grind (arith, same-is, get_or-set_other, in_step-aside)

@@ -13,8 +13,7 @@ use Rattle.thread_machine.specs.Ready.{outcome_of_choice, is_choice_ready, can_e
 use Rattle.thread_machine.specs.Step.{played, played_by, idled}
 
 none_by : (outcome : Option Outcome) → is_some outcome ≡ false → outcome ≡ None
-none_by (Some outcome) idle = absurd (cc idle)
-none_by None idle = refl
+none_by outcome idle = grind arith
 
 -- a choice without an outcome is idle
 pub idle_choice : (world : World) (choice : Choice) → is_choice_ready world.program choice world.scene ≡ false
@@ -25,15 +24,11 @@ idle_choice world choice idle =
 -- one number more that fails the test
 pub one_more : (test : ℕ → Bool) (t : ℕ) → ((k : ℕ) → k < t → test k ≡ false) → test t ≡ false
     → (k : ℕ) → k < t + 1 → test k ≡ false
-one_more test t before now k within =
-    let last : k ≡ t → test k ≡ false = λ is. ap test is ∙ now in
-    grind (arith, last, before k)
+one_more test t before now k within = grind arith
 
 -- the numbers below this one, in order
 nth : (many k d : ℕ) → k < many → get_or (range_with_len 0 many) k d ≡ k
-nth many k d within =
-    let from : 0 + k ≡ k = omega arith in
-    get_or-range_with_len 0 many k d within ∙ from
+nth many k d within = grind (arith, get_or-range_with_len)
 
 -- a thread that can go on
 pub one_ready : (program : Program) (t : ℕ) (scene : Scene) → t < length scene.threads → can_go_on program scene t ≡ true
@@ -46,11 +41,7 @@ one_ready program t scene there ready =
 -- no thread can
 pub none_ready : (program : Program) (scene : Scene) → ((k : ℕ) → k < length scene.threads → can_go_on program scene k ≡ false)
     → some_ready program scene ≡ false
-none_ready program scene none =
-    let many = length scene.threads in
-    list_any_none (can_go_on program scene) (range_with_len 0 many) (λ k d within.
-    let there : k < many = subst (λ n. k < n) (length-range_with_len 0 many) within in
-    ap (can_go_on program scene) (nth many k d there) ∙ none k there)
+none_ready program scene none = grind (arith, list_any_none, length-range_with_len, nth)
 
 -- a thread whose turn is ready
 pub ready_some : (program : Program) (scene : Scene) (told : Option ℕ) → is_some told ≡ true → IfSome told (λ t. t < length scene.threads)
@@ -60,8 +51,7 @@ ready_some program scene (Some t) is there ready = one_ready program t scene the
 
 -- nobody is told of
 pub nobody_told : (told : Option ℕ) → is_some told ≡ false → told ≡ None
-nobody_told None is = refl
-nobody_told (Some t) is = absurd (cc is)
+nobody_told told is = grind arith
 
 -- a thread whose wait can run out
 pub by_expiry : (ready expires : Bool) → expires ≡ true → (ready || expires) ≡ true

@@ -34,8 +34,7 @@ use Rattle.thread_machine.proofs.PhaseEnds.{Fares}
 use Rattle.thread_machine.proofs.DirectCounts.{phasers_after, FaresTo, IsAside, aside_fares, timeout_aside, turn_fares}
 
 played_phasers : (outcome : Option Outcome) (world : World) → phasers_after outcome world.scene ≡ (played_by outcome world).world.scene.phasers
-played_phasers (Some outcome) world = refl
-played_phasers None world = refl
+played_phasers outcome world = grind arith
 
 by_kind : (expiry : Bool) (scene : Scene) (origin counted : Origin) (late turn : Option Outcome) → FaresTo scene origin late
     → FaresTo scene counted turn → FaresTo scene (if expiry then origin else counted) (if expiry then late else turn)
@@ -43,11 +42,7 @@ by_kind true scene origin counted late turn a b = a
 by_kind false scene origin counted late turn a b = b
 
 expiry_aside : (t : ℕ) (program : Program) (scene : Scene) → IsAside scene (outcome_of_expiry t program scene)
-expiry_aside t program scene =
-    let thread = thread_at scene t in
-    let row = row_at program.rows thread.pc in
-    either (IsAside scene) (is_ready t program scene) {a = None} {b = timeout_in thread.status row t scene} refl
-    (timeout_aside thread.status row t scene)
+expiry_aside t program scene = grind (arith, IsAside, timeout_aside)
 
 -- a choice of a thread that is there
 pub choice_fares : (world : World) (choice : Choice) (origin : Origin) → IsSound world.program world.steps world.scene
@@ -111,10 +106,7 @@ accepted_by : (absent over all ready : Bool)
     → (if absent then Some fault.NoSuchThread else (if over || (all && ready) then Some fault.StepLimit else None)) ≡ None
     → (absent ≡ false) × (ready ≡ true → all ≡ false)
 accepted_by true over all ready is = absurd (cc (is))
-accepted_by false true all ready is = absurd (cc (is))
-accepted_by false false true true is = absurd (cc (is))
-accepted_by false false true false is = (refl, λ yes. absurd (cc (yes)))
-accepted_by false false false ready is = (refl, λ yes. refl)
+accepted_by false _ all ready is = grind arith
 
 less_if : (m n : ℕ) → nat_le m n ≡ false → n < m
 less_if m n is = grind (arith, nat_tests, is)
@@ -122,10 +114,7 @@ less_if m n is = grind (arith, nat_tests, is)
 accepted : (world : World) (choice : Choice) → refusal_of world choice ≡ None
     → (choice.thread < length world.scene.threads)
     × (is_choice_ready world.program choice world.scene ≡ true → world.steps < world.limit)
-accepted world choice is =
-    let parts = accepted_by (nat_le (length world.scene.threads) choice.thread) (world.choices == 1000000000000)
-    (nat_le world.limit world.steps) (is_choice_ready world.program choice world.scene) is in
-    (less_if (length world.scene.threads) choice.thread parts.0, λ ready. less_if world.limit world.steps (parts.1 ready))
+accepted world choice is = grind (arith, accepted_by, less_if)
 
 sound_choice : (expiry : Bool) (program : Program) (steps t : ℕ) (scene : Scene) (outcome : Outcome) → IsSound program steps scene
     → steps < 2147483647 → t < length scene.threads
@@ -149,8 +138,7 @@ goes_by (Some outcome) world choice origin other goes is there left stands =
       limit = most;
       stands = stands;
     }
-goes_by None world choice origin other goes is there left stands =
-    record { sound = goes.sound; steps = goes.steps; limit = goes.limit; stands = stands }
+goes_by None world choice origin other goes is there left stands = grind arith
 
 pub goes_keeps : (world : World) (choice : Choice) (origin : Origin) → Goes world origin → refusal_of world choice ≡ None
     → Keeps world choice (played world choice).world origin
@@ -193,9 +181,7 @@ no_early_end_from first counts goes choices choice is =
 
 pub no_early_end : (program : Program) (counts : Origin) → IsProgram program → IsForest (phasers_of program.phasers)
     → AreTallied (phasers_of program.phasers) counts → NoPhaseEndsEarly program counts
-no_early_end program counts whole forest stands limit most =
-    no_early_end_from (first_world program limit) counts
-    (record { sound = sound_start program whole forest; steps = omega arith; limit = most; stands = stands })
+no_early_end program counts whole forest stands limit most = grind (arith, no_early_end_from, sound_start)
 
 -- the world in which the program of an image without a fault begins
 pub goes_first : (image : Image) (limit : ℕ) → IsImage image → first_fault image ≡ None → limit ≤ 1000000000

@@ -23,15 +23,7 @@ pub one_step_more : (program : Program) (limit choices steps : ℕ) (before afte
     → IsMachine (world_with program limit before choices steps) → steps < limit → choices < 1000000000000
     → (steps < 2147483646 → IsSound program steps (scene_of before) → IsSound program (steps + 1) (scene_of after))
     → KnowsReady program after → IsMachine (world_with program limit after (choices + 1) (steps + 1))
-one_step_more program limit choices steps before after machine left more sound ready =
-    let most = machine.limit in
-    record {
-      sound = sound (omega (arith, left, most)) machine.sound;
-      ready = ready;
-      steps = omega (arith, left);
-      limit = most;
-      choices = omega (arith, more);
-    }
+one_step_more program limit choices steps before after machine left more sound ready = grind arith
 
 -- a scene of the parts that a program begins with
 pub first_parts : (program : Program) (steps : ℕ) (threads : List ThreadState) (phasers : List Stored) (barriers : List BarrierState)
@@ -39,12 +31,7 @@ pub first_parts : (program : Program) (steps : ℕ) (threads : List ThreadState)
     → barriers ≡ program.barriers
     → let scene : Scene = record { cells = replicate 32 (pos 0); threads = threads; phasers = phasers_of phasers; barriers = barriers } in
     IsSound program steps scene
-first_parts program steps threads phasers barriers sound same_threads same_phasers same_barriers =
-    let first = first_scene program in
-    subst (λ (scene : Scene). IsSound program steps scene) (sym (
-    ap (λ (xs : List ThreadState). record first { threads = xs; phasers = phasers_of phasers; barriers = barriers }) same_threads
-    ∙ ap (λ (xs : List Stored). record first { phasers = phasers_of xs; barriers = barriers }) same_phasers
-    ∙ ap (λ (xs : List BarrierState). record first { barriers = xs }) same_barriers)) sound
+first_parts program steps threads phasers barriers sound same_threads same_phasers same_barriers = grind arith
 
 -- before the first choice
 scene_starts : (program : Program) (scene : StoredScene) → IsProgram program → IsStored program.phasers
@@ -53,20 +40,8 @@ scene_starts program scene whole stored is = subst (λ (s : Scene). IsSound prog
 
 pub machine_starts : (program : Program) (limit : ℕ) (scene : StoredScene) → IsProgram program → IsStored program.phasers
     → limit ≤ 1000000000 → scene_of scene ≡ first_scene program → KnowsReady program scene → IsMachine (world_with program limit scene 0 0)
-machine_starts program limit scene whole stored most is known = record {
-  sound = scene_starts program scene whole stored is;
-  ready = known;
-  steps = omega arith;
-  limit = most;
-  choices = omega arith;
-}
+machine_starts program limit scene whole stored most is known = grind (arith, scene_starts)
 
 -- an idle choice can be undone
 pub idle_undone : (world after : StoredWorld) → IsMachine world → after ≡ record world { choices = world.choices + 1 } → CanUndo None after
-idle_undone world after machine is =
-    subst (CanUndo None) (sym is) (record {
-      counted = omega arith;
-      scene = tt;
-      machine = let most = machine.choices in
-          record { sound = machine.sound; ready = machine.ready; steps = machine.steps; limit = machine.limit; choices = omega (arith, most) };
-    })
+idle_undone world after machine is = grind arith

@@ -17,14 +17,11 @@ use Rattle.thread_machine.proofs.SafeEnds.{step_keeps, result_numbers}
 
 -- a choice takes a step just where it is ready
 took : (outcome : Option Outcome) (world : World) → (played_by outcome world).world.steps ≡ (if is_some outcome then world.steps + 1 else world.steps)
-took (Some outcome) world = refl
-took None world = refl
+took outcome world = grind arith
 
 steps_after : (old new : StoredWorld) (choice : Choice) (event : Event) (ready : Bool) → is_choice_ready old.program choice (scene_of old.scene) ≡ ready
     → HasPlayed old choice (Ok event) new → new.steps ≡ (if ready then old.steps + 1 else old.steps)
-steps_after old new choice event ready is has =
-    ap (λ (p : Played). p.world.steps) has.played ∙ took (outcome_of_choice old.program choice (scene_of old.scene)) (world_of old)
-    ∙ ap (λ (x : Bool). if x then old.steps + 1 else old.steps) is
+steps_after old new choice event ready is has = grind (arith, took)
 
 -- it undoes the choice
 record IsUndone (old : StoredWorld) (kept : Option scene.Note) (new : StoredWorld) : Type 0 where
@@ -32,9 +29,7 @@ record IsUndone (old : StoredWorld) (kept : Option scene.Note) (new : StoredWorl
   pub can : CanUndo kept new
 
 idle_back : (old new : StoredWorld) → new ≡ record old { choices = old.choices + 1 } → undone None new ≡ old
-idle_back old new is =
-    let more : (old.choices + 1) - 1 ≡ old.choices = omega arith in
-    ap (λ (w : StoredWorld). undone None w) is ∙ ap (λ (n : ℕ). record old { choices = n }) more
+idle_back old new is = grind arith
 
 undone_by : (ready : Bool) (old new : StoredWorld) (choice : Choice) (event : Event)
     → is_choice_ready old.program choice (scene_of old.scene) ≡ ready → IsMachine old → HasPlayed old choice (Ok event) new
@@ -70,17 +65,4 @@ step_is (Ok event) old new choice kept machine has is =
       numbers = result_numbers (Ok event) old new choice machine has.there has.played;
       err = tt;
     })
-step_is (Err fault) old new choice kept machine has is = record {
-  played = tt;
-  undo = tt;
-  can = tt;
-  no_thread = has.no_thread;
-  limit = has.limit;
-  accepted = tt;
-  memory = has.memory;
-  threads = has.threads;
-  counts = tt;
-  safe = tt;
-  numbers = tt;
-  err = has.err;
-}
+step_is (Err fault) old new choice kept machine has is = grind arith
