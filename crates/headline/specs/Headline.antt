@@ -22,7 +22,7 @@
 -- That its world is at each moment that of the choices played and not taken back, is a law of the debugger (debugger/src/law.rt).
 --
 -- Trusted are Rattle's checker and its two compilers, LLVM, the C library and the system below them.
-use Rattle.std.specs.Prelude.{◌≡◌, ℕ, List, None, ◌++◌}
+use Rattle.std.specs.Prelude.{◌≡◌, ℕ, List, Option, None, ◌++◌}
 use Rattle.row_code.specs.declared.image.Image.{Image}
 use Rattle.row_code.specs.Image.{IsImage}
 use Rattle.loader.specs.Declarations.{declared_origin}
@@ -31,10 +31,12 @@ use Rattle.loader.specs.Program.{without_words}
 use Rattle.cyclic_barrier.specs.Barrier.{BarrierState}
 use Rattle.cyclic_barrier.specs.PlainBarrier.{fresh}
 use Rattle.machine_scene.specs.Scene.{barrier_at, thread_at}
+use Rattle.machine_scene.specs.Undo.{Note}
 use Rattle.thread_state.specs.declared.event.Event.{Event}
 use Rattle.thread_machine.specs.declared.choice.Choice.{Choice}
 use Rattle.thread_machine.specs.World.{World, StoredWorld, IsFirstOf, first_of, world_of}
 use Rattle.thread_machine.specs.Step.{played, refusal_of}
+use Rattle.thread_machine.specs.Undo.{CanUndo, undone}
 use Rattle.thread_machine.specs.Execution.{Execution, execution}
 use Rattle.thread_machine.specs.DirectCounts.{NoPhaseEndsEarlyFrom, NumbersStay, counts_through}
 use Rattle.trace_text.specs.State.{state_text}
@@ -102,6 +104,13 @@ abbrev pub BackRestores : StoredWorld → List Choice → List Event → StoredW
 BackRestores before choices events after =
     let done : Execution = execution (world_of before) choices in
     (done.refusal ≡ None) × (done.events ≡ events) × (after ≡ before)
+
+-- For a single choice: in between stands the world that its row gives, and what was kept of it (`kept`) takes just this world
+-- back to the one before, to the stored word.
+abbrev pub StepsAndReturns : StoredWorld → Choice → Event → Option Note → (middle : StoredWorld) → Type 0
+StepsAndReturns before choice event kept middle =
+    (refusal_of (world_of before) choice ≡ None) × (record { world = world_of middle; event = event } ≡ played (world_of before) choice)
+    × CanUndo kept middle × (undone kept middle ≡ before)
 
 -- 4. It begins without a generation that has ended, and each choice that isn't refused leaves it as it is or is one call there.
 abbrev pub BarriersHavePasts : Type 0
