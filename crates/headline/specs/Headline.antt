@@ -2,16 +2,18 @@
 --   1. the machine that plays them is what the rows of the instruction table give, applied in that order: its registers, cells,
 --      phasers, barriers, exceptions and waiting threads, its counts of choices and of steps, and its limit (GivesTheRows);
 --   2. no phase ends while a registered party has neither arrived nor left, unless an unregistered party has ever arrived in
---      that tree of phasers; a forced termination ends no phase (EndsNoPhaseEarly). Parties have no names, as in Java: who
---      arrives at a phaser is unregistered where none of those registered with it is left to arrive. And with the same
---      exception, once every registered party has arrived the phase has ended, but where the tree's routine is to answer
---      first, which it never does once it has thrown (PhasesEndInTime). A phaser is terminated only by force, or as a phase of
---      its tree ends and `onAdvance` answers so, for Java's default as no party is left (TerminationsAreSaid). It comes into
---      the phase of another number only where a phase of its tree ends (NumbersChangeAtEnds);
---   3. each step back restores the state before (BackRestores);
+--      that tree of phasers (EndsNoPhaseEarly). Parties have no names, as in Java: who arrives at a phaser is unregistered where
+--      none of those registered with it is left to arrive, and so one that takes another's place isn't. With the same exception,
+--      and in a tree that isn't terminated, the choice with which the last registered party arrives or leaves ends the phase, or
+--      its thread enters the tree's routine, and `ret` out of that ends it (PhasesEndInTime): a routine that throws never does.
+--      A phase ends only where `onAdvance` answers, a policy at an arrival in the tree or a routine at its `ret`, and in no tree
+--      that is terminated. Its yes, which is Java's default where no registered party is left, terminates the tree, as force
+--      does; nothing else does, and it stays so (TerminationsAreSaid). A phaser comes into the next phase where a phase of its
+--      tree ends, and stays in its own elsewhere (NumbersChangeAtEnds);
+--   3. each step back restores the state before (BackRestores, and for a single choice StepsAndReturns);
 --   4. each barrier has one past, of which each state of the run is the record, so that whoever waits there meets the end of
 --      its own generation (BarriersHavePasts).
--- 1 is what `play` leaves (src/machine.rt); 2 and 4 are laws (src/law.rt); 3 is what `step_and_back` does to a machine, and
+-- 1 is what `play` leaves (src/machine.rt); 2 and 4 are laws (src/law.rt); 3 is what `step` and `step_and_back` do to a machine, and
 -- `steps_and_backs` to a debugging session (src/back.rt). Behind each name of a `use` line stands the file that defines it: who
 -- believes this page has to read those too. Beside it stands what lies below: a tree whose words lag, and the word that real
 -- threads share. That commands show this of what they read is said by EndToEnd.antt, beside this file.

@@ -1,4 +1,4 @@
--- Why a phaser is terminated, and that a phase does end.
+-- Where a phase ends, and why a phaser is terminated.
 use Rattle.std.specs.Prelude.{◌≡◌, ◌<◌, ◌==◌, ◌||◌, ◌⊎◌, ◌↔◌, if◌then◌else◌, ℕ, ℤ, pos, not, Bool, true, false, List, length, Option, Some, None}
 use Rattle.std.specs.Ordering.{int_eq}
 use Rattle.instruction_table.specs.declared.row.Row.{Row}

@@ -13,17 +13,17 @@ pub fn no_phase_ends_early()
     ensures { EndsNoPhaseEarly }
 {}
 
-/// Once everybody who registered with a tree has arrived, its phase has ended, or its routine is to answer first.
+/// The last arrival of those who registered with a tree ends its phase, or enters its routine, whose `ret` ends it.
 pub fn phases_end_in_time()
     ensures { PhasesEndInTime }
 {}
 
-/// A phaser is terminated only by force, or where `onAdvance` answers so at the end of a phase of its tree.
+/// A phase ends only where `onAdvance` answers, and what terminates a phaser is its yes, or force.
 pub fn terminations_are_said()
     ensures { TerminationsAreSaid }
 {}
 
-/// Nor does the number of a phase change where none ends.
+/// The number of a phase goes on by one where a phase of its tree ends, and stays elsewhere.
 pub fn numbers_change_at_ends()
     ensures { NumbersChangeAtEnds }
 {}
