@@ -15,7 +15,7 @@ use Rattle.tier_tree.proofs.Trees.{CanEnd}
 use Rattle.tier_tree.proofs.Turned.{child-tree, root-root, turn_change}
 use Rattle.thread_machine.specs.DirectCounts.{has_ended_phase}
 use Rattle.headline.specs.PhaseEnds.{HaveAllLeft}
-use Rattle.headline.proofs.Resting.{no_children}
+use Rattle.headline.proofs.Prompt.{no_children}
 use Rattle.headline.proofs.TreeCalls.{follow_keeps, others_ended}
 
 first_fails : (under pass : Bool) (others : ℕ) → (if under && pass then 1 else 0) + others ≡ 0 → under ≡ true → pass ≡ false

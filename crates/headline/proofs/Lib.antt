@@ -1,5 +1,5 @@
 pub mod Backs
-pub mod Resting
+pub mod Prompt
 pub mod TreeCalls
 pub mod BarrierCalls
 pub mod Left
