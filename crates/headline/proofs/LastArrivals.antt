@@ -343,7 +343,7 @@ by_kind : (expiry : Bool) (counts at : Origin) (t : ℕ) (scene : Scene) (late t
 by_kind true counts at t scene late turn goes = uncounted counts t scene late
 by_kind false counts at t scene late turn goes = goes
 
-played_ends : (outcome : Option Outcome) (world : World) → (played_by outcome world).world.scene ≡ scene_after outcome world.scene
+pub played_ends : (outcome : Option Outcome) (world : World) → (played_by outcome world).world.scene ≡ scene_after outcome world.scene
 played_ends (Some outcome) world = refl
 played_ends None world = refl
 

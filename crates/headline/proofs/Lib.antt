@@ -5,6 +5,7 @@ pub mod BarrierCalls
 pub mod Left
 pub mod Turns
 pub mod LastArrivals
+pub mod Taken
 pub mod Choices
 pub mod Pasts
 pub mod PhaseEnds

@@ -17,9 +17,10 @@ use Rattle.thread_machine.specs.Step.{played, refusal_of}
 use Rattle.thread_machine.specs.Execution.{execution, execution_by}
 use Rattle.thread_machine.specs.DirectCounts.{counts_after, counts_through}
 use Rattle.thread_machine.proofs.SafeEnds.{Goes, goes_first, goes_keeps, goes_through, no_early_end_of}
-use Rattle.headline.specs.Headline.{Accepted, EndsNoPhaseEarly, NumbersChangeAtEnds, PhasesEndInTime, TerminationsAreSaid, start}
+use Rattle.headline.specs.Headline.{Accepted, ArrivalsAreTaken, EndsNoPhaseEarly, NumbersChangeAtEnds, PhasesEndInTime, TerminationsAreSaid, start}
 use Rattle.headline.proofs.Choices.{choice_goes, goes_next, stands_now}
 use Rattle.headline.proofs.LastArrivals.{are_counted, last_ends, routine_ends}
+use Rattle.headline.proofs.Taken.{takes}
 use Rattle.headline.proofs.Prompt.{ArePrompt}
 
 pub no_early_end : EndsNoPhaseEarly
@@ -46,6 +47,13 @@ terminations_said image accepted choices choice plays =
     let goes = after_choices image accepted choices in
     let said = (choice_goes now choice counts goes plays).1.said in
     (said, are_counted now choice counts now.steps (stands_now now choice counts goes plays) goes.stands said)
+
+pub are_taken : ArrivalsAreTaken
+are_taken image accepted choices choice plays =
+    let now = (execution (start image) choices).world in
+    let counts = counts_through (start image) choices (declared_origin image.phasers) in
+    let goes = after_choices image accepted choices in
+    takes now choice counts now.steps (stands_now now choice counts goes plays) goes.stands
 
 -- before the first choice nobody has arrived
 fresh_prompt : (phasers : List PhaserState) → AreAllFresh phasers → ArePrompt phasers

@@ -6,6 +6,7 @@
 --      none of those registered with it is left to arrive, and so one that takes another's place isn't. With the same exception,
 --      and in a tree that isn't terminated, the choice with which the last registered party arrives or leaves ends the phase, or
 --      its thread enters the tree's routine, and `ret` out of that ends it (PhasesEndInTime): a routine that throws never does.
+--      Nor is the arrival of a registered party there refused (ArrivalsAreTaken).
 --      A phase ends only where `onAdvance` answers, a policy at an arrival in the tree or a routine at its `ret`, and in no tree
 --      that is terminated. Its yes, which is Java's default where no registered party is left, terminates the tree, as force
 --      does; nothing else does, and it stays so (TerminationsAreSaid). A phaser comes into the next phase where a phase of its
@@ -49,7 +50,7 @@ use Rattle.shared_phaser.specs.declared.history.Known.{Known}
 use Rattle.shared_phaser.specs.History.{IsLegal}
 use Rattle.shared_phaser.specs.Known.{Owns, making}
 use Rattle.headline.specs.Pasts.{RecordsOnePast}
-use Rattle.headline.specs.PhaseEnds.{AreCounted, EndsInTime, NumbersGoOn, RoutineEnds, TerminateAsSaid, row_of}
+use Rattle.headline.specs.PhaseEnds.{AreCounted, EndsInTime, NumbersGoOn, RoutineEnds, TakesArrivals, TerminateAsSaid, row_of}
 
 -- accepted: each list of the program is within its limits, and no check of the loader finds a fault in it
 abbrev pub Accepted : Image → Type 0
@@ -79,6 +80,14 @@ PhasesEndInTime =
     refusal_of now choice ≡ None
     → EndsInTime now choice (played now choice).world (counts_through (start image) choices (declared_origin image.phasers))
     × RoutineEnds now choice (played now choice).world
+
+-- Nor is a registered party's arrival refused.
+abbrev pub ArrivalsAreTaken : Type 0
+ArrivalsAreTaken =
+    (image : Image) → Accepted image → (choices : List Choice) (choice : Choice)
+    → let now : World = (execution (start image) choices).world in
+    refusal_of now choice ≡ None
+    → TakesArrivals now choice (played now choice).world (counts_through (start image) choices (declared_origin image.phasers))
 
 -- A choice terminates a phaser only by force, or as a phase of its tree ends and `onAdvance` answers so; the parties that it is
 -- told of are those who are registered by the counts.

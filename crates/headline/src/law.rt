@@ -1,5 +1,6 @@
 // What holds of every accepted program: laws, each the contract of a function that does nothing.
 ghost use Rattle.headline.specs.Headline.{
+  ArrivalsAreTaken,
   BarriersHavePasts,
   EndsNoPhaseEarly,
   NumbersChangeAtEnds,
@@ -16,6 +17,11 @@ pub fn no_phase_ends_early()
 /// The last arrival of those who registered with a tree ends its phase, or enters its routine, whose `ret` ends it.
 pub fn phases_end_in_time()
     ensures { PhasesEndInTime }
+{}
+
+/// The arrival of a registered party isn't refused.
+pub fn arrivals_are_taken()
+    ensures { ArrivalsAreTaken }
 {}
 
 /// A phase ends only where `onAdvance` answers, and what terminates a phaser is its yes, or force.
