@@ -51,7 +51,7 @@ use Rattle.thread_machine.specs.Ready.{outcome_of_choice}
 use Rattle.thread_machine.specs.Step.{played, played_by}
 use Rattle.thread_machine.specs.DirectCounts.{has_ended_phase, with_registration, with_arrival, with_row, with_turn, counts_at_end}
 use Rattle.headline.specs.PhaseEnds.{AreCounted, EndsInTime, HasLastArrived, HaveAllLeft, IsInRoutine, RoutineEnds, TerminateAsSaid, on_advance, row_in, row_of}
-use Rattle.headline.proofs.Resting.{AreResting, Lands, Pending, nobody, all_come, arrival_rests, arrive_lands}
+use Rattle.headline.proofs.Prompt.{ArePrompt, Lands, all_come, arrival_prompt, arrive_lands}
 use Rattle.headline.proofs.TreeCalls.{no_answer, none_ended, root_ended}
 use Rattle.headline.proofs.Left.{ended_left}
 use Rattle.headline.proofs.Turns.{scene_after}
@@ -82,13 +82,13 @@ child_left climb.Turned i n root g above phasers below is left = absurd (cc is)
 child_left climb.Refused i n root g above phasers below is left = absurd (cc is)
 
 left_by : (a : Arrival) (i : ℕ) (above : List ℕ) (root : ℕ) (onward : Bool → Climbed) (phasers : List PhaserState) → i < length phasers
-    → root_at phasers i ≡ root → Lands (flat_at phasers i) a
+    → root_at phasers i ≡ root → Lands a
     → ((n : ℕ) (more : List ℕ) → above ≡ n ∷ more
     → (n < i) × ((leaves : Bool) → (onward leaves).climb ≡ climb.Counted → IsLeft (suc n) root phasers (onward leaves).phasers))
     → let all = climbed_by a i (is_top above) onward phasers in
     all.climb ≡ climb.Counted → IsLeft (suc i) root phasers all.phasers
 left_by (Counts g) i above root onward phasers there top lands up is =
-    let less = lands.2 in
+    let less = lands.1 in
     let some : 0 < unarrived_of g = omega (arith, less) in
     (i, (omega arith, (top, subst (λ (f : Flat). 0 < unarrived_of f) (sym (flat-put phasers i g there)) some)))
 left_by (Turns g) i [] root onward phasers there top lands up is = absurd (cc is)
@@ -104,19 +104,19 @@ head_of [] = 0
 head_of (n ∷ more) = n
 
 climbed_left : (line : List ℕ) (i : ℕ) (leave : Bool) (phasers : List PhaserState) → IsForest phasers → i < length phasers
-    → (phaser_at phasers i).line ≡ i ∷ line → AreResting nobody phasers
+    → (phaser_at phasers i).line ≡ i ∷ line → ArePrompt phasers
     → let all = climbed (i ∷ line) leave phasers in
     all.climb ≡ climb.Counted → IsLeft (suc i) (last_of (i ∷ line)) phasers all.phasers
 climbed_left [] i leave phasers forest there is rest counted =
     let f = flat_at phasers i in
     left_by (arrive leave f) i [] (last_of (i ∷ [])) (λ leaves. climbed [] leaves phasers) phasers there (ap last_of is)
-    (arrive_lands f.ended (f.arrived == f.parties) leave f _ refl (rest i).0) (λ n more none. absurd (cc none)) counted
+    (arrive_lands leave f (rest i)) (λ n more none. absurd (cc none)) counted
 climbed_left (n ∷ more) i leave phasers forest there is rest counted =
     let f = flat_at phasers i in
     let next = next-parent phasers i n more forest there is in
     let below = next.0 in
     left_by (arrive leave f) i (n ∷ more) (last_of (i ∷ n ∷ more)) (λ leaves. climbed (n ∷ more) leaves phasers) phasers there (ap last_of is)
-    (arrive_lands f.ended (f.arrived == f.parties) leave f _ refl (rest i).0)
+    (arrive_lands leave f (rest i))
     (λ m others same. (
       subst (λ k. k < i) (one n m more others same) below,
       λ leaves on. subst (λ k. IsLeft (suc k) (last_of (i ∷ n ∷ more)) phasers (climbed (n ∷ more) leaves phasers).phasers) (one n m more others same)
@@ -129,7 +129,7 @@ climbed_left (n ∷ more) i leave phasers forest there is rest counted =
 
 -- so it is after an arrival that is counted, and isn't the last
 arrival_left : (id : ℕ) (leave : Bool) (phasers : List PhaserState) (phase : ℤ) → IsForest phasers → id < length phasers
-    → AreResting nobody phasers → (arrival id leave phasers).answer ≡ arrived.At phase
+    → ArePrompt phasers → (arrival id leave phasers).answer ≡ arrived.At phase
     → IsLeft (suc id) (root_at phasers id) phasers (arrival id leave phasers).phasers
 arrival_left id leave phasers phase forest there rest is =
     let own = line_own phasers id forest there in
@@ -255,7 +255,7 @@ pending_ends None program steps t p manner scene root phase parties row stands t
 -- an arrival that is counted, and isn't the last: somebody is still to arrive
 not_last : (program : Program) (steps t p : ℕ) (leave : Bool) (scene : Scene) (counts : Origin) (phase : ℤ) (row : Row)
     → StandsAt program steps t scene status.Runs row → p < length scene.phasers → AreTallied scene.phasers counts
-    → AreResting nobody scene.phasers → (arrival p leave scene.phasers).answer ≡ arrived.At phase
+    → ArePrompt scene.phasers → (arrival p leave scene.phasers).answer ≡ arrived.At phase
     → let at = arrived_at p (root_at scene.phasers p) leave counts in
     (root : ℕ) → (flat_at scene.phasers root).ended ≡ false → at.stray root ≡ false → HasLastArrived counts at root scene.phasers → ⊥
 not_last program steps t p leave scene counts phase row stands there tallied rest is root live clean last =
@@ -273,9 +273,7 @@ not_last program steps t p leave scene counts phase row stands there tallied res
     let now : AreTallied mid at =
     subst (λ answer. AreTallied mid (origin_after_arrival answer p (root_at phasers p) leave counts)) is
     (stands_after_arrival phasers counts p leave (arrival p leave phasers) forest there refl tallied) in
-    let rests : AreResting nobody mid =
-    subst (λ answer. AreResting (Pending answer) mid) is (arrival_rests p leave phasers forest there rest) in
-    let none = all_come (length mid) mid at root kept.trees.forest now rests clean
+    let none = all_come (length mid) mid at root kept.trees.forest now (arrival_prompt p leave phasers rest) clean
     (ap (λ (s : Standing). s.ended) (arrival-standings p leave phasers root) ∙ live)
     (λ id inside tree. last.1 id (omega (arith, many, inside)) (sym (kept.places.roots id) ∙ tree))
     k (omega arith) (omega (arith, many, near, there)) (kept.places.roots k ∙ one.1.1.0 ∙ own) in
@@ -283,7 +281,7 @@ not_last program steps t p leave scene counts phase row stands there tallied res
 
 arrives : (answer : Arrived) (row : Row) (program : Program) (steps t p : ℕ) (manner : Manner) (scene : Scene) (counts : Origin)
     → StandsAt program steps t scene status.Runs row → p < length scene.phasers → AreTallied scene.phasers counts
-    → AreResting nobody scene.phasers → (arrival p manner.leaves scene.phasers).answer ≡ answer
+    → ArePrompt scene.phasers → (arrival p manner.leaves scene.phasers).answer ≡ answer
     → LastEnds counts (origin_after_arrival answer p (root_at scene.phasers p) manner.leaves counts) t scene
     (Some (outcome_of_arrived answer manner t program (with_phasers (arrival p manner.leaves scene.phasers).phasers scene)))
 arrives (arrived.Turning root phase parties) row program steps t p manner scene counts stands there tallied rest is top inside live clean last =
@@ -310,7 +308,7 @@ full_or false false t scene counts at first second call goes = goes
 
 arrival_ends : (row : Row) (program : Program) (steps t p : ℕ) (manner : Manner) (scene : Scene) (counts : Origin)
     → StandsAt program steps t scene status.Runs row → p < length scene.phasers → AreTallied scene.phasers counts
-    → AreResting nobody scene.phasers
+    → ArePrompt scene.phasers
     → LastEnds counts (with_arrival p manner.leaves t scene counts) t scene
     (unless_own p t scene (Some (outcome_of_arrival manner p t program scene)))
 arrival_ends row program steps t p manner scene counts stands there tallied rest =
@@ -320,7 +318,7 @@ arrival_ends row program steps t p manner scene counts stands there tallied rest
     (arrives (arrival p manner.leaves scene.phasers).answer row program steps t p manner scene counts stands there tallied rest refl)
 
 row_ends : (row : Row) (program : Program) (steps t : ℕ) (scene : Scene) (counts : Origin) → StandsAt program steps t scene status.Runs row
-    → AreTallied scene.phasers counts → AreResting nobody scene.phasers
+    → AreTallied scene.phasers counts → ArePrompt scene.phasers
     → LastEnds counts (with_row row t scene counts) t scene (outcome_in status.Runs row t program scene)
 row_ends (Preg into p) program steps t scene counts stands tallied rest =
     registers p (pos 1) t scene counts (outcome_in status.Runs (Preg into p) t program scene)
@@ -335,7 +333,7 @@ row_ends (Paaa into p) program steps t scene counts stands tallied rest =
 row_ends row program steps t scene counts stands tallied rest = uncounted counts t scene (outcome_in status.Runs row t program scene)
 
 turn_ends : (of : Status) (row : Row) (program : Program) (steps t : ℕ) (scene : Scene) (counts : Origin) → StandsAt program steps t scene of row
-    → AreTallied scene.phasers counts → AreResting nobody scene.phasers
+    → AreTallied scene.phasers counts → ArePrompt scene.phasers
     → LastEnds counts (with_turn of row t scene counts) t scene (outcome_in of row t program scene)
 turn_ends status.Runs row program steps t scene counts stands tallied rest = row_ends row program steps t scene counts stands tallied rest
 turn_ends of row program steps t scene counts stands tallied rest = uncounted counts t scene (outcome_in of row t program scene)
@@ -345,14 +343,14 @@ by_kind : (expiry : Bool) (counts at : Origin) (t : ℕ) (scene : Scene) (late t
 by_kind true counts at t scene late turn goes = uncounted counts t scene late
 by_kind false counts at t scene late turn goes = goes
 
-played_ends : (outcome : Option Outcome) (world : World) → (played_by outcome world).world.scene ≡ scene_after outcome world.scene
+pub played_ends : (outcome : Option Outcome) (world : World) → (played_by outcome world).world.scene ≡ scene_after outcome world.scene
 played_ends (Some outcome) world = refl
 played_ends None world = refl
 
 -- so the phase of a tree ends in time, or its routine is entered
 pub last_ends : (world : World) (choice : Choice) (counts : Origin) (steps : ℕ)
     → StandsAt world.program steps choice.thread world.scene (thread_at world.scene choice.thread).status (row_at world.program.rows (thread_at world.scene choice.thread).pc)
-    → AreTallied world.scene.phasers counts → AreResting nobody world.scene.phasers
+    → AreTallied world.scene.phasers counts → ArePrompt world.scene.phasers
     → EndsInTime world choice (played world choice).world counts
 last_ends world choice counts steps stands tallied rest root =
     let scene = world.scene in

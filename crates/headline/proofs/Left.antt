@@ -15,7 +15,7 @@ use Rattle.tier_tree.proofs.Trees.{CanEnd}
 use Rattle.tier_tree.proofs.Turned.{child-tree, root-root, turn_change}
 use Rattle.thread_machine.specs.DirectCounts.{has_ended_phase}
 use Rattle.headline.specs.PhaseEnds.{HaveAllLeft}
-use Rattle.headline.proofs.Resting.{no_children}
+use Rattle.headline.proofs.Prompt.{no_children}
 use Rattle.headline.proofs.TreeCalls.{follow_keeps, others_ended}
 
 first_fails : (under pass : Bool) (others : ℕ) → (if under && pass then 1 else 0) + others ≡ 0 → under ≡ true → pass ≡ false
@@ -23,7 +23,7 @@ first_fails true true others none under = absurd (omega (arith, none))
 first_fails true false others none under = refl
 first_fails false pass others none under = absurd (cc under)
 
-none_passes : (test : Flat → Bool) (parent : ℕ) (phasers : List PhaserState) (id : ℕ) → children test parent phasers ≡ 0
+pub none_passes : (test : Flat → Bool) (parent : ℕ) (phasers : List PhaserState) (id : ℕ) → children test parent phasers ≡ 0
     → id < length phasers → is_under parent (phaser_at phasers id).line ≡ true → test (flat_at phasers id) ≡ false
 none_passes test parent [] id none there under = absurd (omega (arith, there))
 none_passes test parent (p ∷ phasers) zero none there under =
@@ -49,13 +49,13 @@ out_by false true parties live some none = (let one = some refl in absurd (omega
 out_by false false parties live some none = ap (λ n. not (n == 0)) none
 
 -- a tree without strays that isn't terminated
-record IsOpen (phasers : List PhaserState) (counts : Origin) (root : ℕ) : Type 0 where
+pub record IsOpen (phasers : List PhaserState) (counts : Origin) (root : ℕ) : Type 0 where
   pub forest : IsForest phasers
   pub stands : AreTallied phasers counts
   pub clean : counts.stray root ≡ false
   pub live : (flat_at phasers root).ended ≡ false
 
-live_at : (phasers : List PhaserState) (counts : Origin) (root id : ℕ) → IsOpen phasers counts root → id < length phasers
+pub live_at : (phasers : List PhaserState) (counts : Origin) (root id : ℕ) → IsOpen phasers counts root → id < length phasers
     → root_at phasers id ≡ root → (flat_at phasers id).ended ≡ false
 live_at phasers counts root id fair there tree =
     (fair.stands.steady id there).tree ∙ ap (λ r. (flat_at phasers r).ended) tree ∙ fair.live

@@ -1,10 +1,11 @@
 pub mod Backs
-pub mod Resting
+pub mod Prompt
 pub mod TreeCalls
 pub mod BarrierCalls
 pub mod Left
 pub mod Turns
 pub mod LastArrivals
+pub mod Taken
 pub mod Choices
 pub mod Pasts
 pub mod PhaseEnds

@@ -17,10 +17,11 @@ use Rattle.thread_machine.specs.Step.{played, refusal_of}
 use Rattle.thread_machine.specs.Execution.{execution, execution_by}
 use Rattle.thread_machine.specs.DirectCounts.{counts_after, counts_through}
 use Rattle.thread_machine.proofs.SafeEnds.{Goes, goes_first, goes_keeps, goes_through, no_early_end_of}
-use Rattle.headline.specs.Headline.{Accepted, EndsNoPhaseEarly, NumbersChangeAtEnds, PhasesEndInTime, TerminationsAreSaid, start}
+use Rattle.headline.specs.Headline.{Accepted, ArrivalsAreTaken, EndsNoPhaseEarly, NumbersChangeAtEnds, PhasesEndInTime, TerminationsAreSaid, start}
 use Rattle.headline.proofs.Choices.{choice_goes, goes_next, stands_now}
 use Rattle.headline.proofs.LastArrivals.{are_counted, last_ends, routine_ends}
-use Rattle.headline.proofs.Resting.{AreResting, nobody}
+use Rattle.headline.proofs.Taken.{takes}
+use Rattle.headline.proofs.Prompt.{ArePrompt}
 
 pub no_early_end : EndsNoPhaseEarly
 no_early_end image (within, loads) = no_early_end_of image 1000000000 within loads (omega arith)
@@ -47,38 +48,42 @@ terminations_said image accepted choices choice plays =
     let said = (choice_goes now choice counts goes plays).1.said in
     (said, are_counted now choice counts now.steps (stands_now now choice counts goes plays) goes.stands said)
 
+pub are_taken : ArrivalsAreTaken
+are_taken image accepted choices choice plays =
+    let now = (execution (start image) choices).world in
+    let counts = counts_through (start image) choices (declared_origin image.phasers) in
+    let goes = after_choices image accepted choices in
+    takes now choice counts now.steps (stands_now now choice counts goes plays) goes.stands
+
 -- before the first choice nobody has arrived
-fresh_rests : (phasers : List PhaserState) → AreAllFresh phasers → AreResting nobody phasers
-fresh_rests [] are q = ((omega arith, λ live one. absurd (omega (arith, one))), λ turned. absurd (cc turned))
-fresh_rests (phaser ∷ phasers) are zero =
-    let is = are 0 phaser (omega arith) in
-    let none = ap (λ (f : Flat). f.arrived) is in (
-      (omega (arith, none), λ live one all. absurd (omega (arith, none, one, all))),
-      λ turned. (let not_yet = ap (λ (f : Flat). f.turned) is in absurd (cc (not_yet, turned))),
-    )
-fresh_rests (phaser ∷ phasers) are (suc q) = fresh_rests phasers (λ k d there. are (suc k) d (omega (arith, there))) q
+fresh_prompt : (phasers : List PhaserState) → AreAllFresh phasers → ArePrompt phasers
+fresh_prompt [] are q = (omega arith, λ live one. absurd (omega (arith, one)))
+fresh_prompt (phaser ∷ phasers) are zero =
+    let none = ap (λ (f : Flat). f.arrived) (are 0 phaser (omega arith)) in
+    (omega (arith, none), λ live one all. absurd (omega (arith, none, one, all)))
+fresh_prompt (phaser ∷ phasers) are (suc q) = fresh_prompt phasers (λ k d there. are (suc k) d (omega (arith, there))) q
 
-resting_by : (why : Option StepFault) (world : World) (choice : Choice) (choices : List Choice) → refusal_of world choice ≡ why
-    → AreResting nobody world.scene.phasers
-    → (refusal_of world choice ≡ None → AreResting nobody (execution (played world choice).world choices).world.scene.phasers)
-    → AreResting nobody (execution_by why world choice (λ after. execution after choices)).world.scene.phasers
-resting_by (Some fault) world choice choices is rest later = rest
-resting_by None world choice choices is rest later = later is
+prompt_by : (why : Option StepFault) (world : World) (choice : Choice) (choices : List Choice) → refusal_of world choice ≡ why
+    → ArePrompt world.scene.phasers
+    → (refusal_of world choice ≡ None → ArePrompt (execution (played world choice).world choices).world.scene.phasers)
+    → ArePrompt (execution_by why world choice (λ after. execution after choices)).world.scene.phasers
+prompt_by (Some fault) world choice choices is rest later = rest
+prompt_by None world choice choices is rest later = later is
 
-resting : (choices : List Choice) (world : World) (origin : Origin) → Goes world origin → AreResting nobody world.scene.phasers
-    → AreResting nobody (execution world choices).world.scene.phasers
-resting [] world origin goes rest = rest
-resting (choice ∷ choices) world origin goes rest =
-    resting_by (refusal_of world choice) world choice choices refl rest (λ accepted.
-    resting choices (played world choice).world (counts_after world choice (played world choice).world origin)
-    (goes_next world choice origin goes accepted) ((choice_goes world choice origin goes accepted).1.rests rest))
+stay_prompt : (choices : List Choice) (world : World) (origin : Origin) → Goes world origin → ArePrompt world.scene.phasers
+    → ArePrompt (execution world choices).world.scene.phasers
+stay_prompt [] world origin goes rest = rest
+stay_prompt (choice ∷ choices) world origin goes rest =
+    prompt_by (refusal_of world choice) world choice choices refl rest (λ accepted.
+    stay_prompt choices (played world choice).world (counts_after world choice (played world choice).world origin)
+    (goes_next world choice origin goes accepted) ((choice_goes world choice origin goes accepted).1.prompt rest))
 
 pub ends_in_time : PhasesEndInTime
 ends_in_time image (within, loads) choices choice plays =
     let now = (execution (start image) choices).world in
     let goes = after_choices image (within, loads) choices in
-    let rest = resting choices (start image) (declared_origin image.phasers) (goes_first image 1000000000 within loads (omega arith))
-    (fresh_rests (start image).scene.phasers (all_made image loads).fresh) in
+    let rest = stay_prompt choices (start image) (declared_origin image.phasers) (goes_first image 1000000000 within loads (omega arith))
+    (fresh_prompt (start image).scene.phasers (all_made image loads).fresh) in
     let stands = stands_now now choice (counts_through (start image) choices (declared_origin image.phasers)) goes plays in (
       last_ends now choice (counts_through (start image) choices (declared_origin image.phasers)) now.steps stands goes.stands rest,
       routine_ends now choice now.steps

@@ -31,7 +31,7 @@ use Rattle.machine_scene.proofs.Routines.{turning_root}
 use Rattle.machine_scene.proofs.Standings.{Standing, standing_of, registration-standings, arrival-standings}
 use Rattle.thread_machine.specs.DirectCounts.{has_ended_phase}
 use Rattle.headline.specs.PhaseEnds.{answer_at, is_force, on_advance, NumbersGoOn, TerminateAsSaid}
-use Rattle.headline.proofs.Resting.{AreResting, nobody, may_wait, Pending, registration_rests, arrival_rests, change_rests, routine_waits, weaker_at}
+use Rattle.headline.proofs.Prompt.{ArePrompt, registration_prompt, arrival_prompt, change_prompt}
 
 -- a row that terminates no tree by force
 abbrev pub IsQuiet : Option Row → Type 0
@@ -54,7 +54,7 @@ or_yes false b is = is
 pub record TreesGo (row : Option Row) (thread : ThreadState) (before after : List PhaserState) : Type 0 where
   pub said : TerminateAsSaid row thread before after
   pub numbers : NumbersGoOn before after
-  pub rests : AreResting nobody before → AreResting nobody after
+  pub prompt : ArePrompt before → ArePrompt after
 
 pub none_ended : (before after : List PhaserState) → KeepsEnds before after → (root : ℕ) → has_ended_phase root before after ≡ false
 none_ended before after kept root =
@@ -62,26 +62,26 @@ none_ended before after kept root =
 
 -- no phase ends, and no tree is terminated
 kept_on : (row : Option Row) (thread : ThreadState) (before after : List PhaserState) → IsQuiet row → KeepsEnds before after
-    → ((id : ℕ) → (flat_at after id).ended ≡ (flat_at before id).ended) → (AreResting nobody before → AreResting nobody after)
+    → ((id : ℕ) → (flat_at after id).ended ≡ (flat_at before id).ended) → (ArePrompt before → ArePrompt after)
     → TreesGo row thread before after
-kept_on row thread before after quiet kept same rests = record {
+kept_on row thread before after quiet kept same prompt = record {
   said = λ id there. (
     λ ended. (let none = none_ended before after kept (root_at before id) in absurd (cc (none, ended))),
     λ none. same id ∙ sym (or_no (flat_at before id).ended _ (no_force row quiet (root_at before id) before)),
   );
   numbers = λ id there ended. (let none = none_ended before after kept (root_at before id) in absurd (cc (none, ended)));
-  rests = rests;
+  prompt = prompt;
 }
 
 pub trees_stay : (row : Option Row) (thread : ThreadState) (phasers : List PhaserState) → IsQuiet row → TreesGo row thread phasers phasers
-trees_stay row thread phasers quiet = kept_on row thread phasers phasers quiet (λ id. refl) (λ id. refl) (λ rest. rest)
+trees_stay row thread phasers quiet = kept_on row thread phasers phasers quiet (λ id. refl) (λ id. refl) (λ prompt. prompt)
 
 pub trees_registered : (row : Option Row) (thread : ThreadState) (id count : ℕ) (phasers : List PhaserState) → IsQuiet row
     → TreesGo row thread phasers (after_registration id count phasers)
 trees_registered row thread id count phasers quiet =
     kept_on row thread phasers (after_registration id count phasers) quiet (registration-ends id count phasers)
     (λ n. ap (λ (s : Standing). s.ended) (registration-standings id count phasers n))
-    (registration_rests (registration id count phasers) (joins id count phasers) phasers)
+    (registration_prompt (registration id count phasers) (joins id count phasers) phasers)
 
 pub follow_keeps : (phase : ℕ) (ends : Bool) (f : Flat) → ((follow phase ends f).ended ≡ ends) × ((follow phase ends f).parties ≡ f.parties)
 follow_keeps phase true f = (refl, refl)
@@ -109,7 +109,7 @@ trees_forced thread p phasers forest there_p =
         ],
       );
       numbers = λ id there ended. (let none = none_ended phasers after (force-ends p phasers) (root_at phasers id) in absurd (cc (none, ended)));
-      rests = λ rest. change_rests root true phasers after change top (weaker_at root phasers rest);
+      prompt = change_prompt root true phasers after change;
     }
 
 -- the count of phase ends grows at the root alone
@@ -182,8 +182,8 @@ pub trees_ended : (row : Option Row) (thread : ThreadState) (root : ℕ) (ends :
     → CanEnd root mid → length mid ≡ length before → ((id : ℕ) → root_at mid id ≡ root_at before id) → KeepsEnds before mid
     → ((id : ℕ) → standing_of (flat_at mid id) ≡ standing_of (flat_at before id)) → ((id : ℕ) → id < length before → IsSteady id before)
     → on_advance row thread root before (flat_at mid root).parties ≡ Some ends
-    → (AreResting nobody before → AreResting (λ q. q ≡ root) mid) → TreesGo row thread before (after_phase_end root ends mid)
-trees_ended row thread root ends before mid quiet can many roots kept stood steady says rests =
+    → (ArePrompt before → ArePrompt mid) → TreesGo row thread before (after_phase_end root ends mid)
+trees_ended row thread root ends before mid quiet can many roots kept stood steady says prompt =
     let after = after_phase_end root ends mid in
     let change = turn_change root ends mid can.there can.top in
     let own = change.inside root can.there can.top in
@@ -226,7 +226,7 @@ trees_ended row thread root ends before mid quiet can many roots kept stood stea
                 let no = others_ended root ends before mid kept (root_at before id) outside in
                 absurd (cc (no, ended))
           ];
-      rests = λ rest. change_rests root ends mid after change can.top (rests rest);
+      prompt = λ before. change_prompt root ends mid after change (prompt before);
     }
 
 -- an arrival
@@ -237,48 +237,18 @@ arrival_same : (id : ℕ) (leave : Bool) (phasers : List PhaserState) (n : ℕ)
     → (flat_at (arrived_at id leave phasers) n).ended ≡ (flat_at phasers n).ended
 arrival_same id leave phasers n = ap (λ (s : Standing). s.ended) (arrival-standings id leave phasers n)
 
-rests_by : (steps id : ℕ) (leave : Bool) (phasers : List PhaserState) (answer : Arrived) → AreTrees steps phasers → id < length phasers
-    → (arrival id leave phasers).answer ≡ answer → AreResting nobody phasers → AreResting (Pending answer) (arrived_at id leave phasers)
-rests_by steps id leave phasers answer trees there is rest =
-    subst (λ a. AreResting (Pending a) (arrived_at id leave phasers)) is (arrival_rests id leave phasers trees.forest there rest)
-
--- one that wasn't the last
-pub trees_counted : (row : Option Row) (thread : ThreadState) (steps id : ℕ) (leave : Bool) (phasers : List PhaserState) (answer : Arrived)
-    → IsQuiet row → AreTrees steps phasers → id < length phasers → (arrival id leave phasers).answer ≡ answer
-    → ((q : ℕ) → Pending answer q → ⊥) → TreesGo row thread phasers (arrived_at id leave phasers)
-trees_counted row thread steps id leave phasers answer quiet trees there is none =
+-- one that ends no phase: it isn't the last, or a routine is to answer
+pub trees_counted : (row : Option Row) (thread : ThreadState) (id : ℕ) (leave : Bool) (phasers : List PhaserState) → IsQuiet row
+    → TreesGo row thread phasers (arrived_at id leave phasers)
+trees_counted row thread id leave phasers quiet =
     kept_on row thread phasers (arrived_at id leave phasers) quiet (arrival-ends id leave phasers) (arrival_same id leave phasers)
-    (λ rest q. let new = rests_by steps id leave phasers answer trees there is rest q in (
-      new.0,
-      λ turned. elim (new.1 turned) as (λ _. nobody q ⊎ (may_wait (phaser_at (arrived_at id leave phasers) q) ≡ true)) [
-        | inl pending ↦ absurd (none q pending)
-        | inr waits ↦ inr waits
-      ],
-    ))
+    (arrival_prompt id leave phasers)
 
 pub no_answer : (own : Policy) (phase parties : ℕ) → ends own phase parties ≡ None → is_routine_policy own ≡ true
 no_answer policy.Routine phase parties is = refl
 no_answer policy.Default phase parties is = absurd (cc is)
 no_answer policy.Never phase parties is = absurd (cc is)
 no_answer (policy.Until k) phase parties is = absurd (cc is)
-
--- the last, where a routine is to answer
-pub trees_pending : (row : Option Row) (thread : ThreadState) (steps id : ℕ) (leave : Bool) (phasers : List PhaserState) (root : PhaserId)
-    (phase : ℤ) (parties : ℕ) → IsQuiet row → AreTrees steps phasers → id < length phasers
-    → (arrival id leave phasers).answer ≡ arrived.Turning root phase parties
-    → let mid = arrived_at id leave phasers in
-    ends (phaser_at mid root.0).policy (flat_at mid root.0).phase (flat_at mid root.0).parties ≡ None → TreesGo row thread phasers mid
-trees_pending row thread steps id leave phasers root phase parties quiet trees there is none =
-    let mid = arrived_at id leave phasers in
-    let routine = no_answer (phaser_at mid root.0).policy (flat_at mid root.0).phase (flat_at mid root.0).parties none in
-    kept_on row thread phasers mid quiet (arrival-ends id leave phasers) (arrival_same id leave phasers)
-    (λ rest q. let new = rests_by steps id leave phasers (arrived.Turning root phase parties) trees there is rest q in (
-      new.0,
-      λ turned. elim (new.1 turned) as (λ _. nobody q ⊎ (may_wait (phaser_at mid q) ≡ true)) [
-        | inl own ↦ inr (ap (λ n. may_wait (phaser_at mid n)) own ∙ routine_waits (phaser_at mid root.0) routine)
-        | inr waits ↦ inr waits
-      ],
-    ))
 
 -- at this row the policy of the tree of phaser p answers
 abbrev pub AsksPolicy : Option Row → ThreadState → ℕ → List PhaserState → Type 0
@@ -310,4 +280,4 @@ trees_advanced row thread steps id leave phasers root phase parties over quiet a
     ∙ ap (λ r. ends (phaser_at phasers r).policy (flat_at phasers r).phase left) (sym turns.0)
     ∙ ap (λ n. ends (phaser_at phasers root.0).policy n left) (sym (ap (λ (s : Standing). s.phase) (arrival-standings id leave phasers root.0)))
     ∙ ap (λ own. ends own (flat_at mid root.0).phase left) (sym (policy_same phasers mid kept.places root.0)) ∙ says)
-    (rests_by steps id leave phasers (arrived.Turning root phase parties) trees there is)
+    (arrival_prompt id leave phasers)

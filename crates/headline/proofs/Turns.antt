@@ -49,8 +49,7 @@ use Rattle.machine_scene.proofs.CallRows.{can_turn_on_top}
 use Rattle.machine_scene.proofs.Outcomes.{stands_at}
 use Rattle.headline.specs.PhaseEnds.{answer_of_ret, row_in}
 use Rattle.headline.proofs.BarrierCalls.{GoesTo, nowhere, goes_entered, goes_ended, goes_left, goes_interrupted, goes_expired, goes_reset}
-use Rattle.headline.proofs.Resting.{weaker_at}
-use Rattle.headline.proofs.TreeCalls.{AsksPolicy, IsQuiet, TreesGo, trees_stay, trees_registered, trees_forced, trees_counted, trees_pending, trees_advanced, trees_ended}
+use Rattle.headline.proofs.TreeCalls.{AsksPolicy, IsQuiet, TreesGo, trees_stay, trees_registered, trees_forced, trees_counted, trees_advanced, trees_ended}
 
 -- the scene that an outcome leaves; without one it stays
 abbrev pub scene_after : Option Outcome → Scene → Scene
@@ -105,7 +104,7 @@ routine_end false program steps t root back registers manner scene left is stand
     aside scene (trees_ended (Some Ret) thread root _ scene.phasers scene.phasers tt
     (can_turn_on_top program steps t root back registers scene stands.sound stands.few stands.there top is) refl (λ id. refl) (λ id. refl)
     (λ id. refl) stands.sound.trees.stands.1.steady
-    (ap (λ top. answer_of_ret top root thread) top ∙ ap (λ b. if b then says else None) (same-is root)) (weaker_at root scene.phasers))
+    (ap (λ top. answer_of_ret top root thread) top ∙ ap (λ b. if b then says else None) (same-is root)) (λ prompt. prompt))
 
 ret : (top : Option Frame) (program : Program) (steps t : ℕ) (scene : Scene) → StandsAt program steps t scene status.Runs Ret
     → top_of (thread_at scene t).stack ≡ top → GoIf (Some Ret) t scene (Some (outcome_of_ret top t program scene))
@@ -153,8 +152,7 @@ in_turning (Some over) row program steps t p manner scene root phase parties qui
     aside scene (trees_advanced (Some row) (thread_at scene t) steps p manner.leaves scene.phasers root phase parties over quiet asks
     stands.sound.trees stands.few there is says)
 in_turning None row program steps t p manner scene root phase parties quiet asks stands there is says =
-    aside scene (trees_pending (Some row) (thread_at scene t) steps p manner.leaves scene.phasers root phase parties quiet stands.sound.trees
-    there is says)
+    aside scene (trees_counted (Some row) (thread_at scene t) p manner.leaves scene.phasers quiet)
 
 in_arrived : (answer : Arrived) (row : Row) (program : Program) (steps t p : ℕ) (manner : Manner) (scene : Scene)
     → IsQuiet (Some row) → AsksPolicy (Some row) (thread_at scene t) p scene.phasers → StandsAt program steps t scene status.Runs row → p < length scene.phasers
@@ -164,15 +162,8 @@ in_arrived : (answer : Arrived) (row : Row) (program : Program) (steps t p : ℕ
 in_arrived (arrived.Turning root phase parties) row program steps t p manner scene quiet asks stands there is =
     in_turning (answer_of_policy root.0 (with_phasers (arrival p manner.leaves scene.phasers).phasers scene)) row program steps t p manner
     scene root phase parties quiet asks stands there is refl
-in_arrived (arrived.At phase) row program steps t p manner scene quiet asks stands there is =
-    aside scene (trees_counted (Some row) (thread_at scene t) steps p manner.leaves scene.phasers (arrived.At phase) quiet stands.sound.trees there
-    is (λ q no_one. no_one))
-in_arrived (arrived.Dead view) row program steps t p manner scene quiet asks stands there is =
-    aside scene (trees_counted (Some row) (thread_at scene t) steps p manner.leaves scene.phasers (arrived.Dead view) quiet stands.sound.trees
-    there is (λ q no_one. no_one))
-in_arrived arrived.NotThere row program steps t p manner scene quiet asks stands there is =
-    aside scene (trees_counted (Some row) (thread_at scene t) steps p manner.leaves scene.phasers arrived.NotThere quiet stands.sound.trees there
-    is (λ q no_one. no_one))
+in_arrived _ row program steps t p manner scene quiet asks stands there is =
+    aside scene (trees_counted (Some row) (thread_at scene t) p manner.leaves scene.phasers quiet)
 
 in_unless_own : (row : Row) (p t : ℕ) (scene : Scene) (outcome : Option Outcome) → IsQuiet (Some row) → GoIf (Some row) t scene outcome
     → GoIf (Some row) t scene (unless_own p t scene outcome)

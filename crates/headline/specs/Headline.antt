@@ -2,16 +2,19 @@
 --   1. the machine that plays them is what the rows of the instruction table give, applied in that order: its registers, cells,
 --      phasers, barriers, exceptions and waiting threads, its counts of choices and of steps, and its limit (GivesTheRows);
 --   2. no phase ends while a registered party has neither arrived nor left, unless an unregistered party has ever arrived in
---      that tree of phasers; a forced termination ends no phase (EndsNoPhaseEarly). Parties have no names, as in Java: who
---      arrives at a phaser is unregistered where none of those registered with it is left to arrive. And with the same
---      exception, once every registered party has arrived the phase has ended, but where the tree's routine is to answer
---      first, which it never does once it has thrown (PhasesEndInTime). A phaser is terminated only by force, or as a phase of
---      its tree ends and `onAdvance` answers so, for Java's default as no party is left (TerminationsAreSaid). It comes into
---      the phase of another number only where a phase of its tree ends (NumbersChangeAtEnds);
---   3. each step back restores the state before (BackRestores);
+--      that tree of phasers (EndsNoPhaseEarly). Parties have no names, as in Java: who arrives at a phaser is unregistered where
+--      none of those registered with it is left to arrive, and so one that takes another's place isn't. With the same exception,
+--      and in a tree that isn't terminated, the choice with which the last registered party arrives or leaves ends the phase, or
+--      its thread enters the tree's routine, and `ret` out of that ends it (PhasesEndInTime): a routine that throws never does.
+--      Nor is the arrival of a registered party there refused (ArrivalsAreTaken).
+--      A phase ends only where `onAdvance` answers, a policy at an arrival in the tree or a routine at its `ret`, and in no tree
+--      that is terminated. Its yes, which is Java's default where no registered party is left, terminates the tree, as force
+--      does; nothing else does, and it stays so (TerminationsAreSaid). A phaser comes into the next phase where a phase of its
+--      tree ends, and stays in its own elsewhere (NumbersChangeAtEnds);
+--   3. each step back restores the state before (BackRestores, and for a single choice StepsAndReturns);
 --   4. each barrier has one past, of which each state of the run is the record, so that whoever waits there meets the end of
 --      its own generation (BarriersHavePasts).
--- 1 is what `play` leaves (src/machine.rt); 2 and 4 are laws (src/law.rt); 3 is what `step_and_back` does to a machine, and
+-- 1 is what `play` leaves (src/machine.rt); 2 and 4 are laws (src/law.rt); 3 is what `step` and `step_and_back` do to a machine, and
 -- `steps_and_backs` to a debugging session (src/back.rt). Behind each name of a `use` line stands the file that defines it: who
 -- believes this page has to read those too. Beside it stands what lies below: a tree whose words lag, and the word that real
 -- threads share. That commands show this of what they read is said by EndToEnd.antt, beside this file.
@@ -22,7 +25,7 @@
 -- That its world is at each moment that of the choices played and not taken back, is a law of the debugger (debugger/src/law.rt).
 --
 -- Trusted are Rattle's checker and its two compilers, LLVM, the C library and the system below them.
-use Rattle.std.specs.Prelude.{◌≡◌, ℕ, List, None, ◌++◌}
+use Rattle.std.specs.Prelude.{◌≡◌, ℕ, List, Option, None, ◌++◌}
 use Rattle.row_code.specs.declared.image.Image.{Image}
 use Rattle.row_code.specs.Image.{IsImage}
 use Rattle.loader.specs.Declarations.{declared_origin}
@@ -31,10 +34,12 @@ use Rattle.loader.specs.Program.{without_words}
 use Rattle.cyclic_barrier.specs.Barrier.{BarrierState}
 use Rattle.cyclic_barrier.specs.PlainBarrier.{fresh}
 use Rattle.machine_scene.specs.Scene.{barrier_at, thread_at}
+use Rattle.machine_scene.specs.Undo.{Note}
 use Rattle.thread_state.specs.declared.event.Event.{Event}
 use Rattle.thread_machine.specs.declared.choice.Choice.{Choice}
 use Rattle.thread_machine.specs.World.{World, StoredWorld, IsFirstOf, first_of, world_of}
 use Rattle.thread_machine.specs.Step.{played, refusal_of}
+use Rattle.thread_machine.specs.Undo.{CanUndo, undone}
 use Rattle.thread_machine.specs.Execution.{Execution, execution}
 use Rattle.thread_machine.specs.DirectCounts.{NoPhaseEndsEarlyFrom, NumbersStay, counts_through}
 use Rattle.trace_text.specs.State.{state_text}
@@ -45,7 +50,7 @@ use Rattle.shared_phaser.specs.declared.history.Known.{Known}
 use Rattle.shared_phaser.specs.History.{IsLegal}
 use Rattle.shared_phaser.specs.Known.{Owns, making}
 use Rattle.headline.specs.Pasts.{RecordsOnePast}
-use Rattle.headline.specs.PhaseEnds.{AreCounted, EndsInTime, NumbersGoOn, RoutineEnds, TerminateAsSaid, row_of}
+use Rattle.headline.specs.PhaseEnds.{AreCounted, EndsInTime, NumbersGoOn, RoutineEnds, TakesArrivals, TerminateAsSaid, row_of}
 
 -- accepted: each list of the program is within its limits, and no check of the loader finds a fault in it
 abbrev pub Accepted : Image → Type 0
@@ -76,6 +81,14 @@ PhasesEndInTime =
     → EndsInTime now choice (played now choice).world (counts_through (start image) choices (declared_origin image.phasers))
     × RoutineEnds now choice (played now choice).world
 
+-- Nor is a registered party's arrival refused.
+abbrev pub ArrivalsAreTaken : Type 0
+ArrivalsAreTaken =
+    (image : Image) → Accepted image → (choices : List Choice) (choice : Choice)
+    → let now : World = (execution (start image) choices).world in
+    refusal_of now choice ≡ None
+    → TakesArrivals now choice (played now choice).world (counts_through (start image) choices (declared_origin image.phasers))
+
 -- A choice terminates a phaser only by force, or as a phase of its tree ends and `onAdvance` answers so; the parties that it is
 -- told of are those who are registered by the counts.
 abbrev pub TerminationsAreSaid : Type 0
@@ -102,6 +115,13 @@ abbrev pub BackRestores : StoredWorld → List Choice → List Event → StoredW
 BackRestores before choices events after =
     let done : Execution = execution (world_of before) choices in
     (done.refusal ≡ None) × (done.events ≡ events) × (after ≡ before)
+
+-- For a single choice: in between stands the world that its row gives, and what was kept of it (`kept`) takes just this world
+-- back to the one before, to the stored word.
+abbrev pub StepsAndReturns : StoredWorld → Choice → Event → Option Note → (middle : StoredWorld) → Type 0
+StepsAndReturns before choice event kept middle =
+    (refusal_of (world_of before) choice ≡ None) × (record { world = world_of middle; event = event } ≡ played (world_of before) choice)
+    × CanUndo kept middle × (undone kept middle ≡ before)
 
 -- 4. It begins without a generation that has ended, and each choice that isn't refused leaves it as it is or is one call there.
 abbrev pub BarriersHavePasts : Type 0

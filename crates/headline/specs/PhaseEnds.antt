@@ -1,5 +1,5 @@
--- Why a phaser is terminated, and that a phase does end.
-use Rattle.std.specs.Prelude.{◌≡◌, ◌<◌, ◌==◌, ◌||◌, ◌⊎◌, ◌↔◌, if◌then◌else◌, ℕ, ℤ, pos, not, Bool, true, false, List, length, Option, Some, None}
+-- Where a phase ends, and why a phaser is terminated.
+use Rattle.std.specs.Prelude.{◌≡◌, ◌≢◌, ◌<◌, ◌==◌, ◌||◌, ◌⊎◌, ◌↔◌, if◌then◌else◌, ℕ, ℤ, pos, not, Bool, true, false, List, length, Option, Some, None}
 use Rattle.std.specs.Ordering.{int_eq}
 use Rattle.instruction_table.specs.declared.row.Row.{Row}
 use Rattle.instruction_table.specs.declared.row.Row.TheVariants.{Ret, Parr, Pdereg, Paaa, Pforce}
@@ -15,7 +15,7 @@ use Rattle.thread_state.specs.declared.frame.Frame.{Frame}
 use Rattle.thread_state.specs.declared.frame.Frame.TheVariants as frame
 use Rattle.thread_state.specs.Thread.{ThreadState, top_of}
 use Rattle.loader.specs.Program.{row_at}
-use Rattle.machine_scene.specs.PhaserRows.{is_routine_policy}
+use Rattle.machine_scene.specs.PhaserRows.{is_routine_policy, refusal_of_arrival}
 use Rattle.machine_scene.specs.Scene.{thread_at}
 use Rattle.thread_machine.specs.declared.choice.Choice.{Choice}
 use Rattle.thread_machine.specs.DirectCounts.{counts_at_end, has_ended_phase}
@@ -120,3 +120,19 @@ AreCounted before choice after counts =
     (root : ℕ) → root < length trees → root_at trees root ≡ root → has_ended_phase root trees after.scene.phasers ≡ true
     → at.stray root ≡ false
     → ((flat_at after.scene.phasers root).parties ≡ 0) ↔ HaveAllLeft at root trees
+
+-- the row is an arrival at this phaser
+abbrev pub ArrivesAt : Option Row → ℕ → Type 0
+ArrivesAt (Some (Parr into at)) p = at ≡ p
+ArrivesAt (Some (Pdereg into at)) p = at ≡ p
+ArrivesAt (Some (Paaa into at)) p = at ≡ p
+ArrivesAt _ p = ⊥
+
+-- Where by the counts somebody registered is still to arrive at a phaser, whose tree isn't terminated and has had no stray, an
+-- arrival there doesn't throw, but for a thread that runs the tree's routine, or has no room to enter one.
+abbrev pub TakesArrivals : World → Choice → World → Origin → Type 0
+TakesArrivals before choice after counts =
+    let trees = before.scene.phasers in
+    (p : ℕ) → ArrivesAt (row_of before choice) p → refusal_of_arrival p (thread_at before.scene choice.thread) before.scene ≡ None
+    → (flat_at trees p).ended ≡ false → counts.stray (root_at trees p) ≡ false → 0 < counts.unarrived p
+    → (code : ℤ) → (thread_at after.scene choice.thread).status ≢ status.Throws code

@@ -3,18 +3,26 @@ ghost use Rattle.std.specs.Prelude.{◌≡◌, ◌≤◌, ◌∷◌, [], length,
 ghost use Rattle.thread_machine.specs.World.{world_of};
 ghost use Rattle.thread_machine.specs.Execution.{execution};
 ghost use Rattle.debugger.specs.Moves.{AreSteps, backs};
-ghost use Rattle.headline.specs.Headline.{BackRestores};
+ghost use Rattle.headline.specs.Headline.{BackRestores, StepsAndReturns};
 
 use debugger::Debugger;
 use std::alloc::Global;
-use thread_machine::{Choice, Event, Machine, StepFault};
+use thread_machine::{Choice, Event, Machine, StepFault, Undo};
+
+/// Plays a choice on a machine, and answers with its event what takes it back. Where it is refused nothing has changed.
+pub fn step(machine: &mut Machine, choice: Choice) -> Result<(Event, Undo), StepFault>
+    ensures returns { IfOk result (λ both. StepsAndReturns machine.old choice both.0 both.1 machine.new) }
+    ensures refused { OnErr result (machine.new ≡ machine.old) }
+{
+    machine.step_noting(choice)
+}
 
 /// Plays a choice on a machine, and takes it back. Where it is refused nothing has changed.
 pub fn step_and_back(machine: &mut Machine, choice: Choice) -> Result<Event, StepFault>
     ensures restores { IfOk result (λ event. BackRestores machine.old (choice ∷ []) (event ∷ []) machine.new) }
     ensures refused { OnErr result (machine.new ≡ machine.old) }
 {
-    let (event, undo) = machine.step_noting(choice)?;
+    let (event, undo) = step(machine, choice)?;
     machine.back(undo);
     Ok(event)
 }

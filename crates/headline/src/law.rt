@@ -1,5 +1,6 @@
 // What holds of every accepted program: laws, each the contract of a function that does nothing.
 ghost use Rattle.headline.specs.Headline.{
+  ArrivalsAreTaken,
   BarriersHavePasts,
   EndsNoPhaseEarly,
   NumbersChangeAtEnds,
@@ -13,17 +14,22 @@ pub fn no_phase_ends_early()
     ensures { EndsNoPhaseEarly }
 {}
 
-/// Once everybody who registered with a tree has arrived, its phase has ended, or its routine is to answer first.
+/// The last arrival of those who registered with a tree ends its phase, or enters its routine, whose `ret` ends it.
 pub fn phases_end_in_time()
     ensures { PhasesEndInTime }
 {}
 
-/// A phaser is terminated only by force, or where `onAdvance` answers so at the end of a phase of its tree.
+/// The arrival of a registered party isn't refused.
+pub fn arrivals_are_taken()
+    ensures { ArrivalsAreTaken }
+{}
+
+/// A phase ends only where `onAdvance` answers, and what terminates a phaser is its yes, or force.
 pub fn terminations_are_said()
     ensures { TerminationsAreSaid }
 {}
 
-/// Nor does the number of a phase change where none ends.
+/// The number of a phase goes on by one where a phase of its tree ends, and stays elsewhere.
 pub fn numbers_change_at_ends()
     ensures { NumbersChangeAtEnds }
 {}

@@ -1,0 +1,201 @@
+-- Trees of phasers in which no last arrival is forgotten: where all parties of a phaser have arrived its phase is about to end.
+use Rattle.std.proofs.Common.{inl, inr, ◌≡◌, ◌∙◌, ℕ, zero, suc, ◌+◌, ◌-◌, ◌<◌, ◌≤◌, ◌==◌, Bool, true, false, List, [], ◌∷◌, length, ap, refl, sym, subst, arith, if◌then◌else◌}
+use Rattle.std.specs.Prelude.{◌⊎◌, ◌&&◌, not, slice_set}
+use Rattle.std.proofs.lemmas.Bool.{cases_eq, cases_lt}
+use Rattle.std.proofs.lemmas.Bool.Decides.{nat_tests}
+use Rattle.std.proofs.lemmas.List.{get_or_past}
+use Rattle.packed_phaser.specs.Flat.{Flat, Joins, JoinsLate, MustWait, Overfull, Arrival, Counts, Turns, ComesLate, IsUnregistered, arrive, settled, register, vacate, is_empty, unarrived_of}
+use Rattle.tier_tree.specs.declared.climb.Climb.{Climb}
+use Rattle.tier_tree.specs.declared.climb.Climb.TheVariants as climb
+use Rattle.tier_tree.specs.declared.registered.Registered.{Registered}
+use Rattle.tier_tree.specs.declared.registered.Registered.TheVariants as registered
+use Rattle.tier_tree.specs.declared.arrived.Arrived.TheVariants as arrived
+use Rattle.tier_tree.specs.Forest.{PhaserState, no_phaser, phaser_at, flat_at, root_at}
+use Rattle.tier_tree.specs.Registration.{Join, joined, flat_by, registered_by}
+use Rattle.tier_tree.specs.Arrival.{Arrives, Climbed, is_top, passed_on, with_child, climbed_by, climbed, arrival_by, arrival}
+use Rattle.tier_tree.specs.PhaseEnd.{follow}
+use Rattle.tier_tree.specs.Sound.{IsForest}
+use Rattle.tier_tree.specs.Origin.{Origin, is_under, children, is_awaited, AreTallied, HaveAllArrived}
+use Rattle.tier_tree.proofs.Lines.{length-places}
+use Rattle.tier_tree.proofs.Turned.{TreeChange, child-tree}
+
+-- no more parties have arrived than there are; and where all have, the phase is about to end
+abbrev pub IsPrompt : Flat → Type 0
+IsPrompt f = (f.arrived ≤ f.parties) × (f.ended ≡ false → 0 < f.parties → f.arrived ≡ f.parties → f.turned ≡ true)
+
+abbrev pub ArePrompt : List PhaserState → Type 0
+ArePrompt phasers = (q : ℕ) → IsPrompt (flat_at phasers q)
+
+put : (phasers : List PhaserState) (i : ℕ) (new : PhaserState) → IsPrompt new.flat → ArePrompt phasers → ArePrompt (slice_set phasers i new)
+put [] i new is all q = all q
+put (x ∷ phasers) zero new is all zero = is
+put (x ∷ phasers) zero new is all (suc q) = all (suc q)
+put (x ∷ phasers) (suc i) new is all zero = all zero
+put (x ∷ phasers) (suc i) new is all (suc q) = put phasers i new is (λ n. all (suc n)) q
+
+-- a registration
+join_prompt : (ended none over turned : Bool) (f : Flat) (k : ℕ) (view phase : _) → (k == 0) ≡ none → IsPrompt f
+    → IsPrompt (flat_by (if ended then JoinsLate view else (if none then Joins f phase
+    else (if over then Overfull else (if turned then MustWait
+    else Joins (record f { parties = f.parties + k }) phase)))) f)
+join_prompt true none over turned f k view phase is prompt = prompt
+join_prompt false true over turned f k view phase is prompt = prompt
+join_prompt false false true turned f k view phase is prompt = prompt
+join_prompt false false false true f k view phase is prompt = prompt
+join_prompt false false false false f k view phase is (few, rest) =
+    let some : 0 < k = grind (arith, nat_tests, is) in
+    (omega (arith, few), λ live one all. absurd (omega (arith, few, some, all)))
+
+joined_prompt : (all : List Join) (phasers : List PhaserState) → ArePrompt phasers → ArePrompt (joined all phasers)
+joined_prompt [] phasers prompt = prompt
+joined_prompt (join ∷ others) phasers prompt =
+    let after = joined others phasers in
+    let f = flat_at after join.id in
+    let old = joined_prompt others phasers prompt in
+    put after join.id (record (phaser_at after join.id) { flat = flat_by (register join.count f) f })
+    (join_prompt f.ended (join.count == 0) _ f.turned f join.count _ _ refl (old join.id)) old
+
+pub registration_prompt : (r : Registered) (all : List Join) (phasers : List PhaserState) → ArePrompt phasers
+    → ArePrompt (registered_by r all phasers)
+registration_prompt (registered.At phase) all phasers prompt = joined_prompt all phasers prompt
+registration_prompt (registered.Dead view) all phasers prompt = prompt
+registration_prompt registered.Held all phasers prompt = prompt
+registration_prompt registered.TooMany all phasers prompt = prompt
+
+-- an arrival at one phaser: one that isn't the last leaves somebody
+abbrev pub Lands : Arrival → Type 0
+Lands (Counts g) = IsPrompt g × (g.arrived < g.parties)
+Lands (Turns g) = IsPrompt g
+Lands (ComesLate view) = Unit {0}
+Lands IsUnregistered = Unit {0}
+
+settled_lands : (all : Bool) (g : Flat) → (g.arrived == g.parties) ≡ all → g.arrived ≤ g.parties
+    → Lands (if all then Turns (record g { turned = true }) else Counts g)
+settled_lands true g is few = (few, λ live one all. refl)
+settled_lands false g is few =
+    let less : g.arrived < g.parties = grind (arith, nat_tests, is, few) in
+    ((few, λ live one all. absurd (omega (arith, less, all))), less)
+
+arrive_by : (ended none leave : Bool) (f : Flat) (view : _) → (f.arrived == f.parties) ≡ none → IsPrompt f
+    → Lands (if ended then ComesLate view else (if none then IsUnregistered
+    else (if leave then settled (record f { parties = f.parties - 1 }) else settled (record f { arrived = f.arrived + 1 }))))
+arrive_by true none leave f view is prompt = tt
+arrive_by false true leave f view is prompt = tt
+arrive_by false false true f view is (few, rest) =
+    let less : f.arrived < f.parties = grind (arith, nat_tests, is, few) in
+    settled_lands (f.arrived == f.parties - 1) (record f { parties = f.parties - 1 }) refl (omega (arith, less))
+arrive_by false false false f view is (few, rest) =
+    let less : f.arrived < f.parties = grind (arith, nat_tests, is, few) in
+    settled_lands (f.arrived + 1 == f.parties) (record f { arrived = f.arrived + 1 }) refl (omega (arith, less))
+
+pub arrive_lands : (leave : Bool) (f : Flat) → IsPrompt f → Lands (arrive leave f)
+arrive_lands leave f prompt = arrive_by f.ended (f.arrived == f.parties) leave f _ refl prompt
+
+passed_prompt : (none : Bool) (g : Flat) → (g.parties == 0) ≡ none → IsPrompt g → IsPrompt (if none then vacate g else g)
+passed_prompt true g is (few, rest) = (few, λ live one all. absurd (grind (arith, nat_tests, is, one)))
+passed_prompt false g is prompt = prompt
+
+child_prompt : (i : ℕ) (g : Flat) (c : Climb) (above : List PhaserState) → IsPrompt g → ArePrompt above
+    → ArePrompt (with_child i g c above).phasers
+child_prompt i g climb.Refused above one prompt = prompt
+child_prompt i g climb.Counted above one prompt =
+    put above i (record (phaser_at above i) { flat = passed_on g }) (passed_prompt (g.parties == 0) g refl one) prompt
+child_prompt i g climb.Turned above one prompt =
+    put above i (record (phaser_at above i) { flat = passed_on g }) (passed_prompt (g.parties == 0) g refl one) prompt
+
+climbed_by_prompt : (a : Arrival) (i : ℕ) (top : Bool) (onward : Bool → Climbed) (phasers : List PhaserState) → Lands a → ArePrompt phasers
+    → ((leaves : Bool) → ArePrompt (onward leaves).phasers) → ArePrompt (climbed_by a i top onward phasers).phasers
+climbed_by_prompt (Counts g) i top onward phasers lands prompt up = put phasers i (record (phaser_at phasers i) { flat = g }) lands.0 prompt
+climbed_by_prompt (Turns g) i true onward phasers lands prompt up = put phasers i (record (phaser_at phasers i) { flat = g }) lands prompt
+climbed_by_prompt (Turns g) i false onward phasers lands prompt up =
+    let leaves = g.parties == 0 in child_prompt i g (onward leaves).climb (onward leaves).phasers lands (up leaves)
+climbed_by_prompt (ComesLate view) i top onward phasers lands prompt up = prompt
+climbed_by_prompt IsUnregistered i top onward phasers lands prompt up = prompt
+
+climbed_prompt : (line : List ℕ) (leave : Bool) (phasers : List PhaserState) → ArePrompt phasers → ArePrompt (climbed line leave phasers).phasers
+climbed_prompt [] leave phasers prompt = prompt
+climbed_prompt (i ∷ above) leave phasers prompt =
+    climbed_by_prompt (arrive leave (flat_at phasers i)) i (is_top above) (λ leaves. climbed above leaves phasers) phasers
+    (arrive_lands leave (flat_at phasers i) (prompt i)) prompt (λ leaves. climbed_prompt above leaves phasers prompt)
+
+pub arrival_prompt : (id : ℕ) (leave : Bool) (phasers : List PhaserState) → ArePrompt phasers → ArePrompt (arrival id leave phasers).phasers
+arrival_prompt id leave phasers prompt =
+    let all = climbed (phaser_at phasers id).line leave phasers in
+    by_end (flat_at phasers id).ended all.climb id all.phasers phasers _ prompt
+    (climbed_prompt (phaser_at phasers id).line leave phasers prompt)
+  where
+    by_end : (ended : Bool) (c : Climb) (id : ℕ) (after phasers : List PhaserState) (view : _) → ArePrompt phasers → ArePrompt after
+        → let a : Arrives = if ended then record { phasers = phasers; answer = arrived.Dead view } else arrival_by c id after phasers in
+        ArePrompt a.phasers
+    by_end true c id after phasers view old new = old
+    by_end false climb.Counted id after phasers view old new = new
+    by_end false climb.Turned id after phasers view old new = new
+    by_end false climb.Refused id after phasers view old new = old
+
+-- the end of a phase, or a termination
+follow_prompt : (phase : ℕ) (ends : Bool) (f : Flat) → IsPrompt (follow phase ends f)
+follow_prompt phase true f = (omega arith, λ live. absurd (cc live))
+follow_prompt phase false f = (omega arith, λ live one all. absurd (omega (arith, one, all)))
+
+pub change_prompt : (root : ℕ) (ends : Bool) (before after : List PhaserState) → TreeChange root ends before after → ArePrompt before
+    → ArePrompt after
+change_prompt root ends before after change prompt q =
+    let many : length after ≡ length before = sym (length-places after) ∙ ap length change.same ∙ length-places before in
+    elim (cases_lt q (length before)) as (λ _. IsPrompt (flat_at after q)) [
+      | inl there ↦ elim (cases_eq (root_at before q) root) as (λ _. IsPrompt (flat_at after q)) [
+        | inl inside ↦
+            let now = change.inside q there inside in
+            subst IsPrompt (sym now.1) (follow_prompt now.0 ends (flat_at before q))
+        | inr outside ↦ subst IsPrompt (sym (change.apart q there outside)) (prompt q)
+      ]
+      | inr past ↦
+          let none : phaser_at after q ≡ no_phaser = get_or_past after q no_phaser (omega (arith, many, past)) in
+          subst (λ (p : PhaserState). IsPrompt p.flat) (sym none) (omega arith, λ live one. absurd (omega (arith, one)))
+    ]
+
+-- where everybody who registered with a tree has arrived, each phaser has all its parties
+pub no_children : (test : Flat → Bool) (parent : ℕ) (phasers : List PhaserState)
+    → ((k : ℕ) → k < length phasers → is_under parent (phaser_at phasers k).line ≡ true → test (flat_at phasers k) ≡ false)
+    → children test parent phasers ≡ 0
+no_children test parent [] none = refl
+no_children test parent (p ∷ phasers) none =
+    let others = no_children test parent phasers (λ k there. none (suc k) (omega (arith, there))) in
+    let first = one (is_under parent p.line) (test p.flat) (none 0 (omega arith)) in
+    omega (arith, first, others)
+  where
+    one : (under pass : Bool) → (under ≡ true → pass ≡ false) → let n : ℕ = (if under && pass then 1 else 0) in n ≡ 0
+    one true true none = absurd (cc (none refl))
+    one true false none = refl
+    one false pass none = refl
+
+not_awaited : (f : Flat) (empty turned : Bool) → is_empty f ≡ empty → f.turned ≡ turned → IsPrompt f → f.ended ≡ false
+    → unarrived_of f ≡ 0 → (not empty && not turned) ≡ false
+not_awaited f true turned e t prompt live none = refl
+not_awaited f false true e t prompt live none = refl
+not_awaited f false false e t (few, rest) live none =
+    let all : f.arrived ≡ f.parties = omega (arith, few, none) in
+    let some : 0 < f.parties = by_parties f.ended f.turned f.parties live t e in
+    absurd (cc (rest live some all, t))
+  where
+    by_parties : (ended turned : Bool) (parties : ℕ) → ended ≡ false → turned ≡ false
+        → (if ended then false else (if turned then false else parties == 0)) ≡ false → 0 < parties
+    by_parties true turned parties live t e = absurd (cc live)
+    by_parties false true parties live t e = absurd (cc t)
+    by_parties false false parties live t e = grind (arith, nat_tests, e)
+
+pub all_come : (n : ℕ) (phasers : List PhaserState) (origin : Origin) (root : ℕ) → IsForest phasers → AreTallied phasers origin
+    → ArePrompt phasers → origin.stray root ≡ false → (flat_at phasers root).ended ≡ false → HaveAllArrived origin root phasers
+    → (id : ℕ) → length phasers ≤ id + n → id < length phasers → root_at phasers id ≡ root → unarrived_of (flat_at phasers id) ≡ 0
+all_come zero phasers origin root forest stands prompt clean live all id most there tree = absurd (omega (arith, most, there))
+all_come (suc n) phasers origin root forest stands prompt clean live all id most there tree =
+    let awaited : children is_awaited id phasers ≡ 0 = no_children is_awaited id phasers (λ k here under.
+    let up = child-tree phasers k id forest here under in
+    let below = up.0 in
+    let inside : root_at phasers k ≡ root = up.1 ∙ tree in
+    not_awaited (flat_at phasers k) (is_empty (flat_at phasers k)) (flat_at phasers k).turned refl refl (prompt k)
+    ((stands.steady k here).tree ∙ ap (λ r. (flat_at phasers r).ended) inside ∙ live)
+    (all_come n phasers origin root forest stands prompt clean live all k (omega (arith, most, below)) here inside)) in
+    let tally = (stands.tallied id there (ap origin.stray tree ∙ clean)
+    ((stands.steady id there).tree ∙ ap (λ r. (flat_at phasers r).ended) tree ∙ live)).unarrived in
+    let own = all id there tree in
+    omega (arith, awaited, tally, own)

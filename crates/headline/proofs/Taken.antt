@@ -1,0 +1,251 @@
+-- The arrival of a registered party is taken.
+use Rattle.std.proofs.Common.{inl, inr, ◌≡◌, ◌≢◌, ◌∙◌, ℕ, ℤ, pos, ◌+◌, ◌-◌, ◌<◌, ◌==◌, ◌&&◌, not, Bool, true, false, List, [], ◌∷◌, length, ap, refl, sym, subst, arith, if◌then◌else◌}
+use Rattle.std.specs.Prelude.{◌⊎◌, slice_set, Option, Some, None}
+use Rattle.std.proofs.lemmas.Bool.{cases_eq}
+use Rattle.std.proofs.lemmas.List.{get_or-set_same}
+use Rattle.instruction_table.specs.declared.row.Row.{Row}
+use Rattle.instruction_table.specs.declared.row.Row.TheVariants.{Parr, Pdereg, Paaa}
+use Rattle.packed_phaser.specs.Flat.{Flat, Arrival, Counts, Turns, ComesLate, IsUnregistered, arrive, settled, is_empty, unarrived_of}
+use Rattle.tier_tree.specs.declared.climb.Climb.{Climb}
+use Rattle.tier_tree.specs.declared.climb.Climb.TheVariants as climb
+use Rattle.tier_tree.specs.declared.arrived.Arrived.{Arrived}
+use Rattle.tier_tree.specs.declared.arrived.Arrived.TheVariants as arrived
+use Rattle.tier_tree.specs.Forest.{PhaserState, phaser_at, flat_at, root_at}
+use Rattle.tier_tree.specs.Arrival.{Arrives, Climbed, is_top, with_child, climbed_by, climbed, arrival_by, arrival}
+use Rattle.tier_tree.specs.PhaseEnd.{after_phase_end}
+use Rattle.tier_tree.specs.Origin.{Origin, is_under, children, is_awaited, AreTallied}
+use Rattle.tier_tree.proofs.Balance.{next-parent}
+use Rattle.tier_tree.proofs.Safe.{line_own, root-parent}
+use Rattle.tier_tree.proofs.Stands.{same-is, other-is}
+use Rattle.loader.specs.Program.{Program, row_at}
+use Rattle.thread_state.specs.declared.status.Status.{Status}
+use Rattle.thread_state.specs.declared.status.Status.TheVariants as status
+use Rattle.thread_state.specs.Thread.{ThreadState, is_full}
+use Rattle.machine_scene.specs.declared.manner.Manner.{Manner}
+use Rattle.machine_scene.specs.Manner.{manner_of}
+use Rattle.machine_scene.specs.Scene.{Scene, Outcome, no_thread, thread_at, with_phasers, with_thread}
+use Rattle.machine_scene.specs.PhaserRows.{is_own_tree, has_routine, answer_of_policy, refusal_of_arrival, unless_own, outcome_of_pending_end, outcome_of_arrived, outcome_of_arrival, outcome_with_room}
+use Rattle.machine_scene.specs.Outcomes.{outcome_in}
+use Rattle.machine_scene.proofs.Plain.{StandsAt}
+use Rattle.thread_machine.specs.declared.choice.Choice.{Choice}
+use Rattle.thread_machine.specs.World.{World}
+use Rattle.thread_machine.specs.Ready.{outcome_of_choice}
+use Rattle.thread_machine.specs.Step.{played}
+use Rattle.headline.specs.PhaseEnds.{ArrivesAt, TakesArrivals, row_in, row_of}
+use Rattle.headline.proofs.LastArrivals.{played_ends}
+use Rattle.headline.proofs.Left.{IsOpen, live_at, none_passes}
+use Rattle.headline.proofs.Turns.{scene_after}
+
+-- it comes to the phaser
+abbrev Comes : Arrival → Type 0
+Comes (Counts g) = Unit {0}
+Comes (Turns g) = Unit {0}
+Comes (ComesLate view) = ⊥
+Comes IsUnregistered = ⊥
+
+settled_comes : (all : Bool) (g : Flat) → Comes (if all then Turns (record g { turned = true }) else Counts g)
+settled_comes true g = tt
+settled_comes false g = tt
+
+comes_by : (ended none leave : Bool) (f : Flat) (view : _) → ended ≡ false → none ≡ false
+    → Comes (if ended then ComesLate view else (if none then IsUnregistered
+    else (if leave then settled (record f { parties = f.parties - 1 }) else settled (record f { arrived = f.arrived + 1 }))))
+comes_by true none leave f view live some = absurd (cc live)
+comes_by false true leave f view live some = absurd (cc some)
+comes_by false false true f view live some = settled_comes (f.arrived == f.parties - 1) (record f { parties = f.parties - 1 })
+comes_by false false false f view live some = settled_comes (f.arrived + 1 == f.parties) (record f { arrived = f.arrived + 1 })
+
+child_comes : (c : Climb) (i : ℕ) (g : Flat) (above : List PhaserState) → (with_child i g c above).climb ≡ climb.Refused → c ≡ climb.Refused
+child_comes climb.Counted i g above is = absurd (cc is)
+child_comes climb.Turned i g above is = absurd (cc is)
+child_comes climb.Refused i g above is = refl
+
+-- the parent, if there is one, doesn't refuse
+abbrev Onward : List ℕ → (Bool → Climbed) → Type 0
+Onward [] onward = Unit {0}
+Onward (n ∷ more) onward = (leaves : Bool) → (onward leaves).climb ≡ climb.Refused → ⊥
+
+climb_comes : (a : Arrival) (i : ℕ) (above : List ℕ) (onward : Bool → Climbed) (phasers : List PhaserState) → Comes a
+    → Onward above onward → (climbed_by a i (is_top above) onward phasers).climb ≡ climb.Refused → ⊥
+climb_comes (Counts g) i above onward phasers comes up is = absurd (cc is)
+climb_comes (Turns g) i [] onward phasers comes up is = absurd (cc is)
+climb_comes (Turns g) i (n ∷ more) onward phasers comes up is =
+    let leaves = g.parties == 0 in
+    up leaves (child_comes (onward leaves).climb i g (onward leaves).phasers is)
+climb_comes (ComesLate view) i above onward phasers comes up is = comes
+climb_comes IsUnregistered i above onward phasers comes up is = comes
+
+awaited_by : (ended turned : Bool) (parties : ℕ) → ended ≡ false → turned ≡ false → 0 < parties
+    → (not (if ended then false else (if turned then false else parties == 0)) && not turned) ≡ true
+awaited_by true turned parties live t some = absurd (cc live)
+awaited_by false true parties live t some = absurd (cc t)
+awaited_by false false parties live t some =
+    ap (λ b. not b && true) (other-is parties 0 (λ none. omega (arith, none, some)))
+
+by_turned : (turned : Bool) → (turned ≡ true → ⊥) → turned ≡ false
+by_turned true never = absurd (never refl)
+by_turned false never = refl
+
+-- somebody is still to arrive at a phaser, so its parent waits for it
+parent_waits : (phasers : List PhaserState) (counts : Origin) (root i n : ℕ) (more : List ℕ) → IsOpen phasers counts root → i < length phasers
+    → (phaser_at phasers i).line ≡ i ∷ n ∷ more → n < length phasers → root_at phasers i ≡ root → root_at phasers n ≡ root
+    → 0 < unarrived_of (flat_at phasers i) → 0 < unarrived_of (flat_at phasers n)
+parent_waits phasers counts root i n more fair there line within tree above some =
+    let f = flat_at phasers i in
+    let steady = fair.stands.steady i there in
+    let turned : f.turned ≡ false = by_turned f.turned (λ is. (let all = (steady.turned is).1 in absurd (omega (arith, all, some)))) in
+    let yes = awaited_by f.ended f.turned f.parties (live_at phasers counts root i fair there tree) turned (omega (arith, some)) in
+    let tally = (fair.stands.tallied n within (ap counts.stray above ∙ fair.clean) (live_at phasers counts root n fair within above)).unarrived in
+    elim (cases_eq (children is_awaited n phasers) 0) as (λ _. 0 < unarrived_of (flat_at phasers n)) [
+      | inl none ↦
+          let out = none_passes is_awaited n phasers i none there (ap (is_under n) line ∙ same-is n) in
+          absurd (cc (yes, out))
+      | inr many ↦ omega (arith, tally, many)
+    ]
+
+climbed_comes : (line : List ℕ) (i : ℕ) (leave : Bool) (phasers : List PhaserState) (counts : Origin) (root : ℕ) → IsOpen phasers counts root
+    → i < length phasers → (phaser_at phasers i).line ≡ i ∷ line → root_at phasers i ≡ root → 0 < unarrived_of (flat_at phasers i)
+    → (climbed (i ∷ line) leave phasers).climb ≡ climb.Refused → ⊥
+climbed_comes [] i leave phasers counts root fair there is tree some =
+    let f = flat_at phasers i in
+    climb_comes (arrive leave f) i [] (λ leaves. climbed [] leaves phasers) phasers
+    (comes_by f.ended (f.arrived == f.parties) leave f _ (live_at phasers counts root i fair there tree)
+    (other-is f.arrived f.parties (λ all. omega (arith, all, some)))) tt
+climbed_comes (n ∷ more) i leave phasers counts root fair there is tree some =
+    let f = flat_at phasers i in
+    let next = next-parent phasers i n more fair.forest there is in
+    let below = next.0 in
+    let within : n < length phasers = omega (arith, below, there) in
+    let above : root_at phasers n ≡ root =
+    sym (root-parent phasers i n fair.forest within (is ∙ ap (λ l. i ∷ l) (sym next.1))) ∙ tree in
+    climb_comes (arrive leave f) i (n ∷ more) (λ leaves. climbed (n ∷ more) leaves phasers) phasers
+    (comes_by f.ended (f.arrived == f.parties) leave f _ (live_at phasers counts root i fair there tree)
+    (other-is f.arrived f.parties (λ all. omega (arith, all, some))))
+    (λ leaves. climbed_comes more n leaves phasers counts root fair within next.1 above
+    (parent_waits phasers counts root i n more fair there is within tree above some))
+
+arrival_comes : (id : ℕ) (leave : Bool) (phasers : List PhaserState) (counts : Origin) (root : ℕ) → IsOpen phasers counts root
+    → id < length phasers → root_at phasers id ≡ root → 0 < counts.unarrived id → (arrival id leave phasers).answer ≡ arrived.NotThere → ⊥
+arrival_comes id leave phasers counts root fair there tree some is =
+    let own = line_own phasers id fair.forest there in
+    let tally = (fair.stands.tallied id there (ap counts.stray tree ∙ fair.clean) (live_at phasers counts root id fair there tree)).unarrived in
+    let all = climbed (phaser_at phasers id).line leave phasers in
+    by_end (flat_at phasers id).ended all.climb id all.phasers phasers _
+    (subst (λ line. (climbed line leave phasers).climb ≡ climb.Refused → ⊥) (sym own.1)
+    (climbed_comes own.0 id leave phasers counts root fair there own.1 tree (omega (arith, tally, some)))) is
+  where
+    by_end : (ended : Bool) (c : Climb) (id : ℕ) (after phasers : List PhaserState) (view : _) → (c ≡ climb.Refused → ⊥)
+        → let a : Arrives = if ended then record { phasers = phasers; answer = arrived.Dead view } else arrival_by c id after phasers in
+        a.answer ≡ arrived.NotThere → ⊥
+    by_end true c id after phasers view comes is = absurd (cc is)
+    by_end false climb.Counted id after phasers view comes is = absurd (cc is)
+    by_end false climb.Turned id after phasers view comes is = absurd (cc is)
+    by_end false climb.Refused id after phasers view comes is = comes refl
+
+-- a thread that doesn't throw
+abbrev Calm : ℕ → Scene → Type 0
+Calm t scene = (code : ℤ) → (thread_at scene t).status ≢ status.Throws code
+
+calm : (thread : ThreadState) (t : ℕ) (scene : Scene) → t < length scene.threads → ((code : ℤ) → thread.status ≢ status.Throws code)
+    → Calm t (with_thread thread t scene)
+calm thread t scene there is code throws =
+    is code (sym (ap (λ (th : ThreadState). th.status) (get_or-set_same scene.threads t thread no_thread there)) ∙ throws)
+
+runs_on : (code : ℤ) → status.Runs ≢ status.Throws code
+runs_on code is = cc is
+
+waits_on : (phase code : ℤ) → status.AwaitsPhase phase ≢ status.Throws code
+waits_on phase code is = cc is
+
+calm_end : (answer : Option Bool) (manner : Manner) (root : ℕ) (phase : ℤ) (t : ℕ) (program : Program) (scene : Scene) → t < length scene.threads
+    → (thread_at scene t).status ≡ status.Runs → Calm t (outcome_of_pending_end answer manner root phase t program scene).scene
+calm_end (Some over) manner root phase t program scene there runs =
+    calm _ t (with_phasers (after_phase_end root over scene.phasers) scene) there runs_on
+calm_end None manner root phase t program scene there runs = calm _ t scene there (λ code is. runs_on code (sym runs ∙ is))
+
+calm_wait : (waits : Bool) (manner : Manner) (phase : ℤ) (t : ℕ) (program : Program) (scene : Scene) → manner.waits ≡ waits
+    → t < length scene.threads → Calm t (outcome_of_arrived (arrived.At phase) manner t program scene).scene
+calm_wait true manner phase t program scene is there =
+    calm _ t scene there (λ code throws. waits_on phase code (sym (rw is refl) ∙ throws))
+calm_wait false manner phase t program scene is there =
+    calm _ t scene there (λ code throws. runs_on code (sym (rw is refl) ∙ throws))
+
+calm_arrived : (answer : Arrived) (manner : Manner) (t : ℕ) (program : Program) (scene : Scene) → t < length scene.threads
+    → (thread_at scene t).status ≡ status.Runs → (answer ≡ arrived.NotThere → ⊥) → Calm t (outcome_of_arrived answer manner t program scene).scene
+calm_arrived (arrived.At phase) manner t program scene there runs comes = calm_wait manner.waits manner phase t program scene refl there
+calm_arrived (arrived.Turning root phase parties) manner t program scene there runs comes =
+    calm_end (answer_of_policy root.0 scene) manner root.0 phase t program scene there runs
+calm_arrived (arrived.Dead view) manner t program scene there runs comes = calm _ t scene there runs_on
+calm_arrived arrived.NotThere manner t program scene there runs comes = absurd (comes refl)
+
+unrefused : (own full : Bool) (t : ℕ) (scene : Scene) (first second call : Outcome)
+    → (if own then Some (pos 1) else (if full then Some (pos 6) else None)) ≡ None → Calm t call.scene
+    → Calm t (scene_after (if own then Some first else Some (if full then second else call)) scene)
+unrefused true full t scene first second call none is = absurd (cc none)
+unrefused false true t scene first second call none is = absurd (cc none)
+unrefused false false t scene first second call none is = is
+
+arrives_calmly : (row : Row) (manner : Manner) (p t : ℕ) (program : Program) (steps : ℕ) (scene : Scene) (counts : Origin)
+    → StandsAt program steps t scene status.Runs row → AreTallied scene.phasers counts → p < length scene.phasers
+    → refusal_of_arrival p (thread_at scene t) scene ≡ None → (flat_at scene.phasers p).ended ≡ false
+    → counts.stray (root_at scene.phasers p) ≡ false → 0 < counts.unarrived p
+    → Calm t (scene_after (unless_own p t scene (Some (outcome_of_arrival manner p t program scene))) scene)
+arrives_calmly row manner p t program steps scene counts stands tallied there none live clean some =
+    let phasers = scene.phasers in
+    let fair : IsOpen phasers counts (root_at phasers p) = record {
+      forest = stands.sound.trees.forest;
+      stands = tallied;
+      clean = clean;
+      live = sym (tallied.steady p there).tree ∙ live;
+    } in
+    unrefused (is_own_tree p (thread_at scene t) scene) (has_routine p scene && is_full (thread_at scene t)) t scene _ _
+    (outcome_with_room manner p t program scene) none
+    (calm_arrived (arrival p manner.leaves phasers).answer manner t program (with_phasers (arrival p manner.leaves phasers).phasers scene) stands.there
+    stands.status (arrival_comes p manner.leaves phasers counts (root_at phasers p) fair there refl some))
+
+abbrev TakesAt : Option Row → ℕ → Scene → Scene → Origin → Type 0
+TakesAt row t scene last counts =
+    (p : ℕ) → ArrivesAt row p → refusal_of_arrival p (thread_at scene t) scene ≡ None → (flat_at scene.phasers p).ended ≡ false
+    → counts.stray (root_at scene.phasers p) ≡ false → 0 < counts.unarrived p → Calm t last
+
+row_takes : (row : Row) (t : ℕ) (program : Program) (steps : ℕ) (scene : Scene) (counts : Origin) → StandsAt program steps t scene status.Runs row
+    → AreTallied scene.phasers counts → TakesAt (Some row) t scene (scene_after (outcome_in status.Runs row t program scene) scene) counts
+row_takes (Parr into at) t program steps scene counts stands tallied p same =
+    subst (λ p. refusal_of_arrival p (thread_at scene t) scene ≡ None → (flat_at scene.phasers p).ended ≡ false
+    → counts.stray (root_at scene.phasers p) ≡ false → 0 < counts.unarrived p
+    → Calm t (scene_after (outcome_in status.Runs (Parr into at) t program scene) scene)) same
+    (arrives_calmly (Parr into at) (manner_of (Parr into at)) at t program steps scene counts stands tallied stands.named)
+row_takes (Pdereg into at) t program steps scene counts stands tallied p same =
+    subst (λ p. refusal_of_arrival p (thread_at scene t) scene ≡ None → (flat_at scene.phasers p).ended ≡ false
+    → counts.stray (root_at scene.phasers p) ≡ false → 0 < counts.unarrived p
+    → Calm t (scene_after (outcome_in status.Runs (Pdereg into at) t program scene) scene)) same
+    (arrives_calmly (Pdereg into at) (manner_of (Pdereg into at)) at t program steps scene counts stands tallied stands.named)
+row_takes (Paaa into at) t program steps scene counts stands tallied p same =
+    subst (λ p. refusal_of_arrival p (thread_at scene t) scene ≡ None → (flat_at scene.phasers p).ended ≡ false
+    → counts.stray (root_at scene.phasers p) ≡ false → 0 < counts.unarrived p
+    → Calm t (scene_after (outcome_in status.Runs (Paaa into at) t program scene) scene)) same
+    (arrives_calmly (Paaa into at) (manner_of (Paaa into at)) at t program steps scene counts stands tallied stands.named)
+row_takes _ t program steps scene counts stands tallied p same = absurd same
+
+turn_takes : (of : Status) (row : Row) (t : ℕ) (program : Program) (steps : ℕ) (scene : Scene) (counts : Origin) → StandsAt program steps t scene of row
+    → AreTallied scene.phasers counts → TakesAt (row_in of row) t scene (scene_after (outcome_in of row t program scene) scene) counts
+turn_takes status.Runs row t program steps scene counts stands tallied p same = row_takes row t program steps scene counts stands tallied p same
+turn_takes _ row t program steps scene counts stands tallied p same = absurd same
+
+by_kind : (expiry : Bool) (row : Option Row) (t : ℕ) (scene : Scene) (counts : Origin) (late turn : Option Outcome)
+    → TakesAt row t scene (scene_after turn scene) counts
+    → TakesAt (if expiry then None else row) t scene (scene_after (if expiry then late else turn) scene) counts
+by_kind true row t scene counts late turn takes p same = absurd same
+by_kind false row t scene counts late turn takes p same = takes p same
+
+pub takes : (world : World) (choice : Choice) (counts : Origin) (steps : ℕ)
+    → StandsAt world.program steps choice.thread world.scene (thread_at world.scene choice.thread).status (row_at world.program.rows (thread_at world.scene choice.thread).pc)
+    → AreTallied world.scene.phasers counts → TakesArrivals world choice (played world choice).world counts
+takes world choice counts steps stands tallied =
+    let scene = world.scene in
+    let t = choice.thread in
+    let thread = thread_at scene t in
+    let row = row_at world.program.rows thread.pc in
+    subst (λ (last : Scene). TakesAt (row_of world choice) t scene last counts) (sym (played_ends (outcome_of_choice world.program choice scene) world))
+    (by_kind choice.expiry (row_in thread.status row) t scene counts _ _
+    (turn_takes thread.status row t world.program steps scene counts stands tallied))
