@@ -1,12 +1,8 @@
 -- Arrivals: the exception that they meet before they come to a phaser.
-use Rattle.std.proofs.Common.{◌≡◌, ◌∙◌, ℕ, ℤ, pos, ◌==◌, ◌&&◌, Bool, true, false, List, [], ap, refl, if◌then◌else◌, arith, rules}
-use Rattle.std.specs.Prelude.{length, Some, None}
-use Rattle.std.specs.List.{list_any}
+use Rattle.std.proofs.Common.{◌≡◌, ℕ, ℤ, pos, ◌&&◌, Bool, true, false, [], ap, refl, if◌then◌else◌, arith, rules}
+use Rattle.std.specs.Prelude.{Some, None}
 use Rattle.std.proofs.lemmas.Option.{same_Some}
-use Rattle.tier_tree.specs.Forest.{root_at}
 use Rattle.loader.specs.Program.{Program}
-use Rattle.thread_state.specs.declared.frame.Frame.{Frame}
-use Rattle.thread_state.specs.Frame.{is_advance}
 use Rattle.thread_state.specs.Thread.{ThreadState, is_full, turn_of_throw}
 use Rattle.machine_scene.specs.declared.manner.Manner.{Manner}
 use Rattle.machine_scene.specs.Scene.{Scene, Outcome, thread_at, outcome_of_turn}

@@ -1,16 +1,15 @@
 -- Rows at barriers.
-use Rattle.std.proofs.Common.{◌≡◌, ◌∙◌, ℕ, pos, ◌+◌, ◌<◌, ◌==◌, ◌&&◌, ◌||◌, not, Bool, true, false, length, refl, arith, if◌then◌else◌, rules}
-use Rattle.std.specs.Prelude.{int_lt, Option, Some, None}
+use Rattle.std.proofs.Common.{◌≡◌, ◌∙◌, ℕ, pos, ◌+◌, ◌<◌, ◌==◌, ◌&&◌, ◌||◌, Bool, true, false, length, refl, arith, if◌then◌else◌, rules}
+use Rattle.std.specs.Prelude.{Option, Some, None}
 use Rattle.std.proofs.lemmas.List.{length-map}
 use Rattle.instruction_table.specs.declared.row.Row.{Row}
-use Rattle.instruction_table.specs.declared.row.Row.TheVariants.{Cawait, Cawaitt, Creset, Cbroken, Cwaiting, Cparties}
+use Rattle.instruction_table.specs.declared.row.Row.TheVariants.{Cawait, Creset}
 use Rattle.instruction_table.specs.declared.register.Reg.{Reg}
-use Rattle.instruction_table.specs.Registers.{value_in}
 use Rattle.cyclic_barrier.specs.declared.answer.Entered.{Entered}
 use Rattle.cyclic_barrier.specs.declared.answer.Entered.TheVariants as entered
 use Rattle.cyclic_barrier.specs.declared.answer.WaitState.TheVariants as state
 use Rattle.cyclic_barrier.specs.Waits.{released}
-use Rattle.cyclic_barrier.specs.Barrier.{BarrierState, Entry, has_wait, is_wait, runner_after, enter_beside, enter_timed, reset, number_waiting}
+use Rattle.cyclic_barrier.specs.Barrier.{BarrierState, Entry, has_wait, is_wait, runner_after, enter_beside, enter_timed, reset}
 use Rattle.cyclic_barrier.proofs.CallLemmas.{has_wait-enter, runner-enter, length-enter, has_wait-reset}
 use Rattle.loader.specs.Named.{stops}
 use Rattle.loader.specs.Program.{Program}

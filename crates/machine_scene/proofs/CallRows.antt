@@ -1,10 +1,10 @@
 -- Calls, handlers, `ret` and thrown exceptions.
-use Rattle.std.proofs.Common.{◌≡◌, ◌∙◌, ℕ, ℤ, pos, zero, suc, ◌+◌, ◌<◌, Bool, true, false, List, [], ◌∷◌, length, ap, refl, sym, subst, arith, if◌then◌else◌, rules}
+use Rattle.std.proofs.Common.{◌≡◌, ◌∙◌, ℕ, ℤ, pos, suc, ◌+◌, ◌<◌, Bool, true, false, List, ◌∷◌, length, ap, refl, sym, subst, arith, if◌then◌else◌, rules}
 use Rattle.std.specs.Prelude.{◌||◌, not, Option, Some, None, slice_set, slice_index_or}
 use Rattle.std.specs.Ordering.{int_eq}
 use Rattle.std.proofs.lemmas.List.{get_or-set_same}
 use Rattle.instruction_table.specs.declared.row.Row.{Row}
-use Rattle.instruction_table.specs.declared.row.Row.TheVariants.{Call, Ret, Try, Endtry, Throw}
+use Rattle.instruction_table.specs.declared.row.Row.TheVariants.{Call, Ret, Try, Endtry}
 use Rattle.instruction_table.specs.declared.register.Reg.TheVariants.{R0}
 use Rattle.instruction_table.specs.Registers.{value_in}
 use Rattle.packed_phaser.specs.Flat.{view_of}

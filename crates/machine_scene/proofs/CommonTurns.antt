@@ -1,36 +1,34 @@
 -- Turns of the common kinds: what they leave of the sets of ready threads.
-use Rattle.std.proofs.Common.{◌≡◌, ◌≢◌, ◌∙◌, ℕ, ℤ, pos, ◌<◌, ◌&&◌, ◌||◌, not, Bool, true, false, List, ap, refl, sym, subst, if◌then◌else◌, arith}
-use Rattle.std.specs.Prelude.{length, is_some, Option, Some, None}
+use Rattle.std.proofs.Common.{◌≡◌, ◌≢◌, ◌∙◌, ℕ, ℤ, pos, ◌<◌, ◌&&◌, ◌||◌, Bool, true, false, List, ap, subst, if◌then◌else◌, arith}
+use Rattle.std.specs.Prelude.{length, Option, Some, None}
 use Rattle.std.specs.Ordering.{int_eq}
 use Rattle.std.proofs.lemmas.Bool.Decides.{Decides-int_eq}
 use Rattle.std.proofs.lemmas.List.{get_or-set_same}
 use Rattle.instruction_table.specs.declared.row.Row.{Row}
-use Rattle.instruction_table.specs.declared.row.Row.TheVariants.{Ldi, Mov, Add, Sub, Jmp, Beq, Bne, Blt, Parr, Paaa, Pawait, Pawaiti, Pawaitt}
+use Rattle.instruction_table.specs.declared.row.Row.TheVariants.{Parr, Paaa}
 use Rattle.instruction_table.specs.declared.register.Reg.{Reg}
 use Rattle.instruction_table.specs.LocalRows.{is_local_row}
 use Rattle.phase_number.specs.Phase.{phase_view}
 use Rattle.packed_phaser.specs.Flat.{view_of}
 use Rattle.tier_tree.specs.declared.climb.Climb.{Climb}
-use Rattle.tier_tree.specs.declared.climb.Climb.TheVariants as climb
 use Rattle.tier_tree.specs.declared.arrived.Arrived.{Arrived}
 use Rattle.tier_tree.specs.declared.arrived.Arrived.TheVariants as arrived
-use Rattle.tier_tree.specs.Forest.{PhaserState, phaser_at, flat_at}
-use Rattle.tier_tree.specs.Arrival.{Arrives, climbed, arrival_by, arrival}
+use Rattle.tier_tree.specs.Forest.{PhaserState, flat_at}
+use Rattle.tier_tree.specs.Arrival.{Arrives, arrival_by, arrival}
 use Rattle.cyclic_barrier.specs.ThreadSet.{has}
 use Rattle.loader.specs.Program.{Program, row_at}
 use Rattle.thread_state.specs.declared.event.Event.{Event}
 use Rattle.thread_state.specs.declared.status.Status.{Status}
-use Rattle.thread_state.specs.declared.status.Status.TheVariants as status
-use Rattle.thread_state.specs.Thread.{ThreadState, is_full, turn_of_wait}
+use Rattle.thread_state.specs.Thread.{turn_of_wait}
 use Rattle.machine_scene.specs.declared.manner.Manner.{Manner}
 use Rattle.machine_scene.specs.declared.ready_set.ReadySet.{ReadySet}
 use Rattle.machine_scene.specs.Manner.{manner_of}
-use Rattle.machine_scene.specs.Scene.{Scene, StoredScene, Outcome, scene_of, no_thread, thread_at, with_thread, with_phasers}
-use Rattle.machine_scene.specs.PhaserRows.{is_own_tree, is_past, has_routine, answer_of_policy, unless_own, outcome_of_pending_end, outcome_of_arrived, outcome_of_arrival}
-use Rattle.machine_scene.specs.Waits.{outcome_of_view, outcome_of_awaited, outcome_of_phase_wait}
+use Rattle.machine_scene.specs.Scene.{Scene, StoredScene, Outcome, scene_of, thread_at, with_thread, with_phasers}
+use Rattle.machine_scene.specs.PhaserRows.{is_past, unless_own, outcome_of_pending_end, outcome_of_arrived, outcome_of_arrival}
+use Rattle.machine_scene.specs.Waits.{outcome_of_awaited, outcome_of_phase_wait}
 use Rattle.machine_scene.specs.Outcomes.{outcome_of_row, outcome_in, is_ready}
 use Rattle.machine_scene.specs.Ready.{may_be_blocked}
-use Rattle.machine_scene.specs.ReadySet.{KnowsReady, AreReadyBeside, is_registering_in, is_registering, interrupts, is_loud, changes_all, is_arrival, is_common, is_wait}
+use Rattle.machine_scene.specs.ReadySet.{KnowsReady, AreReadyBeside, is_registering, interrupts, is_loud, changes_all, is_arrival, is_common, is_wait}
 use Rattle.machine_scene.proofs.Plain.{either}
 use Rattle.machine_scene.proofs.ReadySets.{seldom_registers, somebody_registers}
 use Rattle.machine_scene.proofs.Standings.{Standing, arrival-standings}

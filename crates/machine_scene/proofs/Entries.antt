@@ -1,5 +1,5 @@
 -- How many stack entries of a kind there are.
-use Rattle.std.proofs.Common.{inl, inr, ◌≡◌, ◌∙◌, ℕ, zero, suc, ◌+◌, ◌-◌, ◌<◌, ◌≤◌, Bool, true, false, List, [], ◌∷◌, ◌++◌, take, get_or, length, ap, refl, sym, subst, arith}
+use Rattle.std.proofs.Common.{◌≡◌, ◌∙◌, ℕ, zero, suc, ◌+◌, ◌-◌, ◌<◌, ◌≤◌, Bool, true, false, List, [], ◌∷◌, ◌++◌, take, get_or, length, ap, refl, sym, arith}
 use Rattle.std.specs.Prelude.{Some, slice_set, slice_index_or, count_by}
 use Rattle.std.proofs.lemmas.Option.{slice_get_cases}
 use Rattle.std.proofs.lemmas.List.{take_all}

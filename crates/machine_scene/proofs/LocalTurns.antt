@@ -1,8 +1,7 @@
 -- Turns of running threads at rows on registers alone.
-use Rattle.std.proofs.Common.{◌≡◌, ◌∙◌, ℕ, true, ap, refl, arith}
+use Rattle.std.proofs.Common.{◌≡◌, ◌∙◌, ℕ, true, ap, arith}
 use Rattle.std.specs.Prelude.{Some}
 use Rattle.instruction_table.specs.declared.row.Row.{Row}
-use Rattle.instruction_table.specs.declared.row.Row.TheVariants.{Ldi, Mov, Add, Sub, Jmp, Beq, Bne, Blt}
 use Rattle.instruction_table.specs.LocalRows.{is_local_row}
 use Rattle.loader.specs.Program.{Program}
 use Rattle.thread_state.specs.declared.status.Status.{Status}

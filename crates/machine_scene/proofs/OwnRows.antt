@@ -2,7 +2,7 @@
 use Rattle.std.proofs.Common.{ℕ, pos, ◌+◌, ◌<◌, Bool, true, false, length, refl, if◌then◌else◌, rules}
 use Rattle.std.specs.List.{list_any}
 use Rattle.instruction_table.specs.declared.row.Row.{Row}
-use Rattle.instruction_table.specs.declared.row.Row.TheVariants.{Halt, Ldi, Mov, Add, Sub, Jmp, Beq, Bne, Blt, Pphase, Pparties, Parrived, Punarr, Pterm, Pparent, Proot}
+use Rattle.instruction_table.specs.declared.row.Row.TheVariants.{Halt, Ldi, Mov, Add, Sub, Jmp, Beq, Bne, Blt, Pphase}
 use Rattle.loader.specs.Program.{Program}
 use Rattle.thread_state.specs.declared.event.What.TheVariants as what
 use Rattle.thread_state.specs.declared.status.Status.TheVariants as status

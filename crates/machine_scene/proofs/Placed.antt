@@ -1,21 +1,17 @@
 -- What a turn may count on in a sound scene, said of the scene as it is stored.
-use Rattle.std.proofs.Common.{◌≡◌, ◌∙◌, ℕ, ◌<◌, true, false, length, refl, sym, ap, subst, arith}
+use Rattle.std.proofs.Common.{◌≡◌, ◌∙◌, ℕ, ◌<◌, false, length, sym, subst, arith}
 use Rattle.std.specs.Prelude.{is_some, Option, Some, None}
 use Rattle.instruction_table.specs.declared.row.Row.{Row}
 use Rattle.tier_tree.proofs.Shown.{length-shown}
 use Rattle.cyclic_barrier.specs.declared.answer.WaitState.{WaitState}
-use Rattle.cyclic_barrier.specs.Waits.{wait_at}
 use Rattle.cyclic_barrier.specs.Barrier.{has_wait}
 use Rattle.loader.specs.declared.named.Named.{Named}
-use Rattle.loader.specs.declared.named.Named.TheVariants as named
-use Rattle.loader.specs.Named.{named_by}
 use Rattle.loader.specs.Program.{Program, IsThere, IsNamed, row_at}
 use Rattle.thread_state.specs.declared.frame.Frame.{Frame}
 use Rattle.thread_state.specs.declared.frame.Frame.TheVariants as frame
 use Rattle.thread_state.specs.declared.status.Status.{Status}
-use Rattle.thread_state.specs.declared.status.Status.TheVariants as status
 use Rattle.thread_state.specs.Thread.{top_of}
-use Rattle.machine_scene.specs.Scene.{Scene, StoredScene, scene_of, counts_of, counts_in, thread_at, barrier_at}
+use Rattle.machine_scene.specs.Scene.{Scene, StoredScene, scene_of, counts_in, thread_at, barrier_at}
 use Rattle.machine_scene.specs.Sound.{IsSound, HasItsWait, SeesWait, StandsAt, IsTop, awaits}
 use Rattle.machine_scene.proofs.Facts.{named_at, placed_at, top_named, advance_pending, action_runs}
 

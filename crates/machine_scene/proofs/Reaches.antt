@@ -1,16 +1,13 @@
 -- What a turn may change beside its own thread is there; and phasers that it left as they were changed within it.
-use Rattle.std.proofs.Common.{◌≡◌, List, refl, true, arith}
-use Rattle.std.specs.Prelude.{Option, Some, None}
+use Rattle.std.proofs.Common.{◌≡◌, List, true, arith}
+use Rattle.std.specs.Prelude.{Option}
 use Rattle.instruction_table.specs.declared.row.Row.{Row}
-use Rattle.instruction_table.specs.declared.row.Row.TheVariants.{Ldi, Mov, Add, Sub, Jmp, Beq, Bne, Blt, Ret, Sts, Intr, Preg, Pbulk, Parr, Pdereg, Paaa, Pforce, Cawait, Cawaitt, Creset}
 use Rattle.instruction_table.specs.LocalRows.{is_local_row}
 use Rattle.tier_tree.specs.Stored.{Stored}
 use Rattle.tier_tree.proofs.Changed.{changed_nothing}
 use Rattle.loader.specs.Program.{Program, IsNamed}
 use Rattle.thread_state.specs.declared.frame.Frame.{Frame}
-use Rattle.thread_state.specs.declared.frame.Frame.TheVariants as frame
 use Rattle.thread_state.specs.declared.status.Status.{Status}
-use Rattle.thread_state.specs.declared.status.Status.TheVariants as status
 use Rattle.machine_scene.specs.declared.reach.Reach.{Reach}
 use Rattle.machine_scene.specs.declared.reach.Reach.TheVariants as reach
 use Rattle.machine_scene.specs.Scene.{StoredScene, counts_in}

@@ -1,24 +1,22 @@
 -- Which turns have an outcome.
-use Rattle.std.proofs.Common.{◌≡◌, ◌≢◌, ◌∙◌, ◌+◌, ◌==◌, ℕ, ℤ, pos, Bool, true, false, refl, sym, ap, if◌then◌else◌, arith}
-use Rattle.std.specs.Prelude.{Option, Some, None, is_some, not, ◌&&◌, nat_abs, int_lt}
+use Rattle.std.proofs.Common.{◌≡◌, ◌≢◌, ℕ, ℤ, pos, Bool, true, false, refl, if◌then◌else◌, arith}
+use Rattle.std.specs.Prelude.{Option, Some, None, is_some, not, ◌&&◌}
 use Rattle.instruction_table.specs.declared.row.Row.{Row}
-use Rattle.instruction_table.specs.declared.row.Row.TheVariants.{Preg, Pbulk, Parr, Pdereg, Paaa, Pawait, Pawaiti, Cawait, Creset, Cbroken, Cwaiting, Pawaitt, Cawaitt}
+use Rattle.instruction_table.specs.declared.row.Row.TheVariants.{Preg}
 use Rattle.instruction_table.specs.declared.register.Reg.{Reg}
-use Rattle.instruction_table.specs.Registers.{value_in}
 use Rattle.tier_tree.specs.declared.registered.Registered.{Registered}
-use Rattle.tier_tree.specs.declared.registered.Registered.TheVariants as registered
 use Rattle.tier_tree.specs.Registration.{registration, after_registration}
 use Rattle.cyclic_barrier.specs.declared.answer.Entered.{Entered}
 use Rattle.cyclic_barrier.specs.declared.answer.WaitState.{WaitState}
 use Rattle.cyclic_barrier.specs.declared.answer.WaitState.TheVariants as state
-use Rattle.cyclic_barrier.specs.Barrier.{BarrierState, Entry, number_waiting, arrive, enter_beside, enter_timed}
+use Rattle.cyclic_barrier.specs.Barrier.{BarrierState, Entry, arrive}
 use Rattle.loader.specs.Program.{Program, row_at}
-use Rattle.thread_state.specs.Thread.{turn_of_throw, is_full}
-use Rattle.machine_scene.specs.Scene.{Scene, Outcome, thread_at, barrier_at, with_phasers, with_barrier, outcome_of_turn}
+use Rattle.thread_state.specs.Thread.{turn_of_throw}
+use Rattle.machine_scene.specs.Scene.{Scene, Outcome, thread_at, barrier_at, with_phasers, outcome_of_turn}
 use Rattle.machine_scene.specs.PhaserRows.{is_own_tree, unless_own, outcome_of_registered, outcome_of_registration, outcome_of_bulk}
 use Rattle.machine_scene.specs.BarrierRows.{is_run_by, is_run_by_another, unless_busy, unless_runner, outcome_of_entered, outcome_of_entry, outcome_of_await_at}
 use Rattle.machine_scene.specs.Waits.{outcome_of_release}
-use Rattle.machine_scene.specs.Outcomes.{outcome_of_row, outcome_of_expiry, timeout_in, is_ready}
+use Rattle.machine_scene.specs.Outcomes.{outcome_of_row, outcome_of_expiry, timeout_in}
 use Rattle.machine_scene.specs.Ready.{is_held, registration_is_held, is_blocked, may_be_blocked}
 
 -- an outcome that is there either way

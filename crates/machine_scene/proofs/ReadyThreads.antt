@@ -1,16 +1,13 @@
 -- Whoever is listed as ready has an outcome, and nobody else.
-use Rattle.std.proofs.Common.{◌≡◌, ℕ, ℤ, Bool, true, false, not, cond, ◌||◌, ◌&&◌, refl, ◌∙◌, ap, Option, Some, None, is_some, arith}
+use Rattle.std.proofs.Common.{◌≡◌, ℕ, ℤ, Bool, true, false, not, cond, ◌||◌, ◌&&◌, refl, Option, Some, None, is_some, arith}
 use Rattle.instruction_table.specs.declared.row.Row.{Row}
-use Rattle.instruction_table.specs.declared.row.Row.TheVariants as row
 use Rattle.instruction_table.specs.declared.register.Reg.{Reg}
 use Rattle.cyclic_barrier.specs.declared.answer.WaitState.{WaitState}
-use Rattle.cyclic_barrier.specs.declared.answer.WaitState.TheVariants as state
-use Rattle.cyclic_barrier.specs.Waits.{wait_at, is_waiting}
+use Rattle.cyclic_barrier.specs.Waits.{is_waiting}
 use Rattle.loader.specs.Program.{Program, row_at}
 use Rattle.thread_state.specs.declared.status.Status.{Status}
 use Rattle.thread_state.specs.declared.status.Status.TheVariants as status
 use Rattle.machine_scene.specs.Scene.{Scene, thread_at, barrier_at}
-use Rattle.machine_scene.specs.PhaserRows.{is_past}
 use Rattle.machine_scene.specs.Waits.{outcome_of_phase_wait, outcome_of_release, outcome_of_barrier_wait}
 use Rattle.machine_scene.specs.Outcomes.{outcome_in, is_ready, timeout_in, outcome_of_expiry}
 use Rattle.machine_scene.specs.Ready.{is_awaited, is_released, is_over, is_listed, is_timed_phase_wait, is_timed_barrier_wait, can_run_out}

@@ -1,14 +1,14 @@
 -- Where a tree has a routine, an arrival that begins it found room on its thread's stack.
-use Rattle.std.proofs.Common.{◌≡◌, ◌∙◌, ℕ, Bool, false, List, ap, arith}
-use Rattle.std.specs.Prelude.{None, ◌&&◌, slice_index_or}
+use Rattle.std.proofs.Common.{◌≡◌, ℕ, Bool, false, arith}
+use Rattle.std.specs.Prelude.{None, ◌&&◌}
 use Rattle.packed_phaser.specs.declared.policy.Policy.{Policy}
 use Rattle.packed_phaser.specs.declared.policy.Policy.TheVariants as policy
 use Rattle.packed_phaser.specs.Policy.{ends}
-use Rattle.tier_tree.specs.Forest.{phaser_at, flat_at, root_at}
+use Rattle.tier_tree.specs.Forest.{root_at}
 use Rattle.tier_tree.specs.Answer.{KeepsPlaces}
 use Rattle.tier_tree.proofs.Trees.{policy_same}
-use Rattle.thread_state.specs.Thread.{ThreadState, is_full}
-use Rattle.machine_scene.specs.Scene.{Scene, no_thread, thread_at}
+use Rattle.thread_state.specs.Thread.{is_full}
+use Rattle.machine_scene.specs.Scene.{Scene, thread_at}
 use Rattle.machine_scene.specs.PhaserRows.{is_routine_policy, has_routine, answer_of_policy}
 
 -- the policy that leaves the answer to a routine is the routine

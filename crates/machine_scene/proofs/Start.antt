@@ -1,5 +1,5 @@
 -- The first scene of a loaded program is sound.
-use Rattle.std.proofs.Common.{inl, inr, ◌≡◌, ◌≤◌, ◌∙◌, ℕ, zero, suc, Bool, false, List, [], ◌∷◌, length, map, replicate, get_or, ap, refl, sym, subst, arith}
+use Rattle.std.proofs.Common.{◌≡◌, ◌≤◌, ◌∙◌, ℕ, zero, suc, Bool, false, List, [], ◌∷◌, length, map, replicate, get_or, ap, refl, sym, arith}
 use Rattle.std.specs.Prelude.{is_some, Option, None, All}
 use Rattle.std.proofs.lemmas.Bool.{cases_lt}
 use Rattle.std.proofs.lemmas.List.{length-map, length-replicate, get_or-replicate, get_or_past}
@@ -13,7 +13,6 @@ use Rattle.cyclic_barrier.specs.Waits.{wait_at}
 use Rattle.cyclic_barrier.specs.Barrier.{BarrierState, has_wait, fresh}
 use Rattle.row_code.specs.declared.threads.DeclaredThread.{DeclaredThread}
 use Rattle.loader.specs.Program.{Program, AreNewBarriers, AreNewTrees, CanStart, IsCode, IsProgram, IsNewBarrier, row_at}
-use Rattle.loader.specs.Program.{counts_of as program_counts}
 use Rattle.thread_state.specs.declared.frame.Frame.{Frame}
 use Rattle.thread_state.specs.Frame.{is_advance, is_action}
 use Rattle.machine_scene.specs.Scene.{Scene, counts_of, no_thread, thread_at, starting, first_scene}

@@ -1,49 +1,44 @@
 -- A step leaves every other thread as ready as it was, unless its event shows more than a turn of its own thread, its row
 -- interrupts that thread, or the thread is about to register and the step changes a tree.
-use Rattle.std.proofs.Common.{◌≡◌, ◌≢◌, ◌∙◌, ℕ, ℤ, pos, zero, suc, ◌+◌, ◌==◌, ◌||◌, ◌&&◌, not, Bool, true, false, List, [], ◌∷◌, ap, refl, sym, subst, arith, rules}
-use Rattle.std.specs.Prelude.{nat_abs, int_lt, is_some, Option, Some, None, slice_set, slice_index_or}
-use Rattle.std.specs.List.{list_any}
+use Rattle.std.proofs.Common.{◌≡◌, ◌≢◌, ◌∙◌, ℕ, ℤ, pos, zero, suc, ◌||◌, ◌&&◌, not, Bool, true, false, List, [], ◌∷◌, ap, refl, sym, subst, arith, rules}
+use Rattle.std.specs.Prelude.{nat_abs, int_lt, Option, Some, None, slice_set, slice_index_or}
 use Rattle.std.specs.Ordering.{int_eq}
 use Rattle.std.proofs.lemmas.List.{get_or-set_other}
 use Rattle.instruction_table.specs.declared.row.Row.{Row}
-use Rattle.instruction_table.specs.declared.row.Row.TheVariants.{Halt, Ldi, Mov, Add, Sub, Jmp, Beq, Bne, Blt, Call, Ret, Try, Endtry, Throw, Out, Lds, Sts, SelfNumber, Intr, Intrd, Preg, Pbulk, Parr, Pdereg, Paaa, Pawait, Pawaiti, Pforce, Pphase, Pparties, Parrived, Punarr, Pterm, Pparent, Proot, Cawait, Creset, Cbroken, Cwaiting, Cparties, Pawaitt, Cawaitt}
+use Rattle.instruction_table.specs.declared.row.Row.TheVariants.{Halt, Call, Out, Intr, Preg, Paaa, Pphase, Cawait, Creset, Pawaitt}
 use Rattle.instruction_table.specs.declared.register.Reg.{Reg}
-use Rattle.instruction_table.specs.Registers.{value_in}
 use Rattle.phase_number.specs.Phase.{phase_view}
 use Rattle.tier_tree.specs.declared.registered.Registered.{Registered}
 use Rattle.tier_tree.specs.declared.registered.Registered.TheVariants as registered
 use Rattle.tier_tree.specs.declared.arrived.Arrived.{Arrived}
 use Rattle.tier_tree.specs.declared.arrived.Arrived.TheVariants as arrived
-use Rattle.tier_tree.specs.Forest.{PhaserState, flat_at, root_at}
+use Rattle.tier_tree.specs.Forest.{PhaserState}
 use Rattle.tier_tree.specs.Stored.{Stored, phasers_of}
 use Rattle.tier_tree.specs.Registration.{registration, after_registration}
-use Rattle.tier_tree.specs.Arrival.{Arrives, arrival}
 use Rattle.tier_tree.proofs.Stands.{same-is}
 use Rattle.cyclic_barrier.specs.declared.answer.Entered.{Entered}
 use Rattle.cyclic_barrier.specs.declared.answer.Entered.TheVariants as entered
 use Rattle.cyclic_barrier.specs.declared.answer.WaitState.{WaitState}
 use Rattle.cyclic_barrier.specs.declared.answer.WaitState.TheVariants as state
 use Rattle.cyclic_barrier.specs.ThreadSet.{has}
-use Rattle.cyclic_barrier.specs.Waits.{wait_at, is_waiting}
-use Rattle.cyclic_barrier.specs.Barrier.{BarrierState, Entry, fresh, number_waiting, add_wait, arrive_last, break, arrive, enter_beside, enter_timed, leave}
+use Rattle.cyclic_barrier.specs.Waits.{wait_at}
+use Rattle.cyclic_barrier.specs.Barrier.{BarrierState, Entry, fresh, arrive, enter_beside, enter_timed, leave}
 use Rattle.loader.specs.Program.{Program, row_at}
 use Rattle.thread_state.specs.declared.event.Event.{Event}
 use Rattle.thread_state.specs.declared.frame.Frame.{Frame}
 use Rattle.thread_state.specs.declared.frame.Frame.TheVariants as frame
 use Rattle.thread_state.specs.declared.status.Status.{Status}
 use Rattle.thread_state.specs.declared.status.Status.TheVariants as status
-use Rattle.thread_state.specs.Frame.{is_advance}
-use Rattle.thread_state.specs.Thread.{ThreadState, top_of, is_full, left_routine, interrupted}
+use Rattle.thread_state.specs.Thread.{ThreadState, top_of, is_full, interrupted}
 use Rattle.machine_scene.specs.declared.group.Group.{Group}
-use Rattle.machine_scene.specs.declared.group.Group.TheVariants.{Own, Calls, Data, Phasers, Getters, Barriers}
 use Rattle.machine_scene.specs.declared.manner.Manner.{Manner}
-use Rattle.machine_scene.specs.Scene.{Scene, StoredScene, Outcome, scene_of, no_thread, thread_at, barrier_at, with_thread, with_cell, with_phasers, with_barrier}
+use Rattle.machine_scene.specs.Scene.{Scene, StoredScene, Outcome, scene_of, thread_at, barrier_at, with_thread, with_phasers, with_barrier}
 use Rattle.machine_scene.specs.Group.{group_of}
 use Rattle.machine_scene.specs.OwnRows.{outcome_of_own_row}
 use Rattle.machine_scene.specs.CallRows.{outcome_of_routine_end, outcome_of_ret, outcome_of_call_row}
 use Rattle.machine_scene.specs.DataRows.{outcome_of_data_row}
 use Rattle.machine_scene.specs.GetterRows.{outcome_of_getter_row}
-use Rattle.machine_scene.specs.PhaserRows.{is_own_tree, is_past, has_routine, answer_of_policy, unless_own, outcome_of_pending_end, outcome_of_arrived, outcome_of_arrival, outcome_of_registered, outcome_of_bulk, outcome_of_phaser_row}
+use Rattle.machine_scene.specs.PhaserRows.{is_own_tree, is_past, unless_own, outcome_of_pending_end, outcome_of_arrived, outcome_of_arrival, outcome_of_registered, outcome_of_bulk, outcome_of_phaser_row}
 use Rattle.machine_scene.specs.BarrierRows.{is_run_by, is_run_by_another, unless_busy, unless_runner, outcome_of_entered, outcome_of_await_at, outcome_of_barrier_row}
 use Rattle.machine_scene.specs.Unwinding.{outcome_of_popped}
 use Rattle.machine_scene.specs.Waits.{outcome_of_awaited, outcome_of_phase_wait, outcome_of_release, outcome_of_barrier_wait, outcome_of_phase_timeout, outcome_of_barrier_timeout}
@@ -51,7 +46,7 @@ use Rattle.machine_scene.specs.Outcomes.{outcome_in_group, outcome_in, is_ready,
 use Rattle.machine_scene.specs.ReadySet.{is_registration, is_registering_in, is_registering, KnowsReady, AreOthersReady, interrupts, changes_tree, is_loud, changes_all}
 use Rattle.machine_scene.specs.Undo.{PhasersWithin, reach_of_entry, reach_of_row, reach_of_wait, reach_in}
 use Rattle.machine_scene.proofs.Plain.{either}
-use Rattle.machine_scene.specs.Ready.{is_held, registration_is_held, is_blocked, is_awaited, is_released, is_over_at, is_over, is_listed}
+use Rattle.machine_scene.specs.Ready.{registration_is_held, is_blocked, is_awaited, is_over_at, is_over, is_listed}
 use Rattle.machine_scene.proofs.ReadyThreads.{ready_as_listed}
 use Rattle.machine_scene.proofs.Standings.{Standing, KeepsStandings, registration-standings, arrival-standings}
 

@@ -1,5 +1,5 @@
 -- Sets of threads of which one is looked at.
-use Rattle.std.proofs.Common.{inl, inr, sym, arith, w64, ◌+◌, ◌≤◌, ◌≢◌, ◌≡◌, ◌∙◌, ℕ, ◌-◌, ◌*◌, ◌%◌, ◌^◌, ◌<◌, ◌==◌, ◌||◌, ◌&&◌, not, Bool, true, false, refl, ap, bit_and, bit_or, if◌then◌else◌}
+use Rattle.std.proofs.Common.{sym, arith, w64, ◌+◌, ◌≤◌, ◌≢◌, ◌≡◌, ◌∙◌, ℕ, ◌-◌, ◌*◌, ◌%◌, ◌^◌, ◌<◌, ◌==◌, ◌||◌, ◌&&◌, not, Bool, true, false, refl, ap, bit_and, bit_or, if◌then◌else◌}
 use Rattle.cyclic_barrier.specs.ThreadSet.{has}
 use Rattle.machine_scene.specs.ReadySet.{IsSetAt}
 use Rattle.cyclic_barrier.proofs.ThreadSetLemmas.{has-with, has-without}

@@ -1,5 +1,5 @@
 -- Turns that leave a thread's stack as it is, whatever they do beside it.
-use Rattle.std.proofs.Common.{inl, inr, ◌≡◌, ◌∙◌, ℕ, ℤ, pos, ◌+◌, ◌<◌, ◌==◌, ◌&&◌, ◌||◌, not, Bool, true, false, List, length, ap, refl, sym, subst, arith}
+use Rattle.std.proofs.Common.{◌≡◌, ◌∙◌, ℕ, ℤ, pos, ◌+◌, ◌<◌, ◌==◌, ◌&&◌, ◌||◌, not, Bool, true, false, List, length, ap, refl, sym, subst, arith}
 use Rattle.std.specs.Prelude.{is_some, Option, All}
 use Rattle.std.proofs.lemmas.Bool.{cases_eq}
 use Rattle.std.proofs.lemmas.List.{get_or-set_same, get_or-set_other}
@@ -14,7 +14,7 @@ use Rattle.loader.specs.Program.{Program, row_at}
 use Rattle.thread_state.specs.declared.status.Status.{Status}
 use Rattle.thread_state.specs.declared.status.Status.TheVariants as status
 use Rattle.thread_state.specs.Thread.{ThreadState, Turn, turn_of_throw, turn_of_interruption, turn_of_answer, turn_of_done, turn_of_wait, turn_of_barrier_wait}
-use Rattle.machine_scene.specs.Scene.{Scene, no_thread, thread_at, barrier_at, with_thread, with_phasers, with_barrier, outcome_of_turn}
+use Rattle.machine_scene.specs.Scene.{Scene, thread_at, barrier_at, with_thread, with_phasers, with_barrier, outcome_of_turn}
 use Rattle.machine_scene.specs.Sound.{IsFrame, IsSound, bit, awaits, is_wait_row, thread_awaits}
 use Rattle.machine_scene.proofs.Facts.{IsFree, RunsOn, ThrowsOn, AwaitsOn, free_awaits, placed_at}
 use Rattle.machine_scene.proofs.Plain.{StandsAt, free_in, sound_stay, sound_own}

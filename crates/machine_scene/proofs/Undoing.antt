@@ -1,25 +1,21 @@
 -- A turn, or an expiry: a sound scene stays sound, and it is undone to the word.
-use Rattle.std.proofs.Common.{◌≡◌, ◌∙◌, ℕ, ℤ, ◌<◌, false, List, length, ap, refl, sym, subst, arith}
+use Rattle.std.proofs.Common.{◌≡◌, ◌∙◌, ℕ, ◌<◌, List, length, ap, refl, sym, subst, arith}
 use Rattle.std.specs.Prelude.{Option, Some, None, slice_index_or}
 use Rattle.std.proofs.lemmas.List.{length-set}
 use Rattle.instruction_table.specs.declared.row.Row.{Row}
-use Rattle.instruction_table.specs.declared.row.Row.TheVariants.{Intr}
-use Rattle.tier_tree.specs.Stored.{Stored, stored_at, IsStored}
+use Rattle.tier_tree.specs.Stored.{IsStored}
 use Rattle.tier_tree.proofs.Changed.{restored_line}
-use Rattle.cyclic_barrier.specs.Barrier.{BarrierState, fresh}
 use Rattle.loader.specs.Program.{Program, IsNamed, row_at}
 use Rattle.thread_state.specs.declared.event.Event.{Event}
 use Rattle.thread_state.specs.Thread.{ThreadState, top_of}
 use Rattle.thread_state.specs.Undo as own
 use Rattle.machine_scene.specs.declared.ready_set.ReadySet.{ReadySet}
 use Rattle.machine_scene.specs.declared.reach.Reach.{Reach}
-use Rattle.machine_scene.specs.declared.reach.Reach.TheVariants as reach
 use Rattle.machine_scene.specs.declared.note.Touched.{Touched}
-use Rattle.machine_scene.specs.declared.note.Touched.TheVariants as touched
 use Rattle.machine_scene.specs.Scene.{StoredScene, Outcome, scene_of, counts_in, no_thread, thread_at}
 use Rattle.machine_scene.specs.Sound.{IsSound}
 use Rattle.machine_scene.specs.Outcomes.{outcome_in, outcome_of, is_ready, outcome_of_expiry}
-use Rattle.machine_scene.specs.Undo.{Note, IsThere, PhasersWithin, CanPutBack, CanUndo, reach_in, reach_of, touched_by, note_of, with_undone, with_touched, undone}
+use Rattle.machine_scene.specs.Undo.{Note, IsThere, PhasersWithin, CanPutBack, CanUndo, reach_in, reach_of, touched_by, with_undone, with_touched, undone}
 use Rattle.machine_scene.specs.Played.{IsPlayed}
 use Rattle.machine_scene.proofs.Outcomes.{sound_outcome, sound_timeout}
 use Rattle.machine_scene.proofs.Plain.{either}

@@ -1,11 +1,10 @@
 -- What every outcome leaves to be undone, row by row.
 use Rattle.std.proofs.Common.{cond, ◌≡◌, ◌∙◌, ℕ, ℤ, pos, ◌+◌, ◌<◌, ◌==◌, ◌++◌, [], ◌∷◌, ◌&&◌, not, Bool, true, false, List, length, ap, refl, arith, rules}
 use Rattle.std.specs.Prelude.{nat_abs, int_lt, is_some, Option, Some, None, slice_set, slice_index_or}
-use Rattle.std.specs.List.{list_any}
 use Rattle.std.specs.Ordering.{int_eq}
 use Rattle.std.proofs.lemmas.List.{set-set, set-get_or, get_or-set_same}
 use Rattle.instruction_table.specs.declared.row.Row.{Row}
-use Rattle.instruction_table.specs.declared.row.Row.TheVariants.{Halt, Ldi, Mov, Add, Sub, Jmp, Beq, Bne, Blt, Call, Ret, Try, Endtry, Throw, Out, Lds, Sts, SelfNumber, Intr, Intrd, Preg, Pbulk, Parr, Pdereg, Paaa, Pawait, Pawaiti, Pforce, Pphase, Pparties, Parrived, Punarr, Pterm, Pparent, Proot, Cawait, Creset, Cbroken, Cwaiting, Cparties, Pawaitt, Cawaitt}
+use Rattle.instruction_table.specs.declared.row.Row.TheVariants.{Call, Out, Lds, Sts, SelfNumber, Intr, Intrd, Preg, Pbulk, Parr, Pdereg, Paaa, Pawait, Pawaiti, Pforce, Pphase, Cawait, Creset, Cbroken, Cwaiting, Cparties, Pawaitt, Cawaitt}
 use Rattle.instruction_table.specs.declared.register.Reg.{Reg}
 use Rattle.instruction_table.specs.Registers.{value_in}
 use Rattle.tier_tree.specs.declared.registered.Registered.{Registered}
@@ -20,31 +19,26 @@ use Rattle.tier_tree.specs.PhaseEnd.{after_phase_end, after_force}
 use Rattle.cyclic_barrier.specs.declared.answer.Entered.{Entered}
 use Rattle.cyclic_barrier.specs.declared.answer.Entered.TheVariants as entered
 use Rattle.cyclic_barrier.specs.declared.answer.WaitState.{WaitState}
-use Rattle.cyclic_barrier.specs.declared.answer.WaitState.TheVariants as state
-use Rattle.cyclic_barrier.specs.Waits.{wait_at}
-use Rattle.cyclic_barrier.specs.Barrier.{BarrierState, Entry, enter_timed, reset, leave, interrupt, expire, end_action}
+use Rattle.cyclic_barrier.specs.Barrier.{BarrierState, Entry, enter_timed, reset, expire, end_action}
 use Rattle.loader.specs.Program.{Program}
 use Rattle.thread_state.specs.declared.event.What.TheVariants as what
 use Rattle.thread_state.specs.declared.frame.Frame.{Frame}
 use Rattle.thread_state.specs.declared.frame.Frame.TheVariants as frame
 use Rattle.thread_state.specs.declared.status.Status.{Status}
-use Rattle.thread_state.specs.declared.status.Status.TheVariants as status
-use Rattle.thread_state.specs.Frame.{is_routine}
 use Rattle.thread_state.specs.Thread.{ThreadState, Turn, turn_of_throw, turn_of_interruption, turn_of_answer, turn_of_done, turn_of_wait, turn_of_barrier_wait, turn_of_halt, turn_of_local, turn_of_out, turn_of_call, turn_of_try, turn_of_endtry, turn_of_return, turn_of_advance, turn_of_action, turn_of_popped, turn_of_pop, turn_of_intrd, top_of, with_entry, popped, left_routine, is_full, is_finished, interrupted}
 use Rattle.machine_scene.specs.declared.group.Group.{Group}
-use Rattle.machine_scene.specs.declared.group.Group.TheVariants.{Own, Calls, Data, Phasers, Getters, Barriers}
+use Rattle.machine_scene.specs.declared.group.Group.TheVariants.{Own}
 use Rattle.machine_scene.specs.declared.manner.Manner.{Manner}
 use Rattle.machine_scene.specs.declared.patience.Patience.{Patience}
 use Rattle.machine_scene.specs.declared.patience.Patience.TheVariants as patience
 use Rattle.machine_scene.specs.declared.reach.Reach.{Reach}
 use Rattle.machine_scene.specs.declared.reach.Reach.TheVariants as reach
 use Rattle.machine_scene.specs.Scene.{Scene, Outcome, no_thread, thread_at, barrier_at, action_at, routine_at, with_thread, with_phasers, with_barrier, with_cell}
-use Rattle.machine_scene.specs.Group.{group_of}
 use Rattle.machine_scene.specs.OwnRows.{outcome_of_own_row}
 use Rattle.machine_scene.specs.CallRows.{outcome_of_routine_end, outcome_of_ret, outcome_of_call_row}
 use Rattle.machine_scene.specs.DataRows.{outcome_of_data_row}
 use Rattle.machine_scene.specs.GetterRows.{outcome_of_getter_row}
-use Rattle.machine_scene.specs.PhaserRows.{is_own_tree, is_past, has_routine, answer_of_policy, turn_of_arrival, turn_of_patience, turn_of_await, unless_own, outcome_of_pending_end, outcome_of_arrived, outcome_of_arrival, outcome_of_registered, outcome_of_registration, outcome_of_bulk, outcome_of_await, outcome_of_phaser_row}
+use Rattle.machine_scene.specs.PhaserRows.{is_own_tree, has_routine, turn_of_arrival, turn_of_patience, turn_of_await, unless_own, outcome_of_pending_end, outcome_of_arrived, outcome_of_arrival, outcome_of_registered, outcome_of_registration, outcome_of_bulk, outcome_of_await, outcome_of_phaser_row}
 use Rattle.machine_scene.specs.BarrierRows.{is_run_by, is_run_by_another, unless_busy, unless_runner, outcome_of_entered, outcome_of_await_at, outcome_of_barrier_row}
 use Rattle.machine_scene.specs.Unwinding.{outcome_of_popped}
 use Rattle.machine_scene.specs.Waits.{outcome_of_awaited, outcome_of_phase_wait, outcome_of_release, outcome_of_barrier_wait, outcome_of_phase_timeout, outcome_of_barrier_timeout}

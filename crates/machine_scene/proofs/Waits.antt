@@ -1,15 +1,15 @@
 -- Finished waits, and waits whose time runs out.
-use Rattle.std.proofs.Common.{◌≡◌, ◌∙◌, ℕ, ℤ, pos, ◌+◌, ◌<◌, ◌==◌, ◌&&◌, not, Bool, true, false, length, refl, if◌then◌else◌, rules}
+use Rattle.std.proofs.Common.{◌≡◌, ℕ, ℤ, pos, ◌+◌, ◌<◌, ◌==◌, ◌&&◌, not, Bool, false, length, refl, if◌then◌else◌, rules}
 use Rattle.std.specs.Prelude.{is_some, Option, Some, None}
 use Rattle.std.proofs.lemmas.List.{length-map, length-set}
 use Rattle.instruction_table.specs.declared.row.Row.{Row}
-use Rattle.instruction_table.specs.declared.row.Row.TheVariants.{Paaa, Pawait, Pawaiti, Pawaitt, Cawait, Cawaitt}
+use Rattle.instruction_table.specs.declared.row.Row.TheVariants.{Paaa, Pawaitt, Cawait, Cawaitt}
 use Rattle.instruction_table.specs.declared.register.Reg.{Reg}
 use Rattle.packed_phaser.specs.Flat.{view_of}
 use Rattle.tier_tree.specs.Forest.{flat_at}
 use Rattle.cyclic_barrier.specs.declared.answer.WaitState.{WaitState}
 use Rattle.cyclic_barrier.specs.declared.answer.WaitState.TheVariants as state
-use Rattle.cyclic_barrier.specs.Waits.{wait_at, released, release}
+use Rattle.cyclic_barrier.specs.Waits.{wait_at}
 use Rattle.cyclic_barrier.specs.Barrier.{leave, interrupt}
 use Rattle.cyclic_barrier.proofs.CallLemmas.{has_wait-leave, has_wait-interrupt}
 use Rattle.loader.specs.Named.{stops}
