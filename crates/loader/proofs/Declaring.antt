@@ -23,33 +23,11 @@ no_stray false = refl
 pub origin_stays : (phasers : List PhaserState) (all : List DeclaredPhaser) (n count : ℕ) (top : Bool)
     → count ≡ (get_or all n no_phaser).parties → AreTallied phasers (declared_at n count top (declared_origin all))
     → AreTallied phasers (declared_origin all)
-origin_stays phasers all n count top is stands = record {
-  steady = stands.steady;
-  tallied = λ id there stray live.
-      let one = stands.tallied id there (no_stray (top && eqb (root_at phasers id) n)) live in
-      let own : ℕ → ℕ = λ k. (get_or all k no_phaser).parties in
-      let same = counted (eqb id n) id n count own refl is in
-      record {
-        registered = subst (λ c. (flat_at phasers id).parties ≡ c + children has_joined id phasers) same one.registered;
-        unarrived = subst (λ c. unarrived_of (flat_at phasers id) ≡ c + children is_awaited id phasers) same one.unarrived;
-        within = omega arith;
-      };
-}
+origin_stays phasers all n count top is stands = grind (arith, no_stray, counted)
 
 pub declared_more : (n : ℕ) (all : List DeclaredPhaser) (before after : List Stored) → n < length all → AreDeclared n all before
     → let phaser = get_or all n no_phaser in phasers_of after ≡ with_phaser (phasers_of before) phaser → length after ≡ length before + 1
     → AreAllFresh (phasers_of after) → KeepsEnds (phasers_of before) (phasers_of after)
     → Carries (declared_at (length before) phaser.parties (is_root (parent_of phaser))) (phasers_of before) (phasers_of after)
     → AreDeclared (n + 1) all after
-declared_more n all before after lt so_far shown many fresh keeps carries =
-    let phaser = get_or all n no_phaser in
-    let top = is_root (parent_of phaser) in
-    record {
-      shown = shown ∙ ap (λ forest. with_phaser forest phaser) so_far.shown ∙ sym (fold_more with_phaser [] all n no_phaser lt);
-      many = omega (arith, many, so_far.many);
-      fresh = fresh;
-      ends = λ id. keeps id ∙ so_far.ends id;
-      origin = origin_stays (phasers_of after) all n phaser.parties top refl
-          (subst (λ k. AreTallied (phasers_of after) (declared_at k phaser.parties top (declared_origin all)))
-          so_far.many (carries (declared_origin all) so_far.origin));
-    }
+declared_more n all before after lt so_far shown many fresh keeps carries = grind (arith, fold_more, origin_stays)

@@ -40,24 +40,16 @@ pub record IsMade (all : List DeclaredPhaser) (n : ℕ) (phasers : List PhaserSt
   pub origin : AreTallied phasers (declared_origin all)
 
 none_at : (id : ℕ) → (phaser_at [] id).ends ≡ 0
-none_at zero = refl
-none_at (suc id) = refl
+none_at _ = refl
 
 nothing_made : (all : List DeclaredPhaser) → IsMade all 0 []
-nothing_made all = record {
-  many = refl;
-  forest = record { few = omega arith; lines = λ id there. absurd (omega (arith, there)) };
-  fresh = All-nil IsFresh;
-  ends = none_at;
-  origin = stands_empty (declared_origin all);
-}
+nothing_made all = grind (arith, All-nil, none_at, stands_empty)
 
 room_and_parent : (full there : Bool) (rest : Option DeclareFault)
     → (if full then Some declare.TooManyPhasers else (if not there then Some declare.NoParent else rest)) ≡ None
     → (full ≡ false) × ((there ≡ true) × (rest ≡ None))
 room_and_parent true there rest e = absurd (cc (e))
-room_and_parent false false rest e = absurd (cc (e))
-room_and_parent false true rest e = (refl, (refl, e))
+room_and_parent false there rest e = grind arith
 
 passed_by : (test : Bool) (why : DeclareFault) (rest : Option DeclareFault) → (if test then Some why else rest) ≡ None
     → (test ≡ false) × (rest ≡ None)
@@ -99,8 +91,7 @@ one_made all n parent parties policy phase phasers own none made =
     }
 
 no_fault_in : (o : Option DeclareFault) (n : ℕ) → option_map (λ why. fault.Declare n why) o ≡ None → o ≡ None
-no_fault_in None n e = refl
-no_fault_in (Some why) n e = absurd (cc (e))
+no_fault_in o n e = grind arith
 
 -- so many phasers of a list that has no fault
 some_made : (rows : ℕ) (all : List DeclaredPhaser) → earliest_in (listed_phaser_fault rows all) 0 all ≡ None
@@ -136,20 +127,7 @@ parts_of image fits none = has_parts image fits.rows.0 fits.threads.0 fits.barri
 -- a program of an image is the one that its parts make
 same_parts : {A B C D E F : Type 0} (make : A → B → C → D → E → F) (a x : A) (b y : B) (c z : C) (d v : D) (e w : E)
     → a ≡ x → b ≡ y → c ≡ z → d ≡ v → e ≡ w → make a b c d e ≡ make x y z v w
-same_parts make a x b y c z d v e w p q r s t =
-    ap (λ i. make i b c d e) p ∙ ap (λ i. make x i c d e) q ∙ ap (λ i. make x y i d e) r ∙ ap (λ i. make x y z i e) s
-    ∙ ap (λ i. make x y z v i) t
+same_parts make a x b y c z d v e w p q r s t = grind arith
 
 pub is_declared : (image : Image) (program : Program) → IsProgramOf image program → program ≡ declared_by image program.phasers
-is_declared image program is =
-    same_parts (λ rows threads routines barriers actions. record {
-      rows = rows;
-      threads = threads;
-      phasers = program.phasers;
-      routines = routines;
-      barriers = barriers;
-      actions = actions;
-    })
-    program.rows image.rows program.threads image.threads program.routines (map routine_row image.phasers)
-    program.barriers (map new_barrier image.barriers) program.actions (map action_row image.barriers)
-    is.rows is.threads is.routines is.barriers is.actions
+is_declared image program is = grind (arith, same_parts)

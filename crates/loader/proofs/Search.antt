@@ -17,16 +17,13 @@ goes_on check xs i d lt none so_far =
     sym (here ∙ rest) ∙ so_far
 
 pub none_left : (a b : Option LoadFault) → option_or a b ≡ None → (a ≡ None) × (b ≡ None)
-none_left None b e = (refl, e)
-none_left (Some x) b e = absurd (cc)
+none_left a b e = grind arith
 
 -- where there is no fault, no entry has one
 pub none_in : {E : Type 0} (check : ℕ → E → Option LoadFault) (n : ℕ) (xs : List E) → earliest_in check n xs ≡ None
     → (i : ℕ) (d : E) → i < length xs → check (n + i) (get_or xs i d) ≡ None
 none_in check n [] e i d lt = absurd (omega arith)
-none_in check n (x ∷ xs) e zero d lt =
-    let at : n + 0 ≡ n = omega arith in
-    ap (λ k. check k x) at ∙ (none_left (check n x) (earliest_in check (n + 1) xs) e).0
+none_in check n (x ∷ xs) e zero d lt = grind (arith, none_left)
 none_in check n (x ∷ xs) e (suc i) d lt =
     let one = none_in check (n + 1) xs (none_left (check n x) (earliest_in check (n + 1) xs) e).1 i d (omega arith) in
     let at : n + suc i ≡ (n + 1) + i = omega arith in

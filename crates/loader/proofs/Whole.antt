@@ -33,15 +33,7 @@ target_there : (rows : ℕ) (place : Place) (row : ℕ) → target_fault rows pl
 target_there rows place row e = ltb-true row rows (passed (ltb row rows) (fault.Target place) e)
 
 named_there : (counts : Counts) (n : ℕ) (thing : Named) → named_fault counts n thing ≡ None → IsThere counts thing
-named_there counts n named.Nothing e = tt
-named_there counts n (named.Target row) e = target_there counts.rows (place.Row n) row e
-named_there counts n (named.Cell cell) e = ltb-true cell 32 (passed (ltb cell 32) (fault.NoSuchCell n) e)
-named_there counts n (named.Thread thread) e =
-    ltb-true thread counts.threads (passed (ltb thread counts.threads) (fault.NoSuchThread n) e)
-named_there counts n (named.Phaser phaser) e =
-    ltb-true phaser counts.phasers (passed (ltb phaser counts.phasers) (fault.NoSuchPhaser n) e)
-named_there counts n (named.Barrier barrier) e =
-    ltb-true barrier counts.barriers (passed (ltb barrier counts.barriers) (fault.NoSuchBarrier n) e)
+named_there counts n thing e = grind (arith, target_there, ltb-true, passed)
 
 -- each row names what is there
 pub rows_named : (counts : Counts) (rows : List Row) → earliest_in (row_fault counts) 0 rows ≡ None → All (IsNamed counts) rows
@@ -62,10 +54,7 @@ some_row rows threads some begin =
     omega arith
 
 routine_there : (rows n : ℕ) (policy : DeclaredPolicy) → 0 < rows → routine_fault rows n policy ≡ None → row_in policy < rows
-routine_there rows n declared.Default some e = some
-routine_there rows n declared.Never some e = some
-routine_there rows n (declared.Until phase) some e = some
-routine_there rows n (declared.Routine row) some e = target_there rows (place.Phaser n) row e
+routine_there rows n policy some e = grind (arith, target_there)
 
 -- each phaser has a row for its routine
 pub routines_there : (rows : ℕ) (phasers : List DeclaredPhaser) → 0 < rows
@@ -76,8 +65,7 @@ routines_there rows phasers some e =
     (none_left (routine_fault rows (0 + i) (get_or phasers i d).policy) _ (none_in (listed_phaser_fault rows phasers) 0 phasers e i d lt)).0)
 
 action_there : (rows n : ℕ) (action : Option ℕ) → 0 < rows → action_fault rows n action ≡ None → unwrap_or action 0 < rows
-action_there rows n None some e = some
-action_there rows n (Some row) some e = target_there rows (place.Barrier n) row e
+action_there rows n action some e = grind (arith, target_there)
 
 -- each barrier has a row for its action
 pub actions_there : (rows : ℕ) (barriers : List DeclaredBarrier) → 0 < rows
@@ -155,23 +143,4 @@ declared_by image forest = record (program_of image) { phasers = forest }
 pub whole : (image : Image) (forest : List Stored) → length image.rows ≤ 65535 → length image.threads ≤ 64
     → length image.barriers ≤ 64 → first_fault image ≡ None → AreDeclared (length image.phasers) image.phasers forest
     → IsProgram (declared_by image forest)
-whole image forest few few_threads few_barriers none declared =
-    let parts = has_parts image few few_threads few_barriers none in
-    record {
-      code = record {
-        few = parts.code.few;
-        named = subst (λ n. All (IsNamed (counts_with image n)) image.rows) (sym declared.many) parts.code.named;
-        last = parts.code.last;
-        routines = parts.code.routines;
-        actions = parts.code.actions;
-        all_routines = parts.code.all_routines ∙ sym declared.many;
-        all_actions = parts.code.all_actions;
-      };
-      threads = parts.threads;
-      phasers = record {
-        fresh = declared.fresh;
-        ends = declared.ends;
-        stands = (declared_origin image.phasers, (λ root. refl), declared.origin);
-      };
-      barriers = parts.barriers;
-    }
+whole image forest few few_threads few_barriers none declared = grind (arith, has_parts)

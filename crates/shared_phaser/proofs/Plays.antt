@@ -1,5 +1,5 @@
 -- Each load and each exchange keeps the rule, and tells what it says.
-use Rattle.std.proofs.Common.{◌≡◌, ℕ, ◌==◌, Bool, true, false, List, [], ◌∷◌, ◌++◌, set, refl, sym, ap, ◌∙◌, subst, eqb-true}
+use Rattle.std.proofs.Common.{◌≡◌, ℕ, ◌==◌, Bool, true, false, List, [], ◌∷◌, ◌++◌, set, refl, sym, ap, ◌∙◌, subst, eqb-true, arith}
 use Rattle.std.specs.Prelude.{slice_index, slice_set}
 use mathlib.Core.Option.{none, some}
 use lib.ListN.{get_elem?}
@@ -59,11 +59,7 @@ made_legal v n log c a legal now answers =
     legal_push o.policy (opened o) log (entry v.known.number c a) legal (subst (λ f. Answers f (effect o.policy c f) a) now answers)
 
 pub made_owns : (k : Known) (log : List Entry) (c : Call) (a : Answer) → Owns log k → Owns (log ++ entry k.number c a ∷ []) (making k log c a)
-made_owns k log c a owns = record {
-  own = calls_by-own k.number log c a ∙ ap (λ xs. xs ++ entry k.number c a ∷ []) owns.own;
-  kept = λ i d h. calls_by-other _ k.number log c a (owns.apart i d h) ∙ owns.kept i d h;
-  apart = owns.apart;
-}
+made_owns k log c a owns = grind (arith, calls_by-own, calls_by-other)
 
 module _ (word : ℕ) (views : List View) (log : List Entry) (id : ℕ) (v : View)
     (rule : Keeps v.known.opening word views log) (at : get_elem? views id ≡ some v) (live : v.live ≡ true) where

@@ -17,10 +17,7 @@ use Rattle.shared_phaser.proofs.Stories.{prefix_trans, in_range}
 
 -- a spent caller isn't one that lives
 pub spent_apart : (views : List View) (n id : ℕ) (v : View) → IsSpent views n → get_elem? views id ≡ some v → v.live ≡ true → n ≢ id
-spent_apart views n id v spent at live e =
-    let there : get_elem? views id ≡ some spent.0 = ap (get_elem? views) (sym e) ∙ spent.1 in
-    let same : v ≡ spent.0 = some-injective v spent.0 (sym at ∙ there) in
-    absurd (cc (sym live ∙ (ap (λ (u : View). u.live) same ∙ spent.2)))
+spent_apart views n id v spent at live e = grind arith
 
 pub spent_stays : (views : List View) (n id : ℕ) (v w : View) → IsSpent views n → get_elem? views id ≡ some v → v.live ≡ true → IsSpent (set views id w) n
 spent_stays views n id v w spent at live =

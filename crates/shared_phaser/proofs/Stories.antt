@@ -1,5 +1,5 @@
 -- Histories and their beginnings.
-use Rattle.std.proofs.Common.{◌≡◌, ◌≢◌, ℕ, zero, suc, ◌+◌, ◌<◌, ◌==◌, Bool, cond, List, [], ◌∷◌, ◌++◌, length, refl, sym, ap, ◌∙◌, arith, append_assoc, append-nil, eq-eqb, ne_eqb}
+use Rattle.std.proofs.Common.{◌≡◌, ◌≢◌, ℕ, zero, suc, ◌+◌, ◌<◌, ◌==◌, Bool, cond, List, [], ◌∷◌, ◌++◌, length, refl, sym, ap, ◌∙◌, arith, append_assoc, append-nil, eq-eqb, ne_eqb, rules}
 use Rattle.std.proofs.lemmas.List.Elements.{filter-append}
 use mathlib.Core.List.{IsPrefix}
 use mathlib.Core.Option.{some, some-ne-none}
@@ -52,10 +52,7 @@ changes-append p f (x ∷ xs) ys = let h = changes-append p (after f (effect p x
 
 -- an effect that isn't a change leaves the phaser
 after_unchanged : (f : Flat) (e : Effect) → change e ≡ 0 → after f e ≡ f
-after_unchanged f Shows h = refl
-after_unchanged f (Tells b) h = refl
-after_unchanged f (Makes g b) h = absurd (cc h)
-after_unchanged f Waits h = refl
+after_unchanged f e h = grind arith
 
 -- and calls without a change leave it too
 pub unchanged : (p : Policy) (f : Flat) (xs : List Entry) → changes p f xs ≡ 0 → after_all p f xs ≡ f
@@ -72,7 +69,4 @@ calls_by-own n log c a =
     ∙ ap (λ (b : Bool). calls_by n log ++ cond b (entry n c a ∷ []) []) (eq-eqb n n refl)
 
 pub calls_by-other : (n m : ℕ) (log : List Entry) (c : Call) (a : Answer) → n ≢ m → calls_by n (log ++ entry m c a ∷ []) ≡ calls_by n log
-calls_by-other n m log c a ne =
-    filter-append (λ (e : Entry). e.by == n) log (entry m c a ∷ [])
-    ∙ (ap (λ (b : Bool). calls_by n log ++ cond b (entry m c a ∷ []) []) (ne_eqb m n (λ e. ne (sym e)))
-    ∙ append-nil (calls_by n log))
+calls_by-other n m log c a ne = search (rules, filter-append)

@@ -22,11 +22,7 @@ use Rattle.shared_phaser.proofs.Plays.{made_legal, made_owns}
 opens_fields : (p : Policy) (c : Call) (ph : ℕ) (b : Bool) (pa ar : ℕ) (t : Bool) (g : Flat) (a : Answer)
     → effect p c (record { phase = ph; ended = b; parties = pa; arrived = ar; turned = t }) ≡ Makes g a → b ≡ false
 opens_fields p c ph false pa ar t g a is = refl
-opens_fields p Look ph true pa ar t g a is = absurd (cc is)
-opens_fields p (Register k) ph true pa ar t g a is = absurd (cc is)
-opens_fields p (Arrive leave) ph true pa ar t g a is = absurd (cc is)
-opens_fields p Force ph true pa ar t g a is = absurd (cc is)
-opens_fields p (Await n) ph true pa ar t g a is = absurd (cc is)
+opens_fields p c ph true pa ar t g a is = grind arith
 
 pub opens : (p : Policy) (c : Call) (f g : Flat) (a : Answer) → effect p c f ≡ Makes g a → f.ended ≡ false
 opens p c f g a is = opens_fields p c f.phase f.ended f.parties f.arrived f.turned g a is
@@ -43,10 +39,7 @@ registers_unturned : (k : ℕ) (b z o t : Bool) (f f' g : Flat) (view phase : �
     → registering k (if b then JoinsLate view else (if z then Joins f phase else (if o then Overfull else (if t then MustWait else Joins f' phase)))) ≡ Makes g a
     → f.turned ≡ false → f'.turned ≡ false → g.turned ≡ false
 registers_unturned k true z o t f f' g view phase a is un un' = absurd (cc is)
-registers_unturned k false true o t f f' g view phase a is un un' = joins_unturned (k == 0) f g _ a is un
-registers_unturned k false false true t f f' g view phase a is un un' = absurd (cc is)
-registers_unturned k false false false true f f' g view phase a is un un' = absurd (cc is)
-registers_unturned k false false false false f f' g view phase a is un un' = joins_unturned (k == 0) f' g _ a is un'
+registers_unturned k false _ o t f f' g view phase a is un un' = grind (arith, joins_unturned)
 
 settles_unturned : (p : Policy) (phase : ℕ) (b : Bool) (f f' g : Flat) (a : Answer)
     → arriving p phase (if b then Turns f' else Counts f) ≡ Makes g a → f.turned ≡ false → g.turned ≡ false
@@ -57,9 +50,7 @@ arrives_unturned : (p : Policy) (phase : ℕ) (b n l : Bool) (f f' g : Flat) (vi
     → arriving p phase (if b then ComesLate view else (if n then IsUnregistered else (if l then settled f' else settled f))) ≡ Makes g a
     → f.turned ≡ false → f'.turned ≡ false → g.turned ≡ false
 arrives_unturned p phase true n l f f' g view a is un un' = absurd (cc is)
-arrives_unturned p phase false true l f f' g view a is un un' = absurd (cc is)
-arrives_unturned p phase false false true f f' g view a is un un' = settles_unturned p phase (f'.arrived == f'.parties) f' _ g a is un'
-arrives_unturned p phase false false false f f' g view a is un un' = settles_unturned p phase (f.arrived == f.parties) f _ g a is un
+arrives_unturned p phase false _ l f f' g view a is un un' = grind (arith, settles_unturned)
 
 forces_unturned : (b : Bool) (f g : Flat) (x y a : Answer) → (if b then Tells x else Makes (force f) y) ≡ Makes g a → g.turned ≡ false
 forces_unturned true f g x y a is = absurd (cc is)
@@ -67,17 +58,10 @@ forces_unturned false f g x y a is = same_flat (force f) g y a is refl
 
 awaits_nothing : (b e : Bool) (g : Flat) (x y a : Answer) → (if b then Tells x else (if e then Waits else Tells y)) ≡ Makes g a → ⊥
 awaits_nothing true e g x y a is = cc is
-awaits_nothing false true g x y a is = cc is
-awaits_nothing false false g x y a is = cc is
+awaits_nothing false e g x y a is = grind arith
 
 pub unturned_after : (p : Policy) (c : Call) (f g : Flat) (a : Answer) → effect p c f ≡ Makes g a → f.turned ≡ false → g.turned ≡ false
-unturned_after p Look f g a is un = absurd (cc is)
-unturned_after p (Register k) f g a is un =
-    registers_unturned k f.ended (k == 0) (nat_lt 65535 (f.parties + k)) f.turned f (record f { parties = f.parties + k }) g (view_of f) (pos f.phase) a is un un
-unturned_after p (Arrive leave) f g a is un =
-    arrives_unturned p f.phase f.ended (f.arrived == f.parties) leave (record f { arrived = f.arrived + 1 }) (record f { parties = f.parties - 1 }) g (view_of f) a is un un
-unturned_after p Force f g a is un = forces_unturned f.ended f g _ _ a is
-unturned_after p (Await n) f g a is un = absurd (awaits_nothing f.ended (int_eq (pos f.phase) n) g _ _ a is)
+unturned_after p c f g a is un = grind (arith, registers_unturned, arrives_unturned, forces_unturned, awaits_nothing)
 
 -- a call on the history that was found
 pub made : (v : View) (n : ℕ) (log : List Entry) (c : Call) (a : Answer) → Finds v n log → Answers (record_of n) (effect_at v c n) a
@@ -92,13 +76,7 @@ made v n log c a finds answers = record {
 -- a look at it
 pub seen : (v : View) (n : ℕ) (log : List Entry) (least : ℕ) (finds : Finds v n log)
     → least ≤ changes v.known.opening.policy (at_end v.known.opening v.known.seen) finds.knows.begins.0 → SeesMore v.known least (seeing v.known log)
-seen v n log least finds grown = record {
-  between = finds.knows.begins.0;
-  is = ap (seeing v.known) (sym finds.knows.begins.1);
-  legal = finds.legal;
-  owns = record { own = finds.knows.owns.own; kept = finds.knows.owns.kept; apart = finds.knows.owns.apart };
-  grown = grown;
-}
+seen v n log least finds grown = grind arith
 
 -- what the call makes of the word found, as the code asked
 pub effect_here : (v : View) (c d : Call) (p : Policy) (n word : ℕ) (e : Effect) → v.known.opening.policy ≡ p → c ≡ d → word ≡ n
@@ -108,10 +86,7 @@ effect_here v c d p n word e policy call same is =
     ∙ (ap (λ (z : Call). effect p z (record_of n)) call ∙ (ap (λ (m : ℕ). effect p d (record_of m)) (sym same) ∙ sym is))
 
 loaded_opening : (e : Effect) (k : Known) (log : List Entry) (c : Call) (n : ℕ) → (loaded e k log c n).opening ≡ k.opening
-loaded_opening Shows k log c n = refl
-loaded_opening (Tells a) k log c n = refl
-loaded_opening (Makes f a) k log c n = refl
-loaded_opening Waits k log c n = refl
+loaded_opening e k log c n = grind arith
 
 module _ (c : Call) (s : Step (Unit {0})) (v w : Me (Unit {0}) View) (n : ℕ) (load : Loads c s v n w) where
   pub opening_stays : w.0.known.opening ≡ v.0.known.opening
@@ -231,14 +206,4 @@ IsReply (Replied r) = Unit {0}
 IsReply (Passed view) = ⊥
 
 pub prompt_replies : (c : Call) (a : Answer) → IsPrompt c → Suits c a → IsReply a
-prompt_replies Look a prompt suits = absurd prompt
-prompt_replies (Register k) (Saw w) prompt suits = suits
-prompt_replies (Register k) (Replied r) prompt suits = tt
-prompt_replies (Register k) (Passed v) prompt suits = suits
-prompt_replies (Arrive leave) (Saw w) prompt suits = suits
-prompt_replies (Arrive leave) (Replied r) prompt suits = tt
-prompt_replies (Arrive leave) (Passed v) prompt suits = suits
-prompt_replies Force (Saw w) prompt suits = suits
-prompt_replies Force (Replied r) prompt suits = tt
-prompt_replies Force (Passed v) prompt suits = suits
-prompt_replies (Await n) a prompt suits = absurd prompt
+prompt_replies c a prompt suits = grind arith
