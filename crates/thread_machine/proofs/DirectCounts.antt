@@ -1,21 +1,20 @@
 -- What each turn makes of the direct counts, and that no phase ends early with it.
 use Rattle.std.proofs.Common.{◌≡◌, ◌≢◌, ℕ, ℤ, pos, ◌<◌, Bool, true, false, List, length, refl, sym, subst, if◌then◌else◌, arith, rules}
-use Rattle.std.specs.Prelude.{◌||◌, ◌&&◌, not, nat_abs, int_lt, is_some, Option, Some, None}
+use Rattle.std.specs.Prelude.{◌||◌, not, Option, Some, None}
 use Rattle.std.specs.Ordering.{int_eq}
 use Rattle.instruction_table.specs.declared.row.Row.{Row}
-use Rattle.instruction_table.specs.declared.row.Row.TheVariants.{Halt, Ret, Out, Preg, Pbulk, Parr, Pdereg, Paaa, Pawait, Pawaiti, Pawaitt, Pforce, Pphase, Cawait, Cawaitt, Creset, Cbroken, Cwaiting}
+use Rattle.instruction_table.specs.declared.row.Row.TheVariants.{Ret, Preg}
 use Rattle.instruction_table.specs.declared.register.Reg.{Reg}
 use Rattle.instruction_table.specs.declared.register.Reg.TheVariants.{R0}
 use Rattle.instruction_table.specs.Registers.{value_in}
 use Rattle.tier_tree.specs.declared.registered.Registered.{Registered}
-use Rattle.tier_tree.specs.declared.registered.Registered.TheVariants as registered
 use Rattle.tier_tree.specs.declared.arrived.Arrived.{Arrived}
 use Rattle.tier_tree.specs.declared.arrived.Arrived.TheVariants as arrived
 use Rattle.tier_tree.specs.declared.id.PhaserId.{PhaserId}
 use Rattle.tier_tree.specs.Forest.{PhaserState, flat_at, root_at}
-use Rattle.tier_tree.specs.Registration.{registration, after_registration}
+use Rattle.tier_tree.specs.Registration.{registration}
 use Rattle.tier_tree.specs.Arrival.{Arrives, arrival}
-use Rattle.tier_tree.specs.PhaseEnd.{after_phase_end, after_force}
+use Rattle.tier_tree.specs.PhaseEnd.{after_phase_end}
 use Rattle.tier_tree.specs.Origin.{Origin, AreTallied, origin_after_arrival, origin_after_registration}
 use Rattle.tier_tree.specs.Trees.{AreTrees}
 use Rattle.tier_tree.proofs.Kept.{registration-ends, arrival-ends, force-ends}
@@ -24,33 +23,28 @@ use Rattle.tier_tree.proofs.Stands.{stands_after_arrival}
 use Rattle.tier_tree.proofs.Turned.{stands_after_force}
 use Rattle.tier_tree.proofs.Trees.{trees_same, trees_arrived}
 use Rattle.cyclic_barrier.specs.declared.answer.Entered.{Entered}
-use Rattle.cyclic_barrier.specs.declared.answer.Entered.TheVariants as entered
 use Rattle.cyclic_barrier.specs.declared.answer.WaitState.{WaitState}
-use Rattle.cyclic_barrier.specs.declared.answer.WaitState.TheVariants as state
-use Rattle.cyclic_barrier.specs.Barrier.{BarrierState, interrupt, expire, enter_timed}
-use Rattle.cyclic_barrier.specs.Waits.{wait_at}
+use Rattle.cyclic_barrier.specs.Barrier.{BarrierState}
 use Rattle.loader.specs.Program.{Program, row_at}
-use Rattle.thread_state.specs.declared.event.Mark.TheVariants as mark
 use Rattle.thread_state.specs.declared.frame.Frame.{Frame}
 use Rattle.thread_state.specs.declared.frame.Frame.TheVariants as frame
 use Rattle.thread_state.specs.declared.status.Status.{Status}
 use Rattle.thread_state.specs.declared.status.Status.TheVariants as status
-use Rattle.thread_state.specs.Thread.{is_full, top_of, left_routine, turn_of_throw, turn_of_interruption}
+use Rattle.thread_state.specs.Thread.{top_of, left_routine}
 use Rattle.machine_scene.specs.declared.group.Group.{Group}
 use Rattle.machine_scene.specs.declared.group.Group.TheVariants.{Own, Calls, Data, Phasers, Getters, Barriers}
 use Rattle.machine_scene.specs.declared.manner.Manner.{Manner}
-use Rattle.machine_scene.specs.declared.patience.Patience.TheVariants as patience
-use Rattle.machine_scene.specs.Scene.{Scene, Outcome, thread_at, barrier_at, with_thread, with_phasers, with_barrier, outcome_of_turn, outcome_marked}
+use Rattle.machine_scene.specs.Scene.{Scene, Outcome, thread_at, barrier_at, with_thread, with_phasers, with_barrier}
 use Rattle.machine_scene.specs.Group.{group_of}
 use Rattle.machine_scene.specs.OwnRows.{outcome_of_own_row}
 use Rattle.machine_scene.specs.Manner.{manner_of}
 use Rattle.machine_scene.specs.CallRows.{outcome_of_routine_end, outcome_of_ret, outcome_of_call_row}
 use Rattle.machine_scene.specs.DataRows.{outcome_of_data_row}
 use Rattle.machine_scene.specs.GetterRows.{outcome_of_getter_row}
-use Rattle.machine_scene.specs.BarrierRows.{is_run_by, is_run_by_another, unless_busy, unless_runner, outcome_of_entered, outcome_of_entry, outcome_of_await_at, outcome_of_barrier_row}
-use Rattle.machine_scene.specs.PhaserRows.{is_past, is_own_tree, has_routine, answer_of_policy, outcome_of_pending_end, outcome_of_arrived, outcome_with_room, outcome_of_arrival, outcome_of_registered, outcome_of_registration, outcome_of_bulk, outcome_of_await, unless_own, outcome_of_phaser_row}
+use Rattle.machine_scene.specs.BarrierRows.{is_run_by, is_run_by_another, unless_busy, unless_runner, outcome_of_entered, outcome_of_await_at, outcome_of_barrier_row}
+use Rattle.machine_scene.specs.PhaserRows.{is_own_tree, outcome_of_pending_end, outcome_of_arrived, outcome_with_room, outcome_of_arrival, outcome_of_registered, outcome_of_registration, outcome_of_bulk, unless_own, outcome_of_phaser_row}
 use Rattle.machine_scene.specs.Unwinding.{outcome_of_popped}
-use Rattle.machine_scene.specs.Waits.{outcome_of_view, outcome_of_awaited, outcome_of_phase_wait, outcome_of_release, outcome_of_barrier_wait, outcome_of_phase_timeout, outcome_of_barrier_timeout}
+use Rattle.machine_scene.specs.Waits.{outcome_of_awaited, outcome_of_phase_wait, outcome_of_release, outcome_of_barrier_wait, outcome_of_phase_timeout, outcome_of_barrier_timeout}
 use Rattle.machine_scene.specs.Outcomes.{outcome_in_group, outcome_in, timeout_in}
 use Rattle.machine_scene.proofs.Plain.{StandsAt, either}
 use Rattle.machine_scene.proofs.Routines.{turning_root}

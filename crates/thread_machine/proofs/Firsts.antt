@@ -1,8 +1,7 @@
 -- A program of an image begins in the image's first world, however its phasers are stored.
-use Rattle.std.proofs.Common.{◌∙◌, ℕ, List, ap, arith}
+use Rattle.std.proofs.Common.{ℕ, List, arith}
 use Rattle.row_code.specs.declared.image.Image.{Image}
 use Rattle.tier_tree.specs.Forest.{PhaserState}
-use Rattle.tier_tree.specs.Stored.{phasers_of}
 use Rattle.loader.specs.Program.{Program, IsProgramOf, without_words}
 use Rattle.loader.proofs.Images.{is_declared}
 use Rattle.loader.proofs.Whole.{declared_by}

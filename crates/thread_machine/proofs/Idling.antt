@@ -1,5 +1,5 @@
 -- Idle choices in a row.
-use Rattle.std.proofs.Common.{◌≡◌, ◌∙◌, ◌+◌, ◌<◌, ◌≤◌, ℕ, zero, suc, false, [], ◌∷◌, length, replicate, ap, arith}
+use Rattle.std.proofs.Common.{◌≡◌, ◌∙◌, ◌+◌, ◌<◌, ◌≤◌, ℕ, zero, suc, false, ◌∷◌, length, replicate, ap, arith}
 use Rattle.std.specs.Prelude.{None}
 use Rattle.std.proofs.lemmas.Bool.Decides.{nat_tests}
 use Rattle.thread_machine.specs.declared.choice.Choice.{Choice}

@@ -1,6 +1,6 @@
 -- A higher limit makes no difference to choices that were accepted.
-use Rattle.std.proofs.Common.{◌≡◌, ◌∙◌, ◌≤◌, ℕ, List, [], ◌∷◌, refl, ap, arith}
-use Rattle.std.specs.Prelude.{Option, Some, None}
+use Rattle.std.proofs.Common.{◌≡◌, ◌≤◌, ℕ, List, [], ◌∷◌, refl, arith}
+use Rattle.std.specs.Prelude.{Option, None}
 use Rattle.std.proofs.lemmas.Bool.Decides.{nat_tests}
 use Rattle.machine_scene.specs.Scene.{Outcome}
 use Rattle.thread_machine.specs.declared.choice.Choice.{Choice}
@@ -8,7 +8,7 @@ use Rattle.thread_machine.specs.declared.fault.StepFault.{StepFault}
 use Rattle.thread_machine.specs.World.{World}
 use Rattle.thread_machine.specs.Ready.{outcome_of_choice}
 use Rattle.thread_machine.specs.Step.{Played, played, played_by, refusal_of}
-use Rattle.thread_machine.specs.Execution.{Execution, execution, execution_by}
+use Rattle.thread_machine.specs.Execution.{execution, execution_by}
 use Rattle.thread_machine.specs.Limit.{with_limit, under_limit}
 
 -- a choice played in a world with another limit

@@ -1,10 +1,10 @@
 -- The direct counts beside a call of the trees, and as a phase ends.
-use Rattle.std.proofs.Common.{inl, inr, ◌≡◌, ◌≢◌, ◌∙◌, ℕ, zero, suc, ◌+◌, ◌<◌, ◌==◌, Bool, true, false, List, [], ◌∷◌, length, map, ap, refl, sym, subst, arith, if◌then◌else◌}
+use Rattle.std.proofs.Common.{◌≡◌, ◌∙◌, ℕ, zero, suc, ◌<◌, ◌==◌, Bool, true, false, List, [], ◌∷◌, length, map, ap, refl, sym, arith, if◌then◌else◌}
 use Rattle.std.specs.Prelude.{not}
 use Rattle.std.proofs.lemmas.Bool.{cases_eq}
 use Rattle.std.proofs.lemmas.List.{length-map, get_or-set_same, get_or-set_other}
-use Rattle.packed_phaser.specs.Flat.{Flat, advance}
-use Rattle.tier_tree.specs.Forest.{PhaserState, no_phaser, phaser_at, root_of, root_at}
+use Rattle.packed_phaser.specs.Flat.{Flat}
+use Rattle.tier_tree.specs.Forest.{PhaserState, phaser_at, root_of, root_at}
 use Rattle.tier_tree.specs.PhaseEnd.{follow, in_step, after_phase_end}
 use Rattle.tier_tree.specs.Sound.{IsForest}
 use Rattle.tier_tree.specs.Answer.{KeepsPlaces, KeepsEnds}

@@ -1,11 +1,11 @@
 -- The number of a phase changes only as the phase ends.
-use Rattle.std.proofs.Common.{◌≡◌, ◌≢◌, ◌∙◌, ◌+◌, ℕ, zero, suc, ◌==◌, Bool, true, false, List, [], ◌∷◌, map, ap, refl, if◌then◌else◌, arith}
+use Rattle.std.proofs.Common.{◌≡◌, ℕ, suc, ◌==◌, Bool, true, false, List, ◌∷◌, map, ap, refl, if◌then◌else◌, arith}
 use Rattle.std.proofs.lemmas.List.{get_or-set_other}
-use Rattle.packed_phaser.specs.Flat.{Flat, advance, force}
-use Rattle.tier_tree.specs.Forest.{PhaserState, no_phaser, phaser_at, flat_at, root_of, root_at}
+use Rattle.packed_phaser.specs.Flat.{Flat, force}
+use Rattle.tier_tree.specs.Forest.{PhaserState, phaser_at, flat_at, root_at}
 use Rattle.tier_tree.specs.Registration.{after_registration}
 use Rattle.tier_tree.specs.Arrival.{arrival}
-use Rattle.tier_tree.specs.PhaseEnd.{follow, in_step, after_phase_end, terminated, after_force}
+use Rattle.tier_tree.specs.PhaseEnd.{in_step, after_phase_end, terminated, after_force}
 use Rattle.tier_tree.proofs.Stands.{same-is}
 use Rattle.machine_scene.proofs.Standings.{Standing, registration-standings, arrival-standings}
 

@@ -1,6 +1,6 @@
 -- No choice ends a phase early, nor does any in an execution.
 use Rattle.std.proofs.Common.{◌≡◌, ℕ, ◌+◌, ◌<◌, ◌≤◌, Bool, true, false, List, [], ◌∷◌, length, map, ap, refl, sym, subst, ◌∙◌, arith, if◌then◌else◌}
-use Rattle.std.specs.Prelude.{◌||◌, ◌&&◌, ◌==◌, nat_le, is_some, Option, Some, None, Result, Ok, Err, IfOk, OnOk}
+use Rattle.std.specs.Prelude.{◌||◌, ◌&&◌, nat_le, is_some, Option, Some, None, Result, Ok, Err, IfOk, OnOk}
 use Rattle.std.proofs.lemmas.Bool.Decides.{nat_tests}
 use Rattle.std.proofs.lemmas.List.{length-map}
 use Rattle.tier_tree.specs.Forest.{PhaserState}
@@ -16,15 +16,14 @@ use Rattle.loader.specs.Program.{Program, IsCode, IsProgram, program_of, row_at}
 use Rattle.loader.proofs.Images.{all_made, parts_of}
 use Rattle.thread_state.specs.declared.event.Event.{Event}
 use Rattle.machine_scene.specs.Scene.{Scene, Outcome, starting, thread_at}
-use Rattle.machine_scene.specs.Outcomes.{outcome_of, is_ready, timeout_in, outcome_of_expiry}
+use Rattle.machine_scene.specs.Outcomes.{outcome_of, outcome_of_expiry}
 use Rattle.machine_scene.specs.Sound.{IsSound}
-use Rattle.machine_scene.proofs.Plain.{either}
 use Rattle.machine_scene.proofs.Outcomes.{stands_at, sound_outcome, sound_timeout}
 use Rattle.machine_scene.proofs.Start.{sound_start, sound_with}
 use Rattle.thread_machine.specs.declared.choice.Choice.{Choice}
 use Rattle.thread_machine.specs.declared.fault.StepFault.{StepFault}
 use Rattle.thread_machine.specs.declared.fault.StepFault.TheVariants as fault
-use Rattle.thread_machine.specs.World.{World, StoredWorld, world_of, first_of, first_world}
+use Rattle.thread_machine.specs.World.{World, StoredWorld, world_of, first_of}
 use Rattle.thread_machine.specs.Ready.{outcome_of_choice, is_choice_ready}
 use Rattle.thread_machine.specs.Step.{Played, played, played_by, refusal_of}
 use Rattle.thread_machine.specs.Execution.{execution, execution_by}

@@ -1,5 +1,5 @@
 -- A machine stays one.
-use Rattle.std.proofs.Common.{◌≡◌, ◌∙◌, ap, List, map, replicate, pos, ◌+◌, ◌<◌, ◌≤◌, ℕ, arith, sym, subst}
+use Rattle.std.proofs.Common.{◌≡◌, List, map, replicate, pos, ◌+◌, ◌<◌, ◌≤◌, ℕ, arith, sym, subst}
 use Rattle.tier_tree.specs.Stored.{Stored, phasers_of, IsStored}
 use Rattle.cyclic_barrier.specs.Barrier.{BarrierState}
 use Rattle.thread_state.specs.Thread.{ThreadState}

@@ -1,14 +1,14 @@
 -- What follows of a choice that was played: what undoes it, and how the direct counts go on.
-use Rattle.std.proofs.Common.{◌≡◌, ◌≢◌, ◌∙◌, ℕ, ◌+◌, ◌-◌, ◌<◌, Bool, true, false, length, refl, ap, sym, subst, arith, if◌then◌else◌}
+use Rattle.std.proofs.Common.{◌≡◌, ◌≢◌, ◌+◌, ◌<◌, Bool, true, false, length, refl, sym, subst, arith, if◌then◌else◌}
 use Rattle.std.specs.Prelude.{Option, Some, None, is_some, Result, Ok, Err}
 use Rattle.thread_state.specs.declared.event.Event.{Event}
 use Rattle.machine_scene.specs.Scene.{Outcome, scene_of}
 use Rattle.machine_scene.specs.Undo as scene
 use Rattle.thread_machine.specs.declared.choice.Choice.{Choice}
 use Rattle.thread_machine.specs.declared.fault.StepFault.{StepFault}
-use Rattle.thread_machine.specs.World.{World, StoredWorld, world_of}
-use Rattle.thread_machine.specs.Ready.{outcome_of_choice, is_choice_ready}
-use Rattle.thread_machine.specs.Step.{Played, played_by}
+use Rattle.thread_machine.specs.World.{World, StoredWorld}
+use Rattle.thread_machine.specs.Ready.{is_choice_ready}
+use Rattle.thread_machine.specs.Step.{played_by}
 use Rattle.thread_machine.specs.Sound.{IsMachine}
 use Rattle.thread_machine.specs.Undo.{undone, CanUndo}
 use Rattle.thread_machine.specs.Stepped.{IsStep, HasPlayed, kept_of}
