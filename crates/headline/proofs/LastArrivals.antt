@@ -1,13 +1,10 @@
 -- With the last arrival at a tree its phase ends, or its routine is entered.
-use Rattle.std.proofs.Common.{inl, inr, ◌≡◌, ◌≢◌, ◌∙◌, ℕ, ℤ, pos, zero, suc, ◌+◌, ◌-◌, ◌<◌, ◌≤◌, ◌==◌, ◌&&◌, not, Bool, true, false, List, [], ◌∷◌, length, ap, refl, sym, subst, arith, if◌then◌else◌}
+use Rattle.std.proofs.Common.{inl, inr, ◌≡◌, ◌≢◌, ◌∙◌, ℕ, ℤ, pos, suc, ◌+◌, ◌-◌, ◌<◌, ◌≤◌, ◌==◌, ◌&&◌, Bool, true, false, List, [], ◌∷◌, length, ap, refl, sym, subst, arith, if◌then◌else◌}
 use Rattle.std.specs.Prelude.{◌⊎◌, ◌||◌, ◌++◌, nat_abs, int_lt, slice_get, Option, Some, None}
-use Rattle.std.specs.Ordering.{int_eq}
 use Rattle.std.proofs.lemmas.Bool.{cases_eq}
-use Rattle.std.proofs.lemmas.Bool.Decides.{nat_tests}
 use Rattle.std.proofs.lemmas.List.{get_or-set_same}
 use Rattle.instruction_table.specs.declared.row.Row.{Row}
 use Rattle.instruction_table.specs.declared.row.Row.TheVariants.{Ret, Preg, Pbulk, Parr, Pdereg, Paaa}
-use Rattle.instruction_table.specs.declared.register.Reg.TheVariants.{R0}
 use Rattle.instruction_table.specs.Registers.{value_in}
 use Rattle.packed_phaser.specs.Flat.{Flat, Arrival, Counts, Turns, ComesLate, IsUnregistered, arrive, unarrived_of}
 use Rattle.tier_tree.specs.declared.climb.Climb.{Climb}
@@ -18,15 +15,15 @@ use Rattle.tier_tree.specs.declared.arrived.Arrived.{Arrived}
 use Rattle.tier_tree.specs.declared.arrived.Arrived.TheVariants as arrived
 use Rattle.tier_tree.specs.declared.id.PhaserId.{PhaserId}
 use Rattle.tier_tree.specs.Answer.{KeepsEnds}
-use Rattle.tier_tree.specs.Forest.{PhaserState, phaser_at, flat_at, root_at, with_flat}
+use Rattle.tier_tree.specs.Forest.{PhaserState, phaser_at, flat_at, root_at}
 use Rattle.tier_tree.specs.Registration.{registration}
 use Rattle.tier_tree.specs.Arrival.{Arrives, Climbed, is_top, passed_on, with_child, climbed_by, climbed, arrival_by, arrival}
 use Rattle.tier_tree.specs.PhaseEnd.{after_phase_end}
 use Rattle.tier_tree.specs.Sound.{IsForest}
-use Rattle.tier_tree.specs.Origin.{Origin, AreTallied, HaveAllArrived, arrived_at, registered_at, origin_after_arrival, origin_after_registration}
+use Rattle.tier_tree.specs.Origin.{Origin, AreTallied, arrived_at, origin_after_arrival, origin_after_registration}
 use Rattle.tier_tree.proofs.Balance.{next-parent, flat-put, flat-other}
 use Rattle.tier_tree.proofs.Safe.{line_own, last_of, last-more}
-use Rattle.tier_tree.proofs.Stands.{same-is, other-is, stands_after_arrival}
+use Rattle.tier_tree.proofs.Stands.{other-is, stands_after_arrival}
 use Rattle.tier_tree.proofs.Trees.{trees_arrived, policy_same}
 use Rattle.tier_tree.proofs.Kept.{arrival-ends}
 use Rattle.loader.specs.Program.{Program, row_at}
@@ -40,7 +37,7 @@ use Rattle.machine_scene.specs.Manner.{manner_of}
 use Rattle.machine_scene.specs.Scene.{Scene, Outcome, no_thread, thread_at, routine_at, outcome_of_turn, with_phasers, with_thread}
 use Rattle.machine_scene.specs.CallRows.{outcome_of_ret, outcome_of_routine_end}
 use Rattle.machine_scene.specs.PhaserRows.{is_own_tree, has_routine, is_routine_policy, answer_of_policy, unless_own, outcome_of_pending_end, outcome_of_arrived, outcome_of_arrival, outcome_with_room}
-use Rattle.machine_scene.specs.Outcomes.{outcome_in, outcome_of, outcome_of_expiry}
+use Rattle.machine_scene.specs.Outcomes.{outcome_in}
 use Rattle.machine_scene.proofs.CallRows.{can_turn_on_top}
 use Rattle.machine_scene.proofs.Plain.{StandsAt}
 use Rattle.machine_scene.proofs.Routines.{turning_root}
@@ -67,8 +64,7 @@ child_left climb.Counted i n root g above phasers below is left =
     let one = left refl in
     let less : one.0 < suc n = one.1.0 in
     let some = one.1.1.1 in
-    let apart : one.0 ≢ i = λ same. omega (arith, less, below, same) in
-    (
+    let apart : one.0 ≢ i = λ same. omega (arith, less, below, same) in (
       one.0,
       (
         omega (arith, less, below),
@@ -198,8 +194,8 @@ same_tree p root leave phasers counts last =
     elim (cases_eq (root_at phasers p) root) as (λ _. root_at phasers p ≡ root) [
       | inl same ↦ same
       | inr apart ↦ absurd (nobody_last counts (arrived_at p (root_at phasers p) leave counts) root phasers
-        (λ id inside. by_none (counts.unarrived p == 0) p id (root_at phasers p) leave counts
-        (other-is id p (λ is. apart (ap (root_at phasers) (sym is) ∙ inside)))) last)
+          (λ id inside. by_none (counts.unarrived p == 0) p id (root_at phasers p) leave counts
+          (other-is id p (λ is. apart (ap (root_at phasers) (sym is) ∙ inside)))) last)
     ]
   where
     by_none : (none : Bool) (p id top : ℕ) (leave : Bool) (counts : Origin) → (id == p) ≡ false

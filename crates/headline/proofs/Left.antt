@@ -1,9 +1,9 @@
 -- A root has no party where all who registered with its tree have left, and only there.
-use Rattle.std.proofs.Common.{inl, inr, ◌≡◌, ◌≢◌, ◌∙◌, ℕ, zero, suc, ◌+◌, ◌<◌, ◌≤◌, ◌==◌, Bool, true, false, List, [], ◌∷◌, length, ap, refl, sym, subst, arith, if◌then◌else◌}
-use Rattle.std.specs.Prelude.{◌⊎◌, ◌&&◌, not}
+use Rattle.std.proofs.Common.{inl, inr, ◌≡◌, ◌∙◌, ℕ, zero, suc, ◌+◌, ◌<◌, ◌≤◌, ◌==◌, Bool, true, false, List, [], ◌∷◌, length, ap, refl, sym, arith, if◌then◌else◌}
+use Rattle.std.specs.Prelude.{◌&&◌, not}
 use Rattle.std.proofs.lemmas.Bool.{cases_eq}
 use Rattle.std.proofs.lemmas.Bool.Decides.{nat_tests}
-use Rattle.packed_phaser.specs.Flat.{Flat, is_empty}
+use Rattle.packed_phaser.specs.Flat.{Flat}
 use Rattle.tier_tree.specs.Answer.{KeepsEnds}
 use Rattle.tier_tree.specs.Forest.{PhaserState, phaser_at, flat_at, root_at}
 use Rattle.tier_tree.specs.PhaseEnd.{after_phase_end}
@@ -103,6 +103,7 @@ none_below (first ∷ above) phasers counts root fair none id there is tree =
   where
     own_root : (phasers : List PhaserState) (id : ℕ) → (phaser_at phasers id).line ≡ id ∷ [] → id ≡ root_at phasers id
     own_root phasers id top = rw top refl
+
     rest_same : (a b : ℕ) (xs ys : List ℕ) → a ∷ xs ≡ b ∷ ys → xs ≡ ys
     rest_same a b xs ys same = cc same
 

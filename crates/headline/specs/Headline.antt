@@ -39,7 +39,7 @@ use Rattle.thread_state.specs.declared.event.Event.{Event}
 use Rattle.thread_machine.specs.declared.choice.Choice.{Choice}
 use Rattle.thread_machine.specs.World.{World, StoredWorld, IsFirstOf, first_of, world_of}
 use Rattle.thread_machine.specs.Step.{played, refusal_of}
-use Rattle.thread_machine.specs.Undo.{CanUndo, undone}
+use Rattle.thread_machine.specs.Undo.{undone}
 use Rattle.thread_machine.specs.Execution.{Execution, execution}
 use Rattle.thread_machine.specs.DirectCounts.{NoPhaseEndsEarlyFrom, NumbersStay, counts_through}
 use Rattle.trace_text.specs.State.{state_text}
@@ -121,7 +121,7 @@ BackRestores before choices events after =
 abbrev pub StepsAndReturns : StoredWorld → Choice → Event → Option Note → (middle : StoredWorld) → Type 0
 StepsAndReturns before choice event kept middle =
     (refusal_of (world_of before) choice ≡ None) × (record { world = world_of middle; event = event } ≡ played (world_of before) choice)
-    × CanUndo kept middle × (undone kept middle ≡ before)
+    × (undone kept middle ≡ before)
 
 -- 4. It begins without a generation that has ended, and each choice that isn't refused leaves it as it is or is one call there.
 abbrev pub BarriersHavePasts : Type 0

@@ -2,6 +2,7 @@
 ghost use Rattle.std.specs.Prelude.{◌≡◌, ◌≤◌, ◌∷◌, [], length, None, IfOk, OnErr};
 ghost use Rattle.thread_machine.specs.World.{world_of};
 ghost use Rattle.thread_machine.specs.Execution.{execution};
+ghost use Rattle.thread_machine.specs.Undo.{CanUndo};
 ghost use Rattle.debugger.specs.Moves.{AreSteps, backs};
 ghost use Rattle.headline.specs.Headline.{BackRestores, StepsAndReturns};
 
@@ -12,6 +13,7 @@ use thread_machine::{Choice, Event, Machine, StepFault, Undo};
 /// Plays a choice on a machine, and answers with its event what takes it back. Where it is refused nothing has changed.
 pub fn step(machine: &mut Machine, choice: Choice) -> Result<(Event, Undo), StepFault>
     ensures returns { IfOk result (λ both. StepsAndReturns machine.old choice both.0 both.1 machine.new) }
+    ensures can { IfOk result (λ both. CanUndo both.1 machine.new) }
     ensures refused { OnErr result (machine.new ≡ machine.old) }
 {
     machine.step_noting(choice)
