@@ -5,11 +5,11 @@ use Rattle.std.proofs.lemmas.List.{append-nil}
 use Rattle.plans.specs.declared.word.Step.{Step}
 use Rattle.plans.specs.declared.word.Word.{Word}
 use Rattle.plans.specs.declared.word.Word.TheVariants as word
-use Rattle.plans.specs.Tree.{Plan, Done, Then, Group, words_of_plan}
+use Rattle.plans.specs.Tree.{Plan, Done, Group, words_of_plan}
 use Rattle.plans.specs.Progress.{Progress}
-use Rattle.plans.specs.Play.{plays, repeated, step_played}
+use Rattle.plans.specs.Play.{plays, step_played}
 use Rattle.plans.proofs.Progresses.{repeated_same, settles}
-use Rattle.plans.specs.Groups.{IsEnd, Played, HasPlayed, PlayedGroup, HasPlayedGroup, HasPlayedAgain}
+use Rattle.plans.specs.Groups.{IsEnd, Played, HasPlayed, HasPlayedGroup, HasPlayedAgain}
 
 -- this plan is left, and playing it makes of one progress what the whole makes of the first
 pub record Left (here : List Word) (plan : Plan) (tail : List Word) (first now : Progress) : Type 0 where

@@ -1,6 +1,6 @@
 -- The words that are read are those of a plan.
 use Rattle.std.proofs.Common.{◌≡◌, ◌∙◌, ◌+◌, ◌-◌, ◌==◌, ℕ, zero, suc, Bool, true, false, List, [], ◌∷◌, ◌++◌, ap, sym, refl, subst, arith, append_assoc, add-one}
-use Rattle.std.specs.Prelude.{IfOk, Result, Ok, Err, if◌then◌else◌, nat_le}
+use Rattle.std.specs.Prelude.{IfOk, Result, Ok, Err, if◌then◌else◌}
 use Rattle.std.proofs.lemmas.List.{append-nil}
 use Rattle.row_code.specs.Answers.{◌>>=◌}
 use Rattle.plans.specs.declared.fault.PlanFault.{PlanFault}

@@ -1,16 +1,15 @@
 -- What a play makes of a progress: nothing, fewer choices left, or a stop; and that a stop is for good.
-use Rattle.std.proofs.Common.{◌≡◌, ◌∙◌, ◌⊎◌, inl, inr, ◌+◌, ◌-◌, ◌<◌, ◌==◌, ℕ, zero, suc, Bool, true, false, refl, sym, ap, subst, arith}
+use Rattle.std.proofs.Common.{◌≡◌, ◌∙◌, ◌+◌, ◌-◌, ◌<◌, ◌==◌, ℕ, zero, suc, Bool, true, false, refl, sym, ap, subst, arith}
 use Rattle.std.specs.Prelude.{Option, Some, None, if◌then◌else◌}
 use Rattle.thread_machine.specs.declared.choice.Choice.{Choice}
 use Rattle.thread_machine.specs.declared.fault.StepFault.{StepFault}
 use Rattle.thread_machine.specs.Step.{refusal_of}
 use Rattle.plans.specs.declared.word.Rule.{Rule}
 use Rattle.plans.specs.declared.word.Step.{Step}
-use Rattle.plans.specs.declared.word.Step.TheVariants as step
 use Rattle.plans.specs.Tree.{Plan, Done, Then, Group}
 use Rattle.plans.specs.Progress.{Progress, chosen, chosen_by}
 use Rattle.plans.specs.Rules.{next_choice}
-use Rattle.plans.specs.Play.{repeated, followed, followed_by, most_of, choice_of, step_played, plays}
+use Rattle.plans.specs.Play.{repeated, followed, followed_by, step_played, plays}
 
 -- a choice was wanted for which none was left
 pub record IsOver (progress : Progress) : Type 0 where

@@ -1,6 +1,6 @@
 -- Repetitions and rules, one choice more at a time.
-use Rattle.std.proofs.Common.{◌≡◌, ◌∙◌, ◌+◌, ◌-◌, ◌<◌, ◌≤◌, ◌==◌, ℕ, zero, suc, Bool, true, false, refl, sym, ap, arith}
-use Rattle.std.specs.Prelude.{◌&&◌, Option, Some, None}
+use Rattle.std.proofs.Common.{◌≡◌, ◌∙◌, ◌+◌, ◌-◌, ◌<◌, ◌≤◌, ◌==◌, ℕ, suc, Bool, true, false, refl, sym, ap, arith}
+use Rattle.std.specs.Prelude.{◌&&◌, Some, None}
 use Rattle.thread_machine.specs.declared.choice.Choice.{Choice}
 use Rattle.plans.specs.declared.word.Rule.{Rule}
 use Rattle.plans.specs.Progress.{Progress, chosen}

@@ -1,5 +1,5 @@
 -- Who makes the next choice, where a plan leaves it open. None of these choices is idle.
-use Rattle.std.specs.Prelude.{ℕ, ◌+◌, ◌-◌, ◌%◌, nat_lt, ◌&&◌, if◌then◌else◌, Bool, true, false, List, [], ◌∷◌, length, slice_get, Option, Some, None}
+use Rattle.std.specs.Prelude.{ℕ, ◌-◌, ◌%◌, nat_lt, ◌&&◌, if◌then◌else◌, Bool, true, false, List, length, slice_get, Option, Some, None}
 use Rattle.std.specs.List.{filter_map, find, range_with_len}
 use Rattle.rand_pcg.specs.Lcg.{advance, increment_of, started}
 use Rattle.rand_pcg.specs.Pcg.{multiplier_64, pcg32}

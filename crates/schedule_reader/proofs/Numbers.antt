@@ -1,5 +1,5 @@
 -- Numbers whose digits come one by one.
-use Rattle.std.proofs.Common.{◌≡◌, ◌∙◌, ◌⊎◌, inl, inr, ◌+◌, ◌-◌, ◌*◌, ◌<◌, ◌≤◌, cond, ℕ, Bool, true, List, [], ◌∷◌, length, drop, ap, arith}
+use Rattle.std.proofs.Common.{◌≡◌, ◌∙◌, ◌⊎◌, ◌+◌, ◌-◌, ◌*◌, ◌<◌, ◌≤◌, cond, ℕ, Bool, true, List, [], ◌∷◌, length, ap, arith}
 use Rattle.std.specs.Prelude.{Some, None}
 use Rattle.std.specs.Char.{is_ascii_digit, digit_value}
 use Rattle.std.specs.Str.Parse.{digits_value_after}
@@ -7,8 +7,8 @@ use Rattle.std.proofs.lemmas.List.Sums.{take_while-cons}
 use Rattle.std.proofs.lemmas.Bool.Decides.{nat_tests}
 use Rattle.thread_machine.specs.declared.choice.Choice.{Choice}
 use Rattle.schedule_reader.specs.declared.fault.ScheduleFault.TheVariants as fault
-use Rattle.schedule_reader.specs.Schedule.{Faulty, choice_of, digits_of, reading_of_thread, reading_of_count, reading_by_thread, reading_by_times}
-use Rattle.schedule_reader.specs.Places.{number_by, thread_by, times_by, thread_from, times_from}
+use Rattle.schedule_reader.specs.Schedule.{Faulty, choice_of, digits_of, reading_by_thread, reading_by_times}
+use Rattle.schedule_reader.specs.Places.{number_by, thread_from, times_from}
 
 -- the digits of a part that begins with a digit
 pub digits_of-digit : (b : ℕ) (part : List ℕ) → is_ascii_digit b ≡ true → digits_of (b ∷ part) ≡ b ∷ digits_of part

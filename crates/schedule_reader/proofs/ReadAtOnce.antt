@@ -1,5 +1,5 @@
 -- The runs that a reader makes of a whole schedule.
-use Rattle.std.proofs.Common.{◌≡◌, ◌∙◌, List, [], ◌++◌, Option, Some, None, Result, Ok, Err, refl, ap, ap₂, sym, append-nil, ℕ, Bool, true, false, ◌↔◌, arith, rules}
+use Rattle.std.proofs.Common.{◌≡◌, ◌∙◌, List, [], Option, Some, None, Result, Ok, Err, sym, ℕ, Bool, true, false, ◌↔◌, arith, rules}
 use Rattle.std.proofs.Common.{◌⊎◌, inl, inr}
 use Rattle.schedule_reader.specs.declared.run.Run.{Run}
 use Rattle.schedule_reader.specs.declared.fault.ScheduleFault.{ScheduleFault}

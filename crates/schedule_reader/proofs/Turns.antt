@@ -13,7 +13,7 @@ use Rattle.schedule_reader.specs.declared.fault.ScheduleFault.{ScheduleFault}
 use Rattle.schedule_reader.specs.declared.fault.ScheduleFault.TheVariants as fault
 use Rattle.schedule_reader.specs.declared.place.Place.{Place}
 use Rattle.schedule_reader.specs.declared.place.Place.TheVariants as place
-use Rattle.schedule_reader.specs.Schedule.{Token, Schedule, IsRun, Unfinished, is_blank, whole, schedule_with, schedule_in, choice_of, run_of, digits_of, reading_of, reading_of_thread, reading_by_thread}
+use Rattle.schedule_reader.specs.Schedule.{Token, Schedule, IsRun, Unfinished, is_blank, schedule_with, choice_of, run_of, digits_of, reading_of, reading_of_thread, reading_by_thread}
 use Rattle.schedule_reader.specs.Places.{BeginsWithTurn, Takes, thread_by, pieces_from, schedule_from, with_runs}
 use Rattle.schedule_reader.proofs.Numbers.{digit_value-digit, number_by-some}
 use Rattle.schedule_reader.proofs.Streams.{between-pieces, with_runs-append}

@@ -1,4 +1,4 @@
-use Rattle.std.proofs.Common.{◌≡◌, ◌∙◌, ◌-◌, ◌<◌, ◌≤◌, ◌++◌, [], ap, rules, arith}
+use Rattle.std.proofs.Common.{◌∙◌, ◌-◌, ◌<◌, ◌≤◌, ◌++◌, [], ap, rules, arith}
 use Rattle.std.specs.List.{cons_option, filter_map, range_with_len}
 use Rattle.plans.specs.Rules.{able, choice_in, thread_count}
 use Rattle.plans.proofs.Threads.{next_made, all_made}

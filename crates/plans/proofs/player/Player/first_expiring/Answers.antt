@@ -1,4 +1,4 @@
-use Rattle.std.proofs.Common.{◌≡◌, ◌∙◌, ◌<◌, ◌≤◌, sym, rules, arith}
+use Rattle.std.proofs.Common.{◌∙◌, ◌<◌, ◌≤◌, sym, rules, arith}
 use Rattle.plans.specs.Rules.{can_expire_in, thread_count}
 use Rattle.plans.proofs.Threads.{find_here, find_later, find_none}
 use Rattle.plans.proofs.player.Player.first_expiring.Goals as goal

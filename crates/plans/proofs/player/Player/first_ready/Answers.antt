@@ -1,4 +1,4 @@
-use Rattle.std.proofs.Common.{◌≡◌, ◌∙◌, ◌<◌, ◌≤◌, sym, rules, arith}
+use Rattle.std.proofs.Common.{◌∙◌, ◌<◌, ◌≤◌, sym, rules, arith}
 use Rattle.plans.specs.Rules.{is_ready_in, thread_count}
 use Rattle.plans.proofs.Threads.{find_here, find_later, find_none}
 use Rattle.plans.proofs.player.Player.first_ready.Goals as goal
