@@ -31,9 +31,7 @@ less_if : (m n : ℕ) → nat_le m n ≡ false → n < m
 less_if m n is = grind (arith, nat_tests, is)
 
 is_there : (world : World) (choice : Choice) → refusal_of world choice ≡ None → choice.thread < length world.scene.threads
-is_there world choice is =
-    less_if (length world.scene.threads) choice.thread
-    (there_by (nat_le (length world.scene.threads) choice.thread) (is_used_up world choice) is)
+is_there world choice is = grind (arith, less_if, there_by)
 
 by_kind : (expiry : Bool) (row : Option Row) (t : ℕ) (scene : Scene) (late turn : Option Outcome) → GoIf None t scene late
     → GoIf row t scene turn → GoIf (if expiry then None else row) t scene (if expiry then late else turn)
@@ -55,11 +53,7 @@ by_outcome None row t world goes = goes
 pub stands_now : (world : World) (choice : Choice) (origin : Origin) → Goes world origin → refusal_of world choice ≡ None
     → let thread = thread_at world.scene choice.thread in
     StandsAt world.program world.steps choice.thread world.scene thread.status (row_at world.program.rows thread.pc)
-stands_now world choice origin goes accepted =
-    let most = goes.limit in
-    let done = goes.steps in
-    stands_at world.program world.steps choice.thread world.scene (thread_at world.scene choice.thread).status goes.sound (omega (arith, most, done))
-    (is_there world choice accepted) refl
+stands_now world choice origin goes accepted = grind (arith, stands_at, is_there)
 
 pub choice_goes : (world : World) (choice : Choice) (origin : Origin) → Goes world origin → refusal_of world choice ≡ None
     → ChoiceGoes (row_of world choice) choice.thread world (played world choice).world

@@ -56,27 +56,21 @@ none_turned phasers (join ∷ all) none =
 held_by : (ended over turned : Bool) (dead at : Registered) → is_held dead ≡ false → is_held at ≡ false → turned ≡ false
     → is_held (if ended then dead else (if over then registered.TooMany else (if turned then registered.Held else at))) ≡ false
 held_by true over turned dead at first last is = first
-held_by false true turned dead at first last is = refl
-held_by false false true dead at first last is = absurd (cc is)
-held_by false false false dead at first last is = last
+held_by false _ turned dead at first last is = grind arith
 
 -- so no registration has to wait
 not_held : (phasers : List PhaserState) (id count : ℕ) → ((id : ℕ) → (flat_at phasers id).turned ≡ false)
     → is_held (registration id count phasers) ≡ false
-not_held phasers id count none =
-    held_by (flat_at phasers id).ended (list_any (is_overfull phasers) (joins id count phasers))
-    (list_any (is_turned phasers) (joins id count phasers)) _ _ refl refl (none_turned phasers (joins id count phasers) none)
+not_held phasers id count none = grind (arith, held_by, none_turned)
 
 last_false : (a b c : Bool) → c ≡ false → (a && (b && c)) ≡ false
 last_false true true c is = is
-last_false true false c is = refl
-last_false false b c is = refl
+last_false _ _ c is = refl
 
 -- no thread runs a barrier's action
 new_idle : (barriers : List DeclaredBarrier) (b : ℕ) → (slice_index_or (map new_barrier barriers) b (fresh 1 false)).runner ≡ None
-new_idle [] b = refl
-new_idle (barrier ∷ barriers) zero = refl
 new_idle (barrier ∷ barriers) (suc b) = new_idle barriers b
+new_idle _ _ = refl
 
 -- nobody has come to a phaser or a barrier yet, and each thread runs
 record NobodyCame (scene : Scene) : Type 0 where
@@ -92,14 +86,7 @@ not_held_at p count t scene none = last_false _ _ _ (not_held scene.phasers p (n
 
 goes_by : (row : Row) (t : ℕ) (scene : Scene) → NobodyCame scene → is_blocked row t scene ≡ false
 goes_by (Preg into p) t scene none = not_held_at p (pos 1) t scene none.unturned
-goes_by (Pbulk into p count) t scene none =
-    not_held_at p (value_in (thread_at scene t).registers count) t scene none.unturned
-goes_by (Cawait into b) t scene none = ap (is_run_by_another t) (none.idle b)
-goes_by (Cawaitt into b time) t scene none = ap (is_run_by_another t) (none.idle b)
-goes_by (Creset b) t scene none = ap (is_run_by_another t) (none.idle b)
-goes_by (Cbroken into b) t scene none = ap (is_run_by_another t) (none.idle b)
-goes_by (Cwaiting into b) t scene none = ap (is_run_by_another t) (none.idle b)
-goes_by _ t scene none = refl
+goes_by row t scene none = grind (arith, not_held_at)
 
 runs_by : (threads : List DeclaredThread) → 0 < length threads → (slice_index_or (map starting threads) 0 no_thread).status ≡ status.Runs
 runs_by [] one = absurd (omega (arith, one))
@@ -110,10 +97,7 @@ listed_by of row t scene is none = ap (λ of. is_listed of row t scene) is ∙ a
 
 -- the first thread's turn is ready, whatever its row is
 first_ready : (program : Program) (scene : Scene) → NobodyCame scene → is_ready 0 program scene ≡ true
-first_ready program scene none =
-    ready_as_listed 0 program scene
-    ∙ listed_by (thread_at scene 0).status (row_at program.rows (thread_at scene 0).pc) 0 scene
-    (ap (λ threads. (slice_index_or threads 0 no_thread).status) none.begin ∙ runs_by none.threads none.one) none
+first_ready program scene none = grind (arith, ready_as_listed, listed_by, runs_by)
 
 unfinished_by : (threads : List DeclaredThread) → 0 < length threads
     → list_all (λ (thread : ThreadState). is_finished thread.status) (map starting threads) ≡ false
@@ -136,14 +120,7 @@ more_if m n less = grind (arith, nat_tests, less)
 
 -- so the run goes on
 not_over : (world : World) → NobodyCame world.scene → world.steps < world.limit → ending_of world ≡ None
-not_over world none less =
-    let many : 0 < length world.scene.threads =
-    subst (λ n. 0 < n) (sym (ap (λ threads. length threads) none.begin ∙ length-map none.threads starting)) none.one in
-    let ready = first_ready world.program world.scene none in
-    not_over_by (all_finished world.scene) (some_ready world.program world.scene) (nat_le world.limit world.steps)
-    (unfinished world.scene none)
-    (one_ready world.program 0 world.scene many (ap (λ x. x || can_expire 0 world.program world.scene) ready))
-    (more_if world.limit world.steps less)
+not_over world none less = grind (arith, length-map, first_ready, not_over_by, unfinished, one_ready, more_if)
 
 some_thread : (test : Bool) → unless test fault.NoThread ≡ None → test ≡ true
 some_thread true is = refl

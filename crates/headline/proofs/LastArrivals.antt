@@ -1,5 +1,5 @@
 -- With the last arrival at a tree its phase ends, or its routine is entered.
-use Rattle.std.proofs.Common.{inl, inr, ◌≡◌, ◌≢◌, ◌∙◌, ℕ, ℤ, pos, suc, ◌+◌, ◌-◌, ◌<◌, ◌≤◌, ◌==◌, ◌&&◌, Bool, true, false, List, [], ◌∷◌, length, ap, refl, sym, subst, arith, if◌then◌else◌}
+use Rattle.std.proofs.Common.{inl, inr, ◌≡◌, ◌≢◌, ◌∙◌, ℕ, ℤ, pos, suc, ◌+◌, ◌-◌, ◌<◌, ◌≤◌, ◌==◌, ◌&&◌, Bool, true, false, List, [], ◌∷◌, length, ap, refl, sym, subst, arith, if◌then◌else◌, rules}
 use Rattle.std.specs.Prelude.{◌⊎◌, ◌||◌, ◌++◌, nat_abs, int_lt, slice_get, Option, Some, None}
 use Rattle.std.proofs.lemmas.Bool.{cases_eq}
 use Rattle.std.proofs.lemmas.List.{get_or-set_same}
@@ -60,22 +60,7 @@ IsLeft bound root before after =
 
 child_left : (c : Climb) (i n root : ℕ) (g : Flat) (above phasers : List PhaserState) → n < i → (with_child i g c above).climb ≡ climb.Counted
     → (c ≡ climb.Counted → IsLeft (suc n) root phasers above) → IsLeft (suc i) root phasers (with_child i g c above).phasers
-child_left climb.Counted i n root g above phasers below is left =
-    let one = left refl in
-    let less : one.0 < suc n = one.1.0 in
-    let some = one.1.1.1 in
-    let apart : one.0 ≢ i = λ same. omega (arith, less, below, same) in (
-      one.0,
-      (
-        omega (arith, less, below),
-        (
-          one.1.1.0,
-          subst (λ (f : Flat). 0 < unarrived_of f) (sym (flat-other above i (passed_on g) one.0 apart)) some,
-        ),
-      ),
-    )
-child_left climb.Turned i n root g above phasers below is left = absurd (cc is)
-child_left climb.Refused i n root g above phasers below is left = absurd (cc is)
+child_left c i n root g above phasers below is left = grind (arith, flat-other)
 
 left_by : (a : Arrival) (i : ℕ) (above : List ℕ) (root : ℕ) (onward : Bool → Climbed) (phasers : List PhaserState) → i < length phasers
     → root_at phasers i ≡ root → Lands a
@@ -87,13 +72,7 @@ left_by (Counts g) i above root onward phasers there top lands up is =
     let less = lands.1 in
     let some : 0 < unarrived_of g = omega (arith, less) in
     (i, (omega arith, (top, subst (λ (f : Flat). 0 < unarrived_of f) (sym (flat-put phasers i g there)) some)))
-left_by (Turns g) i [] root onward phasers there top lands up is = absurd (cc is)
-left_by (Turns g) i (n ∷ more) root onward phasers there top lands up is =
-    let leaves = g.parties == 0 in
-    let next = up n more refl in
-    child_left (onward leaves).climb i n root g (onward leaves).phasers phasers next.0 is (next.1 leaves)
-left_by (ComesLate view) i above root onward phasers there top lands up is = absurd (cc is)
-left_by IsUnregistered i above root onward phasers there top lands up is = absurd (cc is)
+left_by a i above root onward phasers there top lands up is = search (rules, flat-put, child_left)
 
 head_of : List ℕ → ℕ
 head_of [] = 0
@@ -170,10 +149,7 @@ more_by false n k = omega arith
 
 registered_more : (r : Registered) (p k : ℕ) (counts : Origin) (id : ℕ)
     → counts.unarrived id ≤ (origin_after_registration r p k counts).unarrived id
-registered_more (registered.At phase) p k counts id = more_by (id == p) (counts.unarrived id) k
-registered_more (registered.Dead view) p k counts id = omega arith
-registered_more registered.Held p k counts id = omega arith
-registered_more registered.TooMany p k counts id = omega arith
+registered_more r p k counts id = grind (arith, more_by)
 
 with_more : (test : Bool) (r : Registered) (p k : ℕ) (counts : Origin) (id : ℕ)
     → let at : Origin = if test then counts else origin_after_registration r p k counts in counts.unarrived id ≤ at.unarrived id
@@ -182,34 +158,12 @@ with_more false r p k counts id = registered_more r p k counts id
 
 registers : (p : ℕ) (count : ℤ) (t : ℕ) (scene : Scene) (counts : Origin) (outcome : Option Outcome)
     → LastEnds counts (with_registration p count t scene counts) t scene outcome
-registers p count t scene counts outcome root there live clean last =
-    absurd (nobody_last counts (with_registration p count t scene counts) root scene.phasers
-    (λ id inside. with_more (is_own_tree p (thread_at scene t) scene || int_lt count (pos 0)) (registration p (nat_abs count) scene.phasers) p
-    (nat_abs count) counts id) last)
+registers p count t scene counts outcome root there live clean last = grind (arith, nobody_last, with_more)
 
 -- the last arrival is one in its own tree
 same_tree : (p root : ℕ) (leave : Bool) (phasers : List PhaserState) (counts : Origin)
     → HasLastArrived counts (arrived_at p (root_at phasers p) leave counts) root phasers → root_at phasers p ≡ root
-same_tree p root leave phasers counts last =
-    elim (cases_eq (root_at phasers p) root) as (λ _. root_at phasers p ≡ root) [
-      | inl same ↦ same
-      | inr apart ↦ absurd (nobody_last counts (arrived_at p (root_at phasers p) leave counts) root phasers
-          (λ id inside. by_none (counts.unarrived p == 0) p id (root_at phasers p) leave counts
-          (other-is id p (λ is. apart (ap (root_at phasers) (sym is) ∙ inside)))) last)
-    ]
-  where
-    by_none : (none : Bool) (p id top : ℕ) (leave : Bool) (counts : Origin) → (id == p) ≡ false
-        → let at : Origin = if none then record counts { stray = λ n. if n == top then true else counts.stray n }
-        else record counts {
-          unarrived = λ n. if n == p then counts.unarrived n - 1 else counts.unarrived n;
-          registered = λ n. if (n == p) && leave then counts.registered n - 1 else counts.registered n;
-        } in counts.unarrived id ≤ at.unarrived id
-    by_none true p id top leave counts apart = omega arith
-    by_none false p id top leave counts apart = by_here (id == p) (counts.unarrived id) apart
-      where
-        by_here : (here : Bool) (n : ℕ) → here ≡ false → n ≤ (if here then n - 1 else n)
-        by_here true n is = absurd (cc is)
-        by_here false n is = omega arith
+same_tree p root leave phasers counts last = grind (arith, cases_eq, nobody_last, other-is)
 
 top_pushed : (stack : List Frame) (entry : Frame) → top_of (stack ++ entry ∷ []) ≡ Some entry
 top_pushed [] entry = refl
@@ -288,12 +242,7 @@ arrives (arrived.Turning root phase parties) row program steps t p manner scene 
     (turns.0 ∙ same_tree p top manner.leaves scene.phasers counts last)
     (pending_ends (answer_of_policy root.0 (with_phasers (arrival p manner.leaves scene.phasers).phasers scene)) program steps t p manner scene root
     phase parties row stands there is refl)
-arrives (arrived.At phase) row program steps t p manner scene counts stands there tallied rest is root inside live clean last =
-    absurd (not_last program steps t p manner.leaves scene counts phase row stands there tallied rest is root live clean last)
-arrives (arrived.Dead view) row program steps t p manner scene counts stands there tallied rest is root inside live clean last =
-    absurd (nobody_last counts counts root scene.phasers (λ id at. omega arith) last)
-arrives arrived.NotThere row program steps t p manner scene counts stands there tallied rest is root inside live clean last =
-    absurd (nobody_last counts counts root scene.phasers (λ id at. omega arith) last)
+arrives answer row program steps t p manner scene counts stands there tallied rest is root inside live clean last = search (rules, turning_root, same_tree, pending_ends, not_last, nobody_last)
 
 full_or : (own full : Bool) (t : ℕ) (scene : Scene) (counts at : Origin) (first : Option Outcome) (second call : Outcome)
     → LastEnds counts at t scene (Some call)
@@ -307,26 +256,14 @@ arrival_ends : (row : Row) (program : Program) (steps t p : ℕ) (manner : Manne
     → ArePrompt scene.phasers
     → LastEnds counts (with_arrival p manner.leaves t scene counts) t scene
     (unless_own p t scene (Some (outcome_of_arrival manner p t program scene)))
-arrival_ends row program steps t p manner scene counts stands there tallied rest =
-    full_or (is_own_tree p (thread_at scene t) scene) (has_routine p scene && is_full (thread_at scene t)) t scene counts
-    (origin_after_arrival (arrival p manner.leaves scene.phasers).answer p (root_at scene.phasers p) manner.leaves counts) _ _
-    (outcome_with_room manner p t program scene)
-    (arrives (arrival p manner.leaves scene.phasers).answer row program steps t p manner scene counts stands there tallied rest refl)
+arrival_ends row program steps t p manner scene counts stands there tallied rest = search (rules, full_or, arrives)
 
 row_ends : (row : Row) (program : Program) (steps t : ℕ) (scene : Scene) (counts : Origin) → StandsAt program steps t scene status.Runs row
     → AreTallied scene.phasers counts → ArePrompt scene.phasers
     → LastEnds counts (with_row row t scene counts) t scene (outcome_in status.Runs row t program scene)
 row_ends (Preg into p) program steps t scene counts stands tallied rest =
     registers p (pos 1) t scene counts (outcome_in status.Runs (Preg into p) t program scene)
-row_ends (Pbulk into p count) program steps t scene counts stands tallied rest =
-    registers p (value_in (thread_at scene t).registers count) t scene counts (outcome_in status.Runs (Pbulk into p count) t program scene)
-row_ends (Parr into p) program steps t scene counts stands tallied rest =
-    arrival_ends (Parr into p) program steps t p (manner_of (Parr into p)) scene counts stands stands.named tallied rest
-row_ends (Pdereg into p) program steps t scene counts stands tallied rest =
-    arrival_ends (Pdereg into p) program steps t p (manner_of (Pdereg into p)) scene counts stands stands.named tallied rest
-row_ends (Paaa into p) program steps t scene counts stands tallied rest =
-    arrival_ends (Paaa into p) program steps t p (manner_of (Paaa into p)) scene counts stands stands.named tallied rest
-row_ends row program steps t scene counts stands tallied rest = uncounted counts t scene (outcome_in status.Runs row t program scene)
+row_ends row program steps t scene counts stands tallied rest = search (rules, registers, arrival_ends, uncounted)
 
 turn_ends : (of : Status) (row : Row) (program : Program) (steps t : ℕ) (scene : Scene) (counts : Origin) → StandsAt program steps t scene of row
     → AreTallied scene.phasers counts → ArePrompt scene.phasers
@@ -340,8 +277,7 @@ by_kind true counts at t scene late turn goes = uncounted counts t scene late
 by_kind false counts at t scene late turn goes = goes
 
 pub played_ends : (outcome : Option Outcome) (world : World) → (played_by outcome world).world.scene ≡ scene_after outcome world.scene
-played_ends (Some outcome) world = refl
-played_ends None world = refl
+played_ends outcome world = grind arith
 
 -- so the phase of a tree ends in time, or its routine is entered
 pub last_ends : (world : World) (choice : Choice) (counts : Origin) (steps : ℕ)
@@ -378,11 +314,7 @@ none_leaves at scene last kept root there top ended =
 silent_leaves : (row : Option Row) (thread : ThreadState) (at : Origin) (scene last : Scene)
     → ((root parties : ℕ) → on_advance row thread root scene.phasers parties ≡ None)
     → TerminateAsSaid row thread scene.phasers last.phasers → Leaves at scene last
-silent_leaves row thread at scene last silent said root there top ended =
-    let own = root_at scene.phasers root in
-    let answer = ((said root there).0 (ap (λ r. has_ended_phase r scene.phasers last.phasers) top ∙ ended)).1 in
-    let none = silent own (flat_at last.phasers own).parties in
-    absurd (cc (none, answer))
+silent_leaves row thread at scene last silent said root there top ended = grind arith
 
 pending_leaves : (answer : Option Bool) (program : Program) (steps t p : ℕ) (manner : Manner) (scene : Scene) (counts : Origin) (root : PhaserId)
     (phase : ℤ) (parties : ℕ) (row : Row) → StandsAt program steps t scene status.Runs row → p < length scene.phasers
@@ -398,9 +330,7 @@ pending_leaves (Some over) program steps t p manner scene counts root phase part
     (subst (λ answer. AreTallied (arrival p manner.leaves phasers).phasers (origin_after_arrival answer p (root_at phasers p) manner.leaves counts)) is
     (stands_after_arrival phasers counts p manner.leaves (arrival p manner.leaves phasers) stands.sound.trees.forest there refl tallied))
     kept.many kept.places.roots (arrival-ends p manner.leaves phasers) r
-pending_leaves None program steps t p manner scene counts root phase parties row stands there tallied is r inside top =
-    none_leaves (arrived_at p (root_at scene.phasers p) manner.leaves counts) scene
-    (with_phasers (arrival p manner.leaves scene.phasers).phasers scene) (arrival-ends p manner.leaves scene.phasers) r inside top
+pending_leaves None program steps t p manner scene counts root phase parties row stands there tallied is r inside top = grind (arith, arrival-ends, none_leaves)
 
 arrival_leaves : (answer : Arrived) (row : Row) (program : Program) (steps t p : ℕ) (manner : Manner) (scene : Scene) (counts : Origin)
     → StandsAt program steps t scene status.Runs row → p < length scene.phasers → AreTallied scene.phasers counts
@@ -410,9 +340,7 @@ arrival_leaves : (answer : Arrived) (row : Row) (program : Program) (steps t p :
 arrival_leaves (arrived.Turning root phase parties) row program steps t p manner scene counts stands there tallied is r inside top =
     pending_leaves (answer_of_policy root.0 (with_phasers (arrival p manner.leaves scene.phasers).phasers scene)) program steps t p manner scene
     counts root phase parties row stands there tallied is r inside top
-arrival_leaves answer row program steps t p manner scene counts stands there tallied is r inside top =
-    none_leaves (origin_after_arrival answer p (root_at scene.phasers p) manner.leaves counts) scene
-    (with_phasers (arrival p manner.leaves scene.phasers).phasers scene) (arrival-ends p manner.leaves scene.phasers) r inside top
+arrival_leaves answer row program steps t p manner scene counts stands there tallied is r inside top = grind (arith, none_leaves, arrival-ends)
 
 leaves_or : (own full : Bool) (scene : Scene) (counts at : Origin) (first second call : Outcome) → KeepsEnds scene.phasers first.scene.phasers
     → KeepsEnds scene.phasers second.scene.phasers → Leaves at scene call.scene
@@ -426,20 +354,13 @@ counted_leaves : (row : Row) (program : Program) (steps t p : ℕ) (manner : Man
     → StandsAt program steps t scene status.Runs row → p < length scene.phasers → AreTallied scene.phasers counts
     → Leaves (with_arrival p manner.leaves t scene counts) scene
     (scene_after (unless_own p t scene (Some (outcome_of_arrival manner p t program scene))) scene)
-counted_leaves row program steps t p manner scene counts stands there tallied =
-    let thread = thread_at scene t in
-    leaves_or (is_own_tree p thread scene) (has_routine p scene && is_full thread) scene counts
-    (origin_after_arrival (arrival p manner.leaves scene.phasers).answer p (root_at scene.phasers p) manner.leaves counts)
-    (outcome_of_turn (turn_of_throw (pos 1) thread) t scene) (outcome_of_turn (turn_of_throw (pos 6) thread) t scene)
-    (outcome_with_room manner p t program scene) (λ id. refl) (λ id. refl)
-    (arrival_leaves (arrival p manner.leaves scene.phasers).answer row program steps t p manner scene counts stands there tallied refl)
+counted_leaves row program steps t p manner scene counts stands there tallied = search (rules, leaves_or, arrival_leaves)
 
 routine_leaves : (ended : Bool) (program : Program) (steps t root back : ℕ) (registers : List ℤ) (manner : Manner) (scene : Scene) (left : ThreadState)
     (counts : Origin) → (flat_at scene.phasers root).ended ≡ ended → StandsAt program steps t scene status.Runs Ret
     → top_of (thread_at scene t).stack ≡ Some (frame.Advance root registers back) → AreTallied scene.phasers counts
     → (terminates : Bool) → Leaves counts scene (outcome_of_routine_end ended manner root terminates t (with_thread left t scene)).scene
-routine_leaves true program steps t root back saved manner scene left counts is stands top tallied terminates r inside own =
-    none_leaves counts scene (with_thread left t scene) (λ id. refl) r inside own
+routine_leaves true program steps t root back saved manner scene left counts is stands top tallied terminates r inside own = grind (arith, none_leaves)
 routine_leaves false program steps t root back saved manner scene left counts is stands top tallied terminates r inside own =
     ended_left root terminates scene.phasers scene.phasers counts
     (can_turn_on_top program steps t root back saved scene stands.sound stands.few stands.there top is) stands.sound.trees.forest tallied refl
@@ -449,8 +370,7 @@ ret_leaves : (top : Option Frame) (program : Program) (steps t : ℕ) (scene : S
     → top_of (thread_at scene t).stack ≡ top → AreTallied scene.phasers counts → Leaves counts scene (outcome_of_ret top t program scene).scene
 ret_leaves (Some (frame.Advance root saved back)) program steps t scene counts stands is tallied =
     routine_leaves (flat_at scene.phasers root).ended program steps t root back saved _ scene _ counts refl stands is tallied _
-ret_leaves top program steps t scene counts stands is tallied =
-    none_leaves counts scene (outcome_of_ret top t program scene).scene (λ id. refl)
+ret_leaves top program steps t scene counts stands is tallied = grind (arith, none_leaves)
 
 row_leaves : (row : Row) (program : Program) (steps t : ℕ) (scene : Scene) (counts : Origin) → StandsAt program steps t scene status.Runs row
     → AreTallied scene.phasers counts
@@ -464,24 +384,20 @@ row_leaves (Paaa into p) program steps t scene counts stands tallied said =
     counted_leaves (Paaa into p) program steps t p (manner_of (Paaa into p)) scene counts stands stands.named tallied
 row_leaves Ret program steps t scene counts stands tallied said =
     ret_leaves (top_of (thread_at scene t).stack) program steps t scene counts stands refl tallied
-row_leaves row program steps t scene counts stands tallied said =
-    silent_leaves (Some row) (thread_at scene t) (with_row row t scene counts) scene
-    (scene_after (outcome_in status.Runs row t program scene) scene) (λ root parties. refl) said
+row_leaves row program steps t scene counts stands tallied said = grind (arith, silent_leaves, scene_after)
 
 turn_leaves : (of : Status) (row : Row) (program : Program) (steps t : ℕ) (scene : Scene) (counts : Origin) → StandsAt program steps t scene of row
     → AreTallied scene.phasers counts
     → TerminateAsSaid (row_in of row) (thread_at scene t) scene.phasers (scene_after (outcome_in of row t program scene) scene).phasers
     → Leaves (with_turn of row t scene counts) scene (scene_after (outcome_in of row t program scene) scene)
 turn_leaves status.Runs row program steps t scene counts stands tallied said = row_leaves row program steps t scene counts stands tallied said
-turn_leaves of row program steps t scene counts stands tallied said =
-    silent_leaves None (thread_at scene t) counts scene (scene_after (outcome_in of row t program scene) scene) (λ root parties. refl) said
+turn_leaves of row program steps t scene counts stands tallied said = grind (arith, silent_leaves, scene_after)
 
 leaves_by : (expiry : Bool) (row : Option Row) (counts at : Origin) (t : ℕ) (scene : Scene) (late turn : Option Outcome)
     → (TerminateAsSaid row (thread_at scene t) scene.phasers (scene_after turn scene).phasers → Leaves at scene (scene_after turn scene))
     → TerminateAsSaid (if expiry then None else row) (thread_at scene t) scene.phasers (scene_after (if expiry then late else turn) scene).phasers
     → Leaves (if expiry then counts else at) scene (scene_after (if expiry then late else turn) scene)
-leaves_by true row counts at t scene late turn goes said =
-    silent_leaves None (thread_at scene t) counts scene (scene_after late scene) (λ root parties. refl) said
+leaves_by true row counts at t scene late turn goes said = grind (arith, silent_leaves, scene_after)
 leaves_by false row counts at t scene late turn goes said = goes said
 
 -- the parties that `onAdvance` is told of are those who are registered
@@ -505,39 +421,21 @@ are_counted world choice counts steps stands tallied said =
 ret_ends : (ended : Bool) (top : Option Frame) (root : ℕ) (registers : List ℤ) (back : ℕ) (program : Program) (t : ℕ) (scene : Scene)
     → top ≡ Some (frame.Advance root registers back) → (flat_at scene.phasers root).ended ≡ ended → ended ≡ false → root < length scene.phasers
     → has_ended_phase root scene.phasers (outcome_of_ret top t program scene).scene.phasers ≡ true
-ret_ends ended top root registers back program t scene is over live there =
-    subst (λ top. has_ended_phase root scene.phasers (outcome_of_ret top t program scene).scene.phasers ≡ true) (sym is)
-    (by_end (flat_at scene.phasers root).ended _ root _ t _ scene.phasers refl (over ∙ live) there)
-  where
-    by_end : (ended : Bool) (manner : Manner) (root : ℕ) (terminates : Bool) (t : ℕ) (scene : Scene) (phasers : List PhaserState)
-        → scene.phasers ≡ phasers → ended ≡ false → root < length phasers
-        → has_ended_phase root phasers (outcome_of_routine_end ended manner root terminates t scene).scene.phasers ≡ true
-    by_end true manner root terminates t scene phasers same live there = absurd (cc live)
-    by_end false manner root terminates t scene phasers same live there =
-        subst (λ (ps : List PhaserState). has_ended_phase root phasers (after_phase_end root terminates ps) ≡ true) (sym same)
-        (root_ended root terminates phasers phasers (λ id. refl) there)
+ret_ends ended top root registers back program t scene is over live there = grind (arith, root_ended)
 
 back_by : (expiry : Bool) (of : Status) (row : Row) (late : Option Outcome) (root : ℕ) (registers : List ℤ) (back : ℕ) (program : Program) (t : ℕ)
     (scene : Scene) → (if expiry then None else row_in of row) ≡ Some Ret
     → top_of (thread_at scene t).stack ≡ Some (frame.Advance root registers back) → (flat_at scene.phasers root).ended ≡ false
     → root < length scene.phasers
     → has_ended_phase root scene.phasers (scene_after (if expiry then late else outcome_in of row t program scene) scene).phasers ≡ true
-back_by true of row late root registers back program t scene is top live there = absurd (cc is)
 back_by false status.Runs row late root registers back program t scene is top live there =
     let same : row ≡ Ret = cc is in
     subst (λ row. has_ended_phase root scene.phasers (scene_after (outcome_in status.Runs row t program scene) scene).phasers ≡ true) (sym same)
     (ret_ends _ (top_of (thread_at scene t).stack) root registers back program t scene top refl live there)
-back_by false _ row late root registers back program t scene is top live there = absurd (cc is)
+back_by _ _ row late root registers back program t scene is top live there = absurd (cc is)
 
 -- a root that isn't there isn't that of a routine
 pub routine_ends : (world : World) (choice : Choice) (steps : ℕ)
     → ((root : ℕ) (registers : List ℤ) (back : ℕ) → top_of (thread_at world.scene choice.thread).stack ≡ Some (frame.Advance root registers back)
     → root < length world.scene.phasers) → RoutineEnds world choice (played world choice).world
-routine_ends world choice steps within root is top live =
-    let scene = world.scene in
-    let t = choice.thread in
-    let thread = thread_at scene t in
-    subst (λ (last : Scene). has_ended_phase root scene.phasers last.phasers ≡ true)
-    (sym (played_ends (outcome_of_choice world.program choice scene) world))
-    (back_by choice.expiry thread.status (row_at world.program.rows thread.pc) _ root top.0 top.1.0 world.program t scene is top.1.1 live
-    (within root top.0 top.1.0 top.1.1))
+routine_ends world choice steps within root is top live = grind (arith, played_ends, back_by)

@@ -26,8 +26,7 @@ first_fails false pass others none under = absurd (cc under)
 pub none_passes : (test : Flat → Bool) (parent : ℕ) (phasers : List PhaserState) (id : ℕ) → children test parent phasers ≡ 0
     → id < length phasers → is_under parent (phaser_at phasers id).line ≡ true → test (flat_at phasers id) ≡ false
 none_passes test parent [] id none there under = absurd (omega (arith, there))
-none_passes test parent (p ∷ phasers) zero none there under =
-    first_fails (is_under parent p.line) (test p.flat) (children test parent phasers) none under
+none_passes test parent (p ∷ phasers) zero none there under = grind (arith, first_fails)
 none_passes test parent (p ∷ phasers) (suc id) none there under =
     none_passes test parent phasers id (omega (arith, none)) (omega (arith, there)) under
 
@@ -36,11 +35,7 @@ empty_by : (ended turned : Bool) (parties : ℕ) → ended ≡ false
     → not (if ended then false else (if turned then false else parties == 0)) ≡ false → parties ≡ 0
 empty_by true turned parties live out = absurd (cc live)
 empty_by false true parties live out = absurd (cc out)
-empty_by false false parties live out = by_test (parties == 0) parties refl out
-  where
-    by_test : (none : Bool) (parties : ℕ) → (parties == 0) ≡ none → not none ≡ false → parties ≡ 0
-    by_test true parties is out = grind (arith, nat_tests, is)
-    by_test false parties is out = absurd (cc out)
+empty_by false false parties live out = grind (arith, nat_tests)
 
 out_by : (ended turned : Bool) (parties : ℕ) → ended ≡ false → (turned ≡ true → 0 < parties) → parties ≡ 0
     → not (if ended then false else (if turned then false else parties == 0)) ≡ false

@@ -22,8 +22,7 @@ use Rattle.headline.specs.Headline.{BarriersHavePasts, start}
 use Rattle.headline.proofs.Choices.{choice_goes, goes_next}
 
 if_accepted : (why : Option StepFault) (later : Type 0) → (why ≡ None → later) → IfAccepted why later
-if_accepted None later so = so refl
-if_accepted (Some fault) later so = tt
+if_accepted why later so = grind arith
 
 records : (choices : List Choice) (b : ℕ) (past : PlainBarrier) (world : World) (origin : Origin) → Goes world origin
     → StandsFor (barrier_at world.scene b) past → RecordsOnePast b past world choices
@@ -45,9 +44,8 @@ new_in : (barriers : List DeclaredBarrier) (b : ℕ)
     → slice_index_or (map new_barrier barriers) b (fresh 1 false)
     ≡ fresh (slice_index_or (map new_barrier barriers) b (fresh 1 false)).parties
     (slice_index_or (map new_barrier barriers) b (fresh 1 false)).action
-new_in [] b = refl
-new_in (x ∷ barriers) zero = refl
 new_in (x ∷ barriers) (suc b) = new_in barriers b
+new_in _ _ = refl
 
 -- each barrier is new at first
 new_at : (image : Image) (b : ℕ)

@@ -67,8 +67,7 @@ prompt_by : (why : Option StepFault) (world : World) (choice : Choice) (choices 
     → ArePrompt world.scene.phasers
     → (refusal_of world choice ≡ None → ArePrompt (execution (played world choice).world choices).world.scene.phasers)
     → ArePrompt (execution_by why world choice (λ after. execution after choices)).world.scene.phasers
-prompt_by (Some fault) world choice choices is rest later = rest
-prompt_by None world choice choices is rest later = later is
+prompt_by why world choice choices is rest later = grind arith
 
 stay_prompt : (choices : List Choice) (world : World) (origin : Origin) → Goes world origin → ArePrompt world.scene.phasers
     → ArePrompt (execution world choices).world.scene.phasers

@@ -39,12 +39,7 @@ join_prompt : (ended none over turned : Bool) (f : Flat) (k : ℕ) (view phase :
     else (if over then Overfull else (if turned then MustWait
     else Joins (record f { parties = f.parties + k }) phase)))) f)
 join_prompt true none over turned f k view phase is prompt = prompt
-join_prompt false true over turned f k view phase is prompt = prompt
-join_prompt false false true turned f k view phase is prompt = prompt
-join_prompt false false false true f k view phase is prompt = prompt
-join_prompt false false false false f k view phase is (few, rest) =
-    let some : 0 < k = grind (arith, nat_tests, is) in
-    (omega (arith, few), λ live one all. absurd (omega (arith, few, some, all)))
+join_prompt false _ over turned f k view phase is prompt = grind (arith, nat_tests)
 
 joined_prompt : (all : List Join) (phasers : List PhaserState) → ArePrompt phasers → ArePrompt (joined all phasers)
 joined_prompt [] phasers prompt = prompt
@@ -57,10 +52,7 @@ joined_prompt (join ∷ others) phasers prompt =
 
 pub registration_prompt : (r : Registered) (all : List Join) (phasers : List PhaserState) → ArePrompt phasers
     → ArePrompt (registered_by r all phasers)
-registration_prompt (registered.At phase) all phasers prompt = joined_prompt all phasers prompt
-registration_prompt (registered.Dead view) all phasers prompt = prompt
-registration_prompt registered.Held all phasers prompt = prompt
-registration_prompt registered.TooMany all phasers prompt = prompt
+registration_prompt r all phasers prompt = grind (arith, joined_prompt)
 
 -- an arrival at one phaser: one that isn't the last leaves somebody
 abbrev pub Lands : Arrival → Type 0
@@ -72,21 +64,13 @@ Lands IsUnregistered = Unit {0}
 settled_lands : (all : Bool) (g : Flat) → (g.arrived == g.parties) ≡ all → g.arrived ≤ g.parties
     → Lands (if all then Turns (record g { turned = true }) else Counts g)
 settled_lands true g is few = (few, λ live one all. refl)
-settled_lands false g is few =
-    let less : g.arrived < g.parties = grind (arith, nat_tests, is, few) in
-    ((few, λ live one all. absurd (omega (arith, less, all))), less)
+settled_lands false g is few = grind (arith, nat_tests)
 
 arrive_by : (ended none leave : Bool) (f : Flat) (view : _) → (f.arrived == f.parties) ≡ none → IsPrompt f
     → Lands (if ended then ComesLate view else (if none then IsUnregistered
     else (if leave then settled (record f { parties = f.parties - 1 }) else settled (record f { arrived = f.arrived + 1 }))))
 arrive_by true none leave f view is prompt = tt
-arrive_by false true leave f view is prompt = tt
-arrive_by false false true f view is (few, rest) =
-    let less : f.arrived < f.parties = grind (arith, nat_tests, is, few) in
-    settled_lands (f.arrived == f.parties - 1) (record f { parties = f.parties - 1 }) refl (omega (arith, less))
-arrive_by false false false f view is (few, rest) =
-    let less : f.arrived < f.parties = grind (arith, nat_tests, is, few) in
-    settled_lands (f.arrived + 1 == f.parties) (record f { arrived = f.arrived + 1 }) refl (omega (arith, less))
+arrive_by false _ leave f view is prompt = grind (arith, nat_tests, settled_lands)
 
 pub arrive_lands : (leave : Bool) (f : Flat) → IsPrompt f → Lands (arrive leave f)
 arrive_lands leave f prompt = arrive_by f.ended (f.arrived == f.parties) leave f _ refl prompt
@@ -97,20 +81,11 @@ passed_prompt false g is prompt = prompt
 
 child_prompt : (i : ℕ) (g : Flat) (c : Climb) (above : List PhaserState) → IsPrompt g → ArePrompt above
     → ArePrompt (with_child i g c above).phasers
-child_prompt i g climb.Refused above one prompt = prompt
-child_prompt i g climb.Counted above one prompt =
-    put above i (record (phaser_at above i) { flat = passed_on g }) (passed_prompt (g.parties == 0) g refl one) prompt
-child_prompt i g climb.Turned above one prompt =
-    put above i (record (phaser_at above i) { flat = passed_on g }) (passed_prompt (g.parties == 0) g refl one) prompt
+child_prompt i g c above one prompt = grind (arith, put, passed_prompt)
 
 climbed_by_prompt : (a : Arrival) (i : ℕ) (top : Bool) (onward : Bool → Climbed) (phasers : List PhaserState) → Lands a → ArePrompt phasers
     → ((leaves : Bool) → ArePrompt (onward leaves).phasers) → ArePrompt (climbed_by a i top onward phasers).phasers
-climbed_by_prompt (Counts g) i top onward phasers lands prompt up = put phasers i (record (phaser_at phasers i) { flat = g }) lands.0 prompt
-climbed_by_prompt (Turns g) i true onward phasers lands prompt up = put phasers i (record (phaser_at phasers i) { flat = g }) lands prompt
-climbed_by_prompt (Turns g) i false onward phasers lands prompt up =
-    let leaves = g.parties == 0 in child_prompt i g (onward leaves).climb (onward leaves).phasers lands (up leaves)
-climbed_by_prompt (ComesLate view) i top onward phasers lands prompt up = prompt
-climbed_by_prompt IsUnregistered i top onward phasers lands prompt up = prompt
+climbed_by_prompt a i top onward phasers lands prompt up = grind (arith, put, child_prompt)
 
 climbed_prompt : (line : List ℕ) (leave : Bool) (phasers : List PhaserState) → ArePrompt phasers → ArePrompt (climbed line leave phasers).phasers
 climbed_prompt [] leave phasers prompt = prompt
@@ -119,18 +94,7 @@ climbed_prompt (i ∷ above) leave phasers prompt =
     (arrive_lands leave (flat_at phasers i) (prompt i)) prompt (λ leaves. climbed_prompt above leaves phasers prompt)
 
 pub arrival_prompt : (id : ℕ) (leave : Bool) (phasers : List PhaserState) → ArePrompt phasers → ArePrompt (arrival id leave phasers).phasers
-arrival_prompt id leave phasers prompt =
-    let all = climbed (phaser_at phasers id).line leave phasers in
-    by_end (flat_at phasers id).ended all.climb id all.phasers phasers _ prompt
-    (climbed_prompt (phaser_at phasers id).line leave phasers prompt)
-  where
-    by_end : (ended : Bool) (c : Climb) (id : ℕ) (after phasers : List PhaserState) (view : _) → ArePrompt phasers → ArePrompt after
-        → let a : Arrives = if ended then record { phasers = phasers; answer = arrived.Dead view } else arrival_by c id after phasers in
-        ArePrompt a.phasers
-    by_end true c id after phasers view old new = old
-    by_end false climb.Counted id after phasers view old new = new
-    by_end false climb.Turned id after phasers view old new = new
-    by_end false climb.Refused id after phasers view old new = old
+arrival_prompt id leave phasers prompt = grind (arith, climbed_prompt)
 
 -- the end of a phase, or a termination
 follow_prompt : (phase : ℕ) (ends : Bool) (f : Flat) → IsPrompt (follow phase ends f)
@@ -139,19 +103,7 @@ follow_prompt phase false f = (omega arith, λ live one all. absurd (omega (arit
 
 pub change_prompt : (root : ℕ) (ends : Bool) (before after : List PhaserState) → TreeChange root ends before after → ArePrompt before
     → ArePrompt after
-change_prompt root ends before after change prompt q =
-    let many : length after ≡ length before = sym (length-places after) ∙ ap length change.same ∙ length-places before in
-    elim (cases_lt q (length before)) as (λ _. IsPrompt (flat_at after q)) [
-      | inl there ↦ elim (cases_eq (root_at before q) root) as (λ _. IsPrompt (flat_at after q)) [
-        | inl inside ↦
-            let now = change.inside q there inside in
-            subst IsPrompt (sym now.1) (follow_prompt now.0 ends (flat_at before q))
-        | inr outside ↦ subst IsPrompt (sym (change.apart q there outside)) (prompt q)
-      ]
-      | inr past ↦
-          let none : phaser_at after q ≡ no_phaser = get_or_past after q no_phaser (omega (arith, many, past)) in
-          subst (λ (p : PhaserState). IsPrompt p.flat) (sym none) (omega arith, λ live one. absurd (omega (arith, one)))
-    ]
+change_prompt root ends before after change prompt q = grind (arith, length-places, cases_lt, cases_eq, follow_prompt, get_or_past)
 
 -- where everybody who registered with a tree has arrived, each phaser has all its parties
 pub no_children : (test : Flat → Bool) (parent : ℕ) (phasers : List PhaserState)
@@ -172,16 +124,7 @@ not_awaited : (f : Flat) (empty turned : Bool) → is_empty f ≡ empty → f.tu
     → unarrived_of f ≡ 0 → (not empty && not turned) ≡ false
 not_awaited f true turned e t prompt live none = refl
 not_awaited f false true e t prompt live none = refl
-not_awaited f false false e t (few, rest) live none =
-    let all : f.arrived ≡ f.parties = omega (arith, few, none) in
-    let some : 0 < f.parties = by_parties f.ended f.turned f.parties live t e in
-    absurd (cc (rest live some all, t))
-  where
-    by_parties : (ended turned : Bool) (parties : ℕ) → ended ≡ false → turned ≡ false
-        → (if ended then false else (if turned then false else parties == 0)) ≡ false → 0 < parties
-    by_parties true turned parties live t e = absurd (cc live)
-    by_parties false true parties live t e = absurd (cc t)
-    by_parties false false parties live t e = grind (arith, nat_tests, e)
+not_awaited f false false e t (few, rest) live none = grind (arith, nat_tests)
 
 pub all_come : (n : ℕ) (phasers : List PhaserState) (origin : Origin) (root : ℕ) → IsForest phasers → AreTallied phasers origin
     → ArePrompt phasers → origin.stray root ≡ false → (flat_at phasers root).ended ≡ false → HaveAllArrived origin root phasers

@@ -1,5 +1,5 @@
 -- What choices leave of the world, one after another and however the program's phasers are stored.
-use Rattle.std.proofs.Common.{◌≡◌, ◌∙◌, ℕ, ◌+◌, ◌<◌, Bool, true, false, List, [], ◌∷◌, drop, get_or, length, ap, refl, sym, subst, Option, Some, None}
+use Rattle.std.proofs.Common.{◌≡◌, ◌∙◌, ℕ, ◌+◌, ◌<◌, Bool, true, false, List, [], ◌∷◌, drop, get_or, length, ap, refl, sym, subst, Option, Some, None, arith}
 use Rattle.std.specs.Prelude.{is_some}
 use Rattle.std.proofs.lemmas.List.{drop_more}
 use Rattle.row_code.specs.declared.image.Image.{Image}
@@ -20,15 +20,12 @@ use Rattle.trace_compare.proofs.OneVerdict.{as-stored, played-event, played-worl
 
 -- no choice changes the program
 played_program : (outcome : Option Outcome) (world : World) → (played_by outcome world).world.program ≡ world.program
-played_program (Some outcome) world = refl
-played_program None world = refl
+played_program outcome world = grind arith
 
 program_by : (refusal : Option StepFault) (world : World) (choice : Choice) (rest : World → Execution)
     → ((after : World) → (rest after).world.program ≡ after.program)
     → (execution_by refusal world choice rest).world.program ≡ world.program
-program_by (Some fault) world choice rest same = refl
-program_by None world choice rest same =
-    same (played world choice).world ∙ played_program (outcome_of_choice world.program choice world.scene) world
+program_by refusal world choice rest same = grind (arith, played_program)
 
 program_stays : (choices : List Choice) (world : World) → (execution world choices).world.program ≡ world.program
 program_stays [] world = refl
@@ -42,16 +39,7 @@ stored_after phasers done = record done { world = stored phasers done.world }
 execution-by : (phasers : List Stored) (refusal : Option StepFault) (world : World) (choice : Choice) (rest : World → Execution)
     → ((after : World) → rest (stored phasers after) ≡ stored_after phasers (rest after))
     → execution_by refusal (stored phasers world) choice rest ≡ stored_after phasers (execution_by refusal world choice rest)
-execution-by phasers (Some fault) world choice rest same = refl
-execution-by phasers None world choice rest same =
-    let outcome = outcome_of_choice world.program choice world.scene in
-    let next : Played → Execution = λ play. (let later = rest play.world in
-    record { world = later.world; events = play.event ∷ later.events; refusal = later.refusal }) in
-    ap next (plays-same phasers world choice)
-    ∙ ap (λ after. next (record { world = after; event = (played_by outcome (stored phasers world)).event })) (played-world phasers outcome world)
-    ∙ ap (λ event. next (record { world = stored phasers (played_by outcome world).world; event = event })) (played-event phasers outcome world)
-    ∙ ap (λ (later : Execution). let made : Execution = record { world = later.world; events = (played world choice).event ∷ later.events; refusal = later.refusal } in made)
-    (same (played world choice).world)
+execution-by phasers refusal world choice rest same = grind (arith, plays-same, stored, played-world, played-event)
 
 execution-same : (choices : List Choice) (phasers : List Stored) (world : World)
     → execution (stored phasers world) choices ≡ stored_after phasers (execution world choices)
@@ -71,21 +59,10 @@ first_same image limit first choices is =
 pub world_left : (image : Image) (limit : ℕ) (first left : World) (choices : List Choice) → IsFirstOf image limit first
     → left ≡ (execution first choices).world
     → record left { program = without_words left.program } ≡ (execution (first_of image limit) choices).world
-world_left image limit first left choices is played =
-    let last : World = (execution (first_of image limit) choices).world in
-    ap (λ (w : World). record w { program = without_words w.program })
-    (played ∙ ap (λ (done : Execution). done.world) (first_same image limit first choices is))
-    ∙ ap (λ phasers. record last { program = record last.program { phasers = phasers } })
-    (sym (ap (λ (p : Program). p.phasers) (program_stays choices (first_of image limit))))
+world_left image limit first left choices is played = grind (arith, first_same, program_stays)
 
 pub stored_alike : StoredAlike
-stored_alike image first is choices =
-    let same = first_same image 1000000000 first choices is in (
-      world_left image 1000000000 first (execution first choices).world choices is refl,
-      ap (λ (done : Execution). done.events) same,
-      ap (λ (done : Execution). done.refusal) same,
-      ap (λ (done : Execution). state_text done.world) same ∙ state-same first.program.phasers (execution (start image) choices).world,
-    )
+stored_alike image first is choices = grind (arith, first_same, world_left, state-same)
 
 -- an accepted choice, and a refused one, as a machine's step tells them
 pub led_on : (before after : World) (choice : Choice) (event : Event) → record { world = after; event = event } ≡ played before choice
@@ -99,24 +76,16 @@ led_nowhere before after choice why refused same = (ap (λ why. is_some why) ref
 -- an accepted choice, and those behind it
 pub left_next : (now after : World) (choice : Choice) (rest more : List Choice) (accepted : Bool) → rest ≡ choice ∷ more
     → Leaves now choice accepted after → accepted ≡ true → (execution after more).world ≡ (execution now rest).world
-left_next now after choice rest more accepted is led is_accepted =
-    let left : Leaves now choice true after = subst (λ b. Leaves now choice b after) is_accepted led in
-    ap (λ world. (execution world more).world) left.1
-    ∙ ap (λ why. (execution_by why now choice (λ world. execution world more)).world) (sym left.0)
-    ∙ ap (λ choices. (execution now choices).world) (sym is)
+left_next now after choice rest more accepted is led is_accepted = grind arith
 
 refused_last : (now : World) (choice : Choice) (more : List Choice) (why : Option StepFault) → is_some why ≡ true
     → now ≡ (execution_by why now choice (λ world. execution world more)).world
-refused_last now choice more (Some fault) some = refl
-refused_last now choice more None some = absurd (cc some)
+refused_last now choice more why some = grind arith
 
 -- a choice that is refused is the last
 pub left_last : (now after : World) (choice : Choice) (rest more : List Choice) (accepted : Bool) → rest ≡ choice ∷ more
     → Leaves now choice accepted after → accepted ≡ false → after ≡ (execution now rest).world
-left_last now after choice rest more accepted is led is_refused =
-    let left : Leaves now choice false after = subst (λ b. Leaves now choice b after) is_refused led in
-    left.1 ∙ refused_last now choice more (refusal_of now choice) left.0
-    ∙ ap (λ choices. (execution now choices).world) (sym is)
+left_last now after choice rest more accepted is led is_refused = grind (arith, refused_last)
 
 -- from one choice on
 pub choices-drop : (choices : List Choice) (i : ℕ) (d : Choice) → i < length choices

@@ -1,5 +1,5 @@
 -- The arrival of a registered party is taken.
-use Rattle.std.proofs.Common.{inl, inr, ◌≡◌, ◌≢◌, ◌∙◌, ℕ, ℤ, pos, ◌+◌, ◌-◌, ◌<◌, ◌==◌, ◌&&◌, not, Bool, true, false, List, [], ◌∷◌, length, ap, refl, sym, subst, arith, if◌then◌else◌}
+use Rattle.std.proofs.Common.{inl, inr, ◌≡◌, ◌≢◌, ◌∙◌, ℕ, ℤ, pos, ◌+◌, ◌-◌, ◌<◌, ◌==◌, ◌&&◌, not, Bool, true, false, List, [], ◌∷◌, length, ap, refl, sym, subst, arith, if◌then◌else◌, rules}
 use Rattle.std.specs.Prelude.{Option, Some, None}
 use Rattle.std.proofs.lemmas.Bool.{cases_eq}
 use Rattle.std.proofs.lemmas.List.{get_or-set_same}
@@ -51,14 +51,10 @@ comes_by : (ended none leave : Bool) (f : Flat) (view : _) → ended ≡ false �
     → Comes (if ended then ComesLate view else (if none then IsUnregistered
     else (if leave then settled (record f { parties = f.parties - 1 }) else settled (record f { arrived = f.arrived + 1 }))))
 comes_by true none leave f view live some = absurd (cc live)
-comes_by false true leave f view live some = absurd (cc some)
-comes_by false false true f view live some = settled_comes (f.arrived == f.parties - 1) (record f { parties = f.parties - 1 })
-comes_by false false false f view live some = settled_comes (f.arrived + 1 == f.parties) (record f { arrived = f.arrived + 1 })
+comes_by false _ leave f view live some = grind (arith, settled_comes)
 
 child_comes : (c : Climb) (i : ℕ) (g : Flat) (above : List PhaserState) → (with_child i g c above).climb ≡ climb.Refused → c ≡ climb.Refused
-child_comes climb.Counted i g above is = absurd (cc is)
-child_comes climb.Turned i g above is = absurd (cc is)
-child_comes climb.Refused i g above is = refl
+child_comes c i g above is = grind arith
 
 -- the parent, if there is one, doesn't refuse
 abbrev Onward : List ℕ → (Bool → Climbed) → Type 0
@@ -67,20 +63,13 @@ Onward (n ∷ more) onward = (leaves : Bool) → (onward leaves).climb ≡ climb
 
 climb_comes : (a : Arrival) (i : ℕ) (above : List ℕ) (onward : Bool → Climbed) (phasers : List PhaserState) → Comes a
     → Onward above onward → (climbed_by a i (is_top above) onward phasers).climb ≡ climb.Refused → ⊥
-climb_comes (Counts g) i above onward phasers comes up is = absurd (cc is)
-climb_comes (Turns g) i [] onward phasers comes up is = absurd (cc is)
-climb_comes (Turns g) i (n ∷ more) onward phasers comes up is =
-    let leaves = g.parties == 0 in
-    up leaves (child_comes (onward leaves).climb i g (onward leaves).phasers is)
-climb_comes (ComesLate view) i above onward phasers comes up is = comes
-climb_comes IsUnregistered i above onward phasers comes up is = comes
+climb_comes a i above onward phasers comes up is = grind (arith, child_comes)
 
 awaited_by : (ended turned : Bool) (parties : ℕ) → ended ≡ false → turned ≡ false → 0 < parties
     → (not (if ended then false else (if turned then false else parties == 0)) && not turned) ≡ true
 awaited_by true turned parties live t some = absurd (cc live)
 awaited_by false true parties live t some = absurd (cc t)
-awaited_by false false parties live t some =
-    ap (λ b. not b && true) (other-is parties 0 (λ none. omega (arith, none, some)))
+awaited_by false false parties live t some = grind (arith, other-is)
 
 by_turned : (turned : Bool) → (turned ≡ true → ⊥) → turned ≡ false
 by_turned true never = absurd (never refl)
@@ -90,27 +79,12 @@ by_turned false never = refl
 parent_waits : (phasers : List PhaserState) (counts : Origin) (root i n : ℕ) (more : List ℕ) → IsOpen phasers counts root → i < length phasers
     → (phaser_at phasers i).line ≡ i ∷ n ∷ more → n < length phasers → root_at phasers i ≡ root → root_at phasers n ≡ root
     → 0 < unarrived_of (flat_at phasers i) → 0 < unarrived_of (flat_at phasers n)
-parent_waits phasers counts root i n more fair there line within tree above some =
-    let f = flat_at phasers i in
-    let steady = fair.stands.steady i there in
-    let turned : f.turned ≡ false = by_turned f.turned (λ is. (let all = (steady.turned is).1 in absurd (omega (arith, all, some)))) in
-    let yes = awaited_by f.ended f.turned f.parties (live_at phasers counts root i fair there tree) turned (omega (arith, some)) in
-    let tally = (fair.stands.tallied n within (ap counts.stray above ∙ fair.clean) (live_at phasers counts root n fair within above)).unarrived in
-    elim (cases_eq (children is_awaited n phasers) 0) as (λ _. 0 < unarrived_of (flat_at phasers n)) [
-      | inl none ↦
-          let out = none_passes is_awaited n phasers i none there (ap (is_under n) line ∙ same-is n) in
-          absurd (cc (yes, out))
-      | inr many ↦ omega (arith, tally, many)
-    ]
+parent_waits phasers counts root i n more fair there line within tree above some = grind (arith, by_turned, awaited_by, live_at, cases_eq, none_passes, same-is)
 
 climbed_comes : (line : List ℕ) (i : ℕ) (leave : Bool) (phasers : List PhaserState) (counts : Origin) (root : ℕ) → IsOpen phasers counts root
     → i < length phasers → (phaser_at phasers i).line ≡ i ∷ line → root_at phasers i ≡ root → 0 < unarrived_of (flat_at phasers i)
     → (climbed (i ∷ line) leave phasers).climb ≡ climb.Refused → ⊥
-climbed_comes [] i leave phasers counts root fair there is tree some =
-    let f = flat_at phasers i in
-    climb_comes (arrive leave f) i [] (λ leaves. climbed [] leaves phasers) phasers
-    (comes_by f.ended (f.arrived == f.parties) leave f _ (live_at phasers counts root i fair there tree)
-    (other-is f.arrived f.parties (λ all. omega (arith, all, some)))) tt
+climbed_comes [] i leave phasers counts root fair there is tree some = grind (arith, climb_comes, comes_by, live_at, other-is)
 climbed_comes (n ∷ more) i leave phasers counts root fair there is tree some =
     let f = flat_at phasers i in
     let next = next-parent phasers i n more fair.forest there is in
@@ -159,9 +133,7 @@ waits_on phase code is = cc is
 
 calm_end : (answer : Option Bool) (manner : Manner) (root : ℕ) (phase : ℤ) (t : ℕ) (program : Program) (scene : Scene) → t < length scene.threads
     → (thread_at scene t).status ≡ status.Runs → Calm t (outcome_of_pending_end answer manner root phase t program scene).scene
-calm_end (Some over) manner root phase t program scene there runs =
-    calm _ t (with_phasers (after_phase_end root over scene.phasers) scene) there runs_on
-calm_end None manner root phase t program scene there runs = calm _ t scene there (λ code is. runs_on code (sym runs ∙ is))
+calm_end answer manner root phase t program scene there runs = grind (arith, calm, runs_on)
 
 calm_wait : (waits : Bool) (manner : Manner) (phase : ℤ) (t : ℕ) (program : Program) (scene : Scene) → manner.waits ≡ waits
     → t < length scene.threads → Calm t (outcome_of_arrived (arrived.At phase) manner t program scene).scene
@@ -172,36 +144,20 @@ calm_wait false manner phase t program scene is there =
 
 calm_arrived : (answer : Arrived) (manner : Manner) (t : ℕ) (program : Program) (scene : Scene) → t < length scene.threads
     → (thread_at scene t).status ≡ status.Runs → (answer ≡ arrived.NotThere → ⊥) → Calm t (outcome_of_arrived answer manner t program scene).scene
-calm_arrived (arrived.At phase) manner t program scene there runs comes = calm_wait manner.waits manner phase t program scene refl there
-calm_arrived (arrived.Turning root phase parties) manner t program scene there runs comes =
-    calm_end (answer_of_policy root.0 scene) manner root.0 phase t program scene there runs
-calm_arrived (arrived.Dead view) manner t program scene there runs comes = calm _ t scene there runs_on
-calm_arrived arrived.NotThere manner t program scene there runs comes = absurd (comes refl)
+calm_arrived answer manner t program scene there runs comes = grind (arith, calm_wait, calm_end, calm, runs_on)
 
 unrefused : (own full : Bool) (t : ℕ) (scene : Scene) (first second call : Outcome)
     → (if own then Some (pos 1) else (if full then Some (pos 6) else None)) ≡ None → Calm t call.scene
     → Calm t (scene_after (if own then Some first else Some (if full then second else call)) scene)
-unrefused true full t scene first second call none is = absurd (cc none)
-unrefused false true t scene first second call none is = absurd (cc none)
 unrefused false false t scene first second call none is = is
+unrefused _ _ t scene first second call none is = absurd (cc none)
 
 arrives_calmly : (row : Row) (manner : Manner) (p t : ℕ) (program : Program) (steps : ℕ) (scene : Scene) (counts : Origin)
     → StandsAt program steps t scene status.Runs row → AreTallied scene.phasers counts → p < length scene.phasers
     → refusal_of_arrival p (thread_at scene t) scene ≡ None → (flat_at scene.phasers p).ended ≡ false
     → counts.stray (root_at scene.phasers p) ≡ false → 0 < counts.unarrived p
     → Calm t (scene_after (unless_own p t scene (Some (outcome_of_arrival manner p t program scene))) scene)
-arrives_calmly row manner p t program steps scene counts stands tallied there none live clean some =
-    let phasers = scene.phasers in
-    let fair : IsOpen phasers counts (root_at phasers p) = record {
-      forest = stands.sound.trees.forest;
-      stands = tallied;
-      clean = clean;
-      live = sym (tallied.steady p there).tree ∙ live;
-    } in
-    unrefused (is_own_tree p (thread_at scene t) scene) (has_routine p scene && is_full (thread_at scene t)) t scene _ _
-    (outcome_with_room manner p t program scene) none
-    (calm_arrived (arrival p manner.leaves phasers).answer manner t program (with_phasers (arrival p manner.leaves phasers).phasers scene) stands.there
-    stands.status (arrival_comes p manner.leaves phasers counts (root_at phasers p) fair there refl some))
+arrives_calmly row manner p t program steps scene counts stands tallied there none live clean some = search (rules, IsOpen, unrefused, calm_arrived, arrival_comes)
 
 abbrev TakesAt : Option Row → ℕ → Scene → Scene → Origin → Type 0
 TakesAt row t scene last counts =

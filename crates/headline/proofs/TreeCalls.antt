@@ -38,8 +38,7 @@ IsQuiet (Some (Pforce p)) = ⊥
 IsQuiet _ = Unit {0}
 
 no_force : (row : Option Row) → IsQuiet row → (root : ℕ) (phasers : List PhaserState) → is_force row root phasers ≡ false
-no_force (Some (Pforce p)) quiet root phasers = absurd quiet
-no_force _ quiet root phasers = refl
+no_force row quiet root phasers = grind arith
 
 or_no : (a b : Bool) → b ≡ false → (a || b) ≡ a
 or_no true b is = refl
@@ -63,14 +62,7 @@ none_ended before after kept root =
 kept_on : (row : Option Row) (thread : ThreadState) (before after : List PhaserState) → IsQuiet row → KeepsEnds before after
     → ((id : ℕ) → (flat_at after id).ended ≡ (flat_at before id).ended) → (ArePrompt before → ArePrompt after)
     → TreesGo row thread before after
-kept_on row thread before after quiet kept same prompt = record {
-  said = λ id there. (
-    λ ended. (let none = none_ended before after kept (root_at before id) in absurd (cc (none, ended))),
-    λ none. same id ∙ sym (or_no (flat_at before id).ended _ (no_force row quiet (root_at before id) before)),
-  );
-  numbers = λ id there ended. (let none = none_ended before after kept (root_at before id) in absurd (cc (none, ended)));
-  prompt = prompt;
-}
+kept_on row thread before after quiet kept same prompt = grind (arith, none_ended, or_no, no_force)
 
 pub trees_stay : (row : Option Row) (thread : ThreadState) (phasers : List PhaserState) → IsQuiet row → TreesGo row thread phasers phasers
 trees_stay row thread phasers quiet = kept_on row thread phasers phasers quiet (λ id. refl) (λ id. refl) (λ prompt. prompt)
@@ -124,25 +116,11 @@ in_step-ends root phase ended (x ∷ phasers) (suc n) = in_step-ends root phase 
 
 pub root_ended : (root : ℕ) (ends : Bool) (before mid : List PhaserState) → KeepsEnds before mid → root < length mid
     → has_ended_phase root before (after_phase_end root ends mid) ≡ true
-root_ended root ends before mid kept within =
-    let own = phaser_at mid root in
-    let flat = advance ends own.flat in
-    let moved = map (in_step root flat.phase flat.ended) mid in
-    let many = length-map mid (in_step root flat.phase flat.ended) in
-    let up = ap (λ (p : PhaserState). p.ends)
-    (get_or-set_same moved root (record own { flat = flat; ends = own.ends + 1 }) no_phaser (omega (arith, many, within))) in
-    let was = kept root in
-    ap not (other-is (phaser_at (after_phase_end root ends mid) root).ends (phaser_at before root).ends (λ same. omega (arith, up, was, same)))
+root_ended root ends before mid kept within = grind (arith, length-map, get_or-set_same, other-is)
 
 pub others_ended : (root : ℕ) (ends : Bool) (before mid : List PhaserState) → KeepsEnds before mid → (r : ℕ) → r ≢ root
     → has_ended_phase r before (after_phase_end root ends mid) ≡ false
-others_ended root ends before mid kept r apart =
-    let own = phaser_at mid root in
-    let flat = advance ends own.flat in
-    let stays = ap (λ (p : PhaserState). p.ends)
-    (get_or-set_other (map (in_step root flat.phase flat.ended) mid) root r (record own { flat = flat; ends = own.ends + 1 }) no_phaser apart)
-    ∙ in_step-ends root flat.phase flat.ended mid r ∙ kept r in
-    ap (λ (n : ℕ). not (n == (phaser_at before r).ends)) stays ∙ ap not (same-is (phaser_at before r).ends)
+others_ended root ends before mid kept r apart = grind (arith, get_or-set_other, in_step-ends, same-is)
 
 -- each phaser of the tree is then in the phase behind the root's
 if-phase : (here : Bool) (x : PhaserState) (phase : ℕ) (ended : Bool) → here ≡ true
@@ -154,27 +132,13 @@ if-phase false x phase ended is = absurd (cc is)
 in_step-phase : (root phase : ℕ) (ended : Bool) (phasers : List PhaserState) (n : ℕ) → n < length phasers → root_at phasers n ≡ root
     → (flat_at (map (in_step root phase ended) phasers) n).phase ≡ phase
 in_step-phase root phase ended [] n there inside = absurd (omega (arith, there))
-in_step-phase root phase ended (x ∷ phasers) zero there inside =
-    if-phase (root_of x == root) x phase ended (ap (λ n. n == root) inside ∙ same-is root)
+in_step-phase root phase ended (x ∷ phasers) zero there inside = grind (arith, if-phase, same-is)
 in_step-phase root phase ended (x ∷ phasers) (suc n) there inside =
     in_step-phase root phase ended phasers n (omega (arith, there)) inside
 
 next_number : (root : ℕ) (ends : Bool) (mid : List PhaserState) (id : ℕ) → id < length mid → root_at mid id ≡ root
     → (flat_at (after_phase_end root ends mid) id).phase ≡ next_phase (flat_at mid root).phase
-next_number root ends mid id there inside =
-    let own = phaser_at mid root in
-    let flat = advance ends own.flat in
-    let new : PhaserState = record own { flat = flat; ends = own.ends + 1 } in
-    let moved = map (in_step root flat.phase flat.ended) mid in
-    let many = length-map mid (in_step root flat.phase flat.ended) in
-    elim (cases_eq id root) as (λ _. (flat_at (after_phase_end root ends mid) id).phase ≡ next_phase (flat_at mid root).phase) [
-      | inl is ↦
-          ap (λ n. (flat_at (after_phase_end root ends mid) n).phase) is
-          ∙ ap (λ (p : PhaserState). p.flat.phase) (get_or-set_same moved root new no_phaser (omega (arith, many, is, there)))
-      | inr apart ↦
-          ap (λ (p : PhaserState). p.flat.phase) (get_or-set_other moved root id new no_phaser apart)
-          ∙ in_step-phase root flat.phase flat.ended mid id there inside
-    ]
+next_number root ends mid id there inside = grind (arith, length-map, cases_eq, get_or-set_same, get_or-set_other, in_step-phase)
 
 -- a phase of this root ends
 pub trees_ended : (row : Option Row) (thread : ThreadState) (root : ℕ) (ends : Bool) (before mid : List PhaserState) → IsQuiet row
@@ -239,15 +203,10 @@ arrival_same id leave phasers n = ap (λ (s : Standing). s.ended) (arrival-stand
 -- one that ends no phase: it isn't the last, or a routine is to answer
 pub trees_counted : (row : Option Row) (thread : ThreadState) (id : ℕ) (leave : Bool) (phasers : List PhaserState) → IsQuiet row
     → TreesGo row thread phasers (arrived_at id leave phasers)
-trees_counted row thread id leave phasers quiet =
-    kept_on row thread phasers (arrived_at id leave phasers) quiet (arrival-ends id leave phasers) (arrival_same id leave phasers)
-    (arrival_prompt id leave phasers)
+trees_counted row thread id leave phasers quiet = grind (arith, kept_on, arrival-ends, arrival_same, arrival_prompt)
 
 pub no_answer : (own : Policy) (phase parties : ℕ) → ends own phase parties ≡ None → is_routine_policy own ≡ true
-no_answer policy.Routine phase parties is = refl
-no_answer policy.Default phase parties is = absurd (cc is)
-no_answer policy.Never phase parties is = absurd (cc is)
-no_answer (policy.Until k) phase parties is = absurd (cc is)
+no_answer own phase parties is = grind arith
 
 -- at this row the policy of the tree of phaser p answers
 abbrev pub AsksPolicy : Option Row → ThreadState → ℕ → List PhaserState → Type 0
@@ -257,9 +216,7 @@ AsksPolicy row thread p phasers =
 asked : (p : ℕ) (phasers : List PhaserState) (parties : ℕ)
     → answer_at p (root_at phasers p) phasers parties
     ≡ ends (phaser_at phasers (root_at phasers p)).policy (flat_at phasers (root_at phasers p)).phase parties
-asked p phasers parties =
-    ap (λ b. if b then ends (phaser_at phasers (root_at phasers p)).policy (flat_at phasers (root_at phasers p)).phase parties else None)
-    (same-is (root_at phasers p))
+asked p phasers parties = grind (arith, same-is)
 
 -- the last, where the policy answers
 pub trees_advanced : (row : Option Row) (thread : ThreadState) (steps id : ℕ) (leave : Bool) (phasers : List PhaserState) (root : PhaserId)

@@ -1,5 +1,5 @@
 -- What a turn makes of the past of each barrier, and of the trees of phasers.
-use Rattle.std.proofs.Common.{◌≡◌, ◌≢◌, ◌∙◌, ℕ, ℤ, pos, zero, suc, ◌<◌, ◌&&◌, not, Bool, true, false, List, [], ◌∷◌, ap, refl, sym, if◌then◌else◌}
+use Rattle.std.proofs.Common.{◌≡◌, ◌≢◌, ◌∙◌, ℕ, ℤ, pos, zero, suc, ◌<◌, ◌&&◌, not, Bool, true, false, List, [], ◌∷◌, ap, refl, sym, if◌then◌else◌, arith, rules}
 use Rattle.std.specs.Ordering.{int_eq}
 use Rattle.std.specs.Prelude.{nat_abs, int_lt, is_some, length, Option, Some, None, slice_set, slice_index_or}
 use Rattle.instruction_table.specs.declared.row.Row.{Row}
@@ -132,15 +132,11 @@ in_registered : (row : Row) (answer : Registered) (into : Reg) (t : ℕ) (scene 
     → IsQuiet (Some row) → TreesGo (Some row) (thread_at scene t) scene.phasers phasers
     → GoIf (Some row) t scene (outcome_of_registered answer into t (with_phasers phasers scene))
 in_registered row (registered.At phase) into t scene phasers quiet goes = aside scene goes
-in_registered row (registered.Dead view) into t scene phasers quiet goes = aside scene goes
-in_registered row registered.TooMany into t scene phasers quiet goes = aside scene goes
-in_registered row registered.Held into t scene phasers quiet goes = stay quiet scene
+in_registered row answer into t scene phasers quiet goes = grind (arith, aside, stay)
 
 in_registration : (row : Row) (into : Reg) (p count t : ℕ) (scene : Scene) → IsQuiet (Some row)
     → GoIf (Some row) t scene (outcome_of_registration into p count t scene)
-in_registration row into p count t scene quiet =
-    in_registered row (registration p count scene.phasers) into t scene (after_registration p count scene.phasers) quiet
-    (trees_registered (Some row) (thread_at scene t) p count scene.phasers quiet)
+in_registration row into p count t scene quiet = search (rules, in_registered, trees_registered)
 
 -- an arrival at phaser p by a thread that stands at this row
 in_turning : (answer : Option Bool) (row : Row) (program : Program) (steps t p : ℕ) (manner : Manner) (scene : Scene) (root : PhaserId)
@@ -208,7 +204,6 @@ phaser_row _ program steps t scene stands = stay tt scene
 in_entered : (row : Row) (answer : Entered) (into : Reg) (b t : ℕ) (program : Program) (scene : Scene) (gate : BarrierState)
     → IsQuiet (Some row) → GoesTo (barrier_at scene b) gate
     → GoIf (Some row) t scene (outcome_of_entered answer into b t program (with_barrier gate b scene))
-in_entered row (entered.Wait index) into b t program scene gate quiet goes = at_gate quiet b scene gate goes
 in_entered row entered.Busy into b t program scene gate quiet goes = stay quiet scene
 in_entered row _ into b t program scene gate quiet goes = at_gate quiet b scene gate goes
 
@@ -266,10 +261,7 @@ in_awaited looks into p phase t scene =
 
 in_phase_wait : (row : Row) (phase : ℤ) (t : ℕ) (scene : Scene) → GoIf None t scene (outcome_of_phase_wait row phase t scene)
 in_phase_wait (Paaa into p) phase t scene = in_awaited false into p phase t scene
-in_phase_wait (Pawait into p number) phase t scene = in_awaited false into p phase t scene
-in_phase_wait (Pawaiti into p number) phase t scene = in_awaited true into p phase t scene
-in_phase_wait (Pawaitt into p number time) phase t scene = in_awaited true into p phase t scene
-in_phase_wait _ phase t scene = stay tt scene
+in_phase_wait row phase t scene = search (rules, in_awaited, stay)
 
 tripped_isnt : Some state.Tripped ≢ Some state.Waiting
 tripped_isnt is = cc is
@@ -296,9 +288,7 @@ in_barrier_wait : (row : Row) (index : ℤ) (t : ℕ) (program : Program) (scene
     → GoIf None t scene (outcome_of_barrier_wait row index t scene)
 in_barrier_wait (Cawait into b) index t program scene named seats =
     in_release (wait_at (barrier_at scene b).waits t) into index b t scene (seats b named) refl
-in_barrier_wait (Cawaitt into b time) index t program scene named seats =
-    in_release (wait_at (barrier_at scene b).waits t) into index b t scene (seats b named) refl
-in_barrier_wait _ index t program scene named seats = stay tt scene
+in_barrier_wait row index t program scene named seats = search (rules, in_release, stay)
 
 in_phase_timeout : (row : Row) (t : ℕ) (scene : Scene) → GoIf None t scene (outcome_of_phase_timeout row t scene)
 in_phase_timeout (Pawaitt into p number time) t scene = stay tt scene
@@ -314,8 +304,7 @@ in_barrier_timeout _ t program scene named seats = stay tt scene
 
 -- `pforce` is a row at a phaser
 quiet_beside : (row : Row) → group_of row ≢ Phasers → IsQuiet (Some row)
-quiet_beside (Pforce p) other = absurd (other refl)
-quiet_beside _ other = tt
+quiet_beside row other = grind arith
 
 in_group : (group : Group) (row : Row) (program : Program) (steps t : ℕ) (scene : Scene) → group_of row ≡ group → StandsAt program steps t scene status.Runs row
     → MayEnterAny t scene → GoIf (Some row) t scene (outcome_in_group group row t program scene)
@@ -327,34 +316,22 @@ in_group Getters row program steps t scene is stands may = getter_row row t scen
 in_group Barriers row program steps t scene is stands may = barrier_row row t program scene (quiet_beside row (λ other. cc (is, other))) stands.named may
 
 no_wait : (wait : Option WaitState) → is_some wait ≡ false → wait ≡ None
-no_wait None is = refl
-no_wait (Some w) is = absurd (cc is)
+no_wait wait is = grind arith
 
 -- a thread that runs has no wait
 may_enter : (program : Program) (steps t : ℕ) (scene : Scene) (row : Row) → StandsAt program steps t scene status.Runs row → MayEnterAny t scene
-may_enter program steps t scene row stands b here = (
-  seat program steps t b scene stands.sound stands.there here,
-  no_wait (wait_at (barrier_at scene b).waits t)
-      (stands.sound.waits b t
-      ∙ ap (λ of. awaits b of (row_at program.rows (thread_at scene t).pc)) stands.status),
-)
+may_enter program steps t scene row stands b here = grind (arith, seat, no_wait)
 
 in_turn : (of : Status) (row : Row) (program : Program) (steps t : ℕ) (scene : Scene) → StandsAt program steps t scene of row
     → GoIf (row_in of row) t scene (outcome_in of row t program scene)
 in_turn status.Runs row program steps t scene stands =
     in_group (group_of row) row program steps t scene refl stands (may_enter program steps t scene row stands)
-in_turn (status.Throws code) row program steps t scene stands = in_popped (top_of (thread_at scene t).stack) code t scene
-in_turn (status.AwaitsPhase phase) row program steps t scene stands = in_phase_wait row phase t scene
-in_turn (status.AwaitsBarrier index) row program steps t scene stands =
-    in_barrier_wait row index t program scene stands.named (λ b. seat program steps t b scene stands.sound stands.there)
-in_turn _ row program steps t scene stands = stay tt scene
+in_turn of row program steps t scene stands = search (rules, in_group, may_enter, in_popped, in_phase_wait, in_barrier_wait, seat, stay)
 
 in_timeout : (of : Status) (row : Row) (program : Program) (steps t : ℕ) (scene : Scene) → StandsAt program steps t scene of row
     → GoIf None t scene (timeout_in of row t scene)
 in_timeout (status.AwaitsPhase phase) row program steps t scene stands = in_phase_timeout row t scene
-in_timeout (status.AwaitsBarrier index) row program steps t scene stands =
-    in_barrier_timeout row t program scene stands.named (λ b. seat program steps t b scene stands.sound stands.there)
-in_timeout _ row program steps t scene stands = stay tt scene
+in_timeout of row program steps t scene stands = search (rules, in_phase_timeout, in_barrier_timeout, seat, stay)
 
 pub turn_goes : (program : Program) (steps t : ℕ) (scene : Scene) → IsSound program steps scene → steps < 2147483647
     → t < length scene.threads
