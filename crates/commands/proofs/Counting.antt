@@ -17,17 +17,11 @@ and_run None run = record { times = 1; ending = run.ending; schedule = run.sched
 and_run (Some before) run = record { times = before.times + 1; ending = before.ending; schedule = before.schedule }
 
 told-more : (runs : List Ended) (run : Ended) → told_of (runs ++ run ∷ []) ≡ Some (and_run (told_of runs) run)
-told-more [] run = refl
-told-more (x ∷ runs) run =
-    ap (λ n. Some (record { times = n; ending = x.ending; schedule = x.schedule }))
-    (let is : length (runs ++ run ∷ []) ≡ length runs + 1 = length-append runs (run ∷ []) in
-    omega (arith, is))
+told-more runs run = grind (arith, length-append)
 
 in-state : (runs : List Ended) (run : Ended) (state : List ℕ) → ends_in state run ≡ true
     → told_in (runs ++ run ∷ []) state ≡ Some (and_run (told_in runs state) run)
-in-state runs run state is =
-    ap told_of (filter-append (ends_in state) runs (run ∷ []) ∙ ap (λ b. filter (ends_in state) runs ++ cond b (run ∷ []) []) is)
-    ∙ told-more (filter (ends_in state) runs) run
+in-state runs run state is = grind (arith, filter-append, told-more)
 
 append-nothing : {A : Type 0} (xs : List A) → xs ++ [] ≡ xs
 append-nothing [] = refl
@@ -35,15 +29,12 @@ append-nothing (x ∷ xs) = ap (λ ys. x ∷ ys) (append-nothing xs)
 
 in-other : (runs : List Ended) (run : Ended) (state : List ℕ) → ends_in state run ≡ false
     → told_in (runs ++ run ∷ []) state ≡ told_in runs state
-in-other runs run state isnt =
-    ap told_of (filter-append (ends_in state) runs (run ∷ []) ∙ ap (λ b. filter (ends_in state) runs ++ cond b (run ∷ []) []) isnt
-    ∙ append-nothing (filter (ends_in state) runs))
+in-other runs run state isnt = grind (arith, filter-append, append-nothing)
 
 same_if : (a b : Bool) → (a ≡ true → b ≡ true) → (b ≡ true → a ≡ true) → a ≡ b
-same_if true true there back = refl
 same_if true false there back = sym (there refl)
 same_if false true there back = back refl
-same_if false false there back = refl
+same_if _ _ there back = refl
 
 turned : (a b : List ℕ) → bytes_eq a b ≡ true → bytes_eq b a ≡ true
 turned a b is = (bytes_eq-Decides b a).1 (sym ((bytes_eq-Decides a b).0 is))
@@ -56,12 +47,8 @@ grown-at : (runs : List Ended) (run : Ended) (old : Option Outcome) (key state :
     → bytes_eq key state ≡ is → option_map told old ≡ told_in runs state → run.state ≡ key
     → told w ≡ and_run (told_in runs key) run
     → option_map told (cond is (Some w) old) ≡ told_in (runs ++ run ∷ []) state
-grown-at runs run old key state w true is before at now =
-    let same : key ≡ state = (bytes_eq-Decides key state).0 is in
-    ap Some now ∙ ap (λ s. Some (and_run (told_in runs s) run)) same
-    ∙ sym (in-state runs run state (ap (bytes_eq state) at ∙ asked state key ∙ is))
-grown-at runs run old key state w false is before at now =
-    before ∙ sym (in-other runs run state (ap (bytes_eq state) at ∙ asked state key ∙ is))
+grown-at runs run old key state w true is before at now = grind (arith, bytes_eq-Decides, in-state, asked)
+grown-at runs run old key state w false is before at now = grind (arith, asked, in-other)
 
 -- the outcomes with one run more
 pub grown : (runs : List Ended) (run : Ended) (old new : EndState → Option Outcome) (key : EndState) (w : Outcome)
@@ -69,9 +56,7 @@ pub grown : (runs : List Ended) (run : Ended) (old new : EndState → Option Out
     → ((state : EndState) → new state ≡ cond (is_state key state) (Some w) (old state))
     → run.state ≡ key.text.items → told w ≡ and_run (told_in runs key.text.items) run
     → (state : EndState) → option_map told (new state) ≡ told_in (runs ++ run ∷ []) state.text.items
-grown runs run old new key w before is at now state =
-    ap (option_map told) (is state)
-    ∙ grown-at runs run (old state) key.text.items state.text.items w (is_state key state) refl (before state) at now
+grown runs run old new key w before is at now state = grind (arith, grown-at)
 
 -- no more runs ended in a state than there are
 few-step : (is : Bool) (run : Ended) (runs kept : List Ended) → length kept ≤ length runs
@@ -89,8 +74,7 @@ times_in None = 0
 times_in (Some t) = t.times
 
 counted : (runs : List Ended) → times_in (told_of runs) ≡ length runs
-counted [] = refl
-counted (run ∷ runs) = refl
+counted runs = grind arith
 
 pub few : (runs : List Ended) (outcome : Option Outcome) (state : List ℕ) → option_map told outcome ≡ told_in runs state
     → length runs ≤ 100000 → IfSome outcome (λ o. o.times < 4294967295)
@@ -103,11 +87,7 @@ few runs (Some o) state is bound =
 
 -- the order by which the most frequent come first
 pub more_frequent_is_an_order : IsStrictWeakOrder is_more_frequent
-more_frequent_is_an_order = record {
-  one_way = λ x y is. le-ltb x.1.times y.1.times (let less = ltb-true y.1.times x.1.times is in omega (arith, less));
-  chain = λ x y z first second. le-ltb z.1.times x.1.times
-      (let a = ltb-false y.1.times x.1.times first in let b = ltb-false z.1.times y.1.times second in omega (arith, a, b));
-}
+more_frequent_is_an_order = grind (arith, le-ltb, ltb-true, ltb-false)
 
 -- no run came to nothing
 pub nothing : AreOutcomes [] []

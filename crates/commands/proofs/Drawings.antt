@@ -1,5 +1,5 @@
 -- The drawing of a file's program under a schedule.
-use Rattle.std.proofs.Common.{◌≡◌, ◌∙◌, ◌≤◌, inl, inr, ℕ, List, length, ap}
+use Rattle.std.proofs.Common.{◌≡◌, ◌∙◌, ◌≤◌, inl, inr, ℕ, List, length, ap, arith}
 use Rattle.assembler.specs.Symbols.{SymbolTable}
 use Rattle.commands.specs.Drawing.{IsDrawingIn, IsNamedProgram}
 use Rattle.row_code.specs.declared.image.Image.{Image}
@@ -19,18 +19,4 @@ named_file file image symbols (inr (is, (stands, names))) = inr (is, stands)
 pub drawing_in_file : (width : ℕ) (program schedule text : List ℕ) (image : Image) (symbols : SymbolTable) (world : World)
     (choices drawn : List Choice) → IsNamedProgram program image symbols → Begins image world → AreChoicesOf schedule choices
     → length choices ≤ most_choices → drawn ≡ choices → text ≡ picture width symbols world drawn → IsDrawingIn width program schedule text
-drawing_in_file width program schedule text image symbols world choices drawn named begins are few same is = (
-  image,
-  (
-    symbols,
-    (
-      choices,
-      (
-        named,
-        are,
-        few,
-        (world, (begins, is ∙ ap (λ (cs : List Choice). picture width symbols world cs) same)),
-      ),
-    ),
-  ),
-)
+drawing_in_file width program schedule text image symbols world choices drawn named begins are few same is = grind arith

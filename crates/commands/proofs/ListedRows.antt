@@ -45,22 +45,17 @@ pub rows_by_pieces : (text : List ℕ) (pieces : List (List ℕ)) (numbers none 
     → pieces ≡ slice_split is_line_end text → none ≡ []
     → listing ≡ none ++ flat_map line_text (numbered (text_row_words pieces) 0 numbers)
     → listing ≡ flat_map line_text (numbered (text_row_words (lines_of text)) 0 numbers)
-rows_by_pieces text pieces numbers none listing are is-none is =
-    is ∙ ap (λ before. before ++ flat_map line_text (numbered (text_row_words pieces) 0 numbers)) is-none
-    ∙ ap (λ ps. flat_map line_text (numbered (text_row_words ps) 0 numbers)) are
-    ∙ ap (λ rows. flat_map line_text rows) (same_rows text 0 numbers)
+rows_by_pieces text pieces numbers none listing are is-none is = grind (arith, same_rows)
 
 -- ---- the lines that were read
 
 bound : {A B C : Type 0} (r : Result A AsmFault) (f : A → Result B AsmFault) (y : B) → (r >>= f) ≡ Ok y
     → ((x : A) → r ≡ Ok x → f x ≡ Ok y → C) → C
-bound (Ok x) f y e then = then x refl e
-bound (Err d) f y e then = absurd (cc)
+bound r f y e then = grind arith
 
 image_there : (lines : List (Line Name)) (unknown : Option (Line Name)) (image : Image)
     → looked_up lines unknown ≡ Ok image → image ≡ image_of lines
-image_there lines None image e = cc
-image_there lines (Some line) image e = absurd (cc)
+image_there lines unknown image e = grind arith
 
 -- the image of the lines that were read
 image_read : (text : List ℕ) (image : Image) (lines : List (Line Name)) → StandsFor text image
@@ -74,9 +69,7 @@ image_read text image lines stands read =
 
 table_rows : (lines : List (Line Name)) (table : SymbolTable) (r : Result SymbolTable AsmFault) → r ≡ Ok (symbols_of lines)
     → r ≡ Ok table → table.rows ≡ row_lines lines
-table_rows lines table r is e =
-    let both : symbols_of lines ≡ table = cc in
-    ap (λ (t : SymbolTable). t.rows) (sym both)
+table_rows lines table r is e = grind arith
 
 pub text_listed : (text : List ℕ) (image : Image) (table : SymbolTable) (numbers listing : List ℕ) → StandsFor text image
     → symbols_in text ≡ Ok table → numbers ≡ table.rows
@@ -105,9 +98,7 @@ there (first ∷ texts) (suc n) text rest e = there texts n text rest e
 
 line_there : (texts : List (List ℕ)) (n : ℕ) (text : List ℕ) (rest : List (List ℕ)) → drop n texts ≡ text ∷ rest
     → line_at texts (n + 1) ≡ text
-line_there texts n text rest e =
-    let before : n + 1 - 1 ≡ n = omega arith in
-    ap (λ (i : ℕ). slice_index_or texts i []) before ∙ there texts n text rest e
+line_there texts n text rest e = grind (arith, there)
 
 -- the rows that lines make, and the numbers of their lines
 abbrev Said : List (List ℕ) → List (Line Name) → List (Line Name) → Type 0
@@ -117,12 +108,7 @@ Said texts lines more = AreSaid texts lines (flat_map (λ line. rows_in lines li
 one_said : (texts : List (List ℕ)) (lines : List (Line Name)) (number : ℕ) (said : Statement Name) (others : List (Line Name))
     → Says (line_at texts number) said → Said texts lines others
     → Said texts lines (record { number = number; statement = said } ∷ others)
-one_said texts lines number (statement.Phaser p) others says rest = rest
-one_said texts lines number (statement.Barrier b) others says rest = rest
-one_said texts lines number (statement.Thread t) others says rest = rest
-one_said texts lines number (statement.Cell name) others says rest = rest
-one_said texts lines number (statement.Label name) others says rest = rest
-one_said texts lines number (statement.Row label row) others says rest = ((label, (row, (says, refl))), rest)
+one_said texts lines number said others says rest = grind arith
 
 said_from : (texts : List (List ℕ)) (lines : List (Line Name)) (n : ℕ) (rest : List (List ℕ)) (more : List (Line Name))
     → drop n texts ≡ rest → SayInOrder (n + 1) rest more → Said texts lines more
@@ -143,13 +129,7 @@ rows_said text lines s = said_from (lines_of text) lines 0 (lines_of text) lines
 
 -- behind no line anything may stand
 follows_none : (said : Statement Name) → Follows [] said
-follows_none (statement.Phaser p) = record { name = refl; place = refl; room = refl }
-follows_none (statement.Barrier b) = record { name = refl; place = refl; room = refl }
-follows_none (statement.Thread t) = record { name = refl; place = refl; room = refl }
-follows_none (statement.Cell name) = record { name = refl; place = refl; room = refl }
-follows_none (statement.Label name) = record { name = refl; place = refl; room = refl }
-follows_none (statement.Row None row) = record { name = refl; place = refl; room = refl }
-follows_none (statement.Row (Some label) row) = record { name = refl; place = refl; room = refl }
+follows_none said = grind arith
 
 alike : {A B : Type 0} (x y : A) (r : Result A B) → r ≡ Ok x → r ≡ Ok y → x ≡ y
 alike x y r e f = cc
@@ -167,20 +147,15 @@ next_same n a b s t c d is also said others = cc
 same_lines : (n : ℕ) (texts : List (List ℕ)) (a b : List (Line Name)) → SayInOrder n texts a → SayInOrder n texts b → a ≡ b
 same_lines n [] a b s t = s ∙ sym t
 same_lines n (text ∷ texts) a b (inl s) (inl t) = same_lines (n + 1) texts a b s.1 t.1
-same_lines n (text ∷ texts) a b (inl s) (inr t) =
-    let bad = same_statement text None (Some t.0) s.0 (t.3, follows_none t.0) in absurd (cc)
-same_lines n (text ∷ texts) a b (inr s) (inl t) =
-    let bad = same_statement text (Some s.0) None (s.3, follows_none s.0) t.0 in absurd (cc)
+same_lines n (text ∷ texts) a b (inl s) (inr t) = grind (arith, same_statement, follows_none)
+same_lines n (text ∷ texts) a b (inr s) (inl t) = grind (arith, same_statement, follows_none)
 same_lines n (text ∷ texts) a b (inr s) (inr t) =
     next_same n a b s.0 t.0 s.1 t.1 s.2 t.2
     (same_statement text (Some s.0) (Some t.0) (s.3, follows_none s.0) (t.3, follows_none t.0))
     (same_lines (n + 1) texts s.1 t.1 s.4 t.4)
 
 pub one_listing : (file a b : List ℕ) → IsRowListing file a → IsRowListing file b → a ≡ b
-one_listing file a b (inl (is, (i, (same, told)))) (inl (also, (j, (like, said)))) =
-    told ∙ ap (λ (image : Image). image_listing image) (alike i j (image_in file) same like) ∙ sym said
+one_listing file a b (inl (is, (i, (same, told)))) (inl (also, (j, (like, said)))) = grind (arith, alike)
 one_listing file a b (inl s) (inr t) = absurd (cc (s.0, t.0))
 one_listing file a b (inr s) (inl t) = absurd (cc (s.0, t.0))
-one_listing file a b (inr (is, (lines, (say, stands, told)))) (inr (also, (others, (speak, means, said)))) =
-    told ∙ ap (λ (ls : List (Line Name)). text_listing (lines_of file) ls) (same_lines 1 (lines_of file) lines others say speak)
-    ∙ sym said
+one_listing file a b (inr (is, (lines, (say, stands, told)))) (inr (also, (others, (speak, means, said)))) = grind (arith, same_lines)

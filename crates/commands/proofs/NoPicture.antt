@@ -25,15 +25,4 @@ pub no_picture : {A : Type 0} (result : Result A PageFault) (fault : PageFault) 
     × (most_choices < length (choices_of (finished_schedule schedule).runs)))
     → ((f : LoadFault) → IsRefused f image → (result ≡ Err (none.Load f)) ⊎ (result ≡ Err none.Memory))
     → status_of told ≡ 3 → HaveNoPicture kind told program schedule
-no_picture result (none.Load f) told kind program schedule image is same file load faulty many loads three =
-    subst (λ t. HaveNoPicture kind t program schedule) (sym same) (image, (file, load f is))
-no_picture result (none.Schedule f) told kind program schedule image is same file load faulty many loads three =
-    let loadable : (g : LoadFault) → IsRefused g image → ⊥ =
-    λ g refused. elim (loads g refused) [ inl e ↦ absurd (cc (is, e)) | inr e ↦ absurd (cc (is, e)) ] in
-    subst (λ t. HaveNoPicture kind t program schedule) (sym same) ((image, (file, loadable)), (faulty f is).0)
-no_picture result none.Choices told kind program schedule image is same file load faulty many loads three =
-    let loadable : (g : LoadFault) → IsRefused g image → ⊥ =
-    λ g refused. elim (loads g refused) [ inl e ↦ absurd (cc (is, e)) | inr e ↦ absurd (cc (is, e)) ] in
-    subst (λ t. HaveNoPicture kind t program schedule) (sym same) (refl, ((image, (file, loadable)), many is))
-no_picture result none.Memory told kind program schedule image is same file load faulty many loads three =
-    let bad : 4 ≡ 3 = ap (λ t. status_of t) (sym same) ∙ three in absurd (omega (arith, bad))
+no_picture result fault told kind program schedule image is same file load faulty many loads three = grind arith

@@ -43,10 +43,7 @@ one_more symbols names after name thread is before named =
 -- there are as many names as threads
 pub few_names : (symbols : SymbolTable) (names : List (Bor (List ℕ))) (count : ℕ)
     → map name_seen names ≡ thread_names symbols count → count ≤ 64 → length names ≤ 64
-few_names symbols names count are few =
-    let many : length names ≡ count = sym (length-map names name_seen)
-    ∙ (ap (λ (ns : List (List ℕ)). length ns) are ∙ length-map-range_with_len (thread_name symbols) 0 count) in
-    omega (arith, many, few)
+few_names symbols names count are few = grind (arith, length-map, length-map-range_with_len)
 
 -- a program that is loaded, with its threads' names
 abbrev pub IsLoaded : List ℕ → Program → List (Bor (List ℕ)) → Type 0
@@ -58,10 +55,7 @@ pub plan_refused : {A : Type 0} (answered : Result A Unplanned) (reason : Unplan
     → ((f : PlanFault) → answered ≡ Err (why.Plan f) → words_in_plan (map name_seen given) plan ≡ Err f)
     → ((f : Fault) → answered ≡ Err (why.Fault f) → f ≡ fault.Memory)
     → unplanned_status reason ≡ 3 → HasNoSchedule reason file plan
-plan_refused answered (why.Plan f) file plan program names given is (image, (has, of)) same refused other three =
-    (image, (map name_seen names, (has, subst (λ (ns : List (Bor (List ℕ))). words_in_plan (map name_seen ns) plan ≡ Err f) same (refused f is))))
-plan_refused answered (why.Fault f) file plan program names given is loaded same refused other three =
-    let bad : 4 ≡ 3 = ap (λ t. status_of t) (sym (other f is)) ∙ three in absurd (omega (arith, bad))
+plan_refused answered reason file plan program names given is loaded same refused other three = grind arith
 
 -- a plan that is read is played
 pub plan_played : (file plan : List ℕ) (program : Program) (planned : Planned) (names given : List (Bor (List ℕ))) (words taken : List Word)

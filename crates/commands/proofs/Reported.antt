@@ -1,5 +1,5 @@
 -- What was written of the runs of an image's program.
-use Rattle.std.proofs.Common.{◌≡◌, ◌⊎◌, ℕ, Bool, IsTrue, List, ap, inl, inr, subst, sym}
+use Rattle.std.proofs.Common.{◌≡◌, ◌⊎◌, ℕ, Bool, IsTrue, List, ap, inl, inr, subst, sym, arith}
 use Rattle.std.specs.Prelude.{Option, None, Result, Ok, Err, IfErr, IfOk, OnOk}
 use Rattle.std.specs.Io.KnownBytes.{Appends}
 use Rattle.row_code.specs.declared.image.Image.{Image}
@@ -35,7 +35,4 @@ reported (Ok d) image program asked outcomes file before after failed is_file lo
     ),
   ),
 )
-reported (Err f) image program asked outcomes file before after failed is_file loads is came sorted by written (inl memory) same write =
-    subst (λ e. StopsReporting e file before after failed) (sym memory) (same (ap Err memory))
-reported (Err f) image program asked outcomes file before after failed is_file loads is came sorted by written (inr failing) same write =
-    subst (λ e. StopsReporting e file before after failed) (sym failing) (write (ap Err failing))
+reported result image program asked outcomes file before after failed is_file loads is came sorted by written which same write = grind (arith, is_first)

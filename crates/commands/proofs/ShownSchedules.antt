@@ -1,5 +1,5 @@
 -- A schedule that is shown with a token for choices that repeat.
-use Rattle.std.proofs.Common.{◌≡◌, ℕ, List, sym, subst}
+use Rattle.std.proofs.Common.{◌≡◌, ℕ, List, sym, subst, arith}
 use Rattle.std.specs.Prelude.{None}
 use Rattle.schedule_reader.specs.Schedule.{choices_of, finished_schedule}
 use Rattle.thread_machine.specs.World.{World}
@@ -10,7 +10,4 @@ use Rattle.thread_runner.specs.Replay.{IsReplay, IsReplayOfText}
 pub same_replay : (first : World) (text shown : List ℕ) (world : World) → (finished_schedule shown).fault ≡ None
     → choices_of (finished_schedule shown).runs ≡ choices_of (finished_schedule text).runs
     → IsReplayOfText first text world → IsReplayOfText first shown world
-same_replay first text shown world none same replay = record {
-  fault = none;
-  replay = subst (λ (choices : List Choice). IsReplay (record { first = first; choices = choices }) world) (sym same) replay.replay;
-}
+same_replay first text shown world none same replay = grind arith

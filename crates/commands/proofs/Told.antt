@@ -1,5 +1,5 @@
 -- What is told of a trace's choices.
-use Rattle.std.proofs.Common.{◌≡◌, ℕ, true, false, List, [], ◌++◌, Some, None, append-nil, refl, subst, sym}
+use Rattle.std.proofs.Common.{◌≡◌, ℕ, true, false, List, [], ◌++◌, Some, None, append-nil, refl, subst, sym, rules}
 use Rattle.std.specs.Prelude.{Option, is_none}
 use Rattle.std.specs.Io.KnownBytes.{Appends}
 use Rattle.std.proofs.KnownBytes.{Appends-trans}
@@ -15,20 +15,7 @@ Written a b old new answer =
 
 pub whole : (a b old new : Option (List ℕ)) (answer : Option ℕ) → answer ≡ None → Written a b old new answer
     → (naming : Naming) × ((true ≡ is_none naming.no_line) × HasToldChoices naming a b old new)
-whole a b old new answer is written =
-    let (choices, (read, (runs, (all, spelled, joined, text)))) = subst (Written a b old new) is written in (
-      record { choices = choices; no_line = None },
-      (
-        refl,
-        (
-          read,
-          (
-            line_by true runs ++ [],
-            ((runs, (all, spelled, joined, refl)), subst (Appends old new) (sym (append-nil (line_by true runs))) text),
-          ),
-        ),
-      ),
-    )
+whole a b old new answer is written = search rules
 
 pub none : (a b old mid new : Option (List ℕ)) (answer : Option ℕ) (line : ℕ) → answer ≡ Some line → Written a b old mid answer
     → Appends mid new (told_line (Some line))

@@ -1,5 +1,5 @@
 -- A picture that was written, by the program and the schedule that were read.
-use Rattle.std.proofs.Common.{◌≡◌, ℕ, List, Option, Result, Ok, Err, OnOk, subst}
+use Rattle.std.proofs.Common.{◌≡◌, ℕ, List, Option, Result, Ok, Err, OnOk, subst, arith}
 use Rattle.std.specs.Io.KnownBytes.{Appends}
 use Rattle.commands.specs.Pictures.{HasMade, HasWritten}
 use Rattle.workbench.specs.Input.{GivesAll}
@@ -13,9 +13,7 @@ picture_written IsPicture picture bytes old new is made appends =
 same_picture : (IsPicture : List ℕ → List ℕ → List ℕ → Type 0) (program schedule file choices : List ℕ)
     (old new : Option (List ℕ)) → program ≡ file → schedule ≡ choices
     → HasWritten (IsPicture program schedule) old new → HasWritten (IsPicture file choices) old new
-same_picture IsPicture program schedule file choices old new is also written =
-    subst (λ text. HasWritten (IsPicture file text) old new) also
-    (subst (λ text. HasWritten (IsPicture text schedule) old new) is written)
+same_picture IsPicture program schedule file choices old new is also written = grind arith
 
 pub both_read : {A E : Type 0} (IsPicture : List ℕ → List ℕ → List ℕ → Type 0) (result : Result A E)
     (program schedule file choices : List ℕ)
@@ -23,6 +21,4 @@ pub both_read : {A E : Type 0} (IsPicture : List ℕ → List ℕ → List ℕ �
     → GivesAll file_before file_after file → GivesAll schedule_before schedule_after choices
     → OnOk result (HasWritten (IsPicture program schedule) old new)
     → OnOk result (HasMade IsPicture file_before file_after schedule_before schedule_after old new)
-both_read IsPicture (Ok x) program schedule file choices fb fa sb sa old new is also gives more written =
-    (file, (choices, (gives, more, same_picture IsPicture program schedule file choices old new is also written)))
-both_read IsPicture (Err e) program schedule file choices fb fa sb sa old new is also gives more written = written
+both_read IsPicture result program schedule file choices fb fa sb sa old new is also gives more written = grind (arith, same_picture)
