@@ -1,5 +1,5 @@
 -- The canonical text of an image stands for it.
-use Rattle.std.proofs.Common.{◌≡◌, ℕ, true, List, [], ◌∷◌, ◌++◌, Option, Some, None, option_map, refl, sym, ap, subst, ◌∙◌, arith, append-nil, rules}
+use Rattle.std.proofs.Common.{◌≡◌, ℕ, true, List, [], ◌∷◌, ◌++◌, Option, option_map, refl, sym, ap, subst, ◌∙◌, arith, append-nil, rules}
 use Rattle.std.specs.List.{flat_map, list_all}
 use Rattle.std.proofs.lemmas.Bool.{and_from}
 use Rattle.std.proofs.lemmas.Grind.{flat_map-append}
@@ -12,7 +12,6 @@ use Rattle.row_code.specs.declared.barriers.DeclaredBarrier.{DeclaredBarrier}
 use Rattle.row_code.specs.declared.image.Image.{Image}
 use Rattle.row_code.specs.declared.phasers.DeclaredPhaser.{DeclaredPhaser}
 use Rattle.row_code.specs.declared.phasers.DeclaredPolicy.{DeclaredPolicy}
-use Rattle.row_code.specs.declared.phasers.DeclaredPolicy.TheVariants as declared
 use Rattle.row_code.specs.Barriers.{IsBarrier}
 use Rattle.row_code.specs.Image.{IsImage}
 use Rattle.row_code.specs.Phasers.{IsPhaser}

@@ -1,5 +1,5 @@
 -- Each line of a canonical text may stand behind the lines before it.
-use Rattle.std.proofs.Common.{◌≡◌, ℕ, ◌+◌, ◌<◌, ◌≤◌, Bool, true, false, not, ◌||◌, nat_lt, List, [], ◌∷◌, ◌++◌, length, drop, get_or, bytes_eq, Some, refl, sym, ap, subst, ◌∙◌, arith, append_assoc, append-nil, lt-ltb, decimal}
+use Rattle.std.proofs.Common.{◌≡◌, ℕ, ◌+◌, ◌<◌, ◌≤◌, false, not, ◌||◌, nat_lt, List, [], ◌∷◌, ◌++◌, length, drop, get_or, bytes_eq, Some, refl, sym, ap, subst, ◌∙◌, arith, append_assoc, append-nil, lt-ltb, decimal}
 use Rattle.std.proofs.lemmas.Fmt.{decimal_injective}
 use Rattle.std.proofs.lemmas.List.Folds.{list_any-append}
 use Rattle.std.proofs.lemmas.Slice.Eq.{bytes_eq-Decides}

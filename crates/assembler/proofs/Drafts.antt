@@ -1,12 +1,11 @@
 -- What is kept beside the lines, with one line more.
-use Rattle.std.proofs.Common.{◌≡◌, ◌∙◌, ℕ, ◌+◌, Bool, true, false, cond, ◌||◌, not, List, [], ◌∷◌, ◌++◌, Option, Some, None, option_map, is_some, bytes_eq, refl, sym, ap, arith, rules}
+use Rattle.std.proofs.Common.{◌≡◌, ◌∙◌, ℕ, ◌+◌, Bool, true, false, cond, ◌||◌, List, [], ◌∷◌, ◌++◌, Option, Some, None, option_map, is_some, bytes_eq, refl, sym, ap, arith, rules}
 use Rattle.std.specs.List.{flat_map, list_any}
 use Rattle.std.proofs.lemmas.Grind.{flat_map-append}
 use Rattle.std.proofs.lemmas.List.{append-nil}
 use Rattle.std.proofs.lemmas.List.Folds.{list_any-append}
 use Rattle.std.proofs.lemmas.Slice.Eq.{bytes_eq-Decides}
 use Rattle.instruction_table.specs.declared.shape.OperandKind.{OperandKind}
-use Rattle.instruction_table.specs.declared.shape.OperandKind.TheVariants as kind
 use Rattle.assembler.specs.declared.draft.Counts.{Counts}
 use Rattle.assembler.specs.declared.draft.Place.{Place}
 use Rattle.assembler.specs.declared.symbols.Symbol.{Symbol}

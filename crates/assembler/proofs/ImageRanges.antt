@@ -11,7 +11,6 @@ use Rattle.row_code.specs.Barriers.{IsBarrier}
 use Rattle.row_code.specs.Threads.{IsThread}
 use Rattle.row_code.specs.Image.{IsImage}
 use Rattle.line_reader.specs.declared.statement.Statement.{Statement}
-use Rattle.line_reader.specs.declared.statement.Statement.TheVariants as statement
 use Rattle.line_reader.specs.declared.statement.Line.{Line}
 use Rattle.line_reader.specs.Words.{words_of}
 use Rattle.line_reader.specs.Symbols.{Name}

@@ -6,7 +6,7 @@ use Rattle.std.proofs.lemmas.Bool.Decides.{nat_tests}
 use Rattle.std.proofs.lemmas.List.Folds.{list_all-append}
 use Rattle.std.proofs.lemmas.List.Splits.{slice_split_none, slice_split_at}
 use Rattle.std.proofs.lemmas.List.Sums.{AllPass-from_list_all}
-use Rattle.line_reader.specs.Words.{is_line_end, is_allowed, is_blank, begins_comment, words_in, words_of}
+use Rattle.line_reader.specs.Words.{is_line_end, is_allowed, is_blank, begins_comment, words_of}
 use Rattle.line_reader.specs.Spelling.{IsLine}
 use Rattle.line_reader.specs.Listing.{spaced}
 

@@ -1,6 +1,5 @@
 -- What a line is kept as: a row where there is room for one, and a directive, which is no code.
-use Rattle.std.proofs.Common.{◌≡◌, ◌∙◌, ℕ, Bool, true, false, cond, List, Option, None, Result, Ok, Err, refl, sym, ap, subst, arith}
-use Rattle.std.specs.Prelude.{bytes_eq, codes}
+use Rattle.std.proofs.Common.{◌≡◌, ℕ, Bool, true, false, cond, List, Option, None, Result, Ok, Err, refl, sym, arith}
 use Rattle.row_code.specs.Answers.{◌>>=◌}
 use Rattle.line_reader.specs.declared.asm_fault.AsmFaultKind.{AsmFaultKind}
 use Rattle.line_reader.specs.declared.asm_fault.AsmFaultKind.TheVariants as fault
@@ -8,7 +7,7 @@ use Rattle.line_reader.specs.declared.statement.Line.{Line}
 use Rattle.line_reader.specs.declared.statement.Statement.{Statement}
 use Rattle.line_reader.specs.declared.statement.Statement.TheVariants as statement
 use Rattle.line_reader.specs.declared.symbolic_row.SymbolicRow.{SymbolicRow}
-use Rattle.line_reader.specs.Reading.{barrier_at, cell_at, directive_at, is_directive, phaser_at, row_at, thread_at}
+use Rattle.line_reader.specs.Reading.{directive_at, is_directive, row_at}
 use Rattle.line_reader.specs.Symbols.{Name}
 use Rattle.assembler.specs.Reading.{directive_behind, row_behind}
 use Rattle.assembler.specs.Statements.{Follows, has_room, is_code}

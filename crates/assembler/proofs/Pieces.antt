@@ -1,6 +1,6 @@
 -- The words of a text, one piece after the other.
-use Rattle.std.proofs.Common.{◌≡◌, ◌∙◌, ℕ, ◌+◌, ◌-◌, ◌==◌, not, List, [], ◌++◌, length, take, drop, Some, None, sym, ap, arith}
-use Rattle.std.specs.List.{filter, position, slice_split, before_first, after_first}
+use Rattle.std.proofs.Common.{◌≡◌, ℕ, ◌+◌, ◌-◌, List, ◌++◌, length, take, drop, Some, None, arith}
+use Rattle.std.specs.List.{position}
 use Rattle.std.proofs.lemmas.List.{drop_all}
 use Rattle.std.proofs.lemmas.List.Splits.{slice_split_first, slice_split_none}
 use Rattle.std.proofs.lemmas.List.Sums.{fails_before_first}

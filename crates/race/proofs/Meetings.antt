@@ -4,7 +4,7 @@ use Rattle.std.specs.Prelude.{IfOk, IfErr, flat_map, map}
 use Rattle.std.specs.List.{range_with_len}
 use Rattle.std.proofs.lemmas.List.{get_or-map, get_or_default, length-map, map-append}
 use Rattle.std.proofs.lemmas.List.Concat.{flat_map-append}
-use Rattle.std.proofs.lemmas.List.Elements.{All-nil, All-push}
+use Rattle.std.proofs.lemmas.List.Elements.{All-push}
 use Rattle.std.proofs.lemmas.List.FromFn.{get_or-range_with_len, length-range_with_len}
 use Rattle.shared_phaser.specs.declared.history.Call.TheVariants.{Arrive, Await}
 use Rattle.shared_phaser.specs.declared.history.Reply.{Reply}
@@ -15,8 +15,8 @@ use Rattle.shared_phaser.specs.declared.history.Kept.{Kept}
 use Rattle.shared_phaser.specs.declared.history.Setup.{Setup}
 use Rattle.shared_phaser.specs.declared.history.Known.{Known}
 use Rattle.shared_phaser.specs.History.{IsLegal, at_end, calls_by}
-use Rattle.shared_phaser.specs.Known.{ArrivesAndAwaits, Caller, EndsAs, Identity, IsApart, IsWhole, JoinsCaller, MakesCall, entry, phaser_of}
-use Rattle.race.specs.Race.{AreMeetings, HasMet, IsFinal, IsFresh, IsMeeting, number_of, opening_of}
+use Rattle.shared_phaser.specs.Known.{ArrivesAndAwaits, Caller, EndsAs, IsApart, IsWhole, JoinsCaller, MakesCall, entry, phaser_of}
+use Rattle.race.specs.Race.{AreMeetings, HasMet, IsFinal, IsMeeting, number_of, opening_of}
 
 -- one number more
 counting_on : (from many : ℕ) → range_with_len from (many + 1) ≡ range_with_len from many ++ (from + many) ∷ []

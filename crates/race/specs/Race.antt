@@ -1,7 +1,6 @@
 -- What a race leaves and what the command writes.
-use Rattle.std.specs.Prelude.{◌≡◌, ◌++◌, ◌⊎◌, ◌<◌, ◌≤◌, ℕ, ℤ, false, List, [], ◌∷◌, length, flat_map, All, Bool, Option, IsTrue, codes}
+use Rattle.std.specs.Prelude.{◌≡◌, ◌++◌, ◌⊎◌, ◌<◌, ◌≤◌, ℕ, ℤ, false, List, [], ◌∷◌, length, flat_map, All, codes}
 use Rattle.std.specs.Fmt.{decimal}
-use Rattle.std.specs.Io.KnownBytes.{Appends}
 use Rattle.packed_phaser.specs.declared.policy.Policy.TheVariants.{Default}
 use Rattle.packed_phaser.specs.Flat.{Flat, unarrived_of}
 use Rattle.packed_phaser.specs.Word.{record_of}
@@ -13,8 +12,6 @@ use Rattle.shared_phaser.specs.declared.history.Entry.{Entry}
 use Rattle.shared_phaser.specs.declared.history.Setup.{Setup}
 use Rattle.shared_phaser.specs.History.{IsLegal, at_end, calls_by}
 use Rattle.shared_phaser.specs.Known.{Caller, Identity, entry, phaser_of}
-use Rattle.race.specs.declared.fault.RaceFault.{RaceFault}
-use Rattle.race.specs.declared.fault.RaceFault.TheVariants as fault
 
 -- how a race's phaser begins
 abbrev pub opening_of : ℕ → Setup
