@@ -1,5 +1,5 @@
 -- One choice more is drawn.
-use Rattle.std.proofs.Common.{◌≡◌, ◌∙◌, ℕ, ◌+◌, ◌<◌, Bool, true, false, List, [], ◌∷◌, ◌++◌, Option, Some, None, ap, sym, subst, refl, append_assoc, append-nil, length, get_or, drop, flat_map, is_none}
+use Rattle.std.proofs.Common.{◌≡◌, ◌∙◌, ℕ, ◌+◌, ◌<◌, Bool, true, false, List, [], ◌∷◌, ◌++◌, Option, Some, None, ap, sym, subst, refl, append_assoc, append-nil, length, get_or, drop, is_none}
 use Rattle.std.proofs.lemmas.List.{drop_more}
 use Rattle.std.proofs.lemmas.Grind.{flat_map-append}
 use Rattle.assembler.specs.Symbols.{SymbolTable}

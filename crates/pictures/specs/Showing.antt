@@ -1,6 +1,6 @@
 -- How a run is shown choice by choice. Nobody has to believe this: it is what proofs go by.
 use Rattle.std.specs.Prelude.{◌≡◌, Bool, List, ℕ, [], ◌∷◌, ◌++◌, if◌then◌else◌, is_none}
-use Rattle.pictures.specs.Page.{escaped, moment, moments}
+use Rattle.pictures.specs.Page.{escaped, moment}
 use Rattle.thread_machine.specs.declared.choice.Choice.{Choice}
 use Rattle.thread_machine.specs.Execution.{execution}
 use Rattle.thread_machine.specs.World.{World}

@@ -2,8 +2,6 @@
 use Rattle.std.specs.Prelude.{ℕ, ℤ, pos, negsuc, Bool, true, false, if◌then◌else◌, List, [], ◌++◌, codes, decimal}
 use Rattle.assembler.specs.Symbols.{SymbolTable}
 use Rattle.instruction_table.specs.declared.shape.OperandKind.TheVariants as kind
-use Rattle.machine_scene.specs.Outcomes.{is_ready}
-use Rattle.thread_machine.specs.World.{World}
 use Rattle.thread_state.specs.declared.event.Mark.{Mark}
 use Rattle.thread_state.specs.declared.event.Mark.TheVariants as mark
 use Rattle.thread_state.specs.declared.event.What.{What}

@@ -1,4 +1,4 @@
-use Rattle.std.proofs.Common.{◌∙◌, sym}
+use Rattle.std.proofs.Common.{◌∙◌}
 use Rattle.pictures.proofs.Showings.{choices-drop, shown_next, shown_refused}
 use Rattle.pictures.proofs.page.add_choices.Goals as goal
 
