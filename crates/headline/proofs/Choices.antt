@@ -12,7 +12,7 @@ use Rattle.thread_machine.specs.declared.choice.Choice.{Choice}
 use Rattle.thread_machine.specs.declared.fault.StepFault.TheVariants as fault
 use Rattle.thread_machine.specs.World.{World}
 use Rattle.thread_machine.specs.Ready.{outcome_of_choice}
-use Rattle.thread_machine.specs.Step.{played, played_by, refusal_of, is_used_up}
+use Rattle.thread_machine.specs.Step.{played, played_by, refusal_of}
 use Rattle.thread_machine.specs.Execution.{execution, execution_by}
 use Rattle.thread_machine.specs.DirectCounts.{counts_after, counts_by}
 use Rattle.thread_machine.proofs.SafeEnds.{Goes, goes_through}

@@ -5,14 +5,13 @@ use Rattle.std.specs.List.{list_all, list_any}
 use Rattle.std.proofs.lemmas.Bool.Decides.{nat_tests}
 use Rattle.std.proofs.lemmas.List.{length-map}
 use Rattle.instruction_table.specs.declared.row.Row.{Row}
-use Rattle.instruction_table.specs.declared.row.Row.TheVariants.{Preg, Pbulk, Cawait, Creset, Cbroken, Cwaiting, Cawaitt}
-use Rattle.instruction_table.specs.Registers.{value_in}
+use Rattle.instruction_table.specs.declared.row.Row.TheVariants.{Preg}
 use Rattle.packed_phaser.specs.Flat.{Flat}
 use Rattle.tier_tree.specs.declared.registered.Registered.{Registered}
 use Rattle.tier_tree.specs.declared.registered.Registered.TheVariants as registered
 use Rattle.tier_tree.specs.Declaration.{AreAllFresh}
 use Rattle.tier_tree.specs.Forest.{PhaserState, flat_at}
-use Rattle.tier_tree.specs.Registration.{Join, joins, is_overfull, is_turned, registration}
+use Rattle.tier_tree.specs.Registration.{Join, is_turned, registration}
 use Rattle.cyclic_barrier.specs.Barrier.{fresh}
 use Rattle.row_code.specs.declared.image.Image.{Image}
 use Rattle.row_code.specs.declared.barriers.DeclaredBarrier.{DeclaredBarrier}
@@ -20,7 +19,7 @@ use Rattle.row_code.specs.declared.threads.DeclaredThread.{DeclaredThread}
 use Rattle.loader.specs.declared.load_fault.LoadFault.TheVariants as fault
 use Rattle.loader.specs.Declarations.{forest_of, new_barrier}
 use Rattle.loader.specs.Fault.{unless}
-use Rattle.loader.specs.Program.{Program, row_at}
+use Rattle.loader.specs.Program.{Program}
 use Rattle.loader.proofs.Images.{all_made}
 use Rattle.loader.proofs.Search.{none_left}
 use Rattle.thread_state.specs.declared.status.Status.{Status}
@@ -28,12 +27,11 @@ use Rattle.thread_state.specs.declared.status.Status.TheVariants as status
 use Rattle.thread_state.specs.Thread.{ThreadState, is_finished}
 use Rattle.machine_scene.specs.Outcomes.{is_ready}
 use Rattle.machine_scene.specs.Ready.{is_blocked, is_held, is_listed, registration_is_held}
-use Rattle.machine_scene.specs.BarrierRows.{is_run_by_another}
-use Rattle.machine_scene.specs.Scene.{Scene, barrier_at, no_thread, starting, thread_at}
+use Rattle.machine_scene.specs.Scene.{Scene, barrier_at, no_thread, starting}
 use Rattle.machine_scene.proofs.ReadyThreads.{ready_as_listed}
 use Rattle.thread_machine.specs.declared.choice.Choice.{Choice}
 use Rattle.thread_machine.specs.Execution.{execution}
-use Rattle.thread_machine.specs.Ready.{all_finished, can_expire, some_ready}
+use Rattle.thread_machine.specs.Ready.{all_finished}
 use Rattle.thread_machine.specs.World.{World, first_of}
 use Rattle.thread_machine.proofs.Readiness.{one_ready}
 use Rattle.thread_runner.specs.declared.ending.Ending.TheVariants.{AllEnded, Stuck, Limit}

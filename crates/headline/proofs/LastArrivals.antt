@@ -1,24 +1,20 @@
 -- With the last arrival at a tree its phase ends, or its routine is entered.
-use Rattle.std.proofs.Common.{inl, inr, ◌≡◌, ◌≢◌, ◌∙◌, ℕ, ℤ, pos, suc, ◌+◌, ◌-◌, ◌<◌, ◌≤◌, ◌==◌, ◌&&◌, Bool, true, false, List, [], ◌∷◌, length, ap, refl, sym, subst, arith, if◌then◌else◌, rules}
-use Rattle.std.specs.Prelude.{◌⊎◌, ◌||◌, ◌++◌, nat_abs, int_lt, slice_get, Option, Some, None}
+use Rattle.std.proofs.Common.{inl, inr, ◌≡◌, ◌∙◌, ℕ, ℤ, pos, suc, ◌+◌, ◌-◌, ◌<◌, ◌≤◌, Bool, true, false, List, [], ◌∷◌, length, ap, refl, sym, subst, arith, if◌then◌else◌, rules}
+use Rattle.std.specs.Prelude.{◌⊎◌, ◌||◌, ◌++◌, slice_get, Option, Some, None}
 use Rattle.std.proofs.lemmas.Bool.{cases_eq}
 use Rattle.std.proofs.lemmas.List.{get_or-set_same}
 use Rattle.instruction_table.specs.declared.row.Row.{Row}
-use Rattle.instruction_table.specs.declared.row.Row.TheVariants.{Ret, Preg, Pbulk, Parr, Pdereg, Paaa}
-use Rattle.instruction_table.specs.Registers.{value_in}
-use Rattle.packed_phaser.specs.Flat.{Flat, Arrival, Counts, Turns, ComesLate, IsUnregistered, arrive, unarrived_of}
+use Rattle.instruction_table.specs.declared.row.Row.TheVariants.{Ret, Preg, Parr, Pdereg, Paaa}
+use Rattle.packed_phaser.specs.Flat.{Flat, Arrival, Counts, arrive, unarrived_of}
 use Rattle.tier_tree.specs.declared.climb.Climb.{Climb}
 use Rattle.tier_tree.specs.declared.climb.Climb.TheVariants as climb
 use Rattle.tier_tree.specs.declared.registered.Registered.{Registered}
-use Rattle.tier_tree.specs.declared.registered.Registered.TheVariants as registered
 use Rattle.tier_tree.specs.declared.arrived.Arrived.{Arrived}
 use Rattle.tier_tree.specs.declared.arrived.Arrived.TheVariants as arrived
 use Rattle.tier_tree.specs.declared.id.PhaserId.{PhaserId}
 use Rattle.tier_tree.specs.Answer.{KeepsEnds}
 use Rattle.tier_tree.specs.Forest.{PhaserState, phaser_at, flat_at, root_at}
-use Rattle.tier_tree.specs.Registration.{registration}
-use Rattle.tier_tree.specs.Arrival.{Arrives, Climbed, is_top, passed_on, with_child, climbed_by, climbed, arrival_by, arrival}
-use Rattle.tier_tree.specs.PhaseEnd.{after_phase_end}
+use Rattle.tier_tree.specs.Arrival.{Arrives, Climbed, is_top, with_child, climbed_by, climbed, arrival_by, arrival}
 use Rattle.tier_tree.specs.Sound.{IsForest}
 use Rattle.tier_tree.specs.Origin.{Origin, AreTallied, arrived_at, origin_after_arrival, origin_after_registration}
 use Rattle.tier_tree.proofs.Balance.{next-parent, flat-put, flat-other}
@@ -31,12 +27,12 @@ use Rattle.thread_state.specs.declared.frame.Frame.{Frame}
 use Rattle.thread_state.specs.declared.frame.Frame.TheVariants as frame
 use Rattle.thread_state.specs.declared.status.Status.{Status}
 use Rattle.thread_state.specs.declared.status.Status.TheVariants as status
-use Rattle.thread_state.specs.Thread.{ThreadState, Turn, top_of, is_full, turn_of_advance, turn_of_throw}
+use Rattle.thread_state.specs.Thread.{ThreadState, Turn, top_of, turn_of_advance}
 use Rattle.machine_scene.specs.declared.manner.Manner.{Manner}
 use Rattle.machine_scene.specs.Manner.{manner_of}
-use Rattle.machine_scene.specs.Scene.{Scene, Outcome, no_thread, thread_at, routine_at, outcome_of_turn, with_phasers, with_thread}
+use Rattle.machine_scene.specs.Scene.{Scene, Outcome, no_thread, thread_at, routine_at, with_phasers, with_thread}
 use Rattle.machine_scene.specs.CallRows.{outcome_of_ret, outcome_of_routine_end}
-use Rattle.machine_scene.specs.PhaserRows.{is_own_tree, has_routine, is_routine_policy, answer_of_policy, unless_own, outcome_of_pending_end, outcome_of_arrived, outcome_of_arrival, outcome_with_room}
+use Rattle.machine_scene.specs.PhaserRows.{is_routine_policy, answer_of_policy, unless_own, outcome_of_pending_end, outcome_of_arrived, outcome_of_arrival}
 use Rattle.machine_scene.specs.Outcomes.{outcome_in}
 use Rattle.machine_scene.proofs.CallRows.{can_turn_on_top}
 use Rattle.machine_scene.proofs.Plain.{StandsAt}

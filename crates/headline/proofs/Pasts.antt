@@ -1,6 +1,6 @@
 -- The past of each barrier of an accepted program, choice by choice.
-use Rattle.std.proofs.Common.{◌≡◌, ℕ, zero, suc, false, List, [], ◌∷◌, map, refl, sym, subst, arith}
-use Rattle.std.specs.Prelude.{Option, Some, None, slice_index_or}
+use Rattle.std.proofs.Common.{◌≡◌, ℕ, suc, false, List, [], ◌∷◌, map, refl, sym, subst, arith}
+use Rattle.std.specs.Prelude.{Option, None, slice_index_or}
 use Rattle.tier_tree.specs.Origin.{Origin}
 use Rattle.row_code.specs.declared.image.Image.{Image}
 use Rattle.row_code.specs.declared.barriers.DeclaredBarrier.{DeclaredBarrier}

@@ -1,6 +1,6 @@
 -- When a phase of an accepted program ends, and when a phaser is terminated.
 use Rattle.std.proofs.Common.{◌≡◌, zero, suc, List, [], ◌∷◌, ap, refl, arith}
-use Rattle.std.specs.Prelude.{Option, Some, None}
+use Rattle.std.specs.Prelude.{Option, None}
 use Rattle.packed_phaser.specs.Flat.{Flat}
 use Rattle.tier_tree.specs.Declaration.{AreAllFresh}
 use Rattle.tier_tree.specs.Forest.{PhaserState}

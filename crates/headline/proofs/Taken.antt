@@ -1,5 +1,5 @@
 -- The arrival of a registered party is taken.
-use Rattle.std.proofs.Common.{inl, inr, ◌≡◌, ◌≢◌, ◌∙◌, ℕ, ℤ, pos, ◌+◌, ◌-◌, ◌<◌, ◌==◌, ◌&&◌, not, Bool, true, false, List, [], ◌∷◌, length, ap, refl, sym, subst, arith, if◌then◌else◌, rules}
+use Rattle.std.proofs.Common.{◌≡◌, ◌≢◌, ◌∙◌, ℕ, ℤ, pos, ◌+◌, ◌-◌, ◌<◌, ◌==◌, ◌&&◌, not, Bool, true, false, List, [], ◌∷◌, length, ap, refl, sym, subst, arith, if◌then◌else◌, rules}
 use Rattle.std.specs.Prelude.{Option, Some, None}
 use Rattle.std.proofs.lemmas.Bool.{cases_eq}
 use Rattle.std.proofs.lemmas.List.{get_or-set_same}
@@ -12,19 +12,18 @@ use Rattle.tier_tree.specs.declared.arrived.Arrived.{Arrived}
 use Rattle.tier_tree.specs.declared.arrived.Arrived.TheVariants as arrived
 use Rattle.tier_tree.specs.Forest.{PhaserState, phaser_at, flat_at, root_at}
 use Rattle.tier_tree.specs.Arrival.{Arrives, Climbed, is_top, with_child, climbed_by, climbed, arrival_by, arrival}
-use Rattle.tier_tree.specs.PhaseEnd.{after_phase_end}
-use Rattle.tier_tree.specs.Origin.{Origin, is_under, children, is_awaited, AreTallied}
+use Rattle.tier_tree.specs.Origin.{Origin, AreTallied}
 use Rattle.tier_tree.proofs.Balance.{next-parent}
 use Rattle.tier_tree.proofs.Safe.{line_own, root-parent}
 use Rattle.tier_tree.proofs.Stands.{same-is, other-is}
 use Rattle.loader.specs.Program.{Program, row_at}
 use Rattle.thread_state.specs.declared.status.Status.{Status}
 use Rattle.thread_state.specs.declared.status.Status.TheVariants as status
-use Rattle.thread_state.specs.Thread.{ThreadState, is_full}
+use Rattle.thread_state.specs.Thread.{ThreadState}
 use Rattle.machine_scene.specs.declared.manner.Manner.{Manner}
 use Rattle.machine_scene.specs.Manner.{manner_of}
-use Rattle.machine_scene.specs.Scene.{Scene, Outcome, no_thread, thread_at, with_phasers, with_thread}
-use Rattle.machine_scene.specs.PhaserRows.{is_own_tree, has_routine, answer_of_policy, refusal_of_arrival, unless_own, outcome_of_pending_end, outcome_of_arrived, outcome_of_arrival, outcome_with_room}
+use Rattle.machine_scene.specs.Scene.{Scene, Outcome, no_thread, thread_at, with_thread}
+use Rattle.machine_scene.specs.PhaserRows.{refusal_of_arrival, unless_own, outcome_of_pending_end, outcome_of_arrived, outcome_of_arrival}
 use Rattle.machine_scene.specs.Outcomes.{outcome_in}
 use Rattle.machine_scene.proofs.Plain.{StandsAt}
 use Rattle.thread_machine.specs.declared.choice.Choice.{Choice}

@@ -1,5 +1,5 @@
 -- What each call of the trees makes of them in a turn.
-use Rattle.std.proofs.Common.{inl, inr, ◌≡◌, ◌≢◌, ◌∙◌, ℕ, ℤ, zero, suc, ◌+◌, ◌<◌, ◌==◌, Bool, true, false, List, [], ◌∷◌, length, map, ap, refl, sym, arith, if◌then◌else◌}
+use Rattle.std.proofs.Common.{inl, inr, ◌≡◌, ◌≢◌, ◌∙◌, ℕ, ℤ, zero, suc, ◌<◌, ◌==◌, Bool, true, false, List, [], ◌∷◌, length, map, ap, refl, sym, arith, if◌then◌else◌}
 use Rattle.std.specs.Prelude.{◌||◌, not, Option, Some, None}
 use Rattle.std.proofs.lemmas.Bool.{cases_eq}
 use Rattle.std.proofs.lemmas.List.{length-map, get_or-set_same, get_or-set_other}
@@ -7,13 +7,12 @@ use Rattle.instruction_table.specs.declared.row.Row.{Row}
 use Rattle.instruction_table.specs.declared.row.Row.TheVariants.{Pforce}
 use Rattle.phase_number.specs.Phase.{next_phase}
 use Rattle.packed_phaser.specs.declared.policy.Policy.{Policy}
-use Rattle.packed_phaser.specs.declared.policy.Policy.TheVariants as policy
-use Rattle.packed_phaser.specs.Flat.{Flat, advance}
+use Rattle.packed_phaser.specs.Flat.{Flat}
 use Rattle.packed_phaser.specs.Policy.{ends}
 use Rattle.tier_tree.specs.declared.id.PhaserId.{PhaserId}
 use Rattle.tier_tree.specs.declared.arrived.Arrived.TheVariants as arrived
 use Rattle.tier_tree.specs.Answer.{KeepsEnds}
-use Rattle.tier_tree.specs.Forest.{PhaserState, no_phaser, phaser_at, flat_at, root_of, root_at}
+use Rattle.tier_tree.specs.Forest.{PhaserState, phaser_at, flat_at, root_of, root_at}
 use Rattle.tier_tree.specs.Registration.{registration, joins, after_registration}
 use Rattle.tier_tree.specs.Arrival.{arrival}
 use Rattle.tier_tree.specs.PhaseEnd.{follow, in_step, after_phase_end, after_force}

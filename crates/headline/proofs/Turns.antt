@@ -13,7 +13,6 @@ use Rattle.tier_tree.specs.declared.arrived.Arrived.{Arrived}
 use Rattle.tier_tree.specs.declared.arrived.Arrived.TheVariants as arrived
 use Rattle.tier_tree.specs.declared.id.PhaserId.{PhaserId}
 use Rattle.tier_tree.specs.Forest.{PhaserState, flat_at}
-use Rattle.tier_tree.specs.Registration.{registration, after_registration}
 use Rattle.tier_tree.specs.Arrival.{arrival}
 use Rattle.cyclic_barrier.specs.declared.answer.Entered.{Entered}
 use Rattle.cyclic_barrier.specs.declared.answer.Entered.TheVariants as entered
@@ -42,7 +41,7 @@ use Rattle.machine_scene.specs.BarrierRows.{is_run_by, is_run_by_another, unless
 use Rattle.machine_scene.specs.Unwinding.{outcome_of_popped}
 use Rattle.machine_scene.specs.Waits.{outcome_of_awaited, outcome_of_phase_wait, outcome_of_release, outcome_of_barrier_wait, outcome_of_phase_timeout, outcome_of_barrier_timeout}
 use Rattle.machine_scene.specs.Outcomes.{outcome_in_group, outcome_in, outcome_of, outcome_of_expiry, is_ready, timeout_in}
-use Rattle.machine_scene.specs.Sound.{IsSound, awaits}
+use Rattle.machine_scene.specs.Sound.{IsSound}
 use Rattle.machine_scene.proofs.Plain.{either, StandsAt}
 use Rattle.machine_scene.proofs.BarrierRows.{seat}
 use Rattle.machine_scene.proofs.CallRows.{can_turn_on_top}
