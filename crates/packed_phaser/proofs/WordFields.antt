@@ -1,5 +1,5 @@
 -- The fields of a word by themselves.
-use Rattle.std.proofs.Common.{◌≡◌, ℕ, ◌+◌, ◌-◌, ◌*◌, ◌/◌, ◌%◌, ◌<◌, ◌≤◌, ◌∙◌, Bool, true, false, ap, sym, subst, arith, refl}
+use Rattle.std.proofs.Common.{◌≡◌, ℕ, ◌+◌, ◌-◌, ◌*◌, ◌/◌, ◌%◌, ◌<◌, ◌≤◌, ◌∙◌, Bool, true, false, ap, sym, subst, arith, refl, rules}
 use Rattle.std.specs.Prelude.{◌==◌, ◌&&◌, not, max, if◌then◌else◌}
 use Rattle.std.proofs.lemmas.Bool.Decides.{nat_tests}
 use Rattle.packed_phaser.specs.declared.word.Fields.{Fields}
@@ -51,29 +51,16 @@ test-bit_of true = refl
 -- a word is made of its fields
 pub word_of-fields_of : (word : ℕ) → word < 18446744073709551616 → word_of (fields_of word) ≡ word
 unfolding fields_of
-word_of-fields_of word h =
-    let high : word / 9223372036854775808 ≤ 1 = omega arith in
-    let bit = bit_of-test (word / 9223372036854775808) high in
-    omega arith
+word_of-fields_of word h = grind arith
 
 -- fields that agree one by one are the same
 pub fields_by_parts : (f g : Fields) → f.unarrived ≡ g.unarrived → f.parties ≡ g.parties → f.phase ≡ g.phase → f.ended ≡ g.ended → f ≡ g
-fields_by_parts f g unarrived parties phase ended =
-    let whole : (u p n : ℕ) (e : Bool) → Fields = λ u p n e. record { unarrived = u; parties = p; phase = n; ended = e } in
-    ap (λ u. whole u f.parties f.phase f.ended) unarrived
-    ∙ (ap (λ p. whole g.unarrived p f.phase f.ended) parties
-    ∙ (ap (λ n. whole g.unarrived g.parties n f.ended) phase
-    ∙ ap (λ e. whole g.unarrived g.parties g.phase e) ended))
+fields_by_parts f g unarrived parties phase ended = grind arith
 
 -- and has the fields that it was made of
 pub fields_of-word_of : (f : Fields) → Fit f → fields_of (word_of f) ≡ f
 unfolding fields_of
-fields_of-word_of f fit =
-    let unarrived = unarrived-word_of f fit in
-    let parties = parties-word_of f fit in
-    let phase = phase-word_of f fit in
-    let ended : (word_of f / 9223372036854775808 == 1) ≡ f.ended = ap (λ n. n == 1) (bit-word_of f fit) ∙ test-bit_of f.ended in
-    fields_by_parts (fields_of (word_of f)) f unarrived parties phase ended
+fields_of-word_of f fit = grind arith
 
 -- the fields with a party fewer to arrive, which is registered no more where it leaves
 abbrev pub fewer : Bool → Fields → Fields
@@ -90,14 +77,8 @@ party_there word false some registered = omega (arith, some)
 pub fields_of-fewer : (word : ℕ) (leave : Bool) → 0 < (fields_of word).unarrived → 0 < (fields_of word).parties
     → fields_of (word - party_of leave) ≡ fewer leave (fields_of word)
 unfolding fields_of
-fields_of-fewer word true some registered =
-    let high : (word - 65537) / 9223372036854775808 ≡ word / 9223372036854775808 = omega (arith, some, registered) in
-    fields_by_parts (fields_of (word - 65537)) (fewer true (fields_of word)) (omega (arith, some, registered)) (omega (arith, some, registered))
-    (omega (arith, some, registered)) (ap (λ n. n == 1) high)
-fields_of-fewer word false some registered =
-    let high : (word - 1) / 9223372036854775808 ≡ word / 9223372036854775808 = omega (arith, some) in
-    fields_by_parts (fields_of (word - 1)) (fewer false (fields_of word)) (omega (arith, some)) (omega (arith, some))
-    (omega (arith, some)) (ap (λ n. n == 1) high)
+fields_of-fewer word true some registered = grind (arith, fields_by_parts)
+fields_of-fewer word false some registered = grind (arith, fields_by_parts)
 
 fewer_few : (leave : Bool) (f : Fields) → 0 < f.parties → f.unarrived ≤ max f.parties 1 → (fewer leave f).unarrived ≤ max (fewer leave f).parties 1
 fewer_few true f registered few = omega (arith, registered, few)
@@ -105,11 +86,7 @@ fewer_few false f registered few = omega (arith, registered, few)
 
 pub IsWord-fewer : (word : ℕ) (leave : Bool) → IsWord word → 0 < (fields_of word).unarrived → 0 < (fields_of word).parties
     → IsWord (word - party_of leave)
-IsWord-fewer word leave is some registered = (
-  (let small = is.0 in omega (arith, small)),
-  subst (λ (f : Fields). f.unarrived ≤ max f.parties 1) (sym (fields_of-fewer word leave some registered))
-      (fewer_few leave (fields_of word) registered is.1),
-)
+IsWord-fewer word leave is some registered = grind (arith, fields_of-fewer, fewer_few)
 
 -- the fields of any number fit
 pub Fit-fields_of : (word : ℕ) → Fit (fields_of word)
@@ -119,22 +96,8 @@ Fit-fields_of word = record { unarrived = omega arith; parties = omega arith; ph
 -- what fields in their places tell is a phaser
 pub IsFlat-record_of_fields : (u p n : ℕ) (e : Bool) → u ≤ max p 1 → p < 65536 → n < 2147483648
     → IsFlat (record_of_fields (record { unarrived = u; parties = p; phase = n; ended = e }))
-IsFlat-record_of_fields u p n false few parties phase = record {
-  phase_in_range = phase;
-  parties_in_range = omega arith;
-  arrived_in_range = omega arith;
-  turned_by_all = λ (h : (u == 0) ≡ true). (refl, grind (arith, nat_tests, h));
-  all_turn_it = λ _ some all. grind (arith, nat_tests, some, all, few);
-  ended_has_all = λ h. absurd (cc h);
-}
-IsFlat-record_of_fields u p n true few parties phase = record {
-  phase_in_range = phase;
-  parties_in_range = omega arith;
-  arrived_in_range = omega arith;
-  turned_by_all = λ h. absurd (cc h);
-  all_turn_it = λ h _ _. absurd (cc h);
-  ended_has_all = λ _. refl;
-}
+IsFlat-record_of_fields u p n false few parties phase = grind (arith, nat_tests)
+IsFlat-record_of_fields u p n true few parties phase = grind arith
 
 -- the parties still to arrive, as the tests on a record show them
 pub unarrived_from : (u v p : ℕ) → u ≤ max p 1 → v ≤ max p 1 → p - u ≡ p - v → (u == 0) ≡ (v == 0) → u ≡ v
@@ -143,27 +106,7 @@ unarrived_from u v p few few' arrived turned = grind (arith, nat_tests)
 -- fields that tell one phaser which isn't terminated are the same
 pub fields_from_record : (f g : Fields) → f.unarrived ≤ max f.parties 1 → g.unarrived ≤ max g.parties 1
     → record_of_fields f ≡ record_of_fields g → f.ended ≡ false → f ≡ g
-fields_from_record f g few few' same live =
-    let ended : f.ended ≡ g.ended = ap (λ (r : Flat). r.ended) same in
-    let parties : f.parties ≡ g.parties = ap (λ (r : Flat). r.parties) same in
-    let phase : f.phase ≡ g.phase = ap (λ (r : Flat). r.phase) same in
-    let arrived : f.parties - f.unarrived ≡ f.parties - g.unarrived =
-    arrived_of f.ended g.ended f.unarrived g.unarrived f.parties g.parties live ended parties (ap (λ (r : Flat). r.arrived) same) in
-    let turned : (f.unarrived == 0) ≡ (g.unarrived == 0) =
-    turned_of f.ended g.ended (f.unarrived == 0) (g.unarrived == 0) live ended (ap (λ (r : Flat). r.turned) same) in
-    let unarrived : f.unarrived ≡ g.unarrived = unarrived_from f.unarrived g.unarrived f.parties few (omega arith) arrived turned in
-    fields_by_parts f g unarrived parties phase ended
-  where
-    arrived_of : (d e : Bool) (u v p q : ℕ) → d ≡ false → d ≡ e → p ≡ q
-        → (if d then p else p - u) ≡ (if e then q else q - v) → p - u ≡ p - v
-    arrived_of false false u v p q live ended parties h = cc
-    arrived_of false true u v p q live ended parties h = absurd (cc ended)
-    arrived_of true e u v p q live ended parties h = absurd (cc live)
-
-    turned_of : (d e a b : Bool) → d ≡ false → d ≡ e → (not d && a) ≡ (not e && b) → a ≡ b
-    turned_of false false a b live ended h = h
-    turned_of false true a b live ended h = absurd (cc ended)
-    turned_of true e a b live ended h = absurd (cc live)
+fields_from_record f g few few' same live = grind arith
 
 -- the fields of a phaser; where it is terminated, nobody is still to arrive
 abbrev pub fields_for : Flat → Fields
@@ -188,9 +131,7 @@ pub fields_for-arrived : (parties arrived : ℕ) (ended turned : Bool) → arriv
     → (if ended then parties else parties - (if ended then 0 else (if turned then 0 else max (parties - arrived) 1))) ≡ arrived
 fields_for-arrived parties arrived true turned within by_all has_all turn = let all = has_all refl in omega arith
 fields_for-arrived parties arrived false true within by_all has_all turn = let all = (by_all refl).1 in omega arith
-fields_for-arrived parties arrived false false within by_all has_all turn =
-    let some_are_missing : 0 < parties → arrived ≡ parties → arrived < parties = λ some all. absurd (cc (turn refl some all)) in
-    grind (arith, some_are_missing)
+fields_for-arrived parties arrived false false within by_all has_all turn = grind arith
 
 -- and whether the phaser is turned
 pub fields_for-turned : (left : ℕ) (ended turned : Bool) → (turned ≡ true → ended ≡ false)
@@ -202,15 +143,8 @@ fields_for-turned left false false by_all = grind (arith, nat_tests)
 
 -- so the phaser is the one that its fields tell
 pub record_of_fields-for : (f : Flat) → IsFlat f → record_of_fields (fields_for f) ≡ f
-record_of_fields-for f is_flat =
-    let arrived = fields_for-arrived f.parties f.arrived f.ended f.turned is_flat.arrived_in_range is_flat.turned_by_all is_flat.ended_has_all is_flat.all_turn_it in
-    let turned = fields_for-turned (f.parties - f.arrived) f.ended f.turned (λ h. (is_flat.turned_by_all h).0) in
-    let whole : ℕ → Bool → Flat = λ a t. record { phase = f.phase; ended = f.ended; parties = f.parties; arrived = a; turned = t } in
-    ap (λ a. whole a (record_of_fields (fields_for f)).turned) arrived ∙ ap (λ t. whole f.arrived t) turned
+record_of_fields-for f is_flat = grind arith
 
 -- the fields for a phaser fit
 pub Fit-fields_for : (f : Flat) → IsFlat f → Fit (fields_for f)
-Fit-fields_for f is_flat =
-    let few = fields_for-unarrived f.parties f.arrived f.ended f.turned in
-    let parties = is_flat.parties_in_range in
-    record { unarrived = omega arith; parties = omega arith; phase = is_flat.phase_in_range }
+Fit-fields_for f is_flat = grind arith
