@@ -51,22 +51,14 @@ two : (opcode : ℕ) (a b : Read) →
     rowed opcode (before a (before b (Ok []))) ≡ (a >>= (λ w. b >>= (λ x. row opcode w x none none)))
 two opcode a b = grind arith
 
-three : (opcode : ℕ) (a b c : Read) → rowed opcode (before a (before b (before c (Ok []))))
-    ≡ (a >>= (λ w. b >>= (λ x. c >>= (λ y. row opcode w x y none))))
-three opcode a b c = grind arith
-
-four : (opcode : ℕ) (a b c d : Read) → rowed opcode (before a (before b (before c (before d (Ok [])))))
-    ≡ (a >>= (λ w. b >>= (λ x. c >>= (λ y. d >>= (λ z. row opcode w x y z)))))
-four opcode a b c d = grind arith
-
 pub by_place : (opcode : ℕ) (kinds : List OperandKind) (words : List (List ℕ)) → length kinds ≤ 4 →
     length words ≡ length kinds → rowed opcode (operands_at kinds words) ≡ row_of_kinds opcode kinds words
 unfolding row_of_kinds operands_at
 by_place opcode [] [] short same = refl
 by_place opcode (j ∷ []) (v ∷ []) short same = one opcode (operand_at j v)
 by_place opcode (j ∷ k ∷ []) (v ∷ w ∷ []) short same = two opcode (operand_at j v) (operand_at k w)
-by_place opcode (j ∷ k ∷ l ∷ []) (v ∷ w ∷ x ∷ []) short same = grind (arith, three)
-by_place opcode (j ∷ k ∷ l ∷ m ∷ []) (v ∷ w ∷ x ∷ y ∷ []) short same = grind (arith, four)
+by_place opcode (j ∷ k ∷ l ∷ []) (v ∷ w ∷ x ∷ []) short same = grind arith
+by_place opcode (j ∷ k ∷ l ∷ m ∷ []) (v ∷ w ∷ x ∷ y ∷ []) short same = grind arith
 by_place opcode (j ∷ k ∷ l ∷ m ∷ n ∷ kinds) words short same = absurd (omega (arith, short))
 by_place opcode _ _ short same = absurd (omega (arith, same))
 

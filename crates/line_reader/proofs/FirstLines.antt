@@ -1,5 +1,5 @@
 -- The first line of a text, read up to a rest.
-use Rattle.std.proofs.Common.{◌≡◌, ◌∙◌, ℕ, suc, ◌+◌, ◌-◌, ◌<◌, ◌≤◌, ◌==◌, Bool, true, false, cond, not, nat_lt, ◌&&◌, ◌||◌, List, [], ◌∷◌, ◌++◌, length, take, drop, get_or, refl, sym, ap, subst, arith, append-nil, take-append-drop, rules}
+use Rattle.std.proofs.Common.{◌≡◌, ◌∙◌, ℕ, suc, ◌+◌, ◌-◌, ◌<◌, ◌==◌, Bool, true, false, cond, not, ◌&&◌, List, [], ◌∷◌, ◌++◌, length, take, drop, get_or, refl, sym, ap, subst, arith, take-append-drop, rules}
 use Rattle.std.specs.List.{filter, position_or_len, slice_split, before_first, after_first, list_all}
 use Rattle.std.proofs.Math.Seq.{drop-append-add, take-append-add}
 use Rattle.std.proofs.lemmas.Bool.Decides.{nat_tests}
@@ -8,73 +8,40 @@ use Rattle.std.proofs.lemmas.List.{append_assoc, drop_all, length-append, length
 use Rattle.std.proofs.lemmas.List.Folds.{list_all-append}
 use Rattle.std.proofs.lemmas.List.Splits.{length-slice_split, slice_split_at, slice_split_first, slice_split_none}
 use Rattle.std.proofs.lemmas.List.Sums.{fails_before_first, list_all-from_AllPass, AllPass-from_list_all, position_or_len_is, prefix_len-le-length}
-use Rattle.line_reader.specs.Words.{begins_comment, is_allowed, is_blank, is_line_end, lines_of, without_empty_last, words_in, words_of}
+use Rattle.line_reader.specs.Words.{begins_comment, is_allowed, is_blank, is_line_end, lines_of, words_in, words_of}
 use Rattle.line_reader.specs.FirstLine.{IsLeft, after_line, first_line, is_letter, word_alone}
-use Rattle.line_reader.proofs.Steps.{both_true, never, not_false, or_right}
+use Rattle.line_reader.proofs.Steps.{both_true, not_false, or_right}
 
 -- ---- bytes
 
 both : (a b : Bool) → a ≡ true → b ≡ true → (a && b) ≡ true
 both a b e h = ap (λ x. x && b) e ∙ h
 
-allowed_by : (byte : ℕ) (end : Bool) → is_line_end byte ≡ end → is_allowed byte ≡ true → is_line_end byte ≡ false
-allowed_by byte true e a = let same = ap is_allowed (eqb-true byte 10 e) in absurd (cc)
-allowed_by byte false e a = e
-
 allowed_no_end : (byte : ℕ) → is_allowed byte ≡ true → is_line_end byte ≡ false
-allowed_no_end byte a = allowed_by byte (is_line_end byte) refl a
+allowed_no_end byte a = grind (arith, eqb-true)
 
 -- what stands in a line and begins no comment, as letters and blanks
 abbrev is_calm : ℕ → Bool
 is_calm byte = is_allowed byte && not (begins_comment byte)
 
-letter_no_blank : (byte : ℕ) → is_letter byte ≡ true → is_blank byte ≡ false
-letter_no_blank byte h = let above : nat_lt 32 byte ≡ true = (both_true _ _ h).0 in grind (arith, nat_tests, above)
-
 letter_calm : (byte : ℕ) → is_letter byte ≡ true → is_calm byte ≡ true
 letter_calm byte h = grind (arith, both_true, nat_tests, both, or_right)
 
 -- what is allowed and no letter is a blank, where it begins no comment
-other_by : (tab return low high letter blank : Bool) → (tab || return || (low && high)) ≡ true →
-    (letter && (high && true)) ≡ false → (low ≡ true → letter ≡ false → blank ≡ true) → (blank || tab || return) ≡ true
-other_by tab return low high letter true a l is = refl
-other_by true return low high letter false a l is = refl
-other_by false true low high letter false a l is = refl
-other_by false false true true false false a l is = is refl refl
-other_by false false true true true false a l is = absurd (cc)
-other_by false false true false letter false a l is = absurd (cc)
-other_by false false false high letter false a l is = absurd (cc)
-
 other_is_blank : (byte : ℕ) → is_allowed byte ≡ true → is_letter byte ≡ false → begins_comment byte ≡ false → is_blank byte ≡ true
-other_is_blank byte a l c = grind (arith, other_by, nat_tests)
-
-blank_by : (byte : ℕ) (a b c : Bool) → (byte == 32) ≡ a → (byte == 9) ≡ b → (byte == 13) ≡ c → (a || b || c) ≡ true →
-    is_calm byte ≡ true
-blank_by byte true b c e f g h = ap is_calm (eqb-true byte 32 e)
-blank_by byte false _ c e f g h = grind (arith, eqb-true)
+other_is_blank byte a l c = grind (arith, nat_tests)
 
 blank_calm : (byte : ℕ) → is_blank byte ≡ true → is_calm byte ≡ true
-blank_calm byte h = blank_by byte (byte == 32) (byte == 9) (byte == 13) refl refl refl h
+blank_calm byte h = grind (arith, eqb-true)
 
 -- ---- the first byte of a kind, in a text of one byte more
 
-one_more : (b : Bool) (n : ℕ) → b ≡ false → cond (not b) (1 + n) 0 ≡ suc n
-one_more true n h = absurd (cc)
-one_more false n h = omega arith
-
 later : (p : ℕ → Bool) (byte : ℕ) (bytes : List ℕ) → p byte ≡ false →
     position_or_len p (byte ∷ bytes) ≡ suc (position_or_len p bytes)
-later p byte bytes h = one_more (p byte) (position_or_len p bytes) h
+later p byte bytes h = grind arith
 
 here : (p : ℕ → Bool) (byte : ℕ) (bytes : List ℕ) → p byte ≡ true → position_or_len p (byte ∷ bytes) ≡ 0
 here p byte bytes h = ap (λ b. cond (not b) (1 + position_or_len p bytes) 0) h
-
-before_later : (p : ℕ → Bool) (byte : ℕ) (bytes : List ℕ) → p byte ≡ false →
-    before_first p (byte ∷ bytes) ≡ byte ∷ before_first p bytes
-before_later p byte bytes h = ap (λ n. take n (byte ∷ bytes)) (later p byte bytes h)
-
-before_here : (p : ℕ → Bool) (byte : ℕ) (bytes : List ℕ) → p byte ≡ true → before_first p (byte ∷ bytes) ≡ []
-before_here p byte bytes h = ap (λ n. take n (byte ∷ bytes)) (here p byte bytes h)
 
 -- ---- what a piece without a byte of a kind moves on
 
@@ -105,32 +72,20 @@ all_are : (p q : ℕ → Bool) → ((byte : ℕ) → p byte ≡ true → q byte 
 all_are p q each piece h =
     list_all-from_AllPass q piece (λ k d there. each (get_or piece k d) (AllPass-from_list_all p piece h k d there))
 
-calm_no_end : (piece : List ℕ) → list_all is_calm piece ≡ true → list_all (λ b. not (is_line_end b)) piece ≡ true
-calm_no_end piece h = all_are is_calm _ (λ byte calm. ap not (allowed_no_end byte (both_true _ _ calm).0)) piece h
-
 pub moved : (text rest piece tail : List ℕ) → IsLeft text rest → piece ++ tail ≡ rest → list_all is_calm piece ≡ true → IsLeft text tail
-moved text rest piece tail left whole calm = grind (arith, calm_no_end, beyond, length-append, after_beyond, before_beyond, list_all-append, all_are, both_true)
+moved text rest piece tail left whole calm = grind (arith, beyond, length-append, after_beyond, before_beyond, list_all-append, all_are, both_true)
 
 -- what stands before the comment of the first line
 abbrev spoken : List ℕ → List ℕ
 spoken text = before_first begins_comment (first_line text)
 
 spoken_beyond : (piece tail : List ℕ) → list_all is_calm piece ≡ true → spoken (piece ++ tail) ≡ piece ++ spoken tail
-spoken_beyond piece tail calm = grind (arith, before_beyond, calm_no_end, all_are, both_true)
+spoken_beyond piece tail calm = grind (arith, before_beyond, all_are, both_true)
 
 -- where neither a letter nor a blank comes next, nothing does
-silent : (byte : ℕ) (tail : List ℕ) (end comment : Bool) → is_line_end byte ≡ end → begins_comment byte ≡ comment →
-    is_letter byte ≡ false → is_blank byte ≡ false → list_all is_allowed (first_line (byte ∷ tail)) ≡ true → spoken (byte ∷ tail) ≡ []
-silent byte tail true comment e c l b a = ap (before_first begins_comment) (before_here is_line_end byte tail e)
-silent byte tail false true e c l b a =
-    ap (before_first begins_comment) (before_later is_line_end byte tail e) ∙ before_here begins_comment byte (first_line tail) c
-silent byte tail false false e c l b a =
-    let allowed : list_all is_allowed (byte ∷ first_line tail) ≡ true = ap (list_all is_allowed) (sym (before_later is_line_end byte tail e)) ∙ a in
-    absurd (never (sym b ∙ other_is_blank byte (both_true (is_allowed byte) (list_all is_allowed (first_line tail)) allowed).0 l c))
-
 spoken_none : (tail : List ℕ) → is_letter (get_or tail 0 10) ≡ false → is_blank (get_or tail 0 10) ≡ false →
     list_all is_allowed (first_line tail) ≡ true → spoken tail ≡ []
-spoken_none tail l b a = grind (arith, silent)
+spoken_none tail l b a = grind arith
 
 -- ---- words
 
@@ -141,8 +96,7 @@ pub kept_piece : (piece : List ℕ) (pieces : List (List ℕ)) → kept (piece �
 kept_piece piece pieces = grind (arith, nat_tests)
 
 no_blanks : (piece : List ℕ) → list_all is_letter piece ≡ true → (k d : ℕ) → k < length piece → is_blank (get_or piece k d) ≡ false
-no_blanks piece letters k d there =
-    letter_no_blank (get_or piece k d) (AllPass-from_list_all is_letter piece letters k d there)
+no_blanks piece letters k d there = grind (arith, AllPass-from_list_all, both_true, nat_tests)
 
 -- ---- one step of the reading
 
@@ -217,18 +171,13 @@ is_forbidden byte = not (is_allowed byte)
 
 further_allowed : (byte : ℕ) (bytes : List ℕ) → is_line_end byte ≡ false →
     list_all is_allowed (first_line (byte ∷ bytes)) ≡ (is_allowed byte && list_all is_allowed (first_line bytes))
-further_allowed byte bytes e = ap (list_all is_allowed) (before_later is_line_end byte bytes e)
-
-end_here : (byte : ℕ) (bytes : List ℕ) (end : Bool) → is_line_end byte ≡ end → is_allowed byte ≡ false →
-    is_line_end byte ≡ list_all is_allowed (first_line (byte ∷ bytes))
-end_here byte bytes true e a = e ∙ sym (ap (list_all is_allowed) (before_here is_line_end byte bytes e))
-end_here byte bytes false e a = grind (arith, further_allowed)
+further_allowed byte bytes e = grind (arith, later)
 
 end_by : (byte : ℕ) (bytes : List ℕ) (allowed : Bool) → is_allowed byte ≡ allowed →
     is_line_end (get_or bytes (position_or_len is_forbidden bytes) 10) ≡ list_all is_allowed (first_line bytes) →
     is_line_end (get_or (byte ∷ bytes) (position_or_len is_forbidden (byte ∷ bytes)) 10) ≡ list_all is_allowed (first_line (byte ∷ bytes))
 end_by byte bytes true a h = grind (arith, later, further_allowed, allowed_no_end)
-end_by byte bytes false a h = grind (arith, here, end_here)
+end_by byte bytes false a h = grind (arith, here, further_allowed)
 
 -- the first byte that is not allowed ends the line, where each byte of it is allowed
 pub end_of : (text : List ℕ) → is_line_end (get_or text (position_or_len is_forbidden text) 10) ≡ list_all is_allowed (first_line text)
@@ -247,23 +196,9 @@ first_long text =
 
 -- ---- the first line among all
 
--- a piece with more behind it is a line, also an empty one
-piece_first : (piece : List ℕ) (pieces : List (List ℕ)) → 0 < length pieces →
-    without_empty_last (piece ∷ pieces) ≡ piece ∷ without_empty_last pieces
-piece_first piece pieces some = grind arith
-
--- the only piece
-piece_only : (piece : List ℕ) → 0 < length piece → without_empty_last (piece ∷ []) ≡ piece ∷ []
-piece_only piece some = grind arith
-
 -- the lines of a text are its first one, and those behind it
-lines_by : (text : List ℕ) → 0 < length text → (ends : Bool) → nat_lt (position_or_len is_line_end text) (length text) ≡ ends →
-    lines_of text ≡ first_line text ∷ lines_of (after_line text)
-lines_by text some true ends = grind (arith, nat_tests, length-slice_split, slice_split_first, piece_first)
-lines_by text some false ends = grind (arith, nat_tests, slice_split_none, fails_before_first, piece_only, take_all, drop_all)
-
 pub lines_first : (text : List ℕ) → 0 < length text → lines_of text ≡ first_line text ∷ lines_of (after_line text)
-lines_first text some = lines_by text some (nat_lt (position_or_len is_line_end text) (length text)) refl
+lines_first text some = grind (arith, nat_tests, length-slice_split, slice_split_first, slice_split_none, fails_before_first, take_all, drop_all)
 
 pub shorter_after : (text : List ℕ) → 0 < length text → length (after_line text) < length text
 shorter_after text some = let long = length-drop (position_or_len is_line_end text + 1) text in omega (arith, some, long)

@@ -9,7 +9,6 @@ use Rattle.line_reader.specs.Reading.{operand_there, row_of_kinds}
 use Rattle.line_reader.specs.Symbols.{Name}
 use Rattle.line_reader.specs.declared.kept_row.Held.{Held}
 use Rattle.line_reader.specs.declared.kept_row.KeptOperand.{KeptOperand}
-use Rattle.line_reader.specs.declared.kept_row.KeptOperand.TheVariants as kept
 use Rattle.line_reader.specs.KeptRow.{is_other_there, is_register, one_other, operand_kept, row_kept}
 
 -- each entry of the table has one such operand at most

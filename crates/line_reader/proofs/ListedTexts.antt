@@ -6,10 +6,6 @@ use Rattle.std.specs.Fmt.{signed_decimal}
 use Rattle.std.specs.List.{flat_map}
 use Rattle.line_reader.specs.Listing.{line_text, numbered, phase_words, spaced}
 
-by_order : {A : Type 0} (b : Bool) → (b ≡ true → A) → (b ≡ false → A) → A
-by_order true is is-not = is refl
-by_order false is is-not = is-not refl
-
 -- from one element on: its line, and the lines from the next on
 pub lines-drop : {A : Type 0} (words : A → List (List ℕ)) (xs : List A) (i : ℕ) (d : A) → i < length xs
     → flat_map line_text (map words (drop i xs)) ≡ line_text (words (get_or xs i d)) ++ flat_map line_text (map words (drop (i + 1) xs))
@@ -42,4 +38,4 @@ pub ruleset operand_steps = (drop_more, append_assoc)
 -- what holds of the elements before a place, and of the one there
 pub one_more : {A : Type 0} (P : A → Type 0) (xs : List A) (n : ℕ) (x : A) → n < length xs
     → ((k : ℕ) → (d : A) → k < n → P (get_or xs k d)) → P (get_or xs n x) → (k : ℕ) → (d : A) → k < n + 1 → P (get_or xs k d)
-one_more P xs n x within before here k d below = search (rules, by_order, ltb-true, ltb-false, get_or_default)
+one_more P xs n x within before here k d below = grind (arith, ltb-true, ltb-false, get_or_default)

@@ -1,16 +1,13 @@
 -- Names, numbers and references: what is read is spelled so, and what is spelled so is read.
-use Rattle.std.proofs.Common.{◌≡◌, ℕ, ℤ, pos, negsuc, ◌≤ℤ◌, true, false, not, ◌||◌, ltb, eqb, int_lt, List, [], ◌∷◌, length, Ok, refl, sym, ap, subst, arith}
+use Rattle.std.proofs.Common.{◌≡◌, ℕ, ℤ, pos, ◌≤ℤ◌, true, false, ◌||◌, eqb, int_lt, List, [], ◌∷◌, Ok, refl, ap, subst, arith}
 use Rattle.std.proofs.lemmas.Bool.{eqb-true, ltb-false, le-ltb}
 use Rattle.std.proofs.lemmas.Int.{ints}
-use Rattle.line_reader.specs.declared.asm_fault.AsmFaultKind.TheVariants as fault
 use Rattle.line_reader.specs.declared.reference.Reference.{Reference}
-use Rattle.line_reader.specs.declared.reference.Reference.TheVariants.{Named, Numbered}
 use Rattle.line_reader.specs.Names.{is_name}
-use Rattle.line_reader.specs.Numbers.{is_number, digits_in, value_in}
 use Rattle.line_reader.specs.Symbols.{Name}
 use Rattle.line_reader.specs.Spelling.{SpellsNumber, SpellsReference}
-use Rattle.line_reader.specs.Reading.{name_at, number_at, count_of, count_at, reference_at}
-use Rattle.line_reader.proofs.Steps.{bind_ok, ok_is, by_test, passed, guard_ok, not_false, both_true, never}
+use Rattle.line_reader.specs.Reading.{name_at, number_at, count_at, reference_at}
+use Rattle.line_reader.proofs.Steps.{bind_ok, ok_is, by_test, passed, guard_ok, not_false}
 
 pub name_takes : (word name : List ℕ) → name_at word ≡ Ok name → (word ≡ name) × (is_name name ≡ true)
 unfolding name_at
@@ -28,22 +25,15 @@ pub number_takes : (low high : ℤ) (word : List ℕ) (number : ℤ) → number_
 unfolding number_at
 number_takes low high word number e = grind (arith, passed, ok_is, int_range, not_false, ltb-false)
 
-in_range : (low high z : ℤ) → low ≤ℤ z → z ≤ℤ high → (int_lt z low || int_lt high z) ≡ false
-in_range low high z least greatest = grind (arith, ints)
-
 pub number_again : (low high : ℤ) (word : List ℕ) (number : ℤ) → SpellsNumber low high word number →
     number_at low high word ≡ Ok number
 unfolding number_at
-number_again low high word number s = grind (arith, le-ltb, in_range)
-
-count_is : (high : ℕ) (word : List ℕ) (z : ℤ) (n : ℕ) → SpellsNumber (pos 0) (pos high) word z → count_of z ≡ n →
-    SpellsNumber (pos 0) (pos high) word (pos n)
-count_is high word z n s e = grind (arith, ints)
+number_again low high word number s = grind (arith, le-ltb)
 
 pub count_takes : (high : ℕ) (word : List ℕ) (n : ℕ) → count_at high word ≡ Ok n →
     SpellsNumber (pos 0) (pos high) word (pos n)
 unfolding count_at
-count_takes high word n e = grind (arith, bind_ok, count_is, number_takes, ok_is)
+count_takes high word n e = grind (arith, bind_ok, number_takes, ok_is)
 
 pub count_again : (high : ℕ) (word : List ℕ) (n : ℕ) → SpellsNumber (pos 0) (pos high) word (pos n) →
     count_at high word ≡ Ok n
@@ -51,9 +41,6 @@ unfolding count_at
 count_again high word n s = rw (number_again (pos 0) (pos high) word (pos n) s) refl
 
 -- a name does not begin with a number sign
-no_sign : (bytes : List ℕ) → is_name (35 ∷ bytes) ≡ true → ⊥
-no_sign bytes e = never (both_true _ _ (both_true _ _ e).0).1
-
 pub reference_takes : (high : ℕ) (word : List ℕ) (r : Reference Name) → reference_at high word ≡ Ok r →
     SpellsReference high word r
 unfolding reference_at
@@ -70,11 +57,7 @@ reference_takes high (byte ∷ bytes) r e =
     subst (λ (q : Reference Name). SpellsReference high (byte ∷ bytes) q) (ok_is _ _ a.2)
     (name_takes (byte ∷ bytes) a.0 a.1))
 
-name_reference_again : (high : ℕ) (word : List ℕ) → is_name word ≡ true → reference_at high word ≡ Ok (Named word)
-unfolding reference_at
-name_reference_again high word is = grind (arith, by_test, no_sign, eqb-true, name_again)
-
 pub reference_again : (high : ℕ) (word : List ℕ) (r : Reference Name) → SpellsReference high word r →
     reference_at high word ≡ Ok r
 unfolding reference_at
-reference_again high word r s = grind (arith, name_reference_again, count_again)
+reference_again high word r s = grind (arith, by_test, eqb-true, name_again, count_again)

@@ -1,16 +1,14 @@
 -- Registers, operands and rows: what is read is spelled so, and what is spelled so is read.
-use Rattle.std.proofs.Common.{◌≡◌, ℕ, Bool, true, ◌==◌, List, [], ◌∷◌, length, bytes_eq, find, Option, Some, None, Ok, refl, sym, ap, subst, ◌∙◌, arith, nat_lt, ltb-true, ◌≤◌}
+use Rattle.std.proofs.Common.{◌≡◌, ℕ, Bool, true, ◌==◌, List, [], ◌∷◌, length, bytes_eq, find, Option, Some, Ok, refl, sym, ap, subst, ◌∙◌, arith, nat_lt, ltb-true, ◌≤◌}
 use Rattle.std.specs.List.{list_all}
 use Rattle.std.proofs.lemmas.Bool.{and_parts, eqb-true}
 use Rattle.std.proofs.lemmas.Bool.Decides.{Decides-eqb}
 use Rattle.instruction_table.specs.declared.register.Reg.{Reg}
-use Rattle.instruction_table.specs.declared.register.Reg.TheVariants.{R0, R1, R2, R3, R4, R5, R6, R7}
 use Rattle.instruction_table.specs.declared.shape.OperandKind.{OperandKind}
 use Rattle.instruction_table.specs.declared.shape.OperandKind.TheVariants as kind
 use Rattle.instruction_table.specs.Table.{Entry, table, entry_named}
 use Rattle.line_reader.specs.declared.asm_fault.AsmFaultKind.{AsmFaultKind}
 use Rattle.line_reader.specs.declared.asm_fault.AsmFaultKind.TheVariants as fault
-use Rattle.line_reader.specs.declared.reference.Reference.{Reference}
 use Rattle.line_reader.specs.declared.symbolic_row.Operand.{Operand}
 use Rattle.line_reader.specs.declared.symbolic_row.Operand.TheVariants as operand
 use Rattle.line_reader.specs.declared.symbolic_row.SymbolicRow.{SymbolicRow}
@@ -69,11 +67,6 @@ operand_takes kind.Barrier word o e = object_takes kind.Barrier word o tt e
 operand_takes kind.Thread word o e = object_takes kind.Thread word o tt e
 operand_takes kind.Cell word o e = object_takes kind.Cell word o tt e
 
-object_again : (k : OperandKind) (word : List ℕ) (r : Reference Name) → IsObject k →
-    reference_at greatest_number word ≡ Ok r → operand_at k word ≡ Ok (operand.Object k r)
-unfolding operand_at
-object_again k word r is e = grind arith
-
 pub operand_again : (k : OperandKind) (word : List ℕ) (o : Operand Name) → SpellsOperand k word o →
     operand_at k word ≡ Ok o
 unfolding operand_at
@@ -83,7 +76,7 @@ operand_again k word (operand.Register reg) s =
 operand_again k word (operand.Number value) s =
     subst (λ (j : OperandKind). operand_at j word ≡ Ok (operand.Number value)) (sym s.0)
     (rw (number_again least_int greatest_int word value s.1) refl)
-operand_again k word (operand.Object object r) s = grind (arith, object_again, reference_again)
+operand_again k word (operand.Object object r) s = grind (arith, reference_again)
 
 pub operands_take : (kinds : List OperandKind) (words : List (List ℕ)) (os : List (Operand Name)) →
     length words ≡ length kinds → operands_at kinds words ≡ Ok os → SpellOperands kinds words os
