@@ -74,9 +74,7 @@ table_short = refl
 
 -- an entry that a look-up finds has at most four operands
 pub named_is_short : (word : List ℕ) → IfSome (entry_named table word) (λ e. length e.operands ≤ 4)
-named_is_short word =
-    found_is_entry (λ e. length e.operands ≤ 4) table word
-    (λ k d within. short-at table k d table_short within)
+named_is_short word = search (rules, found_is_entry, short-at, table_short)
 
 -- an entry that a look-up finds stands at the place of its opcode
 pub named_is_placed : (word : List ℕ) → IfSome (entry_named table word) (λ e. slice_index_or table e.opcode no_entry ≡ e)

@@ -41,8 +41,7 @@ has_word_here x word false rest is others = others
 
 named_has_word : (es : List Entry) (word : List ℕ) → IfSome (entry_named es word) (λ e. e.word ≡ word)
 named_has_word [] word = tt
-named_has_word (x ∷ xs) word =
-    has_word_here x word (bytes_eq x.word word) (entry_named xs word) refl (named_has_word xs word)
+named_has_word (x ∷ xs) word = grind (arith, has_word_here, named_has_word xs word)
 
 has_word : (word : List ℕ) (e : Entry) → entry_named table word ≡ Some e → e.word ≡ word
 has_word word e is = subst (λ o. IfSome o (λ e. e.word ≡ word)) is (named_has_word table word)
@@ -80,14 +79,11 @@ is_found place x there =
 lacking : (word : List ℕ) (x : Entry) (same : Bool) → bytes_eq x.word word ≡ same → entry_named table word ≡ None →
     entry_named table x.word ≡ Some x → cond same (Some x) None ≡ None
 lacking word x false is none found = refl
-lacking word x true is none found =
-    absurd (cc (sym none ∙ (ap (entry_named table) (sym ((bytes_eq-Decides x.word word).0 is)) ∙ found)))
+lacking word x true is none found = grind (arith, bytes_eq-Decides)
 
 nothing_there : (word : List ℕ) (place : ℕ) (there : Option Entry) → slice_get table place ≡ there →
     entry_named table word ≡ None → filled_by word there ≡ None
-nothing_there word place None is none = refl
-nothing_there word place (Some x) is none =
-    lacking word x (bytes_eq x.word word) refl none (is_found place x is)
+nothing_there word place there is none = grind (arith, lacking, is_found)
 
 one_there : (word : List ℕ) (e : Entry) → entry_named table word ≡ Some e → filled_by word (slice_get table e.opcode) ≡ Some e
 one_there word e is =

@@ -1,6 +1,6 @@
-use Rattle.std.proofs.Common.{◌≡◌, ℕ, ◌+◌, ◌-◌, ◌%◌, ◌<◌, ℤ, pos, negsuc, ◌+ℤ◌, ◌-ℤ◌, FitsSigned, ◌/◌, refl, ap, sym, ◌∙◌, arith}
+use Rattle.std.proofs.Common.{◌≡◌, ℕ, ◌+◌, ◌%◌, ◌<◌, ℤ, pos, ◌+ℤ◌, ◌-ℤ◌, FitsSigned, ◌∙◌, arith}
 use Rattle.std.specs.Int.{w32, int_wrap, int_wrapping_add, int_wrapping_sub, cast_signed}
-use Rattle.std.proofs.lemmas.Int.{ints, int_rem_euclid_is, wrapping_add_is, wrapping_sub_is}
+use Rattle.std.proofs.lemmas.Int.{ints, wrapping_add_is, wrapping_sub_is}
 use Rattle.instruction_table.specs.LocalRows.{wrapped}
 
 -- 32 bits, read as a signed number
@@ -10,14 +10,7 @@ signed_is r within = grind (arith, ints)
 -- what is left of a number at a signed type of 32 bits
 wrapped_is : (z : ℤ) → int_wrap w32 z ≡ wrapped z
 unfolding int_wrap
-wrapped_is (pos a) = signed_is (a % 4294967296) (omega arith) ∙ ap (λ n. pos n -ℤ pos 2147483648) (omega arith)
-wrapped_is (negsuc a) =
-    let n : ℕ = 4294967296 in
-    let left = n - 1 - a % n in
-    let shifted = negsuc a +ℤ pos 2147483648 in
-    signed_is left (omega arith)
-    ∙ ap (λ z. z -ℤ pos 2147483648)
-    (sym (int_rem_euclid_is shifted (pos n) n (a / n + 1) (left + 2147483648) (omega arith) refl (omega (arith, ints))))
+wrapped_is z = grind arith
 
 pub sum_is_wrapped : (a b : ℤ) → FitsSigned w32 a → FitsSigned w32 b → int_wrapping_add w32 a b ≡ wrapped (a +ℤ b)
 sum_is_wrapped a b f g = wrapping_add_is w32 a b f g ∙ wrapped_is (a +ℤ b)

@@ -1,4 +1,4 @@
-use Rattle.std.proofs.Common.{◌≡◌, ◌∙◌, ◌<◌, IfSome, MatchOption, option_map, Option, Some, None, List, ℕ, ap, sym, subst, slice_index_or}
+use Rattle.std.proofs.Common.{◌≡◌, ◌∙◌, ◌<◌, IfSome, MatchOption, option_map, Option, Some, None, List, ℕ, ap, slice_index_or, arith}
 use Rattle.instruction_table.specs.Table.{Entry, no_entry, entry_named, table}
 use Rattle.instruction_table.proofs.TableLemmas.{named_is_placed, named_is_within}
 use Rattle.instruction_table.proofs.WordSlots.{found_there}
@@ -7,25 +7,11 @@ use Rattle.instruction_table.proofs.table.opcode_named.Goals as goal
 -- the answer is the opcode of the entry with the word, at whose place it stands
 placed : (word : List ℕ) (there : Option Entry) (found : Option ℕ) → found ≡ option_map (λ e. e.opcode) there → there ≡ entry_named table word →
     MatchOption found (entry_named table word ≡ None) (λ opcode. entry_named table word ≡ Some (slice_index_or table opcode no_entry))
-placed word None None is same = sym same
-placed word None (Some opcode) is same = absurd (cc)
-placed word (Some e) None is same = absurd (cc)
-placed word (Some e) (Some opcode) is same =
-    let P : Option Entry → Type 0 = λ o. IfSome o (λ e. slice_index_or table e.opcode no_entry ≡ e) in
-    let at : slice_index_or table e.opcode no_entry ≡ e = subst P (sym same) (named_is_placed word) in
-    let code : opcode ≡ e.opcode = cc in
-    sym same ∙ ap (λ (x : Entry). Some x) (sym at ∙ ap (λ k. slice_index_or table k no_entry) (sym code))
+placed word there found is same = grind (arith, named_is_placed)
 
 within : (word : List ℕ) (there : Option Entry) (found : Option ℕ) → found ≡ option_map (λ e. e.opcode) there → there ≡ entry_named table word →
     IfSome found (λ opcode. opcode < 42)
-within word None None is same = tt
-within word None (Some opcode) is same = absurd (cc)
-within word (Some e) None is same = tt
-within word (Some e) (Some opcode) is same =
-    let P : Option Entry → Type 0 = λ o. IfSome o (λ e. e.opcode < 42) in
-    let at : e.opcode < 42 = subst P (sym same) (named_is_within word) in
-    let code : opcode ≡ e.opcode = cc in
-    subst (λ k. k < 42) (sym code) at
+within word there found is same = grind (arith, named_is_within)
 
 pub returns-clause-opcode : goal.returns-clause-opcode
 returns-clause-opcode c =
