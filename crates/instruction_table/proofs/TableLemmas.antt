@@ -69,12 +69,9 @@ table_distinct = refl
 pub table_placed : are_placed 0 table ≡ true
 table_placed = refl
 
-table_short : are_short table ≡ true
-table_short = refl
-
 -- an entry that a look-up finds has at most four operands
 pub named_is_short : (word : List ℕ) → IfSome (entry_named table word) (λ e. length e.operands ≤ 4)
-named_is_short word = search (rules, found_is_entry, short-at, table_short)
+named_is_short word = search (rules, found_is_entry, short-at)
 
 -- an entry that a look-up finds stands at the place of its opcode
 pub named_is_placed : (word : List ℕ) → IfSome (entry_named table word) (λ e. slice_index_or table e.opcode no_entry ≡ e)

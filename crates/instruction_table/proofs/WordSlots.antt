@@ -34,14 +34,9 @@ table_slotted : are_slotted table ≡ true
 table_slotted = refl
 
 -- what a look-up finds has the word
-has_word_here : (x : Entry) (word : List ℕ) (same : Bool) (rest : Option Entry) → bytes_eq x.word word ≡ same →
-    IfSome rest (λ e. e.word ≡ word) → IfSome (cond same (Some x) rest) (λ e. e.word ≡ word)
-has_word_here x word true rest is others = (bytes_eq-Decides x.word word).0 is
-has_word_here x word false rest is others = others
-
 named_has_word : (es : List Entry) (word : List ℕ) → IfSome (entry_named es word) (λ e. e.word ≡ word)
 named_has_word [] word = tt
-named_has_word (x ∷ xs) word = grind (arith, has_word_here, named_has_word xs word)
+named_has_word (x ∷ xs) word = grind (arith, bytes_eq-Decides, named_has_word xs word)
 
 has_word : (word : List ℕ) (e : Entry) → entry_named table word ≡ Some e → e.word ≡ word
 has_word word e is = subst (λ o. IfSome o (λ e. e.word ≡ word)) is (named_has_word table word)

@@ -1,5 +1,5 @@
-use Rattle.std.proofs.Common.{◌≡◌, ℕ, ◌+◌, ◌%◌, ◌<◌, ℤ, pos, ◌+ℤ◌, ◌-ℤ◌, FitsSigned, ◌∙◌, arith}
-use Rattle.std.specs.Int.{w32, int_wrap, int_wrapping_add, int_wrapping_sub, cast_signed}
+use Rattle.std.proofs.Common.{◌≡◌, ℕ, ◌+◌, ◌%◌, ◌<◌, ℤ, pos, ◌+ℤ◌, ◌-ℤ◌, FitsSigned, arith}
+use Rattle.std.specs.Int.{w32, int_wrapping_add, int_wrapping_sub, cast_signed}
 use Rattle.std.proofs.lemmas.Int.{ints, wrapping_add_is, wrapping_sub_is}
 use Rattle.instruction_table.specs.LocalRows.{wrapped}
 
@@ -8,12 +8,8 @@ signed_is : (r : ℕ) → r < 4294967296 → cast_signed w32 r ≡ pos ((r + 214
 signed_is r within = grind (arith, ints)
 
 -- what is left of a number at a signed type of 32 bits
-wrapped_is : (z : ℤ) → int_wrap w32 z ≡ wrapped z
-unfolding int_wrap
-wrapped_is z = grind arith
-
 pub sum_is_wrapped : (a b : ℤ) → FitsSigned w32 a → FitsSigned w32 b → int_wrapping_add w32 a b ≡ wrapped (a +ℤ b)
-sum_is_wrapped a b f g = wrapping_add_is w32 a b f g ∙ wrapped_is (a +ℤ b)
+sum_is_wrapped a b f g = grind (arith, wrapping_add_is)
 
 pub difference_is_wrapped : (a b : ℤ) → FitsSigned w32 a → FitsSigned w32 b → int_wrapping_sub w32 a b ≡ wrapped (a -ℤ b)
-difference_is_wrapped a b f g = wrapping_sub_is w32 a b f g ∙ wrapped_is (a -ℤ b)
+difference_is_wrapped a b f g = grind (arith, wrapping_sub_is)
