@@ -1,19 +1,19 @@
 -- A climb along a line.
 use Rattle.std.proofs.Common.{inl, inr, ◌≡◌, ◌≢◌, ◌∙◌, ℕ, zero, suc, ◌+◌, ◌<◌, ◌≤◌, drop, ◌==◌, Bool, true, false, List, [], ◌∷◌, length, get_or, ap, refl, sym, subst, arith, if◌then◌else◌, rules}
-use Rattle.std.specs.Prelude.{All, ℤ, pos, take, slice_set}
+use Rattle.std.specs.Prelude.{All, pos, take, slice_set}
 use Rattle.std.proofs.lemmas.Bool.Decides.{nat_tests}
 use Rattle.std.proofs.lemmas.List.{get_or_read, get_or-set_same, drop_all}
 use Rattle.std.proofs.lemmas.List.Elements.{All-cons, All-nil, All-take, All-set}
 use Rattle.std.proofs.Math.Seq.{drop-cons}
-use Rattle.packed_phaser.specs.Flat.{Flat, Arrival, Counts, Turns, ComesLate, IsUnregistered, arrive, settled, view_of}
+use Rattle.packed_phaser.specs.Flat.{Flat, Arrival, Counts, Turns, ComesLate, IsUnregistered, arrive, view_of}
 use Rattle.packed_phaser.specs.Word.{record_of}
 use Rattle.phase_number.specs.Phase.{phase_view}
 use Rattle.tier_tree.specs.declared.climb.Climb.{Climb}
 use Rattle.tier_tree.specs.declared.climb.Climb.TheVariants as climb
 use Rattle.tier_tree.specs.declared.arrived.Arrived.TheVariants as arrived
-use Rattle.tier_tree.specs.Forest.{PhaserState, no_phaser, phaser_at, flat_at, root_at, with_flat}
+use Rattle.tier_tree.specs.Forest.{PhaserState, phaser_at, flat_at, root_at, with_flat}
 use Rattle.tier_tree.specs.Sound.{IsForest}
-use Rattle.tier_tree.specs.Stored.{Stored, no_stored, stored_at, kept_flat, IsStored, ChangedOnly, phasers_of}
+use Rattle.tier_tree.specs.Stored.{Stored, no_stored, stored_at, IsStored, ChangedOnly, phasers_of}
 use Rattle.tier_tree.specs.Arrival.{Climbed, is_top, passed_on, with_child, climbed_by, climbed, arrival_by, arrival}
 use Rattle.tier_tree.specs.Ascent.{IsOfPhase, written}
 use Rattle.tier_tree.proofs.Changed.{there_shown}

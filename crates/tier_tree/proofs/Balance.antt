@@ -1,10 +1,10 @@
 -- What an arrival makes of the counts of a forest.
-use Rattle.std.proofs.Common.{inl, inr, ◌≡◌, ◌≢◌, ◌∙◌, ℕ, zero, suc, ◌+◌, ◌-◌, ◌<◌, ◌≤◌, ◌==◌, Bool, true, false, List, [], ◌∷◌, length, ap, refl, sym, subst, arith, if◌then◌else◌, rules}
+use Rattle.std.proofs.Common.{inl, inr, ◌≡◌, ◌≢◌, ◌∙◌, ℕ, suc, ◌+◌, ◌-◌, ◌<◌, ◌≤◌, ◌==◌, Bool, true, false, List, [], ◌∷◌, length, ap, refl, sym, subst, arith, if◌then◌else◌, rules}
 use Rattle.std.specs.Prelude.{◌&&◌, not, slice_index_or}
 use Rattle.std.proofs.lemmas.Bool.{cases_eq}
 use Rattle.std.proofs.lemmas.Bool.Decides.{nat_tests}
 use Rattle.std.proofs.lemmas.List.{get_or-set_same, get_or-set_other}
-use Rattle.packed_phaser.specs.Flat.{Flat, Arrival, Counts, Turns, ComesLate, IsUnregistered, is_empty, unarrived_of, arrive, settled, vacate, view_of}
+use Rattle.packed_phaser.specs.Flat.{Flat, Arrival, Counts, Turns, ComesLate, IsUnregistered, unarrived_of, arrive, settled, vacate, view_of}
 use Rattle.tier_tree.specs.declared.climb.Climb.{Climb}
 use Rattle.tier_tree.specs.declared.climb.Climb.TheVariants as climb
 use Rattle.tier_tree.specs.Forest.{PhaserState, no_phaser, phaser_at, flat_at, root_at, with_flat}
@@ -27,9 +27,7 @@ add-bit false = refl
 pub children-set : (test : Flat → Bool) (id : ℕ) (phasers : List PhaserState) (i : ℕ) (flat : Flat) → i < length phasers
     → children test id (with_flat phasers i flat) + bit (is_under id (phaser_at phasers i).line && test (flat_at phasers i))
     ≡ children test id phasers + bit (is_under id (phaser_at phasers i).line && test flat)
-children-set test id (p ∷ phasers) (suc i) flat there =
-    let others = children-set test id phasers i flat (omega (arith, there)) in
-    omega (arith, others)
+children-set test id (p ∷ phasers) (suc i) flat there = grind (arith, children-set test id phasers i flat (omega (arith, there)))
 children-set test id phasers i flat there = grind (arith, add-bit)
 
 pub put_same : (test : Flat → Bool) (id : ℕ) (phasers : List PhaserState) (i : ℕ) (flat : Flat) → i < length phasers
@@ -46,12 +44,10 @@ pub put_under : (test : Flat → Bool) (id : ℕ) (phasers : List PhaserState) (
 put_under test id phasers i flat there under = grind (arith, children-set)
 
 pub flat-put : (phasers : List PhaserState) (i : ℕ) (flat : Flat) → i < length phasers → flat_at (with_flat phasers i flat) i ≡ flat
-flat-put phasers i flat there =
-    ap (λ (p : PhaserState). p.flat) (get_or-set_same phasers i (record (phaser_at phasers i) { flat = flat }) no_phaser there)
+flat-put phasers i flat there = grind (arith, get_or-set_same)
 
 pub flat-other : (phasers : List PhaserState) (i : ℕ) (flat : Flat) (id : ℕ) → id ≢ i → flat_at (with_flat phasers i flat) id ≡ flat_at phasers id
-flat-other phasers i flat id other =
-    ap (λ (p : PhaserState). p.flat) (get_or-set_other phasers i id (record (phaser_at phasers i) { flat = flat }) no_phaser other)
+flat-other phasers i flat id other = grind (arith, get_or-set_other)
 
 -- the counts of one phaser and of its children have gone this much apart
 pub record IsOff (id more less more_left less_left : ℕ) (before after : List PhaserState) : Type 0 where

@@ -1,5 +1,5 @@
 -- What a call promises of the whole forest, from what it makes of the slice of phasers.
-use Rattle.std.proofs.Common.{◌≡◌, ◌∙◌, ℕ, zero, suc, ◌-◌, ◌<◌, ◌==◌, Bool, true, false, List, [], ◌∷◌, ◌++◌, length, map, take, drop, ap, refl, sym, subst, arith, if◌then◌else◌}
+use Rattle.std.proofs.Common.{◌≡◌, ◌∙◌, ℕ, suc, ◌-◌, ◌<◌, ◌==◌, Bool, true, false, List, [], ◌∷◌, ◌++◌, length, map, take, drop, ap, refl, sym, subst, arith, if◌then◌else◌}
 use Rattle.std.specs.Prelude.{◌&&◌, not, slice_set}
 use Rattle.std.proofs.lemmas.List.{take_at}
 use Rattle.std.proofs.lemmas.Bool.Decides.{nat_tests}
@@ -10,21 +10,19 @@ use Rattle.tier_tree.specs.declared.arrived.Arrived.{Arrived}
 use Rattle.tier_tree.specs.Forest.{PhaserState, phaser_at, flat_at, root_at}
 use Rattle.std.specs.Prelude.{ℤ}
 use Rattle.tier_tree.specs.declared.registered.Registered.TheVariants as registered_answer
-use Rattle.tier_tree.specs.Registration.{registration, after_registration, joined, joins, joins_along, registered_by}
+use Rattle.tier_tree.specs.Registration.{registration, after_registration, joined, joins_along}
 use Rattle.tier_tree.specs.Arrival.{Arrives, arrival}
 use Rattle.tier_tree.specs.PhaseEnd.{after_phase_end, after_force}
 use Rattle.tier_tree.specs.Sound.{places_of}
-use Rattle.tier_tree.specs.Stored.{Stored, stored_at, kept_flat, present, shown, phasers_of, place_in, IsStored}
+use Rattle.tier_tree.specs.Stored.{Stored, stored_at, present, shown, phasers_of, place_in, IsStored}
 use Rattle.tier_tree.specs.Answer.{IfTurning, MakesPending, KeepsPlaces, KeepsEnds, HaveOnePhase}
 use Rattle.tier_tree.specs.Origin.{Origin, AreTallied, Carries, origin_after_registration, origin_after_arrival, origin_after_phase_end}
 use Rattle.tier_tree.specs.declared.id.PhaserId.{PhaserId}
 use Rattle.packed_phaser.specs.declared.policy.Policy.{Policy}
 use Rattle.std.specs.Prelude.{Option}
 use Rattle.std.proofs.lemmas.List.{get_or_append_left, length-set}
-use Rattle.std.proofs.Common.{get_or}
-use Rattle.tier_tree.specs.Forest.{no_phaser}
 use Rattle.tier_tree.specs.Sound.{Place, place_of}
-use Rattle.tier_tree.specs.Declaration.{declared, joins_above, after_declaration}
+use Rattle.tier_tree.specs.Declaration.{after_declaration}
 use Rattle.tier_tree.specs.Answer.{AddsPlace}
 use Rattle.tier_tree.specs.Undo.{Kept, with_kept, restored}
 use Rattle.tier_tree.proofs.Kept.{joined-ends, push-ends}

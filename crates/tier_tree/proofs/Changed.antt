@@ -1,6 +1,6 @@
 -- Which words a call changes, and that putting them back undoes it.
 use Rattle.std.proofs.Common.{inl, inr, ◌≡◌, ◌≢◌, ◌∙◌, ℕ, suc, ◌+◌, ◌-◌, ◌<◌, ◌≤◌, true, false, List, [], ◌∷◌, ◌++◌, length, map, get_or, ap, refl, sym, subst, arith}
-use Rattle.std.specs.Prelude.{slice_set, All, Option, Some, None}
+use Rattle.std.specs.Prelude.{slice_set, All, Option}
 use Rattle.std.proofs.lemmas.Bool.{cases_eq, cases_lt}
 use Rattle.std.proofs.lemmas.List.{get_or_read, get_or_past, set_past, ext_get_or, length_push, get_or_append_left, get_or_push}
 use Rattle.std.proofs.lemmas.List.Elements.{All-cons, All-nil}
@@ -8,8 +8,8 @@ use Rattle.std.proofs.lemmas.Bool.Decides.{nat_tests}
 use Rattle.packed_phaser.specs.declared.policy.Policy.{Policy}
 use Rattle.packed_phaser.specs.Flat.{Flat}
 use Rattle.tier_tree.specs.declared.id.PhaserId.{PhaserId}
-use Rattle.tier_tree.specs.Declaration.{declared, has_parent, IsFreshAbove, IsFresh}
-use Rattle.tier_tree.specs.Forest.{PhaserState, no_phaser, phaser_at, flat_at, root_at}
+use Rattle.tier_tree.specs.Declaration.{declared, has_parent, IsFreshAbove}
+use Rattle.tier_tree.specs.Forest.{PhaserState, no_phaser, phaser_at, root_at}
 use Rattle.tier_tree.specs.Sound.{Place, place_of, IsForest}
 use Rattle.tier_tree.specs.Stored.{Stored, no_stored, stored_at, kept_flat, top_of, present, shown, phasers_of, behind, IsNear, IsLive, IsStored, place_in, ChangedOnly, ChangedAt}
 use Rattle.tier_tree.specs.Undo.{Kept, kept_at, saved_of, with_kept, restored}

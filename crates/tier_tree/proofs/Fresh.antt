@@ -1,11 +1,10 @@
 -- Declarations leave all phasers as they began.
-use Rattle.std.proofs.Common.{inl, inr, ◌≡◌, ℕ, ◌+◌, ◌==◌, Bool, true, false, List, [], ◌∷◌, ◌++◌, length, refl, sym, subst, pos, if◌then◌else◌, arith}
-use Rattle.std.specs.Prelude.{nat_lt}
+use Rattle.std.proofs.Common.{◌≡◌, ℕ, ◌+◌, Bool, true, false, List, [], ◌∷◌, ◌++◌, refl, sym, subst, pos, if◌then◌else◌, arith}
 use Rattle.std.proofs.lemmas.Bool.{cases_lt}
 use Rattle.std.proofs.lemmas.List.{get_or_past}
 use Rattle.std.proofs.lemmas.List.Elements.{All-set, All-push}
 use Rattle.packed_phaser.specs.Flat.{Flat, Joins, Overfull, fresh, register}
-use Rattle.tier_tree.specs.Forest.{PhaserState, no_phaser, phaser_at, flat_at}
+use Rattle.tier_tree.specs.Forest.{PhaserState, phaser_at, flat_at}
 use Rattle.tier_tree.specs.Registration.{Join, joined, flat_by}
 use Rattle.tier_tree.specs.Declaration.{IsFresh, AreAllFresh}
 

@@ -1,10 +1,10 @@
 -- A registration keeps the counts of who registered and arrived where.
-use Rattle.std.proofs.Common.{inl, inr, ◌≡◌, ◌≢◌, ◌∙◌, ℕ, ℤ, pos, ◌+◌, ◌-◌, ◌<◌, ◌≤◌, ◌==◌, Bool, true, false, List, [], ◌∷◌, length, ap, refl, sym, subst, arith, if◌then◌else◌}
+use Rattle.std.proofs.Common.{inl, inr, ◌≡◌, ◌≢◌, ◌∙◌, ℕ, ℤ, ◌+◌, ◌<◌, ◌==◌, Bool, true, false, List, [], ◌∷◌, length, ap, refl, sym, subst, arith, if◌then◌else◌}
 use Rattle.std.specs.Prelude.{◌&&◌, ◌||◌, not, nat_lt, slice_index_or}
 use Rattle.std.specs.List.{list_any}
 use Rattle.std.proofs.lemmas.Bool.{cases_eq}
 use Rattle.std.proofs.lemmas.Bool.Decides.{nat_tests}
-use Rattle.packed_phaser.specs.Flat.{Flat, Registration, Joins, JoinsLate, MustWait, Overfull, is_empty, unarrived_of, register, view_of}
+use Rattle.packed_phaser.specs.Flat.{Flat, is_empty, unarrived_of, register}
 use Rattle.tier_tree.specs.declared.registered.Registered.{Registered}
 use Rattle.tier_tree.specs.declared.registered.Registered.TheVariants as registered
 use Rattle.tier_tree.specs.Forest.{PhaserState, no_phaser, phaser_at, flat_at, root_at, with_flat}
@@ -49,8 +49,7 @@ Above (q ∷ more) phasers =
 as_taken : (count : ℕ) (phasers mid : List PhaserState) (i : ℕ) → flat_at mid i ≡ flat_at phasers i → (flat_at phasers i).ended ≡ false → 0 < count
     → nat_lt 65535 ((flat_at phasers i).parties + count) ≡ false → (flat_at phasers i).turned ≡ false
     → flat_by (register count (flat_at mid i)) (flat_at mid i) ≡ record (flat_at phasers i) { parties = (flat_at phasers i).parties + count }
-as_taken count phasers mid i kept live some room idle =
-    ap (λ (g : Flat). flat_by (register count g) g) kept ∙ taken count (flat_at phasers i) live some room idle
+as_taken count phasers mid i kept live some room idle = grind arith
 
 join_by : (empty : Bool) (above : List ℕ) (i count : ℕ) (phasers : List PhaserState) → IsForest phasers → i < length phasers
     → (phaser_at phasers i).line ≡ i ∷ above → AllGood phasers → (flat_at phasers i).ended ≡ false → 0 < count

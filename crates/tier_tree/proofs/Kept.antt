@@ -1,14 +1,11 @@
 -- What a call keeps of the trees: places, and how many phases have ended.
-use Rattle.std.proofs.Common.{◌≡◌, ◌∙◌, ℕ, zero, suc, ◌==◌, Bool, true, false, List, [], ◌∷◌, ◌++◌, map, refl, if◌then◌else◌, arith}
-use Rattle.packed_phaser.specs.Flat.{Flat, Arrival, Counts, Turns, ComesLate, IsUnregistered, arrive, register, view_of, force}
+use Rattle.std.proofs.Common.{◌≡◌, ℕ, zero, suc, Bool, true, false, List, [], ◌∷◌, ◌++◌, map, refl, if◌then◌else◌, arith}
+use Rattle.packed_phaser.specs.Flat.{Flat, Arrival, arrive}
 use Rattle.tier_tree.specs.declared.climb.Climb.{Climb}
-use Rattle.tier_tree.specs.declared.climb.Climb.TheVariants as climb
 use Rattle.tier_tree.specs.declared.registered.Registered.{Registered}
-use Rattle.tier_tree.specs.declared.registered.Registered.TheVariants as registered
-use Rattle.tier_tree.specs.declared.arrived.Arrived.TheVariants as arrived
-use Rattle.tier_tree.specs.Forest.{PhaserState, phaser_at, flat_at, root_at, root_of, with_flat}
-use Rattle.tier_tree.specs.Registration.{Join, joins, joined, flat_by, registration, registered_by, after_registration}
-use Rattle.tier_tree.specs.Arrival.{Arrives, arrival, arrival_by, Climbed, is_top, passed_on, with_child, climbed_by, climbed}
+use Rattle.tier_tree.specs.Forest.{PhaserState, phaser_at, flat_at, root_at, with_flat}
+use Rattle.tier_tree.specs.Registration.{Join, joins, joined, registration, registered_by, after_registration}
+use Rattle.tier_tree.specs.Arrival.{arrival, Climbed, is_top, with_child, climbed_by, climbed}
 use Rattle.tier_tree.specs.PhaseEnd.{terminated, after_force}
 use Rattle.tier_tree.specs.Sound.{places_of}
 use Rattle.tier_tree.specs.Answer.{KeepsPlaces, KeepsEnds}
@@ -45,9 +42,7 @@ arrival-ends id leave phasers n = grind (arith, climbed-ends)
 
 pub joined-ends : (all : List Join) (phasers : List PhaserState) → KeepsEnds phasers (joined all phasers)
 joined-ends [] phasers n = refl
-joined-ends (join ∷ others) phasers n =
-    let after = joined others phasers in
-    with_flat-ends after join.id n (flat_by (register join.count (flat_at after join.id)) (flat_at after join.id)) ∙ joined-ends others phasers n
+joined-ends (join ∷ others) phasers n = grind (arith, with_flat-ends, joined-ends others phasers n)
 
 by-ends : (r : Registered) (all : List Join) (phasers : List PhaserState) → KeepsEnds phasers (registered_by r all phasers)
 by-ends r all phasers n = grind (arith, joined-ends)

@@ -1,24 +1,22 @@
 -- The calls change no line.
-use Rattle.std.proofs.Common.{inl, inr, ◌≡◌, ◌∙◌, ℕ, zero, suc, ◌+◌, ◌-◌, ◌<◌, ◌==◌, Bool, true, false, List, [], ◌∷◌, ◌++◌, map, get_or, length, ap, refl, sym, subst, arith, if◌then◌else◌}
+use Rattle.std.proofs.Common.{inl, inr, ◌≡◌, ℕ, suc, ◌+◌, ◌-◌, ◌<◌, Bool, true, false, List, [], ◌∷◌, ◌++◌, map, get_or, length, ap, refl, sym, subst, arith, if◌then◌else◌}
 use Rattle.std.proofs.lemmas.List.{length-map, length_push, get_or_append_left, get_or_push, map-append}
 use Rattle.std.proofs.lemmas.List.Elements.{All-weaker, All-cons, All-nil}
 use Rattle.std.proofs.lemmas.Bool.Decides.{nat_tests}
 use Rattle.std.proofs.lemmas.Bool.{cases_lt}
-use Rattle.std.specs.Prelude.{Option, Some, None, ◌⊎◌}
+use Rattle.std.specs.Prelude.{Option, ◌⊎◌}
 use Rattle.packed_phaser.specs.declared.policy.Policy.{Policy}
 use Rattle.tier_tree.specs.declared.id.PhaserId.{PhaserId}
 use Rattle.tier_tree.specs.Declaration.{has_parent, declared}
 use Rattle.std.specs.Prelude.{slice_set, slice_index_or, All}
-use Rattle.packed_phaser.specs.Flat.{Flat, Arrival, Counts, Turns, ComesLate, IsUnregistered, register, arrive, advance}
+use Rattle.packed_phaser.specs.Flat.{Flat, Arrival, arrive}
 use Rattle.tier_tree.specs.declared.climb.Climb.{Climb}
-use Rattle.tier_tree.specs.declared.climb.Climb.TheVariants as climb
 use Rattle.tier_tree.specs.declared.registered.Registered.{Registered}
-use Rattle.tier_tree.specs.declared.registered.Registered.TheVariants as registered
-use Rattle.tier_tree.specs.Forest.{PhaserState, no_phaser, phaser_at, flat_at, root_of, root_at, with_flat}
-use Rattle.tier_tree.specs.Registration.{Join, joins, joined, flat_by, registration, registered_by, after_registration}
-use Rattle.tier_tree.specs.Arrival.{Climbed, is_top, passed_on, with_child, climbed_by, climbed, arrival_by, arrival}
-use Rattle.tier_tree.specs.PhaseEnd.{follow, in_step, terminated, after_phase_end, after_force}
-use Rattle.tier_tree.specs.Sound.{Place, place_of, places_of, IsForest, IsForestOf, IsLine, IsLinked, line_at}
+use Rattle.tier_tree.specs.Forest.{PhaserState, no_phaser, phaser_at, flat_at, root_at, with_flat}
+use Rattle.tier_tree.specs.Registration.{Join, joins, joined, registration, registered_by, after_registration}
+use Rattle.tier_tree.specs.Arrival.{Climbed, is_top, with_child, climbed_by, climbed, arrival_by, arrival}
+use Rattle.tier_tree.specs.PhaseEnd.{in_step, terminated, after_phase_end, after_force}
+use Rattle.tier_tree.specs.Sound.{Place, place_of, places_of, IsForest, IsForestOf, IsLine, line_at}
 
 -- a phaser in the place of the one that stands there
 set-places : (phasers : List PhaserState) (id : ℕ) (flat : Flat) (ends : ℕ)
@@ -31,10 +29,7 @@ with_flat-places phasers id flat = set-places phasers id flat (phaser_at phasers
 
 pub joined-places : (all : List Join) (phasers : List PhaserState) → places_of (joined all phasers) ≡ places_of phasers
 joined-places [] phasers = refl
-joined-places (join ∷ others) phasers =
-    let after = joined others phasers in
-    with_flat-places after join.id (flat_by (register join.count (flat_at after join.id)) (flat_at after join.id))
-    ∙ joined-places others phasers
+joined-places (join ∷ others) phasers = grind (arith, with_flat-places, joined-places others phasers)
 
 by-places : (r : Registered) (all : List Join) (phasers : List PhaserState) → places_of (registered_by r all phasers) ≡ places_of phasers
 by-places r all phasers = grind (arith, joined-places)
@@ -79,15 +74,11 @@ in_step-place false phaser flat = refl
 follow-places : (root phase : ℕ) (ended : Bool) (phasers : List PhaserState)
     → places_of (map (in_step root phase ended) phasers) ≡ places_of phasers
 follow-places root phase ended [] = refl
-follow-places root phase ended (p ∷ phasers) =
-    ap (λ q. q ∷ places_of (map (in_step root phase ended) phasers)) (in_step-place (root_of p == root) p (follow phase ended p.flat))
-    ∙ ap (λ ps. place_of p ∷ ps) (follow-places root phase ended phasers)
+follow-places root phase ended (p ∷ phasers) = grind (arith, in_step-place, follow-places root phase ended phasers)
 
 pub terminated-places : (root : ℕ) (phasers : List PhaserState) → places_of (map (terminated root) phasers) ≡ places_of phasers
 terminated-places root [] = refl
-terminated-places root (p ∷ phasers) =
-    ap (λ q. q ∷ places_of (map (terminated root) phasers)) (in_step-place (root_of p == root) p _)
-    ∙ ap (λ ps. place_of p ∷ ps) (terminated-places root phasers)
+terminated-places root (p ∷ phasers) = grind (arith, in_step-place, terminated-places root phasers)
 
 -- another phaser of the same place
 put-places : (phasers : List PhaserState) (id : ℕ) (phaser : PhaserState) → place_of phaser ≡ place_of (phaser_at phasers id)
@@ -124,8 +115,7 @@ root_within phasers id sound there = grind (arith, length-places, place_at-place
 
 pub climbed_same : (line : List ℕ) (leave : Bool) (phasers after : List PhaserState) (c : Climb)
     → record { phasers = after; climb = c } ≡ climbed line leave phasers → places_of after ≡ places_of phasers
-climbed_same line leave phasers after c is =
-    ap (λ (r : Climbed). places_of r.phasers) is ∙ climbed-places line leave phasers
+climbed_same line leave phasers after c is = grind (arith, climbed-places)
 
 -- a line stays one in a forest of one more phaser
 line_more : (places : List Place) (more : Place) (id : ℕ) (line : List ℕ) → id < length places → IsLine places id line
@@ -140,8 +130,7 @@ root_above id bound line own above = grind arith
 line_new : (places : List Place) (more : Place) (line : List ℕ) → IsForestOf places
     → (line ≡ length places ∷ []) ⊎ ((parent : ℕ) × (parent < length places) × (line ≡ length places ∷ line_at places parent))
     → IsLine (places ++ more ∷ []) (length places) line
-line_new places more line sound (inl root) = grind (arith, length_push, All-cons, All-nil)
-line_new places more line sound (inr child) = grind (arith, length_push, All-cons, All-weaker, root_above, get_or_append_left)
+line_new places more line sound given = grind (arith, length_push, All-cons, All-nil, All-weaker, root_above, get_or_append_left)
 
 -- a forest of one more phaser
 forest_more : (places : List Place) (more : Place) → length places < 64 → IsForestOf places

@@ -1,10 +1,10 @@
 -- When a root without strays is turned, everybody in its tree has arrived.
-use Rattle.std.proofs.Common.{inl, inr, ◌≡◌, ◌∙◌, ℕ, zero, suc, ◌+◌, ◌-◌, ◌<◌, ◌==◌, Bool, true, false, List, [], ◌∷◌, length, ap, refl, sym, subst, arith, if◌then◌else◌}
-use Rattle.std.specs.Prelude.{◌⊎◌, ◌&&◌, not, slice_index_or}
+use Rattle.std.proofs.Common.{inl, inr, ◌≡◌, ◌∙◌, ℕ, suc, ◌+◌, ◌-◌, ◌<◌, ◌==◌, Bool, true, false, List, [], ◌∷◌, length, ap, refl, sym, subst, arith, if◌then◌else◌}
+use Rattle.std.specs.Prelude.{◌⊎◌, ◌&&◌, slice_index_or}
 use Rattle.std.proofs.lemmas.Bool.Decides.{nat_tests}
 use Rattle.packed_phaser.specs.Flat.{Flat, is_empty, unarrived_of}
 use Rattle.tier_tree.specs.Forest.{PhaserState, phaser_at, flat_at, root_at}
-use Rattle.tier_tree.specs.Sound.{Place, places_of, line_at, IsForest}
+use Rattle.tier_tree.specs.Sound.{IsForest}
 use Rattle.tier_tree.specs.Origin.{Origin, is_under, children, is_awaited, IsSteady, AreTallied, HaveAllArrived}
 use Rattle.tier_tree.proofs.Lines.{place_at-places, length-places}
 
@@ -12,19 +12,7 @@ use Rattle.tier_tree.proofs.Lines.{place_at-places, length-places}
 pub linked : (phasers : List PhaserState) (id : ℕ) → IsForest phasers → id < length phasers
     → ((phaser_at phasers id).line ≡ id ∷ [])
     ⊎ ((parent : ℕ) × (parent < id) × ((phaser_at phasers id).line ≡ id ∷ (phaser_at phasers parent).line))
-linked phasers id sound there =
-    let many = length-places phasers in
-    let own : line_at (places_of phasers) id ≡ (phaser_at phasers id).line = ap (λ (p : Place). p.line) (sym (place_at-places phasers id)) in
-    elim (sound.lines id (omega (arith, many, there))).linked as (λ _. ((phaser_at phasers id).line ≡ id ∷ [])
-    ⊎ ((parent : ℕ) × (parent < id) × ((phaser_at phasers id).line ≡ id ∷ (phaser_at phasers parent).line))) [
-      | inl root ↦ inl (sym own ∙ root)
-      | inr child ↦ inr (
-        child.0,
-        child.1,
-        sym own ∙ child.2
-            ∙ ap (λ (p : Place). id ∷ p.line) (sym (place_at-places phasers child.0)),
-      )
-    ]
+linked phasers id sound there = grind (arith, length-places, place_at-places)
 
 first-fails : (under pass : Bool) (others : ℕ) → (if under && pass then 1 else 0) + others ≡ 0 → under ≡ true → pass ≡ false
 first-fails true true others none under = absurd (omega (arith, none))
@@ -57,8 +45,7 @@ if_ended false _ parties empty = grind (arith, nat_tests)
 -- such a phaser isn't terminated, and waits for nobody
 pub all_there : (id : ℕ) (phasers : List PhaserState) → IsSteady id phasers → HasAll (flat_at phasers id)
     → ((flat_at phasers id).ended ≡ false) × (unarrived_of (flat_at phasers id) ≡ 0)
-all_there id phasers steady (inl turned) = grind (arith, none_missing)
-all_there id phasers steady (inr empty) = grind (arith, if_ended)
+all_there id phasers steady given = grind arith
 
 under-parent : (line : List ℕ) (id parent : ℕ) (above : List ℕ) → line ≡ id ∷ parent ∷ above → is_under parent line ≡ true
 under-parent line id parent above is = grind (arith, nat_tests)

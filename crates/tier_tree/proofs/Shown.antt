@@ -1,13 +1,13 @@
 -- What a stored forest shows, after each change of one word.
 use Rattle.std.proofs.Common.{inl, inr, ◌≡◌, ◌≢◌, ◌∙◌, ℕ, ◌+◌, ◌-◌, ◌<◌, ◌≤◌, ◌==◌, Bool, true, false, List, [], ◌∷◌, length, map, get_or, ap, refl, sym, subst, arith, if◌then◌else◌, rules}
-use Rattle.std.specs.Prelude.{nat_le, slice_set}
+use Rattle.std.specs.Prelude.{slice_set}
 use Rattle.std.proofs.lemmas.Bool.{cases_eq}
 use Rattle.std.proofs.lemmas.Bool.Decides.{nat_tests}
 use Rattle.std.proofs.lemmas.List.{length-map, length-set, get_or-map, get_or_read, get_or_default, get_or-set_same, get_or-set_other, ext_get_or}
 use Rattle.std.proofs.lemmas.List.Elements.{All-head, All-tail, All-cons, All-nil}
 use Rattle.packed_phaser.specs.Flat.{Flat, ComesLate, arrive, advance, renew, force, fresh, view_of}
 use Rattle.packed_phaser.specs.Word.{record_of}
-use Rattle.phase_number.specs.Phase.{next_phase, phase_view}
+use Rattle.phase_number.specs.Phase.{next_phase}
 use Rattle.tier_tree.specs.Forest.{PhaserState, no_phaser, phaser_at, flat_at, root_of, root_at, with_flat}
 use Rattle.tier_tree.specs.PhaseEnd.{follow, in_step, terminated, after_phase_end}
 use Rattle.tier_tree.specs.Sound.{Place, places_of}
@@ -40,13 +40,11 @@ present-now top own live same = grind (arith, same-is)
 
 -- in another phase all its parties are to arrive
 pub present-late : (top own : Flat) → top.ended ≡ false → own.phase ≢ top.phase → present top own ≡ renew top.phase own
-present-late top own live other =
-    ap (λ (e : Bool). seen e top.phase own) live ∙ ap (λ (t : Bool). if t then own else renew top.phase own) (other-is own.phase top.phase other)
+present-late top own live other = grind arith
 
 -- only the root's phase and termination matter
 pub present-top : (top other own : Flat) → top.phase ≡ other.phase → top.ended ≡ other.ended → present top own ≡ present other own
-present-top top other own phase ended =
-    ap (λ (e : Bool). seen e top.phase own) ended ∙ ap (λ (p : ℕ). seen other.ended p own) phase
+present-top top other own phase ended = grind arith
 
 -- 2. a forest, read
 
@@ -297,8 +295,7 @@ late_read leave forest i top own_word own stored there read is_own is_top ended 
 
 -- the phase that a phaser shows is that of its root
 view-present : (top own : Flat) → (top.ended ≡ false → own.ended ≡ false) → view_of (present top own) ≡ view_of top
-view-present top own live =
-    ap (λ (p : ℕ). phase_view p (present top own).ended) (present-phase top own) ∙ ap (phase_view top.phase) (present-ended top own live)
+view-present top own live = grind arith
 
 pub view_read : (forest : List Stored) (i top : ℕ) → IsStored forest → i < length forest → top ≡ (stored_at forest (root_at (phasers_of forest) i)).word
     → view_of (record_of top) ≡ view_of (flat_at (phasers_of forest) i)

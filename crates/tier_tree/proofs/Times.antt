@@ -1,6 +1,6 @@
 -- A climb changes no phase and terminates nobody.
-use Rattle.std.proofs.Common.{◌≡◌, ℕ, zero, suc, ◌==◌, ◌-◌, ◌+◌, Bool, true, false, List, [], ◌∷◌, refl, sym, subst, if◌then◌else◌, arith}
-use Rattle.packed_phaser.specs.Flat.{Flat, Arrival, Counts, Turns, ComesLate, IsUnregistered, arrive, settled, view_of}
+use Rattle.std.proofs.Common.{◌≡◌, ℕ, zero, suc, Bool, true, false, List, ◌∷◌, refl, sym, subst, if◌then◌else◌, arith}
+use Rattle.packed_phaser.specs.Flat.{Flat, Arrival, Counts, Turns, ComesLate, IsUnregistered, arrive, view_of}
 use Rattle.tier_tree.specs.Forest.{PhaserState, flat_at, with_flat}
 use Rattle.tier_tree.specs.Arrival.{passed_on}
 

@@ -1,21 +1,19 @@
 -- What the calls keep of the trees that a caller carries.
-use Rattle.std.proofs.Common.{inl, inr, ◌≡◌, ◌≢◌, ◌∙◌, ℕ, zero, suc, ◌+◌, ◌<◌, ◌≤◌, ◌==◌, Bool, true, false, List, [], ◌∷◌, length, map, get_or, ap, refl, sym, subst, arith, if◌then◌else◌}
+use Rattle.std.proofs.Common.{inl, inr, ◌≡◌, ◌≢◌, ◌∙◌, ℕ, zero, suc, ◌+◌, ◌<◌, ◌≤◌, ◌==◌, Bool, true, false, List, [], ◌∷◌, length, map, ap, refl, sym, arith, if◌then◌else◌}
 use Rattle.std.specs.Prelude.{◌||◌, slice_set}
 use Rattle.std.proofs.lemmas.Bool.{cases_eq, cases_lt}
 use Rattle.std.proofs.lemmas.List.{get_or_past}
-use Rattle.packed_phaser.specs.Flat.{Flat, Joins, JoinsLate, MustWait, Overfull, Arrival, Counts, Turns, ComesLate, IsUnregistered, arrive, register, advance, view_of}
+use Rattle.packed_phaser.specs.Flat.{Flat, Joins, JoinsLate, MustWait, Overfull, Arrival, arrive, register, advance}
 use Rattle.tier_tree.specs.declared.arrived.Arrived.{Arrived}
 use Rattle.tier_tree.specs.declared.arrived.Arrived.TheVariants as arrived
 use Rattle.tier_tree.specs.declared.registered.Registered.{Registered}
-use Rattle.tier_tree.specs.declared.registered.Registered.TheVariants as registered
 use Rattle.tier_tree.specs.declared.climb.Climb.{Climb}
-use Rattle.tier_tree.specs.declared.climb.Climb.TheVariants as climb
 use Rattle.tier_tree.specs.declared.id.PhaserId.{PhaserId}
-use Rattle.tier_tree.specs.Forest.{PhaserState, no_phaser, phaser_at, flat_at, root_at, root_of}
+use Rattle.tier_tree.specs.Forest.{PhaserState, no_phaser, phaser_at, flat_at, root_at}
 use Rattle.tier_tree.specs.Registration.{Join, joins, joined, flat_by, registration, registered_by, after_registration}
-use Rattle.tier_tree.specs.Arrival.{Arrives, Climbed, is_top, passed_on, with_child, climbed_by, climbed, arrival_by, arrival}
-use Rattle.tier_tree.specs.PhaseEnd.{most_ends, after_phase_end, after_force, follow, in_step}
-use Rattle.tier_tree.specs.Sound.{Place, place_of, places_of}
+use Rattle.tier_tree.specs.Arrival.{Arrives, Climbed, is_top, with_child, climbed_by, climbed, arrival_by, arrival}
+use Rattle.tier_tree.specs.PhaseEnd.{most_ends, after_phase_end, after_force, in_step}
+use Rattle.tier_tree.specs.Sound.{places_of}
 use Rattle.tier_tree.specs.Answer.{IfTurning, KeepsPlaces}
 use Rattle.tier_tree.specs.Answer.{MakesPending}
 use Rattle.tier_tree.specs.Origin.{Origin, AreTallied, origin_after_registration, origin_after_arrival, origin_after_phase_end}
@@ -180,8 +178,7 @@ more_ends most phasers trees =
     record { forest = trees.forest; stands = trees.stands; ends = λ id. (let few = trees.ends id in omega (arith, few)) }
 
 pub more_trees : (most : ℕ) (before after : List PhaserState) → KeepsTrees most before after → KeepsTrees (most + 1) before after
-more_trees most before after keeps =
-    record { places = keeps.places; many = keeps.many; trees = more_ends most after keeps.trees; pending = keeps.pending }
+more_trees most before after keeps = grind arith
 
 -- nothing is done
 pub trees_same : (most : ℕ) (phasers : List PhaserState) → AreTrees most phasers → KeepsTrees most phasers phasers

@@ -1,6 +1,6 @@
 -- The number of a phase, from its view; and a word in its root's phase.
-use Rattle.std.proofs.Common.{◌≡◌, ◌≢◌, ◌∙◌, ℕ, ◌-◌, ◌<◌, ◌/◌, ◌%◌, ◌==◌, Bool, true, false, ap, refl, sym, arith, if◌then◌else◌}
-use Rattle.std.specs.Prelude.{ℤ, pos, negsuc, not, ◌&&◌}
+use Rattle.std.proofs.Common.{◌≡◌, ◌≢◌, ℕ, ◌-◌, ◌<◌, ◌/◌, ◌%◌, ◌==◌, Bool, true, false, refl, arith, if◌then◌else◌}
+use Rattle.std.specs.Prelude.{ℤ, pos, not, ◌&&◌}
 use Rattle.std.proofs.lemmas.Bool.Decides.{nat_tests}
 use Rattle.packed_phaser.specs.Flat.{Flat, renew, force}
 use Rattle.packed_phaser.specs.Word.{fields_of, record_of}
