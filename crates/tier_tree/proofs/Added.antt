@@ -216,20 +216,13 @@ added_alone : (phasers : List PhaserState) (new : PhaserState) (phase parties : 
     → IsAdded phasers new parties (λ (id : ℕ). 0) (phasers ++ new ∷ [])
 added_alone phasers new phase parties is joined_bit awaited_bit tree = grind arith
 
-flip_eq : (a b : ℕ) → (a == b) ≡ (b == a)
-flip_eq a b = grind (arith, nat_tests, same-is, other-is)
-
-and_true : (b : Bool) → (b && true) ≡ b
-and_true true = refl
-and_true false = refl
-
 -- a child with parties has joined its parent
 added_below : (phasers after : List PhaserState) (new : PhaserState) (phase parties q : ℕ) (rest : List ℕ) → new.flat ≡ fresh phase parties
     → 0 < parties → q < length phasers → new.line ≡ length phasers ∷ q ∷ rest
     → places_of after ≡ places_of (phasers ++ new ∷ []) → Changes q 1 0 1 0 (phasers ++ new ∷ []) after
     → (flat_at (phasers ++ new ∷ []) (root_at (phasers ++ new ∷ []) (length phasers))).ended ≡ false
     → IsAdded phasers new parties (λ (id : ℕ). bit (q == id)) after
-added_below phasers after new phase parties q rest is some below line same changes tree = grind (arith, nat_tests, cases_eq, IsOff, bit, same-is, flip_eq, other-is, and_true)
+added_below phasers after new phase parties q rest is some below line same changes tree = grind (arith, nat_tests, cases_eq, same-is, other-is)
 
 -- the phasers of the parent's tree are fresh, and so is the new one
 fresh_more : (phasers : List PhaserState) (new : PhaserState) (root : ℕ) → IsFreshTree root phasers → IsFresh new

@@ -1,20 +1,18 @@
 -- A climb along a line.
-use Rattle.std.proofs.Common.{inl, inr, ◌≡◌, ◌≢◌, ◌∙◌, ℕ, zero, suc, ◌+◌, ◌<◌, ◌≤◌, drop, ◌==◌, Bool, true, false, List, [], ◌∷◌, length, get_or, ap, refl, sym, subst, arith, if◌then◌else◌, rules}
-use Rattle.std.specs.Prelude.{All, pos, take, slice_set}
-use Rattle.std.proofs.lemmas.Bool.Decides.{nat_tests}
+use Rattle.std.proofs.Common.{inl, inr, ◌≡◌, ◌≢◌, ◌∙◌, ℕ, zero, suc, ◌+◌, ◌<◌, ◌≤◌, drop, ◌==◌, Bool, false, List, [], ◌∷◌, length, get_or, ap, refl, sym, subst, arith, rules}
+use Rattle.std.specs.Prelude.{All, take, slice_set}
 use Rattle.std.proofs.lemmas.List.{get_or_read, get_or-set_same, drop_all}
 use Rattle.std.proofs.lemmas.List.Elements.{All-cons, All-nil, All-take, All-set}
 use Rattle.std.proofs.Math.Seq.{drop-cons}
 use Rattle.packed_phaser.specs.Flat.{Flat, Arrival, Counts, Turns, ComesLate, IsUnregistered, arrive, view_of}
 use Rattle.packed_phaser.specs.Word.{record_of}
-use Rattle.phase_number.specs.Phase.{phase_view}
 use Rattle.tier_tree.specs.declared.climb.Climb.{Climb}
 use Rattle.tier_tree.specs.declared.climb.Climb.TheVariants as climb
 use Rattle.tier_tree.specs.declared.arrived.Arrived.TheVariants as arrived
 use Rattle.tier_tree.specs.Forest.{PhaserState, phaser_at, flat_at, root_at, with_flat}
 use Rattle.tier_tree.specs.Sound.{IsForest}
 use Rattle.tier_tree.specs.Stored.{Stored, no_stored, stored_at, IsStored, ChangedOnly, phasers_of}
-use Rattle.tier_tree.specs.Arrival.{Climbed, is_top, passed_on, with_child, climbed_by, climbed, arrival_by, arrival}
+use Rattle.tier_tree.specs.Arrival.{Climbed, is_top, passed_on, climbed_by, climbed, arrival_by, arrival}
 use Rattle.tier_tree.specs.Ascent.{IsOfPhase, written}
 use Rattle.tier_tree.proofs.Changed.{there_shown}
 use Rattle.tier_tree.proofs.Shown.{top_at, shown_at, flat_shown, root_shown, present-phase, present-ended}
@@ -87,18 +85,15 @@ first_climbed : (leave : Bool) (line above : List ℕ) (id : ℕ) (phasers : Lis
 first_climbed leave line above id phasers a is arrives = grind arith
 
 -- the view of a word after an arrival that was counted
-view_is : (f g : Flat) → IsAsLate g f × (f.ended ≡ false) → view_of g ≡ pos f.phase
-view_is f g late = ap (λ (n : ℕ). phase_view n g.ended) late.0.0 ∙ ap (phase_view f.phase) (late.0.1 ∙ late.1)
-
 pub counted_here : (i : ℕ) (leave : Bool) (above : List ℕ) (phasers after : List PhaserState) (g : Flat) → (phaser_at phasers i).line ≡ i ∷ above
     → Counts g ≡ arrive leave (flat_at phasers i) → after ≡ with_flat phasers i g
     → record { phasers = after; answer = arrived.At (view_of g) } ≡ arrival i leave phasers
-counted_here i leave above phasers after g line is set = grind (arith, found, view_is, arrives, first_climbed)
+counted_here i leave above phasers after g line is set = grind (arith, found, arrives, first_climbed)
 
 pub turned_here : (i root : ℕ) (leave : Bool) (phasers after : List PhaserState) (g : Flat) → (phaser_at phasers i).line ≡ i ∷ [] → i < length phasers
     → root ≡ root_at phasers i → root ≡ i → Turns g ≡ arrive leave (flat_at phasers i) → after ≡ with_flat phasers i g
     → record { phasers = after; answer = arrived.Turning (record { 0 = root }) (view_of g) g.parties } ≡ arrival i leave phasers
-turned_here i root leave phasers after g line there root_is top is set = grind (arith, found, get_or-set_same, view_is, arrives, first_climbed)
+turned_here i root leave phasers after g line there root_is top is set = grind (arith, found, get_or-set_same, arrives, first_climbed)
 
 pub none_here : (i : ℕ) (leave : Bool) (above : List ℕ) (phasers : List PhaserState) → (phaser_at phasers i).line ≡ i ∷ above
     → IsUnregistered ≡ arrive leave (flat_at phasers i)
@@ -177,10 +172,6 @@ IsRefusal (Turns flat) = ⊥
 IsRefusal (ComesLate view) = Unit {0}
 IsRefusal IsUnregistered = Unit {0}
 
-refused_climb : (a : Arrival) (id : ℕ) (top : Bool) (above : Bool → Climbed) (phasers : List PhaserState) → IsRefusal a
-    → climbed_by a id top above phasers ≡ record { phasers = phasers; climb = climb.Refused }
-refused_climb a id top above phasers refuses = grind arith
-
 -- so far all phasers of the line have turned, and their words are found
 pub record IsFound (line words : List ℕ) (k : ℕ) (leave leaves : Bool) (top : ℕ) (phasers : List PhaserState) : Type 0 where
   pub climbs : climbed line leave phasers ≡ from_below k line words (climbed (drop k line) leaves phasers)
@@ -229,33 +220,21 @@ Stays (Turns g) = (g.parties == 0) ≡ false
 Stays (ComesLate view) = Unit {0}
 Stays IsUnregistered = Unit {0}
 
-settled_stays : (f : Flat) (all : Bool) → (f.arrived + 1 == f.parties) ≡ all
-    → Stays (if all then Turns (record f { arrived = f.arrived + 1; turned = true }) else Counts (record f { arrived = f.arrived + 1 }))
-settled_stays f true is = grind (arith, nat_tests, is)
-settled_stays f false is = tt
-
-arrival_stays : (f : Flat) → Stays (arrive false f)
-arrival_stays f = grind (arith, settled_stays)
-
 pub stays : (f g : Flat) (leave : Bool) → Turns g ≡ arrive leave f → leave ≡ false → (g.parties == 0) ≡ false
-stays f g leave is not = subst Stays (sym (is ∙ ap (λ (b : Bool). arrive b f) not)) (arrival_stays f)
+stays f g leave is not = grind arith
 
 -- it goes on above
-child_passes : (id word : ℕ) (g : Flat) (c : Climb) (above : List PhaserState) → record_of word ≡ passed_on g
-    → with_child id g c above ≡ passes id word c above
-child_passes id word g c above is = grind arith
-
 pub goes_on : (line words : List ℕ) (k word : ℕ) (g : Flat) (leave leaves next : Bool) (top : ℕ) (phasers : List PhaserState) → k < length line
     → k < length words → k + 1 ≢ length line → IsFound line words k leave leaves top phasers
     → Turns g ≡ arrive leaves (flat_at phasers (get_or line k 0)) → next ≡ (g.parties == 0) → record_of word ≡ passed_on g
     → climbed line leave phasers ≡ from_below (k + 1) line (slice_set words k word) (climbed (drop (k + 1) line) next phasers)
-goes_on line words k word g leave leaves next top phasers here room more so_far is leaves_is passed = grind (arith, from_here, one_more, first_climbed, child_passes)
+goes_on line words k word g leave leaves next top phasers here room more so_far is leaves_is passed = grind (arith, from_here, one_more, first_climbed)
 
 -- it is refused there
 pub refused_there : (line words : List ℕ) (k : ℕ) (leave leaves : Bool) (top : ℕ) (phasers : List PhaserState) (a : Arrival) → k < length line
     → IsFound line words k leave leaves top phasers → a ≡ arrive leaves (flat_at phasers (get_or line k 0)) → IsRefusal a
     → record { phasers = phasers; climb = climb.Refused } ≡ climbed line leave phasers
-refused_there line words k leave leaves top phasers a here so_far is refuses = grind (arith, first_climbed, from_here, refused_climb, from_refused)
+refused_there line words k leave leaves top phasers a here so_far is refuses = grind (arith, first_climbed, from_here, from_refused)
 
 pub refused_past : (line words : List ℕ) (k : ℕ) (leave leaves : Bool) (top : ℕ) (phasers : List PhaserState) → length line ≤ k
     → IsFound line words k leave leaves top phasers → record { phasers = phasers; climb = climb.Refused } ≡ climbed line leave phasers

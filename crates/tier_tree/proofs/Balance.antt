@@ -19,16 +19,12 @@ abbrev pub bit : Bool → ℕ
 bit true = 1
 bit false = 0
 
-add-bit : (b : Bool) → (if b then 1 else 0) ≡ bit b
-add-bit true = refl
-add-bit false = refl
-
 -- one phaser changes: its parent counts it anew
 pub children-set : (test : Flat → Bool) (id : ℕ) (phasers : List PhaserState) (i : ℕ) (flat : Flat) → i < length phasers
     → children test id (with_flat phasers i flat) + bit (is_under id (phaser_at phasers i).line && test (flat_at phasers i))
     ≡ children test id phasers + bit (is_under id (phaser_at phasers i).line && test flat)
 children-set test id (p ∷ phasers) (suc i) flat there = grind (arith, children-set test id phasers i flat (omega (arith, there)))
-children-set test id phasers i flat there = grind (arith, add-bit)
+children-set test id phasers i flat there = grind arith
 
 pub put_same : (test : Flat → Bool) (id : ℕ) (phasers : List PhaserState) (i : ℕ) (flat : Flat) → i < length phasers
     → test flat ≡ test (flat_at phasers i) → children test id (with_flat phasers i flat) ≡ children test id phasers
@@ -69,45 +65,6 @@ pub record Changes (first more less more_left less_left : ℕ) (before after : L
   pub same : (id : ℕ) → first < id → flat_at after id ≡ flat_at before id
   pub ended : (id : ℕ) → (flat_at after id).ended ≡ (flat_at before id).ended
   pub good : (id : ℕ) → IsGood (root_at before id) id (flat_at before id) → IsGood (root_at before id) id (flat_at after id)
-
--- where no parent counts it otherwise, only the phaser itself changes
-simple : (phasers : List PhaserState) (i less : ℕ) (flat : Flat) → i < length phasers
-    → ((id : ℕ) → children has_joined id (with_flat phasers i flat) ≡ children has_joined id phasers)
-    → ((id : ℕ) → children is_awaited id (with_flat phasers i flat) ≡ children is_awaited id phasers)
-    → flat.parties + less ≡ (flat_at phasers i).parties → unarrived_of flat + 1 ≡ unarrived_of (flat_at phasers i)
-    → flat.ended ≡ (flat_at phasers i).ended
-    → (IsGood (root_at phasers i) i (flat_at phasers i) → IsGood (root_at phasers i) i flat)
-    → Changes i 0 less 0 1 phasers (with_flat phasers i flat)
-simple phasers i less flat there joined awaited parties unarrived ended good =
-    let put = flat-put phasers i flat there in
-    record {
-      own = record {
-        registered = (let p : (flat_at (with_flat phasers i flat) i).parties ≡ flat.parties = ap (λ (f : Flat). f.parties) put in
-            let j = joined i in omega (arith, p, j, parties));
-        unarrived = (let u : unarrived_of (flat_at (with_flat phasers i flat) i) ≡ unarrived_of flat = ap unarrived_of put in
-            let j = awaited i in omega (arith, u, j, unarrived));
-      };
-      others = λ id other.
-          let apart = flat-other phasers i flat id other in
-          record {
-            registered = (let p : (flat_at (with_flat phasers i flat) id).parties ≡ (flat_at phasers id).parties = ap (λ (f : Flat). f.parties) apart in
-                let j = joined id in omega (arith, p, j));
-            unarrived = (let u : unarrived_of (flat_at (with_flat phasers i flat) id) ≡ unarrived_of (flat_at phasers id) = ap unarrived_of apart in
-                let j = awaited id in omega (arith, u, j));
-          };
-      same = λ id above. flat-other phasers i flat id (λ is. absurd (omega (arith, is, above)));
-      ended = λ id. elim (cases_eq id i) as (λ _. (flat_at (with_flat phasers i flat) id).ended ≡ (flat_at phasers id).ended) [
-        | inl is ↦ subst (λ (n : ℕ). (flat_at (with_flat phasers i flat) n).ended ≡ (flat_at phasers n).ended) (sym is)
-            (ap (λ (f : Flat). f.ended) put ∙ ended)
-        | inr other ↦ ap (λ (f : Flat). f.ended) (flat-other phasers i flat id other)
-      ];
-      good = λ id was. elim (cases_eq id i) as (λ _. IsGood (root_at phasers id) id (flat_at (with_flat phasers i flat) id)) [
-        | inl is ↦ subst (λ (n : ℕ). IsGood (root_at phasers n) n (flat_at (with_flat phasers i flat) n)) (sym is)
-            (subst (λ (f : Flat). IsGood (root_at phasers i) i f) (sym put)
-            (good (subst (λ (n : ℕ). IsGood (root_at phasers n) n (flat_at phasers n)) is was)))
-        | inr other ↦ subst (λ (f : Flat). IsGood (root_at phasers id) id f) (sym (flat-other phasers i flat id other)) was
-      ];
-    }
 
 -- the parties that arrived leave or stay
 abbrev pub counted : Bool → Flat → Flat
@@ -154,7 +111,7 @@ counted_case : (leave : Bool) (phasers : List PhaserState) (i : ℕ) → i < len
     → (flat_at phasers i).ended ≡ false → (flat_at phasers i).arrived ≢ (flat_at phasers i).parties
     → (counted leave (flat_at phasers i)).arrived ≢ (counted leave (flat_at phasers i)).parties
     → Changes i 0 (bit leave) 0 1 phasers (with_flat phasers i (counted leave (flat_at phasers i)))
-counted_case leave phasers i there good live some others = search (rules, in_numbers, open_flat, waiting, some_of, simple, put_same)
+counted_case leave phasers i there good live some others = search (rules, in_numbers, open_flat, waiting, some_of, put_same)
 
 -- the root's last
 top_case : (leave : Bool) (phasers : List PhaserState) (i : ℕ) → i < length phasers → AllGood phasers
@@ -162,7 +119,7 @@ top_case : (leave : Bool) (phasers : List PhaserState) (i : ℕ) → i < length 
     → (flat_at phasers i).ended ≡ false → (flat_at phasers i).arrived ≢ (flat_at phasers i).parties
     → (counted leave (flat_at phasers i)).arrived ≡ (counted leave (flat_at phasers i)).parties
     → Changes i 0 (bit leave) 0 1 phasers (with_flat phasers i (record (counted leave (flat_at phasers i)) { turned = true }))
-top_case leave phasers i there good top live some all = search (rules, in_numbers, simple, put_apart, last_of)
+top_case leave phasers i there good top live some all = search (rules, in_numbers, put_apart, last_of)
 
 -- what a child that all have arrived at shows its parent
 record IsPassed (none : Bool) (last after : Flat) : Type 0 where

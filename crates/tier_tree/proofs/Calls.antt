@@ -1,10 +1,8 @@
 -- What a call promises of the whole forest, from what it makes of the slice of phasers.
-use Rattle.std.proofs.Common.{◌≡◌, ◌∙◌, ℕ, suc, ◌-◌, ◌<◌, ◌==◌, Bool, true, false, List, [], ◌∷◌, ◌++◌, length, map, take, drop, ap, refl, sym, subst, arith, if◌then◌else◌}
-use Rattle.std.specs.Prelude.{◌&&◌, not, slice_set}
+use Rattle.std.proofs.Common.{◌≡◌, ◌∙◌, ℕ, suc, ◌<◌, Bool, false, List, [], ◌∷◌, ◌++◌, length, map, take, drop, ap, refl, sym, subst, arith}
+use Rattle.std.specs.Prelude.{slice_set}
 use Rattle.std.proofs.lemmas.List.{take_at}
 use Rattle.std.proofs.lemmas.Bool.Decides.{nat_tests}
-use Rattle.packed_phaser.specs.Flat.{Flat}
-use Rattle.packed_phaser.specs.Word.{record_of, fields_of}
 use Rattle.tier_tree.specs.declared.registered.Registered.{Registered}
 use Rattle.tier_tree.specs.declared.arrived.Arrived.{Arrived}
 use Rattle.tier_tree.specs.Forest.{PhaserState, phaser_at, flat_at, root_at}
@@ -14,7 +12,7 @@ use Rattle.tier_tree.specs.Registration.{registration, after_registration, joine
 use Rattle.tier_tree.specs.Arrival.{Arrives, arrival}
 use Rattle.tier_tree.specs.PhaseEnd.{after_phase_end, after_force}
 use Rattle.tier_tree.specs.Sound.{places_of}
-use Rattle.tier_tree.specs.Stored.{Stored, stored_at, present, shown, phasers_of, place_in, IsStored}
+use Rattle.tier_tree.specs.Stored.{Stored, stored_at, shown, phasers_of, place_in, IsStored}
 use Rattle.tier_tree.specs.Answer.{IfTurning, MakesPending, KeepsPlaces, KeepsEnds, HaveOnePhase}
 use Rattle.tier_tree.specs.Origin.{Origin, AreTallied, Carries, origin_after_registration, origin_after_arrival, origin_after_phase_end}
 use Rattle.tier_tree.specs.declared.id.PhaserId.{PhaserId}
@@ -103,18 +101,8 @@ turned_origin items given now written root ends value view stored there top live
     (subst (λ (ss : List Stored). (flat_at (phasers_of ss) root).ended ≡ false) (sym same) live) forest stands
 
 -- of a turned root all have arrived: its word says so
-turned_all : (ended : Bool) (parties unarrived : ℕ) → (not ended && (unarrived == 0)) ≡ true → (if ended then parties else parties - unarrived) ≡ parties
-turned_all true parties unarrived turned = absurd (cc (turned))
-turned_all false parties unarrived turned = grind (arith, nat_tests, turned)
-
-word_full : (w : ℕ) → IsFull (record_of w)
-word_full w turned = turned_all (fields_of w).ended (fields_of w).parties (fields_of w).unarrived turned
-
-present_full : (top own : Flat) → IsFull own → IsFull (present top own)
-present_full top own full = grind (arith, IsFull, arrived)
-
 pub all_full : (forest : List Stored) (id : ℕ) → id < length forest → IsFull (flat_at (phasers_of forest) id)
-all_full forest id there = grind (arith, IsFull, flat_shown, present_full, top_at, word_full)
+all_full forest id there = grind (arith, flat_shown, arrived)
 
 pub arrived_turning : (items given now written : List Stored) (id : ℕ) (leave : Bool) (answer : Arrived) → given ≡ items → items ≡ now → IsStored items
     → id < length now → length written ≡ length given → record { phasers = phasers_of written; answer = answer } ≡ arrival id leave (phasers_of given)

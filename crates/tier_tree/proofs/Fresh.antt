@@ -1,22 +1,16 @@
 -- Declarations leave all phasers as they began.
-use Rattle.std.proofs.Common.{◌≡◌, ℕ, ◌+◌, Bool, true, false, List, [], ◌∷◌, ◌++◌, refl, sym, subst, pos, if◌then◌else◌, arith}
+use Rattle.std.proofs.Common.{◌≡◌, ℕ, List, [], ◌∷◌, ◌++◌, sym, subst, arith}
 use Rattle.std.proofs.lemmas.Bool.{cases_lt}
 use Rattle.std.proofs.lemmas.List.{get_or_past}
 use Rattle.std.proofs.lemmas.List.Elements.{All-set, All-push}
-use Rattle.packed_phaser.specs.Flat.{Flat, Joins, Overfull, fresh, register}
+use Rattle.packed_phaser.specs.Flat.{Flat, fresh, register}
 use Rattle.tier_tree.specs.Forest.{PhaserState, phaser_at, flat_at}
 use Rattle.tier_tree.specs.Registration.{Join, joined, flat_by}
 use Rattle.tier_tree.specs.Declaration.{IsFresh, AreAllFresh}
 
-fresh_if : (none over : Bool) (phase parties count : ℕ) → let f = fresh phase parties in
-    let after = flat_by (if none then Joins f (pos phase) else (if over then Overfull else Joins (record f { parties = parties + count }) (pos phase))) f in
-    after ≡ fresh after.phase after.parties
-fresh_if true over phase parties count = refl
-fresh_if false _ phase parties count = grind arith
-
 fresh_joined : (count : ℕ) (f : Flat) → f ≡ fresh f.phase f.parties
     → flat_by (register count f) f ≡ fresh (flat_by (register count f) f).phase (flat_by (register count f) f).parties
-fresh_joined count f is = grind (arith, fresh_if)
+fresh_joined count f is = grind arith
 
 fresh_at : (phasers : List PhaserState) (id : ℕ) → AreAllFresh phasers → IsFresh (phaser_at phasers id)
 fresh_at phasers id all = grind (arith, cases_lt, get_or_past)

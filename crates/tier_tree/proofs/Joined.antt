@@ -165,17 +165,13 @@ stands_joined phasers after origin id count sound stands same changes =
           ];
     }
 
--- nobody came
-none_changes : (phasers : List PhaserState) (id count : ℕ) → count ≡ 0 → Changes id count 0 count 0 phasers phasers
-none_changes phasers id count none = grind arith
-
 -- a registration's joins, whether there are parties or none
 joins_changes : (none : Bool) (id count : ℕ) (phasers : List PhaserState) (origin : Origin) → IsForest phasers → id < length phasers
     → AreTallied phasers origin → (flat_at phasers id).ended ≡ false → (count == 0) ≡ none
     → let all : List Join = if none then [] else joins_along (phaser_at phasers id).line count phasers in
     list_any (is_overfull phasers) all ≡ false → list_any (is_turned phasers) all ≡ false
     → Changes id count 0 count 0 phasers (joined all phasers)
-joins_changes true id count phasers origin sound there stands live is = grind (arith, none_changes, nat_tests)
+joins_changes true id count phasers origin sound there stands live is = grind (arith, nat_tests)
 joins_changes false id count phasers origin sound there stands live is =
     let own = line_own phasers id sound there in
     let some : 0 < count = grind (arith, nat_tests, is) in

@@ -1,11 +1,9 @@
 -- What a call keeps of the trees: places, and how many phases have ended.
-use Rattle.std.proofs.Common.{◌≡◌, ℕ, zero, suc, Bool, true, false, List, [], ◌∷◌, ◌++◌, map, refl, if◌then◌else◌, arith}
+use Rattle.std.proofs.Common.{◌≡◌, ℕ, zero, suc, Bool, List, [], ◌∷◌, ◌++◌, map, refl, arith}
 use Rattle.packed_phaser.specs.Flat.{Flat, Arrival, arrive}
-use Rattle.tier_tree.specs.declared.climb.Climb.{Climb}
-use Rattle.tier_tree.specs.declared.registered.Registered.{Registered}
 use Rattle.tier_tree.specs.Forest.{PhaserState, phaser_at, flat_at, root_at, with_flat}
-use Rattle.tier_tree.specs.Registration.{Join, joins, joined, registration, registered_by, after_registration}
-use Rattle.tier_tree.specs.Arrival.{arrival, Climbed, is_top, with_child, climbed_by, climbed}
+use Rattle.tier_tree.specs.Registration.{Join, joined, after_registration}
+use Rattle.tier_tree.specs.Arrival.{arrival, Climbed, is_top, climbed_by, climbed}
 use Rattle.tier_tree.specs.PhaseEnd.{terminated, after_force}
 use Rattle.tier_tree.specs.Sound.{places_of}
 use Rattle.tier_tree.specs.Answer.{KeepsPlaces, KeepsEnds}
@@ -22,13 +20,10 @@ with_flat-ends (p ∷ phasers) zero (suc n) flat = refl
 with_flat-ends (p ∷ phasers) (suc id) zero flat = refl
 with_flat-ends (p ∷ phasers) (suc id) (suc n) flat = with_flat-ends phasers id n flat
 
-child-ends : (id n : ℕ) (g : Flat) (c : Climb) (above : List PhaserState) → (phaser_at (with_child id g c above).phasers n).ends ≡ (phaser_at above n).ends
-child-ends id n g c above = grind (arith, with_flat-ends)
-
 climbed_by-ends : (a : Arrival) (id n : ℕ) (top : Bool) (above : Bool → Climbed) (phasers : List PhaserState)
     → ((leave : Bool) → (phaser_at (above leave).phasers n).ends ≡ (phaser_at phasers n).ends)
     → (phaser_at (climbed_by a id top above phasers).phasers n).ends ≡ (phaser_at phasers n).ends
-climbed_by-ends a id n top above phasers rest = grind (arith, with_flat-ends, child-ends)
+climbed_by-ends a id n top above phasers rest = grind (arith, with_flat-ends)
 
 pub climbed-ends : (line : List ℕ) (leave : Bool) (phasers : List PhaserState) (n : ℕ)
     → (phaser_at (climbed line leave phasers).phasers n).ends ≡ (phaser_at phasers n).ends
@@ -44,19 +39,12 @@ pub joined-ends : (all : List Join) (phasers : List PhaserState) → KeepsEnds p
 joined-ends [] phasers n = refl
 joined-ends (join ∷ others) phasers n = grind (arith, with_flat-ends, joined-ends others phasers n)
 
-by-ends : (r : Registered) (all : List Join) (phasers : List PhaserState) → KeepsEnds phasers (registered_by r all phasers)
-by-ends r all phasers n = grind (arith, joined-ends)
-
 pub registration-ends : (id count : ℕ) (phasers : List PhaserState) → KeepsEnds phasers (after_registration id count phasers)
-registration-ends id count phasers n = by-ends (registration id count phasers) (joins id count phasers) phasers n
-
-if-ends : (here : Bool) (p : PhaserState) (f : Flat) → (if here then record p { flat = f } else p).ends ≡ p.ends
-if-ends true p f = refl
-if-ends false p f = refl
+registration-ends id count phasers n = grind (arith, joined-ends)
 
 terminated-ends : (root : ℕ) (phasers : List PhaserState) → KeepsEnds phasers (map (terminated root) phasers)
 terminated-ends root (p ∷ phasers) (suc n) = terminated-ends root phasers n
-terminated-ends root phasers n = grind (arith, if-ends)
+terminated-ends root phasers n = grind arith
 
 pub force-ends : (id : ℕ) (phasers : List PhaserState) → KeepsEnds phasers (after_force id phasers)
 force-ends id phasers n = terminated-ends (root_at phasers id) phasers n

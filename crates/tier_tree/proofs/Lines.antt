@@ -1,5 +1,5 @@
 -- The calls change no line.
-use Rattle.std.proofs.Common.{inl, inr, ◌≡◌, ℕ, suc, ◌+◌, ◌-◌, ◌<◌, Bool, true, false, List, [], ◌∷◌, ◌++◌, map, get_or, length, ap, refl, sym, subst, arith, if◌then◌else◌}
+use Rattle.std.proofs.Common.{inl, inr, ◌≡◌, ℕ, suc, ◌+◌, ◌<◌, Bool, true, List, [], ◌∷◌, ◌++◌, map, get_or, length, ap, refl, sym, subst, arith}
 use Rattle.std.proofs.lemmas.List.{length-map, length_push, get_or_append_left, get_or_push, map-append}
 use Rattle.std.proofs.lemmas.List.Elements.{All-weaker, All-cons, All-nil}
 use Rattle.std.proofs.lemmas.Bool.Decides.{nat_tests}
@@ -8,13 +8,12 @@ use Rattle.std.specs.Prelude.{Option, ◌⊎◌}
 use Rattle.packed_phaser.specs.declared.policy.Policy.{Policy}
 use Rattle.tier_tree.specs.declared.id.PhaserId.{PhaserId}
 use Rattle.tier_tree.specs.Declaration.{has_parent, declared}
-use Rattle.std.specs.Prelude.{slice_set, slice_index_or, All}
+use Rattle.std.specs.Prelude.{slice_set, All}
 use Rattle.packed_phaser.specs.Flat.{Flat, Arrival, arrive}
 use Rattle.tier_tree.specs.declared.climb.Climb.{Climb}
-use Rattle.tier_tree.specs.declared.registered.Registered.{Registered}
 use Rattle.tier_tree.specs.Forest.{PhaserState, no_phaser, phaser_at, flat_at, root_at, with_flat}
-use Rattle.tier_tree.specs.Registration.{Join, joins, joined, registration, registered_by, after_registration}
-use Rattle.tier_tree.specs.Arrival.{Climbed, is_top, with_child, climbed_by, climbed, arrival_by, arrival}
+use Rattle.tier_tree.specs.Registration.{Join, joined, after_registration}
+use Rattle.tier_tree.specs.Arrival.{Climbed, is_top, climbed_by, climbed, arrival}
 use Rattle.tier_tree.specs.PhaseEnd.{in_step, terminated, after_phase_end, after_force}
 use Rattle.tier_tree.specs.Sound.{Place, place_of, places_of, IsForest, IsForestOf, IsLine, line_at}
 
@@ -31,20 +30,13 @@ pub joined-places : (all : List Join) (phasers : List PhaserState) → places_of
 joined-places [] phasers = refl
 joined-places (join ∷ others) phasers = grind (arith, with_flat-places, joined-places others phasers)
 
-by-places : (r : Registered) (all : List Join) (phasers : List PhaserState) → places_of (registered_by r all phasers) ≡ places_of phasers
-by-places r all phasers = grind (arith, joined-places)
-
 pub registration-places : (id count : ℕ) (phasers : List PhaserState) → places_of (after_registration id count phasers) ≡ places_of phasers
-registration-places id count phasers = by-places (registration id count phasers) (joins id count phasers) phasers
-
-child-places : (id : ℕ) (flat : Flat) (c : Climb) (above : List PhaserState)
-    → places_of (with_child id flat c above).phasers ≡ places_of above
-child-places id flat c above = grind (arith, with_flat-places)
+registration-places id count phasers = grind (arith, joined-places)
 
 climbed_by-places : (a : Arrival) (id : ℕ) (top : Bool) (above : Bool → Climbed) (phasers : List PhaserState)
     → ((leave : Bool) → places_of (above leave).phasers ≡ places_of phasers)
     → places_of (climbed_by a id top above phasers).phasers ≡ places_of phasers
-climbed_by-places a id top above phasers kept = grind (arith, with_flat-places, child-places)
+climbed_by-places a id top above phasers kept = grind (arith, with_flat-places)
 
 pub climbed-places : (line : List ℕ) (leave : Bool) (phasers : List PhaserState)
     → places_of (climbed line leave phasers).phasers ≡ places_of phasers
@@ -53,32 +45,17 @@ climbed-places (id ∷ above) leave phasers =
     climbed_by-places (arrive leave (flat_at phasers id)) id (is_top above) (λ leaves. climbed above leaves phasers) phasers
     (λ leaves. climbed-places above leaves phasers)
 
-arrival_by-places : (c : Climb) (id : ℕ) (after phasers : List PhaserState) → places_of after ≡ places_of phasers
-    → places_of (arrival_by c id after phasers).phasers ≡ places_of phasers
-arrival_by-places c id after phasers same = grind arith
-
-arrival_if-places : (ended : Bool) (id : ℕ) (leave : Bool) (phasers : List PhaserState) (view : _)
-    → places_of (if ended then record { phasers = phasers; answer = view }
-    else arrival_by (climbed (phaser_at phasers id).line leave phasers).climb id (climbed (phaser_at phasers id).line leave phasers).phasers phasers).phasers ≡ places_of phasers
-arrival_if-places true id leave phasers view = refl
-arrival_if-places false id leave phasers view = grind (arith, arrival_by-places, climbed-places)
-
 pub arrival-places : (id : ℕ) (leave : Bool) (phasers : List PhaserState) → places_of (arrival id leave phasers).phasers ≡ places_of phasers
-arrival-places id leave phasers = arrival_if-places (flat_at phasers id).ended id leave phasers _
-
-in_step-place : (here : Bool) (phaser : PhaserState) (flat : Flat)
-    → place_of (if here then record phaser { flat = flat } else phaser) ≡ place_of phaser
-in_step-place true phaser flat = refl
-in_step-place false phaser flat = refl
+arrival-places id leave phasers = grind (arith, climbed-places)
 
 follow-places : (root phase : ℕ) (ended : Bool) (phasers : List PhaserState)
     → places_of (map (in_step root phase ended) phasers) ≡ places_of phasers
 follow-places root phase ended [] = refl
-follow-places root phase ended (p ∷ phasers) = grind (arith, in_step-place, follow-places root phase ended phasers)
+follow-places root phase ended (p ∷ phasers) = grind (arith, follow-places root phase ended phasers)
 
 pub terminated-places : (root : ℕ) (phasers : List PhaserState) → places_of (map (terminated root) phasers) ≡ places_of phasers
 terminated-places root [] = refl
-terminated-places root (p ∷ phasers) = grind (arith, in_step-place, terminated-places root phasers)
+terminated-places root (p ∷ phasers) = grind (arith, terminated-places root phasers)
 
 -- another phaser of the same place
 put-places : (phasers : List PhaserState) (id : ℕ) (phaser : PhaserState) → place_of phaser ≡ place_of (phaser_at phasers id)
@@ -122,15 +99,11 @@ line_more : (places : List Place) (more : Place) (id : ℕ) (line : List ℕ) �
     → IsLine (places ++ more ∷ []) id line
 line_more places more id line there is = grind (arith, length_push, All-weaker, get_or_append_left)
 
-root_above : (id bound : ℕ) (line : List ℕ) → id < bound → slice_index_or line (length line - 1) 0 < bound
-    → slice_index_or (id ∷ line) (length (id ∷ line) - 1) 0 < bound
-root_above id bound line own above = grind arith
-
 -- the line of a new phaser
 line_new : (places : List Place) (more : Place) (line : List ℕ) → IsForestOf places
     → (line ≡ length places ∷ []) ⊎ ((parent : ℕ) × (parent < length places) × (line ≡ length places ∷ line_at places parent))
     → IsLine (places ++ more ∷ []) (length places) line
-line_new places more line sound given = grind (arith, length_push, All-cons, All-nil, All-weaker, root_above, get_or_append_left)
+line_new places more line sound given = grind (arith, length_push, All-cons, All-nil, All-weaker, get_or_append_left)
 
 -- a forest of one more phaser
 forest_more : (places : List Place) (more : Place) → length places < 64 → IsForestOf places

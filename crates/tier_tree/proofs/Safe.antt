@@ -1,6 +1,6 @@
 -- When a root without strays is turned, everybody in its tree has arrived.
-use Rattle.std.proofs.Common.{inl, inr, ◌≡◌, ◌∙◌, ℕ, suc, ◌+◌, ◌-◌, ◌<◌, ◌==◌, Bool, true, false, List, [], ◌∷◌, length, ap, refl, sym, subst, arith, if◌then◌else◌}
-use Rattle.std.specs.Prelude.{◌⊎◌, ◌&&◌, slice_index_or}
+use Rattle.std.proofs.Common.{inl, inr, ◌≡◌, ◌∙◌, ℕ, suc, ◌-◌, ◌<◌, ◌==◌, Bool, true, false, List, [], ◌∷◌, length, ap, sym, subst, arith, if◌then◌else◌}
+use Rattle.std.specs.Prelude.{◌⊎◌, slice_index_or}
 use Rattle.std.proofs.lemmas.Bool.Decides.{nat_tests}
 use Rattle.packed_phaser.specs.Flat.{Flat, is_empty, unarrived_of}
 use Rattle.tier_tree.specs.Forest.{PhaserState, phaser_at, flat_at, root_at}
@@ -14,17 +14,12 @@ pub linked : (phasers : List PhaserState) (id : ℕ) → IsForest phasers → id
     ⊎ ((parent : ℕ) × (parent < id) × ((phaser_at phasers id).line ≡ id ∷ (phaser_at phasers parent).line))
 linked phasers id sound there = grind (arith, length-places, place_at-places)
 
-first-fails : (under pass : Bool) (others : ℕ) → (if under && pass then 1 else 0) + others ≡ 0 → under ≡ true → pass ≡ false
-first-fails true true others none under = absurd (omega (arith, none))
-first-fails true false others none under = refl
-first-fails false pass others none under = absurd (cc)
-
 -- a child of a phaser without children that pass the test doesn't pass it
 none-passes : (test : Flat → Bool) (parent : ℕ) (phasers : List PhaserState) (id : ℕ) → children test parent phasers ≡ 0
     → id < length phasers → is_under parent (phaser_at phasers id).line ≡ true → test (flat_at phasers id) ≡ false
 none-passes test parent (p ∷ phasers) (suc id) none there under =
     none-passes test parent phasers id (omega (arith, none)) (omega (arith, there)) under
-none-passes test parent phasers id none there under = grind (arith, first-fails)
+none-passes test parent phasers id none there under = grind arith
 
 -- a phaser is turned or empty
 abbrev pub HasAll : Flat → Type 0

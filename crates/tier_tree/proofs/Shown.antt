@@ -294,12 +294,9 @@ late_read leave forest i top own_word own stored there read is_own is_top ended 
     ∙ ap (arrive leave) (below_read forest i top own_word own (present (record_of top) (record_of own_word)) stored there read is_own is_top (λ _. refl))
 
 -- the phase that a phaser shows is that of its root
-view-present : (top own : Flat) → (top.ended ≡ false → own.ended ≡ false) → view_of (present top own) ≡ view_of top
-view-present top own live = grind arith
-
 pub view_read : (forest : List Stored) (i top : ℕ) → IsStored forest → i < length forest → top ≡ (stored_at forest (root_at (phasers_of forest) i)).word
     → view_of (record_of top) ≡ view_of (flat_at (phasers_of forest) i)
-view_read forest i top stored there is = grind (arith, root_shown, flat_shown, view-present)
+view_read forest i top stored there is = grind (arith, root_shown, flat_shown)
 
 pub puts_read : (forest : List Stored) (i w : ℕ) (d x : Stored) → x ≡ record (get_or forest i d) { word = w }
     → IsStored forest → i < length forest
@@ -319,10 +316,6 @@ present-self : (ends : Bool) (f : Flat) → present (advance ends f) (advance en
 present-self true f = refl
 present-self false f = ap (λ (t : Bool). if t then advance false f else renew (advance false f).phase (advance false f)) (same_true (next_phase f.phase))
 
--- a word that isn't a whole turn behind isn't in the next phase yet
-not_next : (own top ends : ℕ) → behind own top ≤ ends → ends < 2147483647 → own ≢ next_phase top
-not_next own top ends near few = grind (arith, nat_tests)
-
 -- a phase end puts a word one phase further behind at most
 behind_next : (own top ends : ℕ) → behind own top ≤ ends → behind own (next_phase top) ≤ ends + 1
 behind_next own top ends near = grind (arith, nat_tests)
@@ -331,7 +324,7 @@ behind_next own top ends near = grind (arith, nat_tests)
 present_turned : (ends : Bool) (top own : Flat) (count : ℕ) → behind own.phase top.phase ≤ count → count < 2147483647
     → present (advance ends top) own ≡ follow (advance ends top).phase ends (present top own)
 present_turned true top own count near few = ap (λ (n : ℕ). force (fresh (next_phase top.phase) n)) (sym (present-parties top own))
-present_turned false top own count near few = grind (arith, present-parties, present-late, not_next)
+present_turned false top own count near few = grind (arith, present-parties, present-late)
 
 -- a terminated root
 present_forced : (top own : Flat) → present (force top) own ≡ force (present top own)

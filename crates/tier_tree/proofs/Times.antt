@@ -1,5 +1,5 @@
 -- A climb changes no phase and terminates nobody.
-use Rattle.std.proofs.Common.{◌≡◌, ℕ, zero, suc, Bool, true, false, List, ◌∷◌, refl, sym, subst, if◌then◌else◌, arith}
+use Rattle.std.proofs.Common.{◌≡◌, ℕ, zero, suc, Bool, true, false, List, ◌∷◌, refl, arith}
 use Rattle.packed_phaser.specs.Flat.{Flat, Arrival, Counts, Turns, ComesLate, IsUnregistered, arrive, view_of}
 use Rattle.tier_tree.specs.Forest.{PhaserState, flat_at, with_flat}
 use Rattle.tier_tree.specs.Arrival.{passed_on}
@@ -15,16 +15,8 @@ IsArrival f (Turns g) = IsAsLate g f × (f.ended ≡ false)
 IsArrival f (ComesLate view) = (view ≡ view_of f) × (f.ended ≡ true)
 IsArrival f IsUnregistered = f.ended ≡ false
 
-settled_is : (f g : Flat) → IsAsLate g f → f.ended ≡ false → (all : Bool)
-    → IsArrival f (if all then Turns (record g { turned = true }) else Counts g)
-settled_is f g late live true = (late, live)
-settled_is f g late live false = (late, live)
-
-arrival_is : (leave : Bool) (f : Flat) → IsArrival f (arrive leave f)
-arrival_is leave f = grind (arith, settled_is)
-
 pub found : (leave : Bool) (f : Flat) (a : Arrival) → a ≡ arrive leave f → IsArrival f a
-found leave f a is = subst (IsArrival f) (sym is) (arrival_is leave f)
+found leave f a is = grind arith
 
 -- other counts of the same phase
 pub with_flat-late : (phasers : List PhaserState) (id n : ℕ) (flat : Flat) → IsAsLate flat (flat_at phasers id)

@@ -6,12 +6,10 @@ use Rattle.std.proofs.lemmas.List.{get_or_past}
 use Rattle.packed_phaser.specs.Flat.{Flat, Joins, JoinsLate, MustWait, Overfull, Arrival, arrive, register, advance}
 use Rattle.tier_tree.specs.declared.arrived.Arrived.{Arrived}
 use Rattle.tier_tree.specs.declared.arrived.Arrived.TheVariants as arrived
-use Rattle.tier_tree.specs.declared.registered.Registered.{Registered}
-use Rattle.tier_tree.specs.declared.climb.Climb.{Climb}
 use Rattle.tier_tree.specs.declared.id.PhaserId.{PhaserId}
 use Rattle.tier_tree.specs.Forest.{PhaserState, no_phaser, phaser_at, flat_at, root_at}
-use Rattle.tier_tree.specs.Registration.{Join, joins, joined, flat_by, registration, registered_by, after_registration}
-use Rattle.tier_tree.specs.Arrival.{Arrives, Climbed, is_top, with_child, climbed_by, climbed, arrival_by, arrival}
+use Rattle.tier_tree.specs.Registration.{Join, joined, flat_by, registration, after_registration}
+use Rattle.tier_tree.specs.Arrival.{Arrives, Climbed, is_top, climbed_by, climbed, arrival}
 use Rattle.tier_tree.specs.PhaseEnd.{most_ends, after_phase_end, after_force, in_step}
 use Rattle.tier_tree.specs.Sound.{places_of}
 use Rattle.tier_tree.specs.Answer.{IfTurning, KeepsPlaces}
@@ -58,17 +56,11 @@ abbrev pub AreFull : List PhaserState → Type 0
 AreFull phasers = (id : ℕ) → IsFull (flat_at phasers id)
 
 -- whoever isn't there is no pending phaser
-absent : (phasers : List PhaserState) (id : ℕ) → length phasers ≤ id → is_pending (flat_at phasers id) ≡ false
-absent phasers id past = ap (λ (p : PhaserState). is_pending p.flat) (get_or_past phasers id no_phaser past)
-
-unturned : (phasers : List PhaserState) (id : ℕ) → length phasers ≤ id → (flat_at phasers id).turned ≡ false
-unturned phasers id past = ap (λ (p : PhaserState). p.flat.turned) (get_or_past phasers id no_phaser past)
-
 pending_there : (phasers : List PhaserState) (id : ℕ) → is_pending (flat_at phasers id) ≡ true → id < length phasers
-pending_there phasers id is = grind (arith, cases_lt, absent)
+pending_there phasers id is = grind (arith, cases_lt, get_or_past)
 
 pub full_of : (phasers : List PhaserState) (origin : Origin) → AreTallied phasers origin → AreFull phasers
-full_of phasers origin stands id turned = grind (arith, cases_lt, unturned)
+full_of phasers origin stands id turned = grind (arith, cases_lt, get_or_past)
 
 -- what is true of each phaser and another in its place
 put : (P : PhaserState → PhaserState → Type 0) → ((x : PhaserState) → P x x) → (phasers : List PhaserState) (i : ℕ) (new : PhaserState)
@@ -97,13 +89,9 @@ joined_pending (join ∷ others) phasers q =
     (join_pending f.ended (join.count == 0) _ f.turned f (record f { parties = f.parties + join.count }) _ _ refl refl) q
     ∙ joined_pending others phasers q
 
-by_pending : (r : Registered) (all : List Join) (phasers : List PhaserState) (q : ℕ)
-    → is_pending (flat_at (registered_by r all phasers) q) ≡ is_pending (flat_at phasers q)
-by_pending r all phasers q = grind (arith, joined_pending)
-
 pub registration-pending : (id count : ℕ) (phasers : List PhaserState) (q : ℕ)
     → is_pending (flat_at (after_registration id count phasers) q) ≡ is_pending (flat_at phasers q)
-registration-pending id count phasers q = by_pending (registration id count phasers) (joins id count phasers) phasers q
+registration-pending id count phasers q = grind (arith, joined_pending)
 
 -- a pending phaser refuses an arrival
 refuses : (leave : Bool) (f : Flat) (turned ended : Bool) → f.turned ≡ turned → f.ended ≡ ended → (turned || ended) ≡ true
@@ -113,14 +101,10 @@ refuses leave f turned true t e some full i top onward phasers = rw e refl
 refuses leave f true false t e some full i top onward phasers = grind (arith, same-is)
 refuses leave f false false t e some full i top onward phasers = absurd (cc (some))
 
-child_pending : (c : Climb) (i : ℕ) (flat : Flat) (above : List PhaserState) (r : ℕ) → r ≢ i → is_pending (flat_at above r) ≡ true
-    → is_pending (flat_at (with_child i flat c above).phasers r) ≡ true
-child_pending c i flat above r apart is = grind (arith, flat-other)
-
 other_pending : (a : Arrival) (i : ℕ) (top : Bool) (onward : Bool → Climbed) (phasers : List PhaserState) (r : ℕ) → r ≢ i
     → is_pending (flat_at phasers r) ≡ true → ((leaves : Bool) → is_pending (flat_at (onward leaves).phasers r) ≡ true)
     → is_pending (flat_at (climbed_by a i top onward phasers).phasers r) ≡ true
-other_pending a i top onward phasers r apart is rest = grind (arith, flat-other, child_pending)
+other_pending a i top onward phasers r apart is rest = grind (arith, flat-other)
 
 -- whoever is pending stays so while others arrive
 climbed_pending : (line : List ℕ) (leave : Bool) (phasers : List PhaserState) (r : ℕ) → AreFull phasers
@@ -139,16 +123,9 @@ climbed_pending (i ∷ above) leave phasers r full is =
           (λ leaves. climbed_pending above leaves phasers r full is)
     ]
 
-arrival_by-pending : (ended : Bool) (c : Climb) (id : ℕ) (after phasers : List PhaserState) (view : _) (r : ℕ)
-    → is_pending (flat_at phasers r) ≡ true → is_pending (flat_at after r) ≡ true
-    → let a : Arrives = if ended then record { phasers = phasers; answer = arrived.Dead view } else arrival_by c id after phasers in
-    is_pending (flat_at a.phasers r) ≡ true
-arrival_by-pending true c id after phasers view r before now = before
-arrival_by-pending false c id after phasers view r before now = grind arith
-
 pub arrival_pending : (id : ℕ) (leave : Bool) (phasers : List PhaserState) (r : ℕ) → AreFull phasers
     → StaysPending r phasers (arrival id leave phasers).phasers
-arrival_pending id leave phasers r full is = grind (arith, arrival_by-pending, climbed_pending)
+arrival_pending id leave phasers r full is = grind (arith, climbed_pending)
 
 pub force_pending : (id : ℕ) (phasers : List PhaserState) (r : ℕ) → StaysPending r phasers (after_force id phasers)
 force_pending id phasers r is =
@@ -232,14 +209,10 @@ pub trees_forced : (most id : ℕ) (phasers : List PhaserState) → AreTrees mos
 trees_forced most id phasers trees there = grind (arith, force-places, keeps_places, many_same, forest_kept, stands_after_force, force-ends, force_pending)
 
 -- the count of phase ends grows by one at the root
-if-ends : (here : Bool) (x : PhaserState) (flat : Flat) → (if here then record x { flat = flat } else x).ends ≡ x.ends
-if-ends true x flat = refl
-if-ends false x flat = refl
-
 in_step-ends : (root phase : ℕ) (ended : Bool) (phasers : List PhaserState) (n : ℕ)
     → (phaser_at (map (in_step root phase ended) phasers) n).ends ≡ (phaser_at phasers n).ends
 in_step-ends root phase ended (x ∷ phasers) (suc n) = in_step-ends root phase ended phasers n
-in_step-ends root phase ended phasers n = grind (arith, if-ends)
+in_step-ends root phase ended phasers n = grind arith
 
 pub turn-ends : (root most : ℕ) (ends : Bool) (phasers : List PhaserState) → ((id : ℕ) → (phaser_at phasers id).ends ≤ most)
     → (id : ℕ) → (phaser_at (after_phase_end root ends phasers) id).ends ≤ most + 1

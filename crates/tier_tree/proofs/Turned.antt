@@ -222,13 +222,9 @@ map-at : (f : PhaserState → PhaserState) (phasers : List PhaserState) (id : �
 map-at f (p ∷ phasers) (suc id) there = map-at f phasers id (omega (arith, there))
 map-at f phasers id there = grind arith
 
-change_if : (here : Bool) (phaser : PhaserState) (flat : Flat) → (if here then record phaser { flat = flat } else phaser).flat ≡ (if here then flat else phaser.flat)
-change_if true phaser flat = refl
-change_if false phaser flat = refl
-
 forced_flat : (phasers : List PhaserState) (root id : ℕ) → id < length phasers
     → flat_at (map (terminated root) phasers) id ≡ (if root_at phasers id == root then force (flat_at phasers id) else flat_at phasers id)
-forced_flat phasers root id there = grind (arith, map-at, change_if)
+forced_flat phasers root id there = grind (arith, map-at)
 
 pub force_change : (id : ℕ) (phasers : List PhaserState) → TreeChange (root_at phasers id) true phasers (after_force id phasers)
 force_change id phasers = record {
@@ -259,7 +255,7 @@ advance-follows false f = refl
 step_flat : (phasers : List PhaserState) (root phase : ℕ) (ends : Bool) (id : ℕ) → id < length phasers
     → flat_at (map (in_step root phase ends) phasers) id
     ≡ (if root_at phasers id == root then follow phase ends (flat_at phasers id) else flat_at phasers id)
-step_flat phasers root phase ends id there = grind (arith, map-at, change_if)
+step_flat phasers root phase ends id there = grind (arith, map-at)
 
 pub turn_change : (root : ℕ) (ends : Bool) (phasers : List PhaserState) → root < length phasers → root_at phasers root ≡ root
     → TreeChange root ends phasers (after_phase_end root ends phasers)

@@ -4,12 +4,12 @@ use Rattle.std.proofs.lemmas.List.{get_or-set_same, get_or-set_other}
 use Rattle.packed_phaser.specs.Flat.{Flat, Arrival, Counts, Turns, ComesLate, IsUnregistered, arrive, view_of}
 use Rattle.tier_tree.specs.declared.climb.Climb.{Climb}
 use Rattle.tier_tree.specs.declared.climb.Climb.TheVariants as climb
-use Rattle.tier_tree.specs.Forest.{PhaserState, phaser_at, flat_at, root_at, with_flat}
+use Rattle.tier_tree.specs.Forest.{PhaserState, phaser_at, flat_at, root_at}
 use Rattle.tier_tree.specs.Answer.{IfTurning}
 use Rattle.tier_tree.specs.Answer.{MakesPending}
 use Rattle.tier_tree.specs.declared.arrived.Arrived.{Arrived}
 use Rattle.tier_tree.specs.declared.arrived.Arrived.TheVariants as arrived
-use Rattle.tier_tree.specs.Arrival.{Arrives, arrival, arrival_by, Climbed, passed_on, with_child, climbed_by, climbed}
+use Rattle.tier_tree.specs.Arrival.{Arrives, arrival, arrival_by, Climbed, climbed_by, climbed}
 use Rattle.tier_tree.specs.Sound.{IsForest}
 use Rattle.tier_tree.proofs.Lines.{climbed_same}
 use Rattle.tier_tree.proofs.Safe.{last_of, line_own, root-parent}
@@ -30,34 +30,19 @@ TurnsAll f (Turns g) = IsTurned g × IsOpen f
 TurnsAll f (ComesLate view) = Unit {0}
 TurnsAll f IsUnregistered = Unit {0}
 
-settled_turns : (f g : Flat) → IsOpen f → g.ended ≡ false → (all : Bool) → TurnsAll f (if all then Turns (record g { turned = true }) else Counts g)
-settled_turns f g awaits live true = ((refl, live), awaits)
-settled_turns f g awaits live false = tt
-
-arrive_turns : (leave : Bool) (f : Flat) → TurnsAll f (arrive leave f)
-arrive_turns leave f = grind (arith, settled_turns)
-
 -- the root is turned now, and waited for somebody before
 abbrev pub TurnsIt : Flat → Flat → Type 0
 TurnsIt f g = IsTurned g × IsOpen f
 
-child_turned : (id : ℕ) (g : Flat) (c : Climb) (above : List PhaserState) → (with_child id g c above).climb ≡ climb.Turned
-    → (c ≡ climb.Turned) × ((with_child id g c above).phasers ≡ with_flat above id (passed_on g))
-child_turned id g c above is = grind arith
-
-root_turned : (a : Arrival) (i : ℕ) (above : Bool → Climbed) (phasers : List PhaserState) → i < length phasers → TurnsAll (flat_at phasers i) a
-    → (climbed_by a i true above phasers).climb ≡ climb.Turned → TurnsIt (flat_at phasers i) (flat_at (climbed_by a i true above phasers).phasers i)
-root_turned a i above phasers there all is = grind (arith, get_or-set_same)
-
 above_turned : (a : Arrival) (i r : ℕ) (above : Bool → Climbed) (phasers : List PhaserState) → r ≢ i
     → ((leaves : Bool) → (above leaves).climb ≡ climb.Turned → TurnsIt (flat_at phasers r) (flat_at (above leaves).phasers r))
     → (climbed_by a i false above phasers).climb ≡ climb.Turned → TurnsIt (flat_at phasers r) (flat_at (climbed_by a i false above phasers).phasers r)
-above_turned a i r above phasers apart rest is = grind (arith, child_turned, get_or-set_other)
+above_turned a i r above phasers apart rest is = grind (arith, get_or-set_other)
 
 pub climbed_turned : (above : List ℕ) (i : ℕ) (leave : Bool) (phasers : List PhaserState) → IsForest phasers → i < length phasers
     → (phaser_at phasers i).line ≡ i ∷ above → (climbed (i ∷ above) leave phasers).climb ≡ climb.Turned
     → TurnsIt (flat_at phasers (root_at phasers i)) (flat_at (climbed (i ∷ above) leave phasers).phasers (root_at phasers i))
-climbed_turned [] i leave phasers sound there line is = grind (arith, last_of, root_turned, arrive_turns)
+climbed_turned [] i leave phasers sound there line is = grind (arith, last_of, get_or-set_same)
 climbed_turned (q ∷ more) i leave phasers sound there line is =
     let next = next-parent phasers i q more sound there line in
     let below : q < i = next.0 in

@@ -1,8 +1,8 @@
 -- The number of a phase, from its view; and a word in its root's phase.
-use Rattle.std.proofs.Common.{◌≡◌, ◌≢◌, ℕ, ◌-◌, ◌<◌, ◌/◌, ◌%◌, ◌==◌, Bool, true, false, refl, arith, if◌then◌else◌}
-use Rattle.std.specs.Prelude.{ℤ, pos, not, ◌&&◌}
+use Rattle.std.proofs.Common.{◌≡◌, ◌≢◌, ℕ, ◌<◌, ◌/◌, ◌%◌, ◌==◌, Bool, false, refl, arith}
+use Rattle.std.specs.Prelude.{ℤ, pos}
 use Rattle.std.proofs.lemmas.Bool.Decides.{nat_tests}
-use Rattle.packed_phaser.specs.Flat.{Flat, renew, force}
+use Rattle.packed_phaser.specs.Flat.{renew}
 use Rattle.packed_phaser.specs.Word.{fields_of, record_of}
 use Rattle.phase_number.specs.Phase.{phase_view, is_ended_view}
 use Rattle.tier_tree.specs.Stored.{present}
@@ -13,16 +13,6 @@ view_number (pos n) false p q is found few = cc (is, found)
 view_number _ _ p q is found few = grind (arith, is, found, few)
 
 -- in its root's phase, and terminated where that is
-alike : (f : Flat) (n : ℕ) (ended : Bool) → f.phase ≡ n → f.ended ≡ ended → (ended ≡ true → (f.arrived ≡ f.parties) × (f.turned ≡ false))
-    → f ≡ (if ended then force (renew n f) else (if f.phase == n then f else renew n f))
-alike f n true phase is all = grind arith
-alike f n false phase is all = grind (arith, nat_tests)
-
-all_there : (ended : Bool) (parties unarrived : ℕ) → ended ≡ true
-    → ((if ended then parties else parties - unarrived) ≡ parties) × ((not ended && (unarrived == 0)) ≡ false)
-all_there true parties unarrived is = (refl, refl)
-all_there false parties unarrived is = absurd (cc is)
-
 phase_high : (w : ℕ) → (fields_of w).phase ≡ w / 4294967296 % 2147483648
 unfolding fields_of
 phase_high w = refl
@@ -32,7 +22,7 @@ unfolding fields_of
 ended_high w = grind arith
 
 pub stands_as_it_is : (top own : ℕ) → own / 4294967296 ≡ top / 4294967296 → record_of own ≡ present (record_of top) (record_of own)
-stands_as_it_is top own same = grind (arith, ended_high, alike, phase_high, all_there)
+stands_as_it_is top own same = grind (arith, ended_high, phase_high)
 
 -- of words that aren't terminated, in another phase
 phase_of_live : (w : ℕ) → w < 18446744073709551616 → (fields_of w).ended ≡ false → (fields_of w).phase ≡ w / 4294967296
