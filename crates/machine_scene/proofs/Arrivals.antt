@@ -27,9 +27,7 @@ pub refused : (manner : Manner) (p t : ℕ) (program : Program) (scene : Scene) 
     → refusal_of_arrival p (thread_at scene t) scene ≡ Some code
     → unless_own p t scene (Some (outcome_of_arrival manner p t program scene))
     ≡ Some (outcome_of_turn (turn_of_throw code (thread_at scene t)) t scene)
-refused manner p t program scene code is =
-    thrown_by (is_own_tree p (thread_at scene t) scene) (has_routine p scene && is_full (thread_at scene t))
-    (λ c. outcome_of_turn (turn_of_throw c (thread_at scene t)) t scene) (outcome_with_room manner p t program scene) code is
+refused manner p t program scene code is = grind arith
 
 come_by : (own full : Bool) (thrown : ℤ → Outcome) (comes : Outcome)
     → (if own then Some (pos 1) else (if full then Some (pos 6) else None)) ≡ None
@@ -40,9 +38,7 @@ come_by false full thrown comes is = grind arith
 -- any other comes to it
 pub comes : (manner : Manner) (p t : ℕ) (program : Program) (scene : Scene) → refusal_of_arrival p (thread_at scene t) scene ≡ None
     → unless_own p t scene (Some (outcome_of_arrival manner p t program scene)) ≡ Some (outcome_with_room manner p t program scene)
-comes manner p t program scene is =
-    come_by (is_own_tree p (thread_at scene t) scene) (has_routine p scene && is_full (thread_at scene t))
-    (λ c. outcome_of_turn (turn_of_throw c (thread_at scene t)) t scene) (outcome_with_room manner p t program scene) is
+comes manner p t program scene is = grind arith
 
 room_by : (own full : Bool) → (if own then Some (pos 1) else (if full then Some (pos 6) else None)) ≡ None → full ≡ false
 room_by true full is = absurd (cc is)

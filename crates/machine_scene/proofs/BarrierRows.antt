@@ -16,7 +16,7 @@ use Rattle.loader.specs.Program.{Program}
 use Rattle.thread_state.specs.declared.status.Status.TheVariants as status
 use Rattle.thread_state.specs.Thread.{Turn, is_full, turn_of_throw, turn_of_interruption, turn_of_answer, turn_of_done, turn_of_action}
 use Rattle.machine_scene.specs.Scene.{Scene, Outcome, thread_at, barrier_at, action_at, with_barrier, outcome_of_turn}
-use Rattle.machine_scene.specs.BarrierRows.{is_run_by, is_run_by_another, unless_busy, unless_runner, outcome_of_entered, outcome_of_entry, outcome_of_await_at, outcome_of_reset, outcome_of_barrier_row}
+use Rattle.machine_scene.specs.BarrierRows.{is_run_by, unless_busy, unless_runner, outcome_of_entered, outcome_of_entry, outcome_of_await_at, outcome_of_reset, outcome_of_barrier_row}
 use Rattle.machine_scene.specs.Sound.{IsSound, is_wait_row}
 use Rattle.machine_scene.proofs.Facts.{RunsOn, action_within}
 use Rattle.machine_scene.proofs.Plain.{KeepsSound, StandsAt, either, free_in}
@@ -118,8 +118,7 @@ sound_reset program steps t b scene stands =
 -- beside another thread's action nothing happens
 sound_unless_busy : (program : Program) (steps t b : ℕ) (scene : Scene) (outcome : Option Outcome) → KeepsSound program steps outcome
     → KeepsSound program steps (unless_busy b t scene outcome)
-sound_unless_busy program steps t b scene outcome sound =
-    either (KeepsSound program steps) (is_run_by_another t (barrier_at scene b).runner) {a = None} {b = outcome} tt sound
+sound_unless_busy program steps t b scene outcome sound = grind arith
 
 -- in the action of its own barrier the thread throws instead
 sound_unless_runner : (program : Program) (steps t b : ℕ) (scene : Scene) (row : Row) (outcome : Option Outcome)

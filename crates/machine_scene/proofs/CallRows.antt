@@ -1,5 +1,5 @@
 -- Calls, handlers, `ret` and thrown exceptions.
-use Rattle.std.proofs.Common.{◌≡◌, ◌∙◌, ℕ, ℤ, pos, suc, ◌+◌, ◌<◌, Bool, true, false, List, ◌∷◌, length, ap, refl, sym, subst, arith, if◌then◌else◌, rules}
+use Rattle.std.proofs.Common.{◌≡◌, ℕ, ℤ, pos, suc, ◌+◌, ◌<◌, Bool, true, false, List, ◌∷◌, length, ap, refl, subst, arith, if◌then◌else◌, rules}
 use Rattle.std.specs.Prelude.{◌||◌, not, Option, Some, None, slice_set, slice_index_or}
 use Rattle.std.specs.Ordering.{int_eq}
 use Rattle.std.proofs.lemmas.List.{get_or-set_same}
@@ -69,9 +69,7 @@ set_twice _ _ a b = refl
 
 twice : (xs : List ThreadState) (t : ℕ) (a : ThreadState) (f : ThreadState → ThreadState) → t < length xs
     → slice_set xs t (f a) ≡ slice_set (slice_set xs t a) t (f (slice_index_or (slice_set xs t a) t no_thread))
-twice xs t a f there =
-    sym (set_twice xs t a (f a))
-    ∙ ap (λ (th : ThreadState). slice_set (slice_set xs t a) t (f th)) (sym (get_or-set_same xs t a no_thread there))
+twice xs t a f there = grind (arith, set_twice, get_or-set_same)
 
 or_false : (b : Bool) → (b || false) ≡ true → b ≡ true
 or_false true is = refl
@@ -86,8 +84,7 @@ can_turn_on_top program steps t root row registers scene sound few there is live
     let flat = flat_at scene.phasers root in
     let most = sound.trees.ends root in
     let pends : (flat.turned || flat.ended) ≡ true = advance_pending program steps scene t root row registers sound there is in
-    let turned : flat.turned ≡ true = or_false flat.turned (ap (λ (e : Bool). flat.turned || e) (sym live) ∙ pends) in
-    record { there = named.1.0; top = named.1.1; turned = turned; live = live; ends = omega (arith, most, few) }
+    grind (arith, or_false)
 
 -- back at an arrival from its routine
 sound_routine_end : (ended : Bool) (program : Program) (steps t root row : ℕ) (registers : List ℤ) (manner : Manner) (ends : Bool) (scene : Scene)

@@ -1,5 +1,5 @@
 -- Turns of the common kinds: what they leave of the sets of ready threads.
-use Rattle.std.proofs.Common.{◌≡◌, ◌≢◌, ◌∙◌, ℕ, ℤ, pos, ◌<◌, ◌&&◌, ◌||◌, Bool, true, false, List, ap, subst, if◌then◌else◌, arith}
+use Rattle.std.proofs.Common.{◌≡◌, ◌≢◌, ◌∙◌, ℕ, ℤ, pos, ◌<◌, ◌||◌, Bool, true, false, List, ap, if◌then◌else◌, arith}
 use Rattle.std.specs.Prelude.{length, Option, Some, None}
 use Rattle.std.specs.Ordering.{int_eq}
 use Rattle.std.proofs.lemmas.Bool.Decides.{Decides-int_eq}
@@ -24,12 +24,11 @@ use Rattle.machine_scene.specs.declared.manner.Manner.{Manner}
 use Rattle.machine_scene.specs.declared.ready_set.ReadySet.{ReadySet}
 use Rattle.machine_scene.specs.Manner.{manner_of}
 use Rattle.machine_scene.specs.Scene.{Scene, StoredScene, Outcome, scene_of, thread_at, with_thread, with_phasers}
-use Rattle.machine_scene.specs.PhaserRows.{is_past, unless_own, outcome_of_pending_end, outcome_of_arrived, outcome_of_arrival}
+use Rattle.machine_scene.specs.PhaserRows.{unless_own, outcome_of_pending_end, outcome_of_arrived, outcome_of_arrival}
 use Rattle.machine_scene.specs.Waits.{outcome_of_awaited, outcome_of_phase_wait}
 use Rattle.machine_scene.specs.Outcomes.{outcome_of_row, outcome_in, is_ready}
 use Rattle.machine_scene.specs.Ready.{may_be_blocked}
 use Rattle.machine_scene.specs.ReadySet.{KnowsReady, AreReadyBeside, is_registering, interrupts, is_loud, changes_all, is_arrival, is_common, is_wait}
-use Rattle.machine_scene.proofs.Plain.{either}
 use Rattle.machine_scene.proofs.ReadySets.{seldom_registers, somebody_registers}
 use Rattle.machine_scene.proofs.Standings.{Standing, arrival-standings}
 use Rattle.machine_scene.proofs.Steady.{other_ready}
@@ -129,9 +128,7 @@ waits_row row t program scene common at there = grind (arith, waits_unless, wait
 
 waits_awaited : (looks : Bool) (into : Reg) (p : ℕ) (phase : ℤ) (t : ℕ) (program : Program) (scene : Scene)
     → WaitsIf t program (outcome_of_awaited looks into p phase t scene)
-waits_awaited looks into p phase t program scene =
-    either (WaitsIf t program) (is_past p phase scene) (λ waits. absurd (cc waits))
-    (either (WaitsIf t program) (looks && (thread_at scene t).interrupted) {b = None} (λ waits. absurd (cc waits)) tt)
+waits_awaited looks into p phase t program scene = grind arith
 
 waits_again : (row : Row) (phase : ℤ) (t : ℕ) (program : Program) (scene : Scene) → WaitsIf t program (outcome_of_phase_wait row phase t scene)
 waits_again row phase t program scene = grind (arith, waits_awaited)
@@ -150,8 +147,7 @@ pub record AfterCommon (program : Program) (row : Row) (t : ℕ) (old mid : Stor
   pub ready : mid.ready ≡ old.ready
 
 calm_after : (program : Program) (row : Row) (t : ℕ) (old mid : StoredScene) (event : Event) → AfterCommon program row t old mid event → IsCalm row
-calm_after program row t old mid event after =
-    is_calm (thread_at (scene_of old) t).status row t program (scene_of old) _ after.common after.comes
+calm_after program row t old mid event after = grind arith
 
 -- the thread's turn was ready
 pub turn_kept : (program : Program) (row : Row) (t : ℕ) (old mid : StoredScene) (event : Event) → AfterCommon program row t old mid event
@@ -182,11 +178,9 @@ beside_kept program row t old mid event after knows quiet =
 -- where it begins to wait, it isn't ready
 pub waits_kept : (program : Program) (row : Row) (t : ℕ) (old mid : StoredScene) (event : Event) → AfterCommon program row t old mid event
     → is_wait event.what ≡ true → (is_ready t program (scene_of mid) ≡ false) × (is_registering t program (scene_of mid) ≡ false)
-waits_kept program row t old mid event after =
-    subst (WaitsIf t program) after.comes (waits_in (thread_at (scene_of old) t).status row t program (scene_of old) after.common after.at after.there)
+waits_kept program row t old mid event after = grind (arith, waits_in)
 
 -- at a row on registers alone the event shows no more than a turn
 pub local_kept : (program : Program) (row : Row) (t : ℕ) (old mid : StoredScene) (event : Event) → AfterCommon program row t old mid event
     → is_local_row row ≡ true → is_loud event ≡ false
-local_kept program row t old mid event after is =
-    subst CalmIf after.comes (calm_in (thread_at (scene_of old) t).status row t program (scene_of old) after.common is)
+local_kept program row t old mid event after is = grind arith

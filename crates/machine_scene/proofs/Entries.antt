@@ -15,8 +15,7 @@ pub entries-set : (test : Frame → Bool) (threads : List ThreadState) (t : ℕ)
     ≡ entries test threads + count_by test thread.stack
 entries-set test [] t thread there = absurd (omega (arith, there))
 entries-set test (x ∷ threads) zero thread there = omega arith
-entries-set test (x ∷ threads) (suc t) thread there =
-    let rest = entries-set test threads t thread (omega (arith, there)) in omega (arith, rest)
+entries-set test (x ∷ threads) (suc t) thread there = grind (arith, entries-set test threads t thread (omega (arith, there)))
 
 -- those of one thread are among them
 pub entries-at : (test : Frame → Bool) (threads : List ThreadState) (t : ℕ) → t < length threads
@@ -48,5 +47,4 @@ one_more test f false is = rw is refl
 -- with one more entry
 pub entries-push : (test : Frame → Bool) (stack : List Frame) (f : Frame)
     → count_by test (stack ++ f ∷ []) ≡ count_by test stack + bit (test f)
-entries-push test stack f =
-    sum_by-append _ stack (f ∷ []) ∙ ap (λ (n : ℕ). count_by test stack + n) (one_more test f (test f) refl)
+entries-push test stack f = grind (arith, sum_by-append, one_more)

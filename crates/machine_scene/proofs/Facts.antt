@@ -1,5 +1,5 @@
 -- What a sound scene tells of one thread: where it stands, what its top entry names, and at which barrier it waits.
-use Rattle.std.proofs.Common.{◌≡◌, ◌≢◌, ◌∙◌, ℕ, ℤ, ◌+◌, ◌<◌, ◌≤◌, Bool, true, false, List, length, ap, refl, arith}
+use Rattle.std.proofs.Common.{◌≡◌, ◌≢◌, ℕ, ℤ, ◌+◌, ◌<◌, ◌≤◌, Bool, true, false, List, length, ap, refl, arith}
 use Rattle.std.specs.Prelude.{is_some, Option, Some, None, All}
 use Rattle.std.proofs.lemmas.Option.{slice_get_cases}
 use Rattle.instruction_table.specs.declared.row.Row.{Row}
@@ -17,10 +17,9 @@ use Rattle.thread_state.specs.declared.frame.Frame.{Frame}
 use Rattle.thread_state.specs.declared.frame.Frame.TheVariants as frame
 use Rattle.thread_state.specs.declared.status.Status.{Status}
 use Rattle.thread_state.specs.declared.status.Status.TheVariants as status
-use Rattle.thread_state.specs.Frame.{is_advance}
 use Rattle.thread_state.specs.Thread.{top_of}
 use Rattle.machine_scene.specs.Scene.{Scene, counts_of, no_thread, thread_at, barrier_at, routine_at, action_at}
-use Rattle.machine_scene.specs.Sound.{IsFrame, IsPlaced, IsSound, entries, bit, awaits, is_wait_row}
+use Rattle.machine_scene.specs.Sound.{IsFrame, IsPlaced, IsSound, entries, bit, awaits}
 use Rattle.machine_scene.proofs.Entries.{entries-at, entries-pop}
 
 -- a row that doesn't stop has a row after it
@@ -36,13 +35,11 @@ named_at program counts pc code within = code.named pc Halt within
 -- the row of each phaser's routine is there, and that of each barrier's action
 pub routine_within : (program : Program) (scene : Scene) (root : ℕ) → IsCode program (counts_of program scene) → root < length scene.phasers
     → routine_at program root < length program.rows
-routine_within program scene root code there =
-    let many = code.all_routines in code.routines root 0 (omega (arith, many, there))
+routine_within program scene root code there = grind arith
 
 pub action_within : (program : Program) (scene : Scene) (b : ℕ) → IsCode program (counts_of program scene) → b < length scene.barriers
     → action_at program b < length program.rows
-action_within program scene b code there =
-    let many = code.all_actions in code.actions b 0 (omega (arith, many, there))
+action_within program scene b code there = grind arith
 
 -- a thread stands at a row, and so do its entries
 pub placed_at : (program : Program) (steps : ℕ) (scene : Scene) (t : ℕ) → IsSound program steps scene → t < length scene.threads
@@ -57,8 +54,7 @@ top_is program scene stack f all is = grind (arith, slice_get_cases)
 -- the same, of the stack of thread t
 pub top_named : (program : Program) (steps : ℕ) (scene : Scene) (t : ℕ) (f : Frame) → IsSound program steps scene → t < length scene.threads
     → top_of (thread_at scene t).stack ≡ Some f → IsFrame program scene f
-top_named program steps scene t f sound there is =
-    top_is program scene (thread_at scene t).stack f (placed_at program steps scene t sound there).stack is
+top_named program steps scene t f sound there is = grind (arith, top_is, placed_at)
 
 true_if : (b : Bool) → 1 ≤ bit b → b ≡ true
 true_if true some = refl
@@ -70,8 +66,7 @@ counted_on_top : (test : Frame → Bool) (scene : Scene) (t : ℕ) (f : Frame) �
 counted_on_top test scene t f there is passes =
     let one : bit (test f) ≡ 1 = ap bit passes in
     let popped = entries-pop test (thread_at scene t).stack f is in
-    let among = entries-at test scene.threads t there in
-    omega (arith, one, popped, among)
+    grind (arith, entries-at)
 
 -- the top entry is that of an advance routine: its root is there and pending, and a row comes after the arrival's
 pub advance_pending : (program : Program) (steps : ℕ) (scene : Scene) (t root row : ℕ) (registers : List ℤ) → IsSound program steps scene
@@ -79,9 +74,7 @@ pub advance_pending : (program : Program) (steps : ℕ) (scene : Scene) (t root 
     → is_pending (flat_at scene.phasers root) ≡ true
 advance_pending program steps scene t root row registers sound there is =
     let named = top_named program steps scene t (frame.Advance root registers row) sound there is in
-    let some = counted_on_top (is_advance root) scene t (frame.Advance root registers row) there is (same-is root) in
-    let few = sound.advances root named.1.0 named.1.1 in
-    true_if (is_pending (flat_at scene.phasers root)) (omega (arith, some, few))
+    grind (arith, counted_on_top, same-is, true_if)
 
 -- the top entry is that of an action: a thread runs it
 pub action_runs : (program : Program) (steps : ℕ) (scene : Scene) (t b row : ℕ) (registers : List ℤ) → IsSound program steps scene
@@ -117,5 +110,4 @@ no_wait program steps scene t b sound free = grind (arith, none_if, not_awaiting
 pub awaited : (program : Program) (steps : ℕ) (scene : Scene) (t b : ℕ) (index : ℤ) (into : Reg) → IsSound program steps scene
     → (thread_at scene t).status ≡ status.AwaitsBarrier index → row_at program.rows (thread_at scene t).pc ≡ Cawait into b
     → is_some (wait_at (barrier_at scene b).waits t) ≡ true
-awaited program steps scene t b index into sound waits row =
-    sound.waits b t ∙ ap (λ (s : Status). awaits b s (row_at program.rows (thread_at scene t).pc)) waits ∙ ap (is_wait_row b) row ∙ same-is b
+awaited program steps scene t b index into sound waits row = grind arith

@@ -1,5 +1,5 @@
 -- Turns of running threads at rows on registers alone.
-use Rattle.std.proofs.Common.{◌≡◌, ◌∙◌, ℕ, true, ap, arith}
+use Rattle.std.proofs.Common.{◌≡◌, ℕ, true, arith}
 use Rattle.std.specs.Prelude.{Some}
 use Rattle.instruction_table.specs.declared.row.Row.{Row}
 use Rattle.instruction_table.specs.LocalRows.{is_local_row}
@@ -7,12 +7,11 @@ use Rattle.loader.specs.Program.{Program}
 use Rattle.thread_state.specs.declared.status.Status.{Status}
 use Rattle.thread_state.specs.declared.status.Status.TheVariants as status
 use Rattle.thread_state.specs.Thread.{turn_of_local}
-use Rattle.machine_scene.specs.declared.group.Group.{Group}
 use Rattle.machine_scene.specs.declared.group.Group.TheVariants.{Own}
 use Rattle.machine_scene.specs.Scene.{Scene, Outcome, thread_at, outcome_of_turn}
 use Rattle.machine_scene.specs.Group.{group_of}
 use Rattle.machine_scene.specs.OwnRows.{outcome_of_own_row}
-use Rattle.machine_scene.specs.Outcomes.{outcome_in_group, outcome_in}
+use Rattle.machine_scene.specs.Outcomes.{outcome_in}
 use Rattle.machine_scene.specs.ReadySet.{is_local_turn}
 
 -- what a row on registers alone comes to
@@ -36,6 +35,4 @@ is_own row is = grind arith
 -- it is the outcome of the turn
 pub local_turn : (of : Status) (row : Row) (t : ℕ) (program : Program) (scene : Scene) → is_local_turn of row ≡ true
     → outcome_in of row t program scene ≡ outcome_of_own_row row t scene
-local_turn of row t program scene is =
-    ap (λ (s : Status). outcome_in s row t program scene) (runs of row is)
-    ∙ ap (λ (group : Group). outcome_in_group group row t program scene) (is_own row (is_local of row is))
+local_turn of row t program scene is = grind arith

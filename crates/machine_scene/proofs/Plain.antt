@@ -1,5 +1,5 @@
 -- Turns that gain no entry of a routine or an action.
-use Rattle.std.proofs.Common.{◌≡◌, ◌∙◌, ℕ, ℤ, ◌+◌, ◌-◌, ◌<◌, ◌≤◌, Bool, true, false, cond, List, [], ◌∷◌, ◌++◌, take, length, refl, sym, subst, arith}
+use Rattle.std.proofs.Common.{◌≡◌, ℕ, ℤ, ◌+◌, ◌-◌, ◌<◌, ◌≤◌, Bool, true, false, cond, List, [], ◌∷◌, ◌++◌, take, length, refl, sym, subst, arith}
 use Rattle.std.specs.Prelude.{Option, Some, None, slice_set, count_by, All}
 use Rattle.std.proofs.lemmas.List.Elements.{All-take, All-push}
 use Rattle.instruction_table.specs.declared.row.Row.{Row}
@@ -17,7 +17,7 @@ use Rattle.thread_state.specs.Thread.{ThreadState, top_of}
 use Rattle.machine_scene.specs.Scene.{Scene, Outcome, counts_of, thread_at}
 use Rattle.machine_scene.specs.Sound.{IsFrame, IsPlaced, IsSound, bit, thread_awaits}
 use Rattle.machine_scene.proofs.Entries.{entries-pop, entries-push}
-use Rattle.machine_scene.proofs.Facts.{IsFree, free_awaits, placed_at}
+use Rattle.machine_scene.proofs.Facts.{IsFree, placed_at}
 use Rattle.machine_scene.proofs.Soundness.{sound_by, waits_same}
 
 -- where there is an outcome, its scene is sound
@@ -48,9 +48,7 @@ free_in program steps t scene state row stands free = subst IsFree (sym stands.s
 -- two threads that wait at no barrier
 pub both_free : (program : Program) (thread before : ThreadState) → IsFree thread.status → IsFree before.status
     → (b : ℕ) → thread_awaits program b thread ≡ thread_awaits program b before
-both_free program thread before now earlier b =
-    free_awaits b thread.status (row_at program.rows thread.pc) now
-    ∙ sym (free_awaits b before.status (row_at program.rows before.pc) earlier)
+both_free program thread before now earlier b = grind arith
 
 -- no entry of a routine or an action is gained
 pub record GainsNone (before after : List Frame) : Type 0 where

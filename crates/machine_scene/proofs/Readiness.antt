@@ -5,14 +5,12 @@ use Rattle.instruction_table.specs.declared.row.Row.{Row}
 use Rattle.instruction_table.specs.declared.row.Row.TheVariants.{Preg}
 use Rattle.instruction_table.specs.declared.register.Reg.{Reg}
 use Rattle.tier_tree.specs.declared.registered.Registered.{Registered}
-use Rattle.tier_tree.specs.Registration.{registration, after_registration}
 use Rattle.cyclic_barrier.specs.declared.answer.Entered.{Entered}
 use Rattle.cyclic_barrier.specs.declared.answer.WaitState.{WaitState}
 use Rattle.cyclic_barrier.specs.declared.answer.WaitState.TheVariants as state
 use Rattle.cyclic_barrier.specs.Barrier.{BarrierState, Entry, arrive}
 use Rattle.loader.specs.Program.{Program, row_at}
-use Rattle.thread_state.specs.Thread.{turn_of_throw}
-use Rattle.machine_scene.specs.Scene.{Scene, Outcome, thread_at, barrier_at, with_phasers, outcome_of_turn}
+use Rattle.machine_scene.specs.Scene.{Scene, Outcome, thread_at, barrier_at}
 use Rattle.machine_scene.specs.PhaserRows.{is_own_tree, unless_own, outcome_of_registered, outcome_of_registration, outcome_of_bulk}
 use Rattle.machine_scene.specs.BarrierRows.{is_run_by, is_run_by_another, unless_busy, unless_runner, outcome_of_entered, outcome_of_entry, outcome_of_await_at}
 use Rattle.machine_scene.specs.Waits.{outcome_of_release}
@@ -38,9 +36,7 @@ held_by false below held one two three first second third = grind arith
 
 register_is_ready : (into : Reg) (p t : ℕ) (scene : Scene)
     → is_some (unless_own p t scene (outcome_of_registration into p 1 t scene)) ≡ not (registration_is_held p (pos 1) t scene)
-register_is_ready into p t scene =
-    held_by (is_own_tree p (thread_at scene t) scene) false (is_held (registration p 1 scene.phasers)) _ (Some (outcome_of_turn (turn_of_throw (pos 1) (thread_at scene t)) t scene)) _ refl refl
-    (registered_is_ready (registration p 1 scene.phasers) into t (with_phasers (after_registration p 1 scene.phasers) scene))
+register_is_ready into p t scene = grind arith
 
 bulk_is_ready : (into : Reg) (p : ℕ) (count : ℤ) (t : ℕ) (scene : Scene)
     → is_some (unless_own p t scene (outcome_of_bulk into p count t scene)) ≡ not (registration_is_held p count t scene)
@@ -79,9 +75,7 @@ await_is_ready no_wait into b t program scene = grind (arith, busy_by, entered_b
 
 runner_is_ready : (b t : ℕ) (scene : Scene) (outcome : Outcome)
     → is_some (unless_busy b t scene (unless_runner b t scene (Some outcome))) ≡ not (is_run_by_another t (barrier_at scene b).runner)
-runner_is_ready b t scene outcome =
-    let runner = (barrier_at scene b).runner in
-    busy_by (is_run_by_another t runner) (is_run_by t runner) _ _ refl (λ free none. refl)
+runner_is_ready b t scene outcome = grind arith
 
 busy_is_ready : (b t : ℕ) (scene : Scene) (outcome : Outcome)
     → is_some (unless_busy b t scene (Some outcome)) ≡ not (is_run_by_another t (barrier_at scene b).runner)

@@ -1,16 +1,15 @@
 -- The sets that are kept of a scene: threads that aren't there, and what a step leaves of the sets.
 use Rattle.std.proofs.Common.{◌≡◌, ◌≢◌, ◌∙◌, ℕ, arith, ◌+◌, ◌<◌, ◌≤◌, ◌==◌, ◌&&◌, not, Bool, true, false, ap, refl, sym, if◌then◌else◌, rules}
-use Rattle.std.specs.Prelude.{length, is_some}
+use Rattle.std.specs.Prelude.{length}
 use Rattle.std.proofs.Math.ListN.{get_or-eq_default}
 use Rattle.std.proofs.lemmas.Bool.{cases_eq, cases_lt}
 use Rattle.instruction_table.specs.declared.row.Row.{Row}
 use Rattle.cyclic_barrier.specs.ThreadSet.{has}
 use Rattle.loader.specs.Program.{Program, row_at}
 use Rattle.thread_state.specs.declared.status.Status.{Status}
-use Rattle.thread_state.specs.Thread.{ThreadState}
 use Rattle.machine_scene.specs.declared.ready_set.ReadySet.{ReadySet}
 use Rattle.machine_scene.specs.Scene.{Scene, no_thread, thread_at}
-use Rattle.machine_scene.specs.Outcomes.{outcome_in, is_ready}
+use Rattle.machine_scene.specs.Outcomes.{is_ready}
 use Rattle.machine_scene.specs.Ready.{is_listed, may_be_blocked}
 use Rattle.machine_scene.specs.ReadySet.{is_registering_in, is_registering, AreReady, IsSetAt, AreLooked, IsLooked, AreOthersReady, AreReadyBeside, interrupts, changes_tree, runs_on}
 use Rattle.machine_scene.proofs.Readiness.{seldom_blocked}
@@ -24,12 +23,10 @@ nobody_there : (u : ℕ) (scene : Scene) → length scene.threads ≤ u → thre
 nobody_there u scene beyond = get_or-eq_default scene.threads no_thread beyond
 
 pub none_ready : (u : ℕ) (program : Program) (scene : Scene) → length scene.threads ≤ u → is_ready u program scene ≡ false
-none_ready u program scene beyond =
-    ap (λ (x : ThreadState). is_some (outcome_in x.status (row_at program.rows x.pc) u program scene)) (nobody_there u scene beyond)
+none_ready u program scene beyond = grind (arith, nobody_there)
 
 pub none_registering : (u : ℕ) (program : Program) (scene : Scene) → length scene.threads ≤ u → is_registering u program scene ≡ false
-none_registering u program scene beyond =
-    ap (λ (x : ThreadState). is_registering_in x.status (row_at program.rows x.pc)) (nobody_there u scene beyond)
+none_registering u program scene beyond = grind (arith, nobody_there)
 
 -- who is ready is there
 pub ready_there : (u : ℕ) (program : Program) (scene : Scene) → is_ready u program scene ≡ true → u < length scene.threads
@@ -103,8 +100,7 @@ abbrev pub RunsOn : ℕ → Program → Scene → Type 0
 RunsOn t program scene = runs_on (thread_at scene t).status (row_at program.rows (thread_at scene t).pc) ≡ true
 
 on_ready : (program : Program) (t : ℕ) (scene : Scene) → RunsOn t program scene → is_ready t program scene ≡ true
-on_ready program t scene runs =
-    ready_as_listed t program scene ∙ on_listed (thread_at scene t).status (row_at program.rows (thread_at scene t).pc) t scene runs
+on_ready program t scene runs = grind (arith, ready_as_listed, on_listed)
 
 on_unregistered : (program : Program) (t : ℕ) (scene : Scene) → RunsOn t program scene → is_registering t program scene ≡ false
 on_unregistered program t scene runs = on_apart (thread_at scene t).status (row_at program.rows (thread_at scene t).pc) runs

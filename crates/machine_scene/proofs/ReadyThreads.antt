@@ -52,8 +52,7 @@ ready_in s r t program scene = grind (arith, row_is_ready, phase_wait_ready, bar
 pub ready_as_listed : (t : ℕ) (program : Program) (scene : Scene)
     → is_ready t program scene
     ≡ is_listed (thread_at scene t).status (row_at program.rows (thread_at scene t).pc) t scene
-ready_as_listed t program scene =
-    ready_in (thread_at scene t).status (row_at program.rows (thread_at scene t).pc) t program scene
+ready_as_listed t program scene = grind (arith, ready_in)
 
 phase_timeout_some : (r : Row) (t : ℕ) (phase : ℤ) (scene : Scene)
     → is_some (timeout_in (status.AwaitsPhase phase) r t scene) ≡ is_timed_phase_wait r

@@ -2,7 +2,6 @@
 use Rattle.std.proofs.Common.{◌≡◌, ℕ, Bool, false, arith}
 use Rattle.std.specs.Prelude.{None, ◌&&◌}
 use Rattle.packed_phaser.specs.declared.policy.Policy.{Policy}
-use Rattle.packed_phaser.specs.declared.policy.Policy.TheVariants as policy
 use Rattle.packed_phaser.specs.Policy.{ends}
 use Rattle.tier_tree.specs.Forest.{root_at}
 use Rattle.tier_tree.specs.Answer.{KeepsPlaces}
@@ -14,7 +13,6 @@ use Rattle.machine_scene.specs.PhaserRows.{is_routine_policy, has_routine, answe
 -- the policy that leaves the answer to a routine is the routine
 pub room_by : (own : Policy) (phase parties : ℕ) (full : Bool) → (is_routine_policy own && full) ≡ false
     → ends own phase parties ≡ None → full ≡ false
-room_by policy.Default phase parties full room none = absurd (cc none)
 room_by own phase parties full room none = grind arith
 
 -- after an arrival at p that turned its root

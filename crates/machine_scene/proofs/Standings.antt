@@ -1,6 +1,6 @@
 -- Registrations and arrivals leave each phaser in its phase, and terminate none.
-use Rattle.std.proofs.Common.{◌≡◌, ◌∙◌, ℕ, zero, suc, ◌+◌, ◌-◌, ◌==◌, Bool, true, false, List, [], ◌∷◌, refl, if◌then◌else◌, arith}
-use Rattle.packed_phaser.specs.Flat.{Flat, Joins, JoinsLate, MustWait, Overfull, Arrival, Counts, Turns, ComesLate, IsUnregistered, arrive, settled, register, vacate, view_of}
+use Rattle.std.proofs.Common.{◌≡◌, ℕ, zero, suc, ◌+◌, ◌-◌, ◌==◌, Bool, true, false, List, [], ◌∷◌, refl, if◌then◌else◌, arith}
+use Rattle.packed_phaser.specs.Flat.{Flat, Joins, JoinsLate, MustWait, Overfull, Arrival, Counts, Turns, ComesLate, IsUnregistered, arrive, settled, vacate, view_of}
 use Rattle.tier_tree.specs.declared.climb.Climb.{Climb}
 use Rattle.tier_tree.specs.declared.registered.Registered.{Registered}
 use Rattle.tier_tree.specs.Forest.{PhaserState, flat_at, with_flat}
@@ -35,12 +35,7 @@ joins_standing false _ over turned f more view phase same = grind arith
 
 joined-standings : (all : List Join) (phasers : List PhaserState) → KeepsStandings phasers (joined all phasers)
 joined-standings [] phasers q = refl
-joined-standings (join ∷ others) phasers q =
-    let after = joined others phasers in
-    let f = flat_at after join.id in
-    with_flat-standing after join.id (flat_by (register join.count f) f)
-    (joins_standing f.ended (join.count == 0) _ f.turned f (record f { parties = f.parties + join.count }) _ _ refl) q
-    ∙ joined-standings others phasers q
+joined-standings (join ∷ others) phasers q = grind (arith, with_flat-standing, joins_standing, joined-standings others phasers q)
 
 by-standings : (r : Registered) (all : List Join) (phasers : List PhaserState) → KeepsStandings phasers (registered_by r all phasers)
 by-standings r all phasers q = grind (arith, joined-standings)

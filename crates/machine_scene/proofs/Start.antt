@@ -80,5 +80,4 @@ sound_with_more program scene steps more most sound = grind arith
 
 pub first_scene_is_sound : (program : Program) → IsProgram program → IsStored program.phasers → (steps : ℕ)
     → IsSound program steps (first_scene program)
-first_scene_is_sound program whole stored steps =
-    sound_with_more program (first_scene program) 0 steps (omega arith) (sound_start program whole stored.places)
+first_scene_is_sound program whole stored steps = grind (arith, sound_with_more, sound_start)

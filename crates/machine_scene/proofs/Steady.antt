@@ -1,6 +1,6 @@
 -- A step leaves every other thread as ready as it was, unless its event shows more than a turn of its own thread, its row
 -- interrupts that thread, or the thread is about to register and the step changes a tree.
-use Rattle.std.proofs.Common.{◌≡◌, ◌≢◌, ◌∙◌, ℕ, ℤ, pos, zero, suc, ◌||◌, ◌&&◌, not, Bool, true, false, List, [], ◌∷◌, ap, refl, sym, subst, arith, rules}
+use Rattle.std.proofs.Common.{◌≡◌, ◌≢◌, ◌∙◌, ℕ, ℤ, pos, zero, suc, ◌||◌, ◌&&◌, not, Bool, true, false, List, [], ◌∷◌, ap, refl, sym, arith, rules}
 use Rattle.std.specs.Prelude.{nat_abs, int_lt, Option, Some, None, slice_set, slice_index_or}
 use Rattle.std.specs.Ordering.{int_eq}
 use Rattle.std.proofs.lemmas.List.{get_or-set_other}
@@ -23,17 +23,15 @@ use Rattle.cyclic_barrier.specs.declared.answer.WaitState.TheVariants as state
 use Rattle.cyclic_barrier.specs.ThreadSet.{has}
 use Rattle.cyclic_barrier.specs.Waits.{wait_at}
 use Rattle.cyclic_barrier.specs.Barrier.{BarrierState, Entry, fresh, arrive, enter_beside, enter_timed, leave}
-use Rattle.loader.specs.Program.{Program, row_at}
+use Rattle.loader.specs.Program.{Program}
 use Rattle.thread_state.specs.declared.event.Event.{Event}
 use Rattle.thread_state.specs.declared.frame.Frame.{Frame}
 use Rattle.thread_state.specs.declared.frame.Frame.TheVariants as frame
 use Rattle.thread_state.specs.declared.status.Status.{Status}
-use Rattle.thread_state.specs.declared.status.Status.TheVariants as status
 use Rattle.thread_state.specs.Thread.{ThreadState, top_of, is_full, interrupted}
 use Rattle.machine_scene.specs.declared.group.Group.{Group}
 use Rattle.machine_scene.specs.declared.manner.Manner.{Manner}
 use Rattle.machine_scene.specs.Scene.{Scene, StoredScene, Outcome, scene_of, thread_at, barrier_at, with_thread, with_phasers, with_barrier}
-use Rattle.machine_scene.specs.Group.{group_of}
 use Rattle.machine_scene.specs.OwnRows.{outcome_of_own_row}
 use Rattle.machine_scene.specs.CallRows.{outcome_of_routine_end, outcome_of_ret, outcome_of_call_row}
 use Rattle.machine_scene.specs.DataRows.{outcome_of_data_row}
@@ -62,9 +60,7 @@ past_same p phase u scene after alike = ap (λ (s : Standing). not (int_eq (phas
 
 looked_same : (p : ℕ) (phase : ℤ) (u : ℕ) (scene after : Scene) → Alike u scene after
     → (is_past p phase after || (thread_at after u).interrupted) ≡ (is_past p phase scene || (thread_at scene u).interrupted)
-looked_same p phase u scene after alike =
-    ap (λ (past : Bool). past || (thread_at after u).interrupted) (past_same p phase u scene after alike)
-    ∙ ap (λ (thread : ThreadState). is_past p phase scene || thread.interrupted) alike.thread
+looked_same p phase u scene after alike = grind arith
 
 awaited_same : (row : Row) (phase : ℤ) (u : ℕ) (scene after : Scene) → Alike u scene after
     → is_awaited row phase u after ≡ is_awaited row phase u scene
@@ -100,8 +96,7 @@ ready_same u program scene after alike held = grind (arith, ready_as_listed, lis
 
 registering_same : (u : ℕ) (program : Program) (scene after : Scene) → thread_at after u ≡ thread_at scene u
     → is_registering u program after ≡ is_registering u program scene
-registering_same u program scene after same =
-    ap (λ (thread : ThreadState). is_registering_in thread.status (row_at program.rows thread.pc)) same
+registering_same u program scene after same = grind arith
 
 -- a step of thread t at this row that leaves to all others but those it interrupts what they are ready by
 record Leaves (t : ℕ) (row : Row) (scene after : Scene) : Type 0 where
@@ -279,8 +274,7 @@ calm_await no_wait into b t row program scene =
 
 calm_unless_busy : (b t : ℕ) (row : Row) (scene : Scene) (outcome : Option Outcome) → CalmIf t row scene outcome
     → CalmIf t row scene (unless_busy b t scene outcome)
-calm_unless_busy b t row scene outcome calm =
-    either (CalmIf t row scene) (is_run_by_another t (barrier_at scene b).runner) {a = None} {b = outcome} tt calm
+calm_unless_busy b t row scene outcome calm = grind arith
 
 calm_unless_runner : (b t : ℕ) (row : Row) (scene : Scene) (outcome : Option Outcome) → CalmIf t row scene outcome
     → CalmIf t row scene (unless_runner b t scene outcome)
@@ -337,13 +331,7 @@ quiet_in_group : (group : Group) (row : Row) (t : ℕ) (program : Program) (scen
 quiet_in_group group row t program scene = grind (arith, quiet_own_row, quiet_call_row, quiet_data_row, quiet_phaser_row, quiet_getter_row, quiet_barrier_row)
 
 quiet_in : (of : Status) (row : Row) (t : ℕ) (program : Program) (scene : Scene) → QuietIf t row scene (outcome_in of row t program scene)
-quiet_in status.Runs row t program scene = quiet_in_group (group_of row) row t program scene
-quiet_in (status.Throws code) row t program scene =
-    quiet_if t row scene (Some (outcome_of_popped (top_of (thread_at scene t).stack) code t scene))
-    (calm_popped (top_of (thread_at scene t).stack) code t row scene)
-quiet_in (status.AwaitsPhase phase) row t program scene = quiet_if t row scene (outcome_of_phase_wait row phase t scene) (calm_phase_wait row phase t scene)
-quiet_in (status.AwaitsBarrier index) row t program scene = quiet_if t row scene (outcome_of_barrier_wait row index t scene) (calm_barrier_wait row index t scene)
-quiet_in _ row t program scene = tt
+quiet_in _ row t program scene = search (rules, quiet_in_group, quiet_if, calm_popped, calm_phase_wait, calm_barrier_wait)
 
 quiet_timeout : (of : Status) (row : Row) (t : ℕ) (scene : Scene) → QuietIf t row scene (timeout_in of row t scene)
 quiet_timeout of row t scene = grind (arith, quiet_if, calm_phase_timeout, calm_barrier_timeout)
@@ -395,9 +383,7 @@ others_by program t row old new leaves knows same = record {
 leaves_turn : (program : Program) (t : ℕ) (row : Row) (old new : StoredScene) (event : Event)
     → outcome_in (thread_at (scene_of old) t).status row t program (scene_of old) ≡ Some (record { scene = scene_of new; event = event })
     → changes_all row event ≡ false → Leaves t row (scene_of old) (scene_of new)
-leaves_turn program t row old new event is quiet =
-    let scene = scene_of old in
-    subst (QuietIf t row scene) is (quiet_in (thread_at scene t).status row t program scene) quiet
+leaves_turn program t row old new event is quiet = grind (arith, quiet_in)
 
 -- after a quiet turn
 pub others_ready : (program : Program) (t : ℕ) (row : Row) (old new : StoredScene) (event : Event) → KnowsReady program old
@@ -421,6 +407,4 @@ other_ready program t u row old new event knows is quiet free apart same =
 pub others_ready_late : (program : Program) (t : ℕ) (row : Row) (old new : StoredScene) (event : Event) → KnowsReady program old
     → timeout_in (thread_at (scene_of old) t).status row t (scene_of old) ≡ Some (record { scene = scene_of new; event = event })
     → new.phasers ≡ old.phasers → changes_all row event ≡ false → AreOthersReady program t row old.ready (scene_of new)
-others_ready_late program t row old new event knows is same quiet =
-    let scene = scene_of old in
-    others_by program t row old new (subst (QuietIf t row scene) is (quiet_timeout (thread_at scene t).status row t scene) quiet) knows (λ none. same)
+others_ready_late program t row old new event knows is same quiet = grind (arith, others_by, quiet_timeout)

@@ -40,8 +40,7 @@ here : (test : ℕ → Bool) (t before set : ℕ) → IsTestedAt test t before s
 here test t before set is = is t ∙ ap (λ (x : Bool). if x then test t else has before t) (same-is t)
 
 pub elsewhere : (test : ℕ → Bool) (t before set : ℕ) → IsTestedAt test t before set → (u : ℕ) → u ≢ t → has set u ≡ has before u
-elsewhere test t before set is u apart =
-    is u ∙ ap (λ (x : Bool). if x then test u else has before u) (other-is t u (λ same. apart (sym same)))
+elsewhere test t before set is u apart = grind arith
 
 -- nobody is in the empty set
 pub nobody : (u : ℕ) → has 0 u ≡ true → false ≡ true

@@ -1,6 +1,6 @@
 -- A turn, or an expiry: a sound scene stays sound, and it is undone to the word.
 use Rattle.std.proofs.Common.{◌≡◌, ◌∙◌, ℕ, ◌<◌, List, length, ap, refl, sym, subst, arith}
-use Rattle.std.specs.Prelude.{Option, Some, None, slice_index_or}
+use Rattle.std.specs.Prelude.{Option, Some, None}
 use Rattle.std.proofs.lemmas.List.{length-set}
 use Rattle.instruction_table.specs.declared.row.Row.{Row}
 use Rattle.tier_tree.specs.Stored.{IsStored}
@@ -12,7 +12,7 @@ use Rattle.thread_state.specs.Undo as own
 use Rattle.machine_scene.specs.declared.ready_set.ReadySet.{ReadySet}
 use Rattle.machine_scene.specs.declared.reach.Reach.{Reach}
 use Rattle.machine_scene.specs.declared.note.Touched.{Touched}
-use Rattle.machine_scene.specs.Scene.{StoredScene, Outcome, scene_of, counts_in, no_thread, thread_at}
+use Rattle.machine_scene.specs.Scene.{StoredScene, Outcome, scene_of, counts_in, thread_at}
 use Rattle.machine_scene.specs.Sound.{IsSound}
 use Rattle.machine_scene.specs.Outcomes.{outcome_in, outcome_of, is_ready, outcome_of_expiry}
 use Rattle.machine_scene.specs.Undo.{Note, IsThere, PhasersWithin, CanPutBack, CanUndo, reach_in, reach_of, touched_by, with_undone, with_touched, undone}
@@ -47,8 +47,7 @@ undone_by : (reach : Reach) (t : ℕ) (old new : StoredScene) → GivesBack reac
 undone_by reach t old new gives within = grind (arith, made, restored_line)
 
 many_back : (t : ℕ) (before after : List ThreadState) → length (thread_back t before after) ≡ length after
-many_back t before after =
-    length-set after t (own.undone (own.note_of (slice_index_or before t no_thread)) (slice_index_or after t no_thread))
+many_back t before after = grind (arith, length-set)
 
 many_threads : (reach : Reach) (t : ℕ) (before after : List ThreadState) → threads_back reach t before after ≡ before
     → length after ≡ length before
@@ -129,8 +128,7 @@ touched_still : (of : Touched) (stored : StoredScene) (set : ReadySet)
 touched_still of stored set = grind arith
 
 undone_still : (note : Note) (stored : StoredScene) (set : ReadySet) → undone note (record stored { ready = set }) ≡ undone note stored
-undone_still note stored set =
-    ap (λ (s : StoredScene). record (with_undone note.before note.thread s) { ready = note.ready }) (touched_still note.touched stored set)
+undone_still note stored set = grind arith
 
 put_back_still : (of : Touched) (stored : StoredScene) (set : ReadySet) → CanPutBack of stored → CanPutBack of (record stored { ready = set })
 put_back_still of stored set can = grind arith

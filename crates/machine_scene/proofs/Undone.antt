@@ -1,5 +1,5 @@
 -- A turn that is undone: its own thread, and the one thing beside it that the turn could change.
-use Rattle.std.proofs.Common.{inl, inr, ◌≡◌, ◌∙◌, ℕ, ℤ, pos, suc, ◌-◌, ◌<◌, false, List, [], ◌∷◌, ◌++◌, length, take, ap, refl, sym, subst, arith}
+use Rattle.std.proofs.Common.{inl, inr, ◌≡◌, ◌∙◌, ℕ, ℤ, pos, ◌-◌, ◌<◌, false, List, [], ◌∷◌, ◌++◌, length, take, refl, sym, subst, arith}
 use Rattle.std.specs.Prelude.{Option, Some, None, option_to_list, slice_set, slice_index_or}
 use Rattle.std.proofs.lemmas.Bool.{cases_eq}
 use Rattle.std.proofs.lemmas.List.{set-set, set-get_or, get_or-set_same, get_or-set_other, ext_get_or, length-set, take-append-le, take-take, take_all}
@@ -17,9 +17,7 @@ pub record IsBack (before after : ThreadState) : Type 0 where
   pub is : own.undone (own.note_of before) after ≡ before
 
 restacked : (stack : List Frame) → take (length stack - 1) stack ++ option_to_list (top_of stack) ≡ stack
-restacked (entry ∷ next ∷ stack) =
-    let less : length (entry ∷ next ∷ stack) - 1 ≡ suc (length (next ∷ stack) - 1) = omega arith in
-    rw less (ap (λ (entries : List Frame). entry ∷ entries) (restacked (next ∷ stack)))
+restacked (entry ∷ next ∷ stack) = grind (arith, restacked (next ∷ stack))
 restacked stack = grind arith
 
 -- by what is kept of the stack and of the output
@@ -28,13 +26,11 @@ back_by : (before after : ThreadState) → take (length before.stack - 1) after.
 back_by before after stack output = grind (arith, restacked)
 
 same_output : (before after : ThreadState) → after.output ≡ before.output → take (length before.output) after.output ≡ before.output
-same_output before after same =
-    ap (take (length before.output)) same ∙ take_all (length before.output) before.output (omega arith)
+same_output before after same = grind (arith, take_all)
 
 -- its stack and output are the same
 pub back_same : (before after : ThreadState) → after.stack ≡ before.stack → after.output ≡ before.output → IsBack before after
-back_same before after stack output =
-    back_by before after (ap (take (length before.stack - 1)) stack) (same_output before after output)
+back_same before after stack output = grind (arith, back_by, same_output)
 
 -- it got one entry
 pub back_push : (before after : ThreadState) (entry : Frame) → after.stack ≡ before.stack ++ entry ∷ [] → after.output ≡ before.output
@@ -105,8 +101,7 @@ back_from reach t before mid after is_own there cells barriers threads back = gr
 -- a turn of the thread alone
 pub back_alone : (reach : Reach) (t : ℕ) (scene : Scene) (after : ThreadState) → IsOwn reach t → t < length scene.threads
     → IsBack (thread_at scene t) after → GivesBack reach t scene (with_thread after t scene)
-back_alone reach t scene after is_own there back =
-    back_from reach t scene scene after is_own there (same_cells reach scene.cells) (same_barriers reach scene.barriers) refl back
+back_alone reach t scene after is_own there back = grind (arith, back_from, same_cells, same_barriers)
 
 -- with a tree
 pub back_tree : (p t : ℕ) (scene : Scene) (phasers : List PhaserState) (after : ThreadState) → t < length scene.threads
@@ -117,8 +112,7 @@ back_tree p t scene phasers after there back =
 -- a barrier that is set, and then as it was
 pub gate_back : (b : ℕ) (scene : Scene) (gate : BarrierState)
     → slice_set (slice_set scene.barriers b gate) b (slice_index_or scene.barriers b (fresh 1 false)) ≡ scene.barriers
-gate_back b scene gate =
-    set-set scene.barriers b gate (slice_index_or scene.barriers b (fresh 1 false)) ∙ set-get_or scene.barriers b (fresh 1 false)
+gate_back b scene gate = grind (arith, set-set, set-get_or)
 
 -- with a barrier
 pub back_barrier : (b t : ℕ) (scene : Scene) (gate : BarrierState) (after : ThreadState) → t < length scene.threads

@@ -17,7 +17,6 @@ use Rattle.tier_tree.specs.Registration.{registration, after_registration}
 use Rattle.tier_tree.specs.Arrival.{Arrives, arrival}
 use Rattle.tier_tree.specs.PhaseEnd.{after_phase_end, after_force}
 use Rattle.cyclic_barrier.specs.declared.answer.Entered.{Entered}
-use Rattle.cyclic_barrier.specs.declared.answer.Entered.TheVariants as entered
 use Rattle.cyclic_barrier.specs.declared.answer.WaitState.{WaitState}
 use Rattle.cyclic_barrier.specs.Barrier.{BarrierState, Entry, enter_timed, reset, expire, end_action}
 use Rattle.loader.specs.Program.{Program}
@@ -25,7 +24,7 @@ use Rattle.thread_state.specs.declared.event.What.TheVariants as what
 use Rattle.thread_state.specs.declared.frame.Frame.{Frame}
 use Rattle.thread_state.specs.declared.frame.Frame.TheVariants as frame
 use Rattle.thread_state.specs.declared.status.Status.{Status}
-use Rattle.thread_state.specs.Thread.{ThreadState, Turn, turn_of_throw, turn_of_interruption, turn_of_answer, turn_of_done, turn_of_wait, turn_of_barrier_wait, turn_of_halt, turn_of_local, turn_of_out, turn_of_call, turn_of_try, turn_of_endtry, turn_of_return, turn_of_advance, turn_of_action, turn_of_popped, turn_of_pop, turn_of_intrd, top_of, with_entry, popped, left_routine, is_full, is_finished, interrupted}
+use Rattle.thread_state.specs.Thread.{ThreadState, Turn, turn_of_throw, turn_of_interruption, turn_of_answer, turn_of_done, turn_of_wait, turn_of_halt, turn_of_local, turn_of_out, turn_of_call, turn_of_try, turn_of_endtry, turn_of_return, turn_of_advance, turn_of_popped, turn_of_pop, turn_of_intrd, top_of, with_entry, popped, left_routine, is_full, interrupted}
 use Rattle.machine_scene.specs.declared.group.Group.{Group}
 use Rattle.machine_scene.specs.declared.group.Group.TheVariants.{Own}
 use Rattle.machine_scene.specs.declared.manner.Manner.{Manner}
@@ -33,13 +32,13 @@ use Rattle.machine_scene.specs.declared.patience.Patience.{Patience}
 use Rattle.machine_scene.specs.declared.patience.Patience.TheVariants as patience
 use Rattle.machine_scene.specs.declared.reach.Reach.{Reach}
 use Rattle.machine_scene.specs.declared.reach.Reach.TheVariants as reach
-use Rattle.machine_scene.specs.Scene.{Scene, Outcome, no_thread, thread_at, barrier_at, action_at, routine_at, with_thread, with_phasers, with_barrier, with_cell}
+use Rattle.machine_scene.specs.Scene.{Scene, Outcome, no_thread, thread_at, barrier_at, routine_at, with_thread, with_phasers, with_barrier, with_cell}
 use Rattle.machine_scene.specs.OwnRows.{outcome_of_own_row}
 use Rattle.machine_scene.specs.CallRows.{outcome_of_routine_end, outcome_of_ret, outcome_of_call_row}
 use Rattle.machine_scene.specs.DataRows.{outcome_of_data_row}
 use Rattle.machine_scene.specs.GetterRows.{outcome_of_getter_row}
 use Rattle.machine_scene.specs.PhaserRows.{is_own_tree, has_routine, turn_of_arrival, turn_of_patience, turn_of_await, unless_own, outcome_of_pending_end, outcome_of_arrived, outcome_of_arrival, outcome_of_registered, outcome_of_registration, outcome_of_bulk, outcome_of_await, outcome_of_phaser_row}
-use Rattle.machine_scene.specs.BarrierRows.{is_run_by, is_run_by_another, unless_busy, unless_runner, outcome_of_entered, outcome_of_await_at, outcome_of_barrier_row}
+use Rattle.machine_scene.specs.BarrierRows.{is_run_by, unless_busy, unless_runner, outcome_of_entered, outcome_of_await_at, outcome_of_barrier_row}
 use Rattle.machine_scene.specs.Unwinding.{outcome_of_popped}
 use Rattle.machine_scene.specs.Waits.{outcome_of_awaited, outcome_of_phase_wait, outcome_of_release, outcome_of_barrier_wait, outcome_of_phase_timeout, outcome_of_barrier_timeout}
 use Rattle.machine_scene.specs.Outcomes.{outcome_in_group, outcome_in, timeout_in}
@@ -186,14 +185,10 @@ back_store from cell t scene there =
 
 -- `intr`
 marked : (thread : ThreadState) → IsBack thread (interrupted thread)
-marked thread =
-    either (IsBack thread) (is_finished thread.status) {a = thread} {b = record thread { interrupted = true }} (back_same thread thread refl refl)
-    (back_same thread (record thread { interrupted = true }) refl refl)
+marked thread = grind (arith, back_same)
 
 marked_fields : (thread : ThreadState) → ((interrupted thread).stack ≡ thread.stack) × ((interrupted thread).output ≡ thread.output)
-marked_fields thread =
-    either (λ (after : ThreadState). (after.stack ≡ thread.stack) × (after.output ≡ thread.output)) (is_finished thread.status) {a = thread}
-    {b = record thread { interrupted = true }} (refl, refl) (refl, refl)
+marked_fields thread = grind arith
 
 back_interrupt : (other t : ℕ) (scene : Scene) → other < length scene.threads → t < length scene.threads
     → BackIf (reach.Thread other) t scene (outcome_of_data_row (Intr other) t scene)
@@ -315,18 +310,7 @@ no_gate b t scene after there back = back_alone (reach.Barrier b) t scene after 
 
 back_entered : (answer : Entered) (into : Reg) (b t : ℕ) (program : Program) (scene : Scene) (gate : BarrierState) → t < length scene.threads
     → BackIf (reach.Barrier b) t scene (outcome_of_entered answer into b t program (with_barrier gate b scene))
-back_entered (entered.Wait index) into b t program scene gate there =
-    let turn = turn_of_barrier_wait index (thread_at scene t) in at_gate b t scene gate turn.thread there (same (thread_at scene t) turn refl refl)
-back_entered entered.Run into b t program scene gate there =
-    let turn = turn_of_action b (action_at program b) (thread_at scene t) in
-    at_gate b t scene gate turn.thread there
-    (back_push (thread_at scene t) turn.thread (frame.Action b (thread_at scene t).registers (thread_at scene t).pc) refl refl)
-back_entered entered.Tripped into b t program scene gate there = at_gate b t scene gate _ there (answered (thread_at scene t) into (pos 0))
-back_entered entered.Broken into b t program scene gate there = at_gate b t scene gate _ there (thrown (thread_at scene t) (pos 4))
-back_entered entered.Interrupted into b t program scene gate there = at_gate b t scene gate _ there (interruption (thread_at scene t))
-back_entered entered.TimedOut into b t program scene gate there = at_gate b t scene gate _ there (thrown (thread_at scene t) (pos 5))
-back_entered entered.Own into b t program scene gate there = at_gate b t scene gate _ there (thrown (thread_at scene t) (pos 1))
-back_entered entered.Busy into b t program scene gate there = tt
+back_entered answer into b t program scene gate there = search (rules, at_gate, same, back_push, answered, thrown, interruption)
 
 back_await : (no_wait : Bool) (into : Reg) (b t : ℕ) (program : Program) (scene : Scene) → t < length scene.threads
     → BackIf (reach.Barrier b) t scene (outcome_of_await_at no_wait into b t program scene)
@@ -337,8 +321,7 @@ back_await no_wait into b t program scene there =
 
 back_unless_busy : (reach : Reach) (b t : ℕ) (scene : Scene) (outcome : Option Outcome) → BackIf reach t scene outcome
     → BackIf reach t scene (unless_busy b t scene outcome)
-back_unless_busy reach b t scene outcome back =
-    either (BackIf reach t scene) (is_run_by_another t (barrier_at scene b).runner) {a = None} {b = outcome} tt back
+back_unless_busy reach b t scene outcome back = grind arith
 
 back_unless_runner : (reach : Reach) (b t : ℕ) (scene : Scene) (outcome : Option Outcome) → IsOwn reach t → t < length scene.threads
     → BackIf reach t scene outcome → BackIf reach t scene (unless_runner b t scene outcome)
