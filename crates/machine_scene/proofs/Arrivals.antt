@@ -1,20 +1,16 @@
 -- Arrivals: the exception that they meet before they come to a phaser.
-use Rattle.std.proofs.Common.{◌≡◌, ℕ, ℤ, pos, ◌&&◌, Bool, true, false, [], ap, refl, if◌then◌else◌, arith, rules}
+use Rattle.std.proofs.Common.{◌≡◌, ℕ, ℤ, pos, ◌&&◌, Bool, true, false, [], ap, if◌then◌else◌, arith}
 use Rattle.std.specs.Prelude.{Some, None}
 use Rattle.std.proofs.lemmas.Option.{same_Some}
 use Rattle.loader.specs.Program.{Program}
 use Rattle.thread_state.specs.Thread.{ThreadState, is_full, turn_of_throw}
 use Rattle.machine_scene.specs.declared.manner.Manner.{Manner}
 use Rattle.machine_scene.specs.Scene.{Scene, Outcome, thread_at, outcome_of_turn}
-use Rattle.machine_scene.specs.PhaserRows.{is_own_tree, has_routine, unless_own, outcome_with_room, outcome_of_arrival, refusal_of_arrival}
-
-and_false : (test : Bool) → (test && false) ≡ false
-and_false true = refl
-and_false false = refl
+use Rattle.machine_scene.specs.PhaserRows.{has_routine, unless_own, outcome_with_room, outcome_of_arrival, refusal_of_arrival}
 
 -- a thread with an empty stack comes to it
 pub free : (p : ℕ) (thread : ThreadState) (scene : Scene) → thread.stack ≡ [] → refusal_of_arrival p thread scene ≡ None
-free p thread scene empty = search (rules, and_false)
+free p thread scene empty = grind arith
 
 thrown_by : (own full : Bool) (thrown : ℤ → Outcome) (comes : Outcome) (code : ℤ)
     → (if own then Some (pos 1) else (if full then Some (pos 6) else None)) ≡ Some code
@@ -40,11 +36,7 @@ pub comes : (manner : Manner) (p t : ℕ) (program : Program) (scene : Scene) �
     → unless_own p t scene (Some (outcome_of_arrival manner p t program scene)) ≡ Some (outcome_with_room manner p t program scene)
 comes manner p t program scene is = grind arith
 
-room_by : (own full : Bool) → (if own then Some (pos 1) else (if full then Some (pos 6) else None)) ≡ None → full ≡ false
-room_by true full is = absurd (cc is)
-room_by false full is = grind arith
-
 -- with room for a routine, where there is one
 pub room : (p t : ℕ) (scene : Scene) → refusal_of_arrival p (thread_at scene t) scene ≡ None
     → (has_routine p scene && is_full (thread_at scene t)) ≡ false
-room p t scene is = room_by (is_own_tree p (thread_at scene t) scene) (has_routine p scene && is_full (thread_at scene t)) is
+room p t scene is = grind arith

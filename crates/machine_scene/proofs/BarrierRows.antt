@@ -1,5 +1,5 @@
 -- Rows at barriers.
-use Rattle.std.proofs.Common.{◌≡◌, ◌∙◌, ℕ, pos, ◌+◌, ◌<◌, ◌==◌, ◌&&◌, ◌||◌, Bool, true, false, length, refl, arith, if◌then◌else◌, rules}
+use Rattle.std.proofs.Common.{◌≡◌, ◌∙◌, ℕ, pos, ◌+◌, ◌<◌, ◌==◌, ◌&&◌, ◌||◌, Bool, false, length, refl, arith, rules}
 use Rattle.std.specs.Prelude.{Option, Some, None}
 use Rattle.std.proofs.lemmas.List.{length-map}
 use Rattle.instruction_table.specs.declared.row.Row.{Row}
@@ -23,14 +23,10 @@ use Rattle.machine_scene.proofs.Plain.{KeepsSound, StandsAt, either, free_in}
 use Rattle.machine_scene.proofs.Barriers.{sound_run}
 use Rattle.machine_scene.proofs.Turns.{KeepsStack, throw_keeps, interruption_keeps, answer_keeps, done_keeps, or_no, sound_with_barrier, sound_begin, sound_throw, sound_answer}
 
-no_run : (own : Bool) → (if own then entered.Own else entered.Busy) ≡ entered.Run → ⊥
-no_run true is = cc (is)
-no_run false is = cc (is)
-
 -- an entry that runs the action found nobody who runs it
 run_idle : (runner : Option ℕ) (thread : ℕ) (interrupted no_wait : Bool) (b : BarrierState)
     → (enter_beside runner thread interrupted no_wait b).answer ≡ entered.Run → runner ≡ None
-run_idle runner thread interrupted no_wait b is = grind (arith, no_run)
+run_idle runner thread interrupted no_wait b is = grind arith
 
 -- what an entry of thread t leaves at barrier b, by its answer
 record Enters (t : ℕ) (old gate : BarrierState) (answer : Entered) : Type 0 where

@@ -71,10 +71,6 @@ twice : (xs : List ThreadState) (t : ℕ) (a : ThreadState) (f : ThreadState →
     → slice_set xs t (f a) ≡ slice_set (slice_set xs t a) t (f (slice_index_or (slice_set xs t a) t no_thread))
 twice xs t a f there = grind (arith, set_twice, get_or-set_same)
 
-or_false : (b : Bool) → (b || false) ≡ true → b ≡ true
-or_false true is = refl
-or_false false is = absurd (cc (is))
-
 -- the root of the routine that is on top can be turned, unless it is terminated
 pub can_turn_on_top : (program : Program) (steps t root row : ℕ) (registers : List ℤ) (scene : Scene) → IsSound program steps scene
     → steps < 2147483647 → t < length scene.threads → top_of (thread_at scene t).stack ≡ Some (frame.Advance root registers row)
@@ -84,7 +80,7 @@ can_turn_on_top program steps t root row registers scene sound few there is live
     let flat = flat_at scene.phasers root in
     let most = sound.trees.ends root in
     let pends : (flat.turned || flat.ended) ≡ true = advance_pending program steps scene t root row registers sound there is in
-    grind (arith, or_false)
+    grind arith
 
 -- back at an arrival from its routine
 sound_routine_end : (ended : Bool) (program : Program) (steps t root row : ℕ) (registers : List ℤ) (manner : Manner) (ends : Bool) (scene : Scene)

@@ -1,5 +1,5 @@
 -- How many stack entries of a kind there are.
-use Rattle.std.proofs.Common.{◌≡◌, ◌∙◌, ℕ, zero, suc, ◌+◌, ◌-◌, ◌<◌, ◌≤◌, Bool, true, false, List, [], ◌∷◌, ◌++◌, take, get_or, length, ap, refl, sym, arith}
+use Rattle.std.proofs.Common.{◌≡◌, ◌∙◌, ℕ, zero, suc, ◌+◌, ◌-◌, ◌<◌, ◌≤◌, Bool, true, false, List, [], ◌∷◌, ◌++◌, take, get_or, length, ap, sym, arith}
 use Rattle.std.specs.Prelude.{Some, slice_set, slice_index_or, count_by}
 use Rattle.std.proofs.lemmas.Option.{slice_get_cases}
 use Rattle.std.proofs.lemmas.List.{take_all}
@@ -40,11 +40,7 @@ pub entries-pop : (test : Frame → Bool) (stack : List Frame) (f : Frame) → t
     → count_by test (take (length stack - 1) stack) + bit (test f) ≡ count_by test stack
 entries-pop test stack f is = grind (arith, slice_get_cases, last_counts)
 
-one_more : (test : Frame → Bool) (f : Frame) (b : Bool) → test f ≡ b → count_by test (f ∷ []) ≡ bit b
-one_more test f true is = rw is refl
-one_more test f false is = rw is refl
-
 -- with one more entry
 pub entries-push : (test : Frame → Bool) (stack : List Frame) (f : Frame)
     → count_by test (stack ++ f ∷ []) ≡ count_by test stack + bit (test f)
-entries-push test stack f = grind (arith, sum_by-append, one_more)
+entries-push test stack f = grind (arith, sum_by-append)

@@ -1,6 +1,6 @@
 -- What a sound scene tells of one thread: where it stands, what its top entry names, and at which barrier it waits.
 use Rattle.std.proofs.Common.{◌≡◌, ◌≢◌, ℕ, ℤ, ◌+◌, ◌<◌, ◌≤◌, Bool, true, false, List, length, ap, refl, arith}
-use Rattle.std.specs.Prelude.{is_some, Option, Some, None, All}
+use Rattle.std.specs.Prelude.{is_some, Some, None, All}
 use Rattle.std.proofs.lemmas.Option.{slice_get_cases}
 use Rattle.instruction_table.specs.declared.row.Row.{Row}
 use Rattle.instruction_table.specs.declared.row.Row.TheVariants.{Halt, Cawait}
@@ -8,7 +8,6 @@ use Rattle.instruction_table.specs.declared.register.Reg.{Reg}
 use Rattle.tier_tree.specs.Forest.{flat_at}
 use Rattle.tier_tree.specs.Trees.{is_pending}
 use Rattle.tier_tree.proofs.Stands.{same-is}
-use Rattle.cyclic_barrier.specs.declared.answer.WaitState.{WaitState}
 use Rattle.cyclic_barrier.specs.Waits.{wait_at}
 use Rattle.loader.specs.declared.counts.Counts.{Counts}
 use Rattle.loader.specs.Named.{stops}
@@ -56,10 +55,6 @@ pub top_named : (program : Program) (steps : ℕ) (scene : Scene) (t : ℕ) (f :
     → top_of (thread_at scene t).stack ≡ Some f → IsFrame program scene f
 top_named program steps scene t f sound there is = grind (arith, top_is, placed_at)
 
-true_if : (b : Bool) → 1 ≤ bit b → b ≡ true
-true_if true some = refl
-true_if false some = absurd (omega (arith, some))
-
 -- one entry at the top is among those of all threads
 counted_on_top : (test : Frame → Bool) (scene : Scene) (t : ℕ) (f : Frame) → t < length scene.threads → top_of (thread_at scene t).stack ≡ Some f
     → test f ≡ true → 1 ≤ entries test scene.threads
@@ -74,13 +69,13 @@ pub advance_pending : (program : Program) (steps : ℕ) (scene : Scene) (t root 
     → is_pending (flat_at scene.phasers root) ≡ true
 advance_pending program steps scene t root row registers sound there is =
     let named = top_named program steps scene t (frame.Advance root registers row) sound there is in
-    grind (arith, counted_on_top, same-is, true_if)
+    grind (arith, counted_on_top, same-is)
 
 -- the top entry is that of an action: a thread runs it
 pub action_runs : (program : Program) (steps : ℕ) (scene : Scene) (t b row : ℕ) (registers : List ℤ) → IsSound program steps scene
     → t < length scene.threads → top_of (thread_at scene t).stack ≡ Some (frame.Action b registers row)
     → is_some (barrier_at scene b).runner ≡ true
-action_runs program steps scene t b row registers sound there is = grind (arith, counted_on_top, same-is, true_if)
+action_runs program steps scene t b row registers sound there is = grind (arith, counted_on_top, same-is)
 
 -- a thread with such a status waits at no barrier
 pub data IsFree : Status → Type 0 where
@@ -94,17 +89,11 @@ pub free_awaits : (b : ℕ) (s : Status) (row : Row) → IsFree s → awaits b s
 free_awaits b _ row RunsOn = refl
 free_awaits b _ row _ = refl
 
-not_awaiting : (b : ℕ) (s : Status) (row : Row) → ((index : ℤ) → s ≢ status.AwaitsBarrier index) → awaits b s row ≡ false
-not_awaiting b s row free = grind arith
-
-none_if : (wait : Option WaitState) → is_some wait ≡ false → wait ≡ None
-none_if wait is = grind arith
-
 -- a thread that awaits no barrier has no wait at any
 pub no_wait : (program : Program) (steps : ℕ) (scene : Scene) (t b : ℕ) → IsSound program steps scene
     → ((index : ℤ) → (thread_at scene t).status ≢ status.AwaitsBarrier index)
     → wait_at (barrier_at scene b).waits t ≡ None
-no_wait program steps scene t b sound free = grind (arith, none_if, not_awaiting)
+no_wait program steps scene t b sound free = grind arith
 
 -- a thread that awaits a barrier at this row has a wait there
 pub awaited : (program : Program) (steps : ℕ) (scene : Scene) (t b : ℕ) (index : ℤ) (into : Reg) → IsSound program steps scene

@@ -1,12 +1,10 @@
 -- What a turn may count on in a sound scene, said of the scene as it is stored.
-use Rattle.std.proofs.Common.{◌≡◌, ◌∙◌, ℕ, ◌<◌, false, length, sym, subst, arith}
-use Rattle.std.specs.Prelude.{is_some, Option, Some, None}
+use Rattle.std.proofs.Common.{◌≡◌, ◌∙◌, ℕ, ◌<◌, length, sym, subst, arith}
+use Rattle.std.specs.Prelude.{Option, Some}
 use Rattle.instruction_table.specs.declared.row.Row.{Row}
 use Rattle.tier_tree.proofs.Shown.{length-shown}
-use Rattle.cyclic_barrier.specs.declared.answer.WaitState.{WaitState}
 use Rattle.cyclic_barrier.specs.Barrier.{has_wait}
-use Rattle.loader.specs.declared.named.Named.{Named}
-use Rattle.loader.specs.Program.{Program, IsThere, IsNamed, row_at}
+use Rattle.loader.specs.Program.{Program, IsNamed, row_at}
 use Rattle.thread_state.specs.declared.frame.Frame.{Frame}
 use Rattle.thread_state.specs.declared.frame.Frame.TheVariants as frame
 use Rattle.thread_state.specs.declared.status.Status.{Status}
@@ -15,24 +13,15 @@ use Rattle.machine_scene.specs.Scene.{Scene, StoredScene, scene_of, counts_in, t
 use Rattle.machine_scene.specs.Sound.{IsSound, HasItsWait, SeesWait, StandsAt, IsTop, awaits}
 use Rattle.machine_scene.proofs.Facts.{named_at, placed_at, top_named, advance_pending, action_runs}
 
-none_if : (wait : Option WaitState) → is_some wait ≡ false → wait ≡ None
-none_if wait is = grind arith
-
 -- by the thread's status
 its_wait : (s : Status) (row : Row) (t : ℕ) (scene : Scene) → ((b : ℕ) → has_wait t (barrier_at scene b) ≡ awaits b s row)
     → HasItsWait s row t scene
-its_wait s row t scene known = grind (arith, none_if)
-
--- a program has fewer than 65536 rows
-of_few : (thing : Named) (rows threads phasers barriers : ℕ) → rows < 65536
-    → IsThere (record { rows = rows; threads = threads; phasers = phasers; barriers = barriers }) thing
-    → IsThere (record { rows = 65536; threads = threads; phasers = phasers; barriers = barriers }) thing
-of_few thing rows threads phasers barriers few there = grind arith
+its_wait s row t scene known = grind arith
 
 -- what the row at this place names is there
 pub named_in : (program : Program) (steps pc : ℕ) (stored : StoredScene) → IsSound program steps (scene_of stored)
     → pc < length program.rows → IsNamed (counts_in stored) (row_at program.rows pc)
-named_in program steps pc stored sound within = grind (arith, of_few, length-shown, named_at)
+named_in program steps pc stored sound within = grind (arith, length-shown, named_at)
 
 -- what a look at the thread's wait may count on
 pub wait_placed : (program : Program) (steps : ℕ) (row : Row) (t : ℕ) (stored : StoredScene) → IsSound program steps (scene_of stored)

@@ -10,9 +10,8 @@ use Rattle.thread_state.specs.declared.status.Status.{Status}
 use Rattle.machine_scene.specs.declared.ready_set.ReadySet.{ReadySet}
 use Rattle.machine_scene.specs.Scene.{Scene, no_thread, thread_at}
 use Rattle.machine_scene.specs.Outcomes.{is_ready}
-use Rattle.machine_scene.specs.Ready.{is_listed, may_be_blocked}
+use Rattle.machine_scene.specs.Ready.{may_be_blocked}
 use Rattle.machine_scene.specs.ReadySet.{is_registering_in, is_registering, AreReady, IsSetAt, AreLooked, IsLooked, AreOthersReady, AreReadyBeside, interrupts, changes_tree, runs_on}
-use Rattle.machine_scene.proofs.Readiness.{seldom_blocked}
 use Rattle.machine_scene.proofs.ReadyThreads.{ready_as_listed}
 use Rattle.machine_scene.proofs.ThreadSets.{tested_at, all_right, apart_from, nobody, IsFilledTo, filled_none, filled_more, filled_all}
 use Rattle.tier_tree.proofs.Stands.{same-is, other-is}
@@ -88,22 +87,15 @@ free : (blocked : Bool) → not blocked ≡ true → blocked ≡ false
 free true is = absurd (cc is)
 free false is = refl
 
--- one that runs on is ready, and isn't about to register
-on_listed : (of : Status) (row : Row) (t : ℕ) (scene : Scene) → runs_on of row ≡ true → is_listed of row t scene ≡ true
-on_listed of row t scene is = grind (arith, seldom_blocked, free)
-
-on_apart : (of : Status) (row : Row) → runs_on of row ≡ true → is_registering_in of row ≡ false
-on_apart of row is = grind (arith, seldom_registers, free)
-
 -- thread t runs on
 abbrev pub RunsOn : ℕ → Program → Scene → Type 0
 RunsOn t program scene = runs_on (thread_at scene t).status (row_at program.rows (thread_at scene t).pc) ≡ true
 
 on_ready : (program : Program) (t : ℕ) (scene : Scene) → RunsOn t program scene → is_ready t program scene ≡ true
-on_ready program t scene runs = grind (arith, ready_as_listed, on_listed)
+on_ready program t scene runs = grind (arith, ready_as_listed)
 
 on_unregistered : (program : Program) (t : ℕ) (scene : Scene) → RunsOn t program scene → is_registering t program scene ≡ false
-on_unregistered program t scene runs = on_apart (thread_at scene t).status (row_at program.rows (thread_at scene t).pc) runs
+on_unregistered program t scene runs = grind (arith, seldom_registers, free)
 
 -- nothing changes for it
 pub runs_on_ready : (program : Program) (t : ℕ) (set : ReadySet) (scene : Scene) → AreReadyBeside program t set scene → has set.turns t ≡ true

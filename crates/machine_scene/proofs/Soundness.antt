@@ -8,11 +8,10 @@ use Rattle.tier_tree.specs.Forest.{flat_at, root_at}
 use Rattle.tier_tree.specs.Trees.{AreTrees, is_pending}
 use Rattle.cyclic_barrier.specs.Barrier.{has_wait}
 use Rattle.loader.specs.Program.{Program}
-use Rattle.thread_state.specs.declared.frame.Frame.{Frame}
 use Rattle.thread_state.specs.Frame.{is_advance, is_action}
 use Rattle.thread_state.specs.Thread.{ThreadState}
 use Rattle.machine_scene.specs.Scene.{Scene, thread_at, barrier_at}
-use Rattle.machine_scene.specs.Sound.{IsFrame, IsPlaced, IsSound, bit, thread_awaits}
+use Rattle.machine_scene.specs.Sound.{IsPlaced, IsSound, bit, thread_awaits}
 use Rattle.machine_scene.proofs.Entries.{entries-set}
 
 -- a turn of thread t, this thread after it: entries are gained only where a root gets pending or a barrier a runner
@@ -31,14 +30,9 @@ pub record Keeps (program : Program) (most t : ℕ) (thread : ThreadState) (scen
   pub room : (b : ℕ) → length (barrier_at after b).waits ≡ length (barrier_at scene b).waits
   pub waits : (b u : ℕ) → has_wait u (barrier_at after b) ≡ thread_awaits program b (thread_at after u)
 
-frame_kept : (program : Program) (scene after : Scene) → length after.phasers ≡ length scene.phasers
-    → ((id : ℕ) → root_at after.phasers id ≡ root_at scene.phasers id) → length after.barriers ≡ length scene.barriers
-    → (f : Frame) → IsFrame program scene f → IsFrame program after f
-frame_kept program scene after many roots barriers f is = grind arith
-
 pub sound_by : (program : Program) (steps most t : ℕ) (thread : ThreadState) (scene after : Scene) → IsSound program steps scene
     → t < length scene.threads → Keeps program most t thread scene after → IsSound program most after
-sound_by program steps most t thread scene after sound there keeps = search (rules, length-set, frame_kept, All-weaker, All-set, entries-set)
+sound_by program steps most t thread scene after sound there keeps = search (rules, length-set, All-weaker, All-set, entries-set)
 
 -- the waits stay where no barrier's waits change, and thread t awaits the same as before
 pub waits_same : (program : Program) (steps t : ℕ) (thread : ThreadState) (scene after : Scene) → IsSound program steps scene

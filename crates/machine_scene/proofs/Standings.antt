@@ -1,11 +1,9 @@
 -- Registrations and arrivals leave each phaser in its phase, and terminate none.
 use Rattle.std.proofs.Common.{◌≡◌, ℕ, zero, suc, ◌+◌, ◌-◌, ◌==◌, Bool, true, false, List, [], ◌∷◌, refl, if◌then◌else◌, arith}
-use Rattle.packed_phaser.specs.Flat.{Flat, Joins, JoinsLate, MustWait, Overfull, Arrival, Counts, Turns, ComesLate, IsUnregistered, arrive, settled, vacate, view_of}
-use Rattle.tier_tree.specs.declared.climb.Climb.{Climb}
-use Rattle.tier_tree.specs.declared.registered.Registered.{Registered}
+use Rattle.packed_phaser.specs.Flat.{Flat, Arrival, Counts, Turns, ComesLate, IsUnregistered, arrive, settled, view_of}
 use Rattle.tier_tree.specs.Forest.{PhaserState, flat_at, with_flat}
-use Rattle.tier_tree.specs.Registration.{Join, joins, joined, flat_by, registration, registered_by, after_registration}
-use Rattle.tier_tree.specs.Arrival.{Climbed, is_top, with_child, climbed_by, climbed, arrival}
+use Rattle.tier_tree.specs.Registration.{Join, joined, after_registration}
+use Rattle.tier_tree.specs.Arrival.{Climbed, is_top, climbed_by, climbed, arrival}
 
 -- what a phaser's view tells: the number of its phase, and whether it is terminated
 pub record Standing : Type 0 where
@@ -26,22 +24,12 @@ with_flat-standing (p ∷ phasers) (suc i) flat is (suc q) = with_flat-standing 
 with_flat-standing _ _ flat is _ = refl
 
 -- a registration
-joins_standing : (ended none over turned : Bool) (f more : Flat) (view phase : _) → standing_of more ≡ standing_of f
-    → standing_of (flat_by (if ended then JoinsLate view else (if none then Joins f phase
-    else (if over then Overfull else (if turned then MustWait
-    else Joins more phase)))) f) ≡ standing_of f
-joins_standing true none over turned f more view phase same = refl
-joins_standing false _ over turned f more view phase same = grind arith
-
 joined-standings : (all : List Join) (phasers : List PhaserState) → KeepsStandings phasers (joined all phasers)
 joined-standings [] phasers q = refl
-joined-standings (join ∷ others) phasers q = grind (arith, with_flat-standing, joins_standing, joined-standings others phasers q)
-
-by-standings : (r : Registered) (all : List Join) (phasers : List PhaserState) → KeepsStandings phasers (registered_by r all phasers)
-by-standings r all phasers q = grind (arith, joined-standings)
+joined-standings (join ∷ others) phasers q = grind (arith, with_flat-standing, joined-standings others phasers q)
 
 pub registration-standings : (id count : ℕ) (phasers : List PhaserState) → KeepsStandings phasers (after_registration id count phasers)
-registration-standings id count phasers q = by-standings (registration id count phasers) (joins id count phasers) phasers q
+registration-standings id count phasers q = grind (arith, joined-standings)
 
 -- what an arrival makes of one phaser is in the same phase
 abbrev IsIn : Standing → Arrival → Type 0
@@ -50,27 +38,15 @@ IsIn standing (Turns g) = standing_of g ≡ standing
 IsIn standing (ComesLate view) = Unit {0}
 IsIn standing IsUnregistered = Unit {0}
 
-settled_standing : (all : Bool) (g : Flat) → IsIn (standing_of g) (if all then Turns (record g { turned = true }) else Counts g)
-settled_standing true g = refl
-settled_standing false g = refl
-
 arrive_standing : (ended none leave : Bool) (f less more : Flat) (view : _) → standing_of less ≡ standing_of f → standing_of more ≡ standing_of f
     → IsIn (standing_of f) (if ended then ComesLate view else (if none then IsUnregistered else (if leave then settled less else settled more)))
 arrive_standing true none leave f less more view a b = tt
-arrive_standing false _ leave f less more view a b = grind (arith, settled_standing)
-
-passed_standing : (none : Bool) (g : Flat) → standing_of (if none then vacate g else g) ≡ standing_of g
-passed_standing true g = refl
-passed_standing false g = refl
-
-child-standings : (id : ℕ) (g : Flat) (c : Climb) (above phasers : List PhaserState) → standing_of g ≡ standing_of (flat_at phasers id)
-    → KeepsStandings phasers above → KeepsStandings phasers (with_child id g c above).phasers
-child-standings id g c above phasers is kept q = grind (arith, with_flat-standing, passed_standing)
+arrive_standing false _ leave f less more view a b = grind arith
 
 climbed_by-standings : (a : Arrival) (id : ℕ) (top : Bool) (above : Bool → Climbed) (phasers : List PhaserState)
     → IsIn (standing_of (flat_at phasers id)) a → ((leave : Bool) → KeepsStandings phasers (above leave).phasers)
     → KeepsStandings phasers (climbed_by a id top above phasers).phasers
-climbed_by-standings a id top above phasers is rest q = grind (arith, with_flat-standing, child-standings)
+climbed_by-standings a id top above phasers is rest q = grind (arith, with_flat-standing)
 
 climbed-standings : (line : List ℕ) (leave : Bool) (phasers : List PhaserState) → KeepsStandings phasers (climbed line leave phasers).phasers
 climbed-standings [] leave phasers q = refl

@@ -1,17 +1,11 @@
 -- A step leaves every other thread as ready as it was, unless its event shows more than a turn of its own thread, its row
 -- interrupts that thread, or the thread is about to register and the step changes a tree.
-use Rattle.std.proofs.Common.{◌≡◌, ◌≢◌, ◌∙◌, ℕ, ℤ, pos, zero, suc, ◌||◌, ◌&&◌, not, Bool, true, false, List, [], ◌∷◌, ap, refl, sym, arith, rules}
+use Rattle.std.proofs.Common.{◌≡◌, ◌≢◌, ◌∙◌, ℕ, ℤ, pos, zero, suc, ◌&&◌, Bool, true, false, List, [], ◌∷◌, ap, refl, sym, arith, rules}
 use Rattle.std.specs.Prelude.{nat_abs, int_lt, Option, Some, None, slice_set, slice_index_or}
-use Rattle.std.specs.Ordering.{int_eq}
 use Rattle.std.proofs.lemmas.List.{get_or-set_other}
 use Rattle.instruction_table.specs.declared.row.Row.{Row}
-use Rattle.instruction_table.specs.declared.row.Row.TheVariants.{Halt, Call, Out, Intr, Preg, Paaa, Pphase, Cawait, Creset, Pawaitt}
+use Rattle.instruction_table.specs.declared.row.Row.TheVariants.{Preg, Paaa, Cawait}
 use Rattle.instruction_table.specs.declared.register.Reg.{Reg}
-use Rattle.phase_number.specs.Phase.{phase_view}
-use Rattle.tier_tree.specs.declared.registered.Registered.{Registered}
-use Rattle.tier_tree.specs.declared.registered.Registered.TheVariants as registered
-use Rattle.tier_tree.specs.declared.arrived.Arrived.{Arrived}
-use Rattle.tier_tree.specs.declared.arrived.Arrived.TheVariants as arrived
 use Rattle.tier_tree.specs.Forest.{PhaserState}
 use Rattle.tier_tree.specs.Stored.{Stored, phasers_of}
 use Rattle.tier_tree.specs.Registration.{registration, after_registration}
@@ -22,31 +16,26 @@ use Rattle.cyclic_barrier.specs.declared.answer.WaitState.{WaitState}
 use Rattle.cyclic_barrier.specs.declared.answer.WaitState.TheVariants as state
 use Rattle.cyclic_barrier.specs.ThreadSet.{has}
 use Rattle.cyclic_barrier.specs.Waits.{wait_at}
-use Rattle.cyclic_barrier.specs.Barrier.{BarrierState, Entry, fresh, arrive, enter_beside, enter_timed, leave}
+use Rattle.cyclic_barrier.specs.Barrier.{BarrierState, Entry, fresh, enter_beside, enter_timed, leave}
 use Rattle.loader.specs.Program.{Program}
 use Rattle.thread_state.specs.declared.event.Event.{Event}
 use Rattle.thread_state.specs.declared.frame.Frame.{Frame}
-use Rattle.thread_state.specs.declared.frame.Frame.TheVariants as frame
 use Rattle.thread_state.specs.declared.status.Status.{Status}
 use Rattle.thread_state.specs.Thread.{ThreadState, top_of, is_full, interrupted}
 use Rattle.machine_scene.specs.declared.group.Group.{Group}
 use Rattle.machine_scene.specs.declared.manner.Manner.{Manner}
 use Rattle.machine_scene.specs.Scene.{Scene, StoredScene, Outcome, scene_of, thread_at, barrier_at, with_thread, with_phasers, with_barrier}
-use Rattle.machine_scene.specs.OwnRows.{outcome_of_own_row}
-use Rattle.machine_scene.specs.CallRows.{outcome_of_routine_end, outcome_of_ret, outcome_of_call_row}
 use Rattle.machine_scene.specs.DataRows.{outcome_of_data_row}
-use Rattle.machine_scene.specs.GetterRows.{outcome_of_getter_row}
-use Rattle.machine_scene.specs.PhaserRows.{is_own_tree, is_past, unless_own, outcome_of_pending_end, outcome_of_arrived, outcome_of_arrival, outcome_of_registered, outcome_of_bulk, outcome_of_phaser_row}
-use Rattle.machine_scene.specs.BarrierRows.{is_run_by, is_run_by_another, unless_busy, unless_runner, outcome_of_entered, outcome_of_await_at, outcome_of_barrier_row}
-use Rattle.machine_scene.specs.Unwinding.{outcome_of_popped}
-use Rattle.machine_scene.specs.Waits.{outcome_of_awaited, outcome_of_phase_wait, outcome_of_release, outcome_of_barrier_wait, outcome_of_phase_timeout, outcome_of_barrier_timeout}
+use Rattle.machine_scene.specs.PhaserRows.{is_own_tree, is_past, unless_own, outcome_of_pending_end, outcome_of_registered, outcome_of_bulk, outcome_of_phaser_row}
+use Rattle.machine_scene.specs.BarrierRows.{is_run_by, unless_busy, unless_runner, outcome_of_entered, outcome_of_await_at, outcome_of_barrier_row}
+use Rattle.machine_scene.specs.Waits.{outcome_of_awaited, outcome_of_phase_wait, outcome_of_release, outcome_of_barrier_wait}
 use Rattle.machine_scene.specs.Outcomes.{outcome_in_group, outcome_in, is_ready, timeout_in}
-use Rattle.machine_scene.specs.ReadySet.{is_registration, is_registering_in, is_registering, KnowsReady, AreOthersReady, interrupts, changes_tree, is_loud, changes_all}
-use Rattle.machine_scene.specs.Undo.{PhasersWithin, reach_of_entry, reach_of_row, reach_of_wait, reach_in}
+use Rattle.machine_scene.specs.ReadySet.{is_registration, is_registering, KnowsReady, AreOthersReady, interrupts, changes_tree, is_loud, changes_all}
+use Rattle.machine_scene.specs.Undo.{PhasersWithin, reach_in}
 use Rattle.machine_scene.proofs.Plain.{either}
-use Rattle.machine_scene.specs.Ready.{registration_is_held, is_blocked, is_awaited, is_over_at, is_over, is_listed}
+use Rattle.machine_scene.specs.Ready.{is_blocked, is_awaited, is_over}
 use Rattle.machine_scene.proofs.ReadyThreads.{ready_as_listed}
-use Rattle.machine_scene.proofs.Standings.{Standing, KeepsStandings, registration-standings, arrival-standings}
+use Rattle.machine_scene.proofs.Standings.{KeepsStandings, registration-standings, arrival-standings}
 
 -- what the turn of thread u is ready by is the same, but for what a registration looks at
 record Alike (u : ℕ) (scene after : Scene) : Type 0 where
@@ -55,44 +44,22 @@ record Alike (u : ℕ) (scene after : Scene) : Type 0 where
   pub waits : (b : ℕ) → wait_at (barrier_at after b).waits u ≡ wait_at (barrier_at scene b).waits u
   pub runners : (b : ℕ) → (barrier_at after b).runner ≡ (barrier_at scene b).runner
 
-past_same : (p : ℕ) (phase : ℤ) (u : ℕ) (scene after : Scene) → Alike u scene after → is_past p phase after ≡ is_past p phase scene
-past_same p phase u scene after alike = ap (λ (s : Standing). not (int_eq (phase_view s.phase s.ended) phase)) (alike.standings p)
-
-looked_same : (p : ℕ) (phase : ℤ) (u : ℕ) (scene after : Scene) → Alike u scene after
-    → (is_past p phase after || (thread_at after u).interrupted) ≡ (is_past p phase scene || (thread_at scene u).interrupted)
-looked_same p phase u scene after alike = grind arith
-
 awaited_same : (row : Row) (phase : ℤ) (u : ℕ) (scene after : Scene) → Alike u scene after
     → is_awaited row phase u after ≡ is_awaited row phase u scene
-awaited_same row phase u scene after alike = grind (arith, past_same, looked_same)
-
-over_same_at : (b u : ℕ) (scene after : Scene) → Alike u scene after → is_over_at b u after ≡ is_over_at b u scene
-over_same_at b u scene after alike = grind arith
+awaited_same row phase u scene after alike = grind arith
 
 over_same : (row : Row) (u : ℕ) (scene after : Scene) → Alike u scene after → is_over row u after ≡ is_over row u scene
-over_same row u scene after alike = grind (arith, over_same_at)
-
-busy_same : (b u : ℕ) (scene after : Scene) → Alike u scene after
-    → is_run_by_another u (barrier_at after b).runner ≡ is_run_by_another u (barrier_at scene b).runner
-busy_same b u scene after alike = ap (is_run_by_another u) (alike.runners b)
-
-held_same : (p : ℕ) (count other : ℤ) (u : ℕ) (scene after : Scene) → Alike u scene after → count ≡ other → after.phasers ≡ scene.phasers
-    → registration_is_held p count u after ≡ registration_is_held p other u scene
-held_same p count other u scene after alike counted same = grind arith
+over_same row u scene after alike = grind arith
 
 -- a registration is held as before where the phasers are the same
 blocked_same : (row : Row) (u : ℕ) (scene after : Scene) → Alike u scene after
     → (is_registration row ≡ true → after.phasers ≡ scene.phasers) → is_blocked row u after ≡ is_blocked row u scene
-blocked_same row u scene after alike held = grind (arith, held_same, busy_same)
-
-listed_same : (of : Status) (row : Row) (u : ℕ) (scene after : Scene) → Alike u scene after
-    → (is_registering_in of row ≡ true → after.phasers ≡ scene.phasers) → is_listed of row u after ≡ is_listed of row u scene
-listed_same of row u scene after alike held = grind (arith, blocked_same, awaited_same, over_same)
+blocked_same row u scene after alike held = grind arith
 
 -- so the turn is ready just where it was
 ready_same : (u : ℕ) (program : Program) (scene after : Scene) → Alike u scene after
     → (is_registering u program scene ≡ true → after.phasers ≡ scene.phasers) → is_ready u program after ≡ is_ready u program scene
-ready_same u program scene after alike held = grind (arith, ready_as_listed, listed_same)
+ready_same u program scene after alike held = grind (arith, ready_as_listed)
 
 registering_same : (u : ℕ) (program : Program) (scene after : Scene) → thread_at after u ≡ thread_at scene u
     → is_registering u program after ≡ is_registering u program scene
@@ -115,11 +82,8 @@ abbrev QuietIf : ℕ → Row → Scene → Option Outcome → Type 0
 QuietIf t row scene None = Unit {0}
 QuietIf t row scene (Some outcome) = changes_all row outcome.event ≡ false → Leaves t row scene outcome.scene
 
-not_loud : (row : Row) (event : Event) → changes_all row event ≡ false → is_loud event ≡ false
-not_loud row event quiet = grind arith
-
 quiet_if : (t : ℕ) (row : Row) (scene : Scene) (outcome : Option Outcome) → CalmIf t row scene outcome → QuietIf t row scene outcome
-quiet_if t row scene outcome calm = grind (arith, not_loud)
+quiet_if t row scene outcome calm = grind arith
 
 -- another state of thread t, from a scene in which no other thread but one that is interrupted may be another already
 turned : (t : ℕ) (row : Row) (scene mid : Scene) (after : ThreadState)
@@ -130,12 +94,6 @@ turned t row scene mid after threads standings waits runners = grind (arith, get
 
 still : (t : ℕ) (row : Row) (scene : Scene) (after : ThreadState) → Leaves t row scene (with_thread after t scene)
 still t row scene after = turned t row scene scene after (λ u apart free. refl) (λ id. refl) (λ b u apart. refl) (λ b. refl)
-
--- with phasers in the same standings
-at_tree : (t : ℕ) (row : Row) (scene : Scene) (phasers : List PhaserState) (after : ThreadState) → KeepsStandings scene.phasers phasers
-    → Leaves t row scene (with_thread after t (with_phasers phasers scene))
-at_tree t row scene phasers after same =
-    turned t row scene (with_phasers phasers scene) after (λ u apart free. refl) same (λ b u apart. refl) (λ b. refl)
 
 -- a barrier at which the others' waits are the same, and who runs its action
 abbrev KeepsOthers : ℕ → BarrierState → BarrierState → Type 0
@@ -159,49 +117,15 @@ at_gate b t row scene gate after keeps =
 
 -- rows
 
-quiet_own_row : (row : Row) (t : ℕ) (scene : Scene) → QuietIf t row scene (outcome_of_own_row row t scene)
-quiet_own_row Halt t scene = λ quiet. still t Halt scene _
-quiet_own_row row t scene = search (rules, still)
-
-calm_routine_end : (ended : Bool) (manner : Manner) (root : ℕ) (ends : Bool) (t : ℕ) (row : Row) (scene : Scene) (left : ThreadState)
-    → CalmIf t row scene (Some (outcome_of_routine_end ended manner root ends t (with_thread left t scene)))
-calm_routine_end true manner root ends t row scene left = λ calm.
-    turned t row scene (with_thread left t scene) _ (still t row scene left).threads (λ id. refl) (λ b u apart. refl) (λ b. refl)
-calm_routine_end false manner root ends t row scene left = λ calm. absurd (cc calm)
-
-calm_ret : (top : Option Frame) (t : ℕ) (row : Row) (program : Program) (scene : Scene)
-    → CalmIf t row scene (Some (outcome_of_ret top t program scene))
-calm_ret None t row program scene = λ calm. still t row scene _
-calm_ret top t row program scene = search (rules, still, calm_routine_end)
-
-quiet_call_row : (row : Row) (t : ℕ) (program : Program) (scene : Scene) → QuietIf t row scene (outcome_of_call_row row t program scene)
-quiet_call_row (Call target) t program scene = λ quiet. still t (Call target) scene _
-quiet_call_row row t program scene = search (rules, still, calm_ret)
-
-quiet_interrupt : (other t : ℕ) (scene : Scene) → QuietIf t (Intr other) scene (outcome_of_data_row (Intr other) t scene)
-quiet_interrupt other t scene = grind (arith, turned, get_or-set_other, same-is)
-
 quiet_data_row : (row : Row) (t : ℕ) (scene : Scene) → QuietIf t row scene (outcome_of_data_row row t scene)
-quiet_data_row (Out value) t scene = λ quiet. still t (Out value) scene _
-quiet_data_row row t scene = search (rules, still, turned, quiet_interrupt)
-
-quiet_getter_row : (row : Row) (t : ℕ) (scene : Scene) → QuietIf t row scene (outcome_of_getter_row row t scene)
-quiet_getter_row (Pphase into p) t scene = λ quiet. still t (Pphase into p) scene _
-quiet_getter_row row t scene = search (rules, still)
+quiet_data_row row t scene = grind (arith, still, turned, get_or-set_other, same-is)
 
 -- rows at phasers
-
-calm_registered : (answer : Registered) (into : Reg) (t : ℕ) (row : Row) (scene : Scene) (phasers : List PhaserState)
-    → KeepsStandings scene.phasers phasers → CalmIf t row scene (outcome_of_registered answer into t (with_phasers phasers scene))
-calm_registered (registered.At phase) into t row scene phasers same = λ calm. at_tree t row scene phasers _ same
-calm_registered answer into t row scene phasers same = search (rules, at_tree)
 
 calm_registration : (into : Reg) (p count t : ℕ) (row : Row) (scene : Scene)
     → CalmIf t row scene (outcome_of_registered (registration p count scene.phasers) into t
     (with_phasers (after_registration p count scene.phasers) scene))
-calm_registration into p count t row scene =
-    calm_registered (registration p count scene.phasers) into t row scene (after_registration p count scene.phasers)
-    (registration-standings p count scene.phasers)
+calm_registration into p count t row scene = search (rules, registration-standings)
 
 calm_bulk : (into : Reg) (p : ℕ) (count : ℤ) (t : ℕ) (row : Row) (scene : Scene)
     → CalmIf t row scene (outcome_of_bulk into p count t scene)
@@ -213,16 +137,6 @@ calm_turning : (answer : Option Bool) (manner : Manner) (root : ℕ) (phase : �
     → CalmIf t row scene (Some (outcome_of_pending_end answer manner root phase t program (with_phasers phasers scene)))
 calm_turning answer manner root phase t row program scene phasers same = grind arith
 
-calm_arrived : (answer : Arrived) (manner : Manner) (t : ℕ) (row : Row) (program : Program) (scene : Scene) (phasers : List PhaserState)
-    → KeepsStandings scene.phasers phasers
-    → CalmIf t row scene (Some (outcome_of_arrived answer manner t program (with_phasers phasers scene)))
-calm_arrived (arrived.At phase) manner t row program scene phasers same = λ calm. at_tree t row scene phasers _ same
-calm_arrived answer manner t row program scene phasers same = search (rules, at_tree, calm_turning)
-
-calm_arrival : (manner : Manner) (p t : ℕ) (row : Row) (program : Program) (scene : Scene)
-    → CalmIf t row scene (Some (outcome_of_arrival manner p t program scene))
-calm_arrival manner p t row program scene = search (rules, still, calm_arrived, arrival-standings)
-
 -- unless the thread itself runs the tree's routine
 calm_unless_own : (p t : ℕ) (row : Row) (scene : Scene) (outcome : Option Outcome) → CalmIf t row scene outcome
     → CalmIf t row scene (unless_own p t scene outcome)
@@ -232,7 +146,7 @@ calm_unless_own p t row scene outcome calm =
 quiet_phaser_row : (row : Row) (t : ℕ) (program : Program) (scene : Scene) → QuietIf t row scene (outcome_of_phaser_row row t program scene)
 quiet_phaser_row (Preg into p) t program scene =
     quiet_if t (Preg into p) scene _ (calm_unless_own p t (Preg into p) scene _ (calm_registration into p 1 t (Preg into p) scene))
-quiet_phaser_row row t program scene = search (rules, quiet_if, calm_unless_own, calm_registration, calm_bulk, calm_arrival, still)
+quiet_phaser_row row t program scene = search (rules, quiet_if, calm_unless_own, calm_registration, calm_bulk, arrival-standings, still)
 
 -- rows at barriers
 
@@ -243,20 +157,12 @@ KeepsIf entered.Broken t before after = KeepsOthers t before after
 KeepsIf entered.Own t before after = KeepsOthers t before after
 KeepsIf _ t before after = Unit {0}
 
-none_else : (t : ℕ) (gate : BarrierState) → KeepsOthers t gate gate
-none_else t gate = (λ u apart. refl, refl)
-
 set_else : (t : ℕ) (gate : BarrierState) (wait : Option WaitState) → KeepsOthers t gate (record gate { waits = slice_set gate.waits t wait })
 set_else t gate wait = (λ u apart. get_or-set_other gate.waits t u wait None apart, refl)
 
-arrive_keeps : (t : ℕ) (interrupted no_wait : Bool) (gate : BarrierState)
-    → KeepsIf (arrive t interrupted no_wait gate).answer t gate (arrive t interrupted no_wait gate).barrier
-arrive_keeps t interrupted no_wait gate = search (rules, none_else, set_else)
-
 beside_keeps : (runner : Option ℕ) (t : ℕ) (interrupted no_wait : Bool) (gate : BarrierState)
     → KeepsIf (enter_beside runner t interrupted no_wait gate).answer t gate (enter_beside runner t interrupted no_wait gate).barrier
-beside_keeps None t interrupted no_wait gate = arrive_keeps t interrupted no_wait gate
-beside_keeps (Some runner) t interrupted no_wait gate = grind (arith, none_else)
+beside_keeps runner t interrupted no_wait gate = search (rules, set_else)
 
 calm_entered : (answer : Entered) (into : Reg) (b t : ℕ) (row : Row) (program : Program) (scene : Scene) (gate : BarrierState)
     → KeepsIf answer t (barrier_at scene b) gate
@@ -282,20 +188,13 @@ calm_unless_runner b t row scene outcome calm =
     either (CalmIf t row scene) (is_run_by t (barrier_at scene b).runner) {b = outcome} (λ quiet. still t row scene _) calm
 
 -- a reset may wake those who wait
-quiet_reset : (t b : ℕ) (scene : Scene) (outcome : Option Outcome) → QuietIf t (Creset b) scene outcome
-quiet_reset t b scene outcome = grind arith
-
 quiet_barrier_row : (row : Row) (t : ℕ) (program : Program) (scene : Scene) → QuietIf t row scene (outcome_of_barrier_row row t program scene)
 quiet_barrier_row (Cawait into b) t program scene =
     quiet_if t (Cawait into b) scene _ (calm_unless_busy b t (Cawait into b) scene _ (calm_unless_runner b t (Cawait into b) scene _
     (calm_await false into b t (Cawait into b) program scene)))
-quiet_barrier_row row t program scene = search (rules, quiet_if, calm_unless_busy, calm_unless_runner, calm_await, quiet_reset, still)
+quiet_barrier_row row t program scene = search (rules, quiet_if, calm_unless_busy, calm_unless_runner, calm_await, still)
 
 -- turns of threads that don't run
-
-calm_popped : (top : Option Frame) (code : ℤ) (t : ℕ) (row : Row) (scene : Scene) → CalmIf t row scene (Some (outcome_of_popped top code t scene))
-calm_popped (Some (frame.Action b registers back)) code t row scene = λ calm. absurd (cc calm)
-calm_popped _ code t row scene = λ calm. still t row scene _
 
 calm_awaited : (looks : Bool) (into : Reg) (p : ℕ) (phase : ℤ) (t : ℕ) (row : Row) (scene : Scene)
     → CalmIf t row scene (outcome_of_awaited looks into p phase t scene)
@@ -317,39 +216,22 @@ calm_barrier_wait : (row : Row) (index : ℤ) (t : ℕ) (scene : Scene) → Calm
 calm_barrier_wait (Cawait into b) index t scene = calm_release (wait_at (barrier_at scene b).waits t) into index b t (Cawait into b) scene
 calm_barrier_wait row index t scene = search (rules, calm_release)
 
-calm_phase_timeout : (row : Row) (t : ℕ) (scene : Scene) → CalmIf t row scene (outcome_of_phase_timeout row t scene)
-calm_phase_timeout (Pawaitt into p number time) t scene = λ calm. still t (Pawaitt into p number time) scene _
-calm_phase_timeout _ t scene = tt
-
-calm_barrier_timeout : (row : Row) (t : ℕ) (scene : Scene) → CalmIf t row scene (outcome_of_barrier_timeout row t scene)
-calm_barrier_timeout row t scene = grind arith
-
 -- all of them
 
 quiet_in_group : (group : Group) (row : Row) (t : ℕ) (program : Program) (scene : Scene)
     → QuietIf t row scene (outcome_in_group group row t program scene)
-quiet_in_group group row t program scene = grind (arith, quiet_own_row, quiet_call_row, quiet_data_row, quiet_phaser_row, quiet_getter_row, quiet_barrier_row)
+quiet_in_group group row t program scene = search (rules, quiet_data_row, quiet_phaser_row, quiet_barrier_row, still)
 
 quiet_in : (of : Status) (row : Row) (t : ℕ) (program : Program) (scene : Scene) → QuietIf t row scene (outcome_in of row t program scene)
-quiet_in _ row t program scene = search (rules, quiet_in_group, quiet_if, calm_popped, calm_phase_wait, calm_barrier_wait)
+quiet_in _ row t program scene = search (rules, quiet_in_group, quiet_if, calm_phase_wait, calm_barrier_wait)
 
 quiet_timeout : (of : Status) (row : Row) (t : ℕ) (scene : Scene) → QuietIf t row scene (timeout_in of row t scene)
-quiet_timeout of row t scene = grind (arith, quiet_if, calm_phase_timeout, calm_barrier_timeout)
+quiet_timeout of row t scene = search (rules, quiet_if, still)
 
 -- a row that changes no tree
-same_entry : (top : Option Frame) (before after : List Stored) → PhasersWithin (reach_of_entry top) before after → after ≡ before
-same_entry top before after within = grind arith
-
-same_row : (row : Row) (top : Option Frame) (before after : List Stored) → changes_tree row ≡ false
-    → PhasersWithin (reach_of_row row top) before after → after ≡ before
-same_row row top before after none within = grind arith
-
-same_wait : (row : Row) (before after : List Stored) → PhasersWithin (reach_of_wait row) before after → after ≡ before
-same_wait row before after within = grind arith
-
 pub same_trees : (of : Status) (row : Row) (top : Option Frame) (before after : List Stored) → changes_tree row ≡ false
     → PhasersWithin (reach_in of row top) before after → after ≡ before
-same_trees of row top before after none within = grind (arith, same_row, same_entry, same_wait)
+same_trees of row top before after none within = grind arith
 
 -- of another thread, whose registration isn't held by the trees that the step leaves
 other_by : (program : Program) (t u : ℕ) (row : Row) (old new : StoredScene) → Leaves t row (scene_of old) (scene_of new) → KnowsReady program old

@@ -1,5 +1,5 @@
 -- Sets of threads of which one is looked at.
-use Rattle.std.proofs.Common.{sym, arith, w64, ◌+◌, ◌≤◌, ◌≢◌, ◌≡◌, ◌∙◌, ℕ, ◌-◌, ◌*◌, ◌%◌, ◌^◌, ◌<◌, ◌==◌, ◌||◌, ◌&&◌, not, Bool, true, false, refl, ap, bit_and, bit_or, if◌then◌else◌}
+use Rattle.std.proofs.Common.{sym, arith, w64, ◌+◌, ◌≤◌, ◌≢◌, ◌≡◌, ◌∙◌, ℕ, ◌-◌, ◌*◌, ◌%◌, ◌^◌, ◌<◌, ◌==◌, Bool, true, false, refl, ap, bit_and, bit_or, if◌then◌else◌}
 use Rattle.cyclic_barrier.specs.ThreadSet.{has}
 use Rattle.machine_scene.specs.ReadySet.{IsSetAt}
 use Rattle.cyclic_barrier.proofs.ThreadSetLemmas.{has-with, has-without}
@@ -9,25 +9,13 @@ use Rattle.std.specs.Int.{trailing_zeros}
 use Rattle.std.proofs.lemmas.Bool.{cases_eq, cases_lt}
 use Rattle.std.proofs.lemmas.Nat.Bits.{bit_at-trailing_zeros}
 
-with_by : (here was : Bool) → (was || here) ≡ (if here then true else was)
-with_by true true = refl
-with_by true false = refl
-with_by false true = refl
-with_by false false = refl
-
-without_by : (here was : Bool) → (was && not here) ≡ (if here then false else was)
-without_by true true = refl
-without_by true false = refl
-without_by false true = refl
-without_by false false = refl
-
 pub set_with : (a k : ℕ) → k < 64 → (t : ℕ)
     → has (bit_or a (1 * 2 ^ k % 18446744073709551616)) t ≡ (if k == t then true else has a t)
-set_with a k within t = has-with a k within t ∙ with_by (k == t) (has a t)
+set_with a k within t = grind (arith, has-with)
 
 pub set_without : (a k : ℕ) → a < 2 ^ 64 → k < 64 → (t : ℕ)
     → has (bit_and a (18446744073709551615 - 1 * 2 ^ k % 18446744073709551616)) t ≡ (if k == t then false else has a t)
-set_without a k fits within t = has-without a k fits within t ∙ without_by (k == t) (has a t)
+set_without a k fits within t = grind (arith, has-without)
 
 pub ruleset set_at = (set_with, set_without)
 
@@ -36,9 +24,6 @@ abbrev pub IsTestedAt : (ℕ → Bool) → ℕ → ℕ → ℕ → Type 0
 IsTestedAt test t before set = (u : ℕ) → has set u ≡ (if t == u then test u else has before u)
 
 -- it, and the others
-here : (test : ℕ → Bool) (t before set : ℕ) → IsTestedAt test t before set → has set t ≡ test t
-here test t before set is = is t ∙ ap (λ (x : Bool). if x then test t else has before t) (same-is t)
-
 pub elsewhere : (test : ℕ → Bool) (t before set : ℕ) → IsTestedAt test t before set → (u : ℕ) → u ≢ t → has set u ≡ has before u
 elsewhere test t before set is u apart = grind arith
 
@@ -51,11 +36,8 @@ pub apart_from : (t u : ℕ) → (t == u) ≡ false → u ≢ t
 apart_from t u other same = let yes = ap (λ (n : ℕ). t == n) same ∙ same-is t in cc (yes, other)
 
 -- one thread is looked at: the test of it is that of its number
-looked_by : (t u : ℕ) (test : ℕ → Bool) (was : Bool) → (if t == u then test t else was) ≡ (if t == u then test u else was)
-looked_by t u test was = grind (arith, cases_eq, other-is)
-
 pub tested_at : (test : ℕ → Bool) (t before set : ℕ) → IsSetAt t (test t) before set → IsTestedAt test t before set
-tested_at test t before set is u = is u ∙ looked_by t u test (has before u)
+tested_at test t before set is u = grind (arith, cases_eq, other-is)
 
 -- where the others were right, all are
 pub all_right : (these now was right : Bool) → now ≡ (if these then right else was) → (these ≡ false → was ≡ right) → now ≡ right
@@ -71,7 +53,7 @@ pub filled_none : (test : ℕ → Bool) → IsFilledTo test 0 0
 filled_none test = record { below = λ u within. absurd (omega (arith, within)); above = λ u beyond. has-none u }
 
 pub filled_more : (test : ℕ → Bool) (k before set : ℕ) → IsFilledTo test k before → IsTestedAt test k before set → IsFilledTo test (k + 1) set
-filled_more test k before set filled is = grind (arith, cases_eq, here, elsewhere)
+filled_more test k before set filled is = grind (arith, cases_eq, elsewhere)
 
 pub filled_all : (test : ℕ → Bool) (n set : ℕ) → IsFilledTo test n set → ((u : ℕ) → n ≤ u → test u ≡ false) → (u : ℕ) → has set u ≡ test u
 filled_all test n set filled none u = grind (arith, cases_lt)

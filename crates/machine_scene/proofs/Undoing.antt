@@ -1,5 +1,5 @@
 -- A turn, or an expiry: a sound scene stays sound, and it is undone to the word.
-use Rattle.std.proofs.Common.{◌≡◌, ◌∙◌, ℕ, ◌<◌, List, length, ap, refl, sym, subst, arith}
+use Rattle.std.proofs.Common.{◌≡◌, ◌∙◌, ℕ, ◌<◌, length, ap, refl, sym, subst, arith}
 use Rattle.std.specs.Prelude.{Option, Some, None}
 use Rattle.std.proofs.lemmas.List.{length-set}
 use Rattle.instruction_table.specs.declared.row.Row.{Row}
@@ -7,7 +7,7 @@ use Rattle.tier_tree.specs.Stored.{IsStored}
 use Rattle.tier_tree.proofs.Changed.{restored_line}
 use Rattle.loader.specs.Program.{Program, IsNamed, row_at}
 use Rattle.thread_state.specs.declared.event.Event.{Event}
-use Rattle.thread_state.specs.Thread.{ThreadState, top_of}
+use Rattle.thread_state.specs.Thread.{top_of}
 use Rattle.thread_state.specs.Undo as own
 use Rattle.machine_scene.specs.declared.ready_set.ReadySet.{ReadySet}
 use Rattle.machine_scene.specs.declared.reach.Reach.{Reach}
@@ -15,13 +15,13 @@ use Rattle.machine_scene.specs.declared.note.Touched.{Touched}
 use Rattle.machine_scene.specs.Scene.{StoredScene, Outcome, scene_of, counts_in, thread_at}
 use Rattle.machine_scene.specs.Sound.{IsSound}
 use Rattle.machine_scene.specs.Outcomes.{outcome_in, outcome_of, is_ready, outcome_of_expiry}
-use Rattle.machine_scene.specs.Undo.{Note, IsThere, PhasersWithin, CanPutBack, CanUndo, reach_in, reach_of, touched_by, with_undone, with_touched, undone}
+use Rattle.machine_scene.specs.Undo.{Note, IsThere, PhasersWithin, CanUndo, reach_in, reach_of, touched_by, with_undone, with_touched, undone}
 use Rattle.machine_scene.specs.Played.{IsPlayed}
 use Rattle.machine_scene.proofs.Outcomes.{sound_outcome, sound_timeout}
 use Rattle.machine_scene.proofs.Plain.{either}
 use Rattle.machine_scene.proofs.Placed.{turn_placed, top_placed}
 use Rattle.machine_scene.proofs.Reaches.{reach_there}
-use Rattle.machine_scene.proofs.Undone.{GivesBack, BackIf, threads_back, thread_back}
+use Rattle.machine_scene.proofs.Undone.{GivesBack, BackIf}
 use Rattle.machine_scene.proofs.UndoneRows.{NamesThread, back_in, back_timeout}
 
 -- the note gives the scene back, and may be used
@@ -34,34 +34,14 @@ record IsUndone (note : Note) (old new : StoredScene) : Type 0 where
 abbrev noted : Reach → ℕ → StoredScene → Note
 noted reach t stored = record { thread = t; before = own.note_of (thread_at (scene_of stored) t); touched = touched_by reach stored; ready = stored.ready }
 
-made : (old new : StoredScene) → new.cells ≡ old.cells → new.threads ≡ old.threads → new.phasers ≡ old.phasers → new.barriers ≡ old.barriers
-    → record new { ready = old.ready } ≡ old
-made old new cells threads phasers barriers = grind arith
-
 -- the scene that such a note gives back, but for whose turn was ready
 abbrev given_back : Reach → ℕ → StoredScene → StoredScene → StoredScene
 given_back reach t old new = with_undone (own.note_of (thread_at (scene_of old) t)) t (with_touched (touched_by reach old) new)
 
-undone_by : (reach : Reach) (t : ℕ) (old new : StoredScene) → GivesBack reach t (scene_of old) (scene_of new)
-    → PhasersWithin reach old.phasers new.phasers → undone (noted reach t old) new ≡ old
-undone_by reach t old new gives within = grind (arith, made, restored_line)
-
-many_back : (t : ℕ) (before after : List ThreadState) → length (thread_back t before after) ≡ length after
-many_back t before after = grind (arith, length-set)
-
-many_threads : (reach : Reach) (t : ℕ) (before after : List ThreadState) → threads_back reach t before after ≡ before
-    → length after ≡ length before
-many_threads reach t before after back = grind (arith, many_back, thread_back)
-
-can_put_back : (reach : Reach) (t : ℕ) (old new : StoredScene) → IsThere reach old → IsStored old.phasers
-    → GivesBack reach t (scene_of old) (scene_of new) → PhasersWithin reach old.phasers new.phasers
-    → CanPutBack (touched_by reach old) new
-can_put_back reach t old new there stored gives within = grind (arith, many_threads, length-set)
-
 undone_within : (reach : Reach) (t : ℕ) (old new : StoredScene) → IsThere reach old → t < length old.threads → IsStored old.phasers
     → GivesBack reach t (scene_of old) (scene_of new) → PhasersWithin reach old.phasers new.phasers
     → IsUndone (noted reach t old) old new
-undone_within reach t old new there thread stored gives within = grind (arith, many_threads, undone_by, can_put_back)
+undone_within reach t old new there thread stored gives within = grind (arith, restored_line, length-set)
 
 names_thread : (row : Row) (program : Program) (stored : StoredScene) → IsNamed (counts_in stored) row → NamesThread row (scene_of stored)
 names_thread row program stored named = grind arith
@@ -127,15 +107,6 @@ touched_still : (of : Touched) (stored : StoredScene) (set : ReadySet)
     → with_touched of (record stored { ready = set }) ≡ record (with_touched of stored) { ready = set }
 touched_still of stored set = grind arith
 
-undone_still : (note : Note) (stored : StoredScene) (set : ReadySet) → undone note (record stored { ready = set }) ≡ undone note stored
-undone_still note stored set = grind arith
-
-put_back_still : (of : Touched) (stored : StoredScene) (set : ReadySet) → CanPutBack of stored → CanPutBack of (record stored { ready = set })
-put_back_still of stored set can = grind arith
-
-can_still : (note : Note) (stored : StoredScene) (set : ReadySet) → CanUndo note stored → CanUndo note (record stored { ready = set })
-can_still note stored set can = record { there = can.there; touched = put_back_still note.touched stored set can.touched }
-
 pub played_still : (outcome : Option Outcome) (t : ℕ) (program : Program) (old new : StoredScene) (set : ReadySet) (event : Event)
     → IsPlayed outcome t program old new event → IsPlayed outcome t program old (record new { ready = set }) event
-played_still outcome t program old new set event is = grind (arith, undone_still, can_still)
+played_still outcome t program old new set event is = grind arith

@@ -25,22 +25,19 @@ back_by : (before after : ThreadState) → take (length before.stack - 1) after.
     → take (length before.output) after.output ≡ before.output → IsBack before after
 back_by before after stack output = grind (arith, restacked)
 
-same_output : (before after : ThreadState) → after.output ≡ before.output → take (length before.output) after.output ≡ before.output
-same_output before after same = grind (arith, take_all)
-
 -- its stack and output are the same
 pub back_same : (before after : ThreadState) → after.stack ≡ before.stack → after.output ≡ before.output → IsBack before after
-back_same before after stack output = grind (arith, back_by, same_output)
+back_same before after stack output = grind (arith, back_by, take_all)
 
 -- it got one entry
 pub back_push : (before after : ThreadState) (entry : Frame) → after.stack ≡ before.stack ++ entry ∷ [] → after.output ≡ before.output
     → IsBack before after
-back_push before after entry stack output = grind (arith, back_by, take-append-le, same_output)
+back_push before after entry stack output = grind (arith, back_by, take-append-le, take_all)
 
 -- it lost one
 pub back_pop : (before after : ThreadState) → after.stack ≡ take (length before.stack - 1) before.stack → after.output ≡ before.output
     → IsBack before after
-back_pop before after stack output = grind (arith, back_by, take-take, same_output)
+back_pop before after stack output = grind (arith, back_by, take-take, take_all)
 
 -- it put out one value
 pub back_out : (before after : ThreadState) (value : ℤ) → after.stack ≡ before.stack → after.output ≡ before.output ++ value ∷ []
@@ -80,12 +77,6 @@ BackIf reach t scene (Some outcome) = GivesBack reach t scene outcome.scene
 abbrev pub IsOwn : Reach → ℕ → Type 0
 IsOwn reach t = (before after : List ThreadState) → threads_back reach t before after ≡ thread_back t before after
 
-same_cells : (reach : Reach) (cells : List ℤ) → cells_back reach cells cells ≡ cells
-same_cells reach cells = grind (arith, set-get_or)
-
-same_barriers : (reach : Reach) (barriers : List BarrierState) → barriers_back reach barriers barriers ≡ barriers
-same_barriers reach barriers = grind (arith, set-get_or)
-
 -- a thread that is set, and then as it was
 pub thread_set : (t : ℕ) (threads : List ThreadState) (thread : ThreadState) → t < length threads
     → IsBack (slice_index_or threads t no_thread) thread → thread_back t threads (slice_set threads t thread) ≡ threads
@@ -101,7 +92,7 @@ back_from reach t before mid after is_own there cells barriers threads back = gr
 -- a turn of the thread alone
 pub back_alone : (reach : Reach) (t : ℕ) (scene : Scene) (after : ThreadState) → IsOwn reach t → t < length scene.threads
     → IsBack (thread_at scene t) after → GivesBack reach t scene (with_thread after t scene)
-back_alone reach t scene after is_own there back = grind (arith, back_from, same_cells, same_barriers)
+back_alone reach t scene after is_own there back = grind (arith, back_from, set-get_or)
 
 -- with a tree
 pub back_tree : (p t : ℕ) (scene : Scene) (phasers : List PhaserState) (after : ThreadState) → t < length scene.threads
@@ -124,10 +115,6 @@ back_barrier b t scene gate after there back =
 -- of each thread, what is there now can be undone to what was there
 abbrev AllBack : List ThreadState → List ThreadState → Type 0
 AllBack before after = (n : ℕ) → IsBack (slice_index_or before n no_thread) (slice_index_or after n no_thread)
-
-all_set : (before after : List ThreadState) (u : ℕ) (thread : ThreadState) → u < length after → AllBack before after
-    → IsBack (slice_index_or before u no_thread) thread → AllBack before (slice_set after u thread)
-all_set before after u thread there all back n = grind (arith, cases_eq, get_or-set_same, get_or-set_other)
 
 -- two places that were set, and then as they were
 both_set : (threads : List ThreadState) (u t : ℕ) (first second : ThreadState) → u < length threads → t < length threads
@@ -163,4 +150,4 @@ both_set threads u t first second here there =
 pub threads_set : (threads : List ThreadState) (u t : ℕ) (first second : ThreadState) → u < length threads → t < length threads
     → IsBack (slice_index_or threads u no_thread) first → IsBack (slice_index_or threads t no_thread) second
     → thread_back t threads (thread_back u threads (slice_set (slice_set threads u first) t second)) ≡ threads
-threads_set threads u t first second here there back_u back_t = grind (arith, length-set, back_same, all_set, both_set)
+threads_set threads u t first second here there back_u back_t = grind (arith, length-set, back_same, cases_eq, get_or-set_same, get_or-set_other, both_set)

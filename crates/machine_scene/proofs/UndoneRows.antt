@@ -1,30 +1,26 @@
 -- What every outcome leaves to be undone, row by row.
-use Rattle.std.proofs.Common.{cond, ◌≡◌, ◌∙◌, ℕ, ℤ, pos, ◌+◌, ◌<◌, ◌==◌, ◌++◌, [], ◌∷◌, ◌&&◌, not, Bool, true, false, List, length, ap, refl, arith, rules}
+use Rattle.std.proofs.Common.{◌≡◌, ◌∙◌, ℕ, ℤ, pos, ◌+◌, ◌<◌, ◌&&◌, Bool, true, false, List, length, ap, refl, arith, rules}
 use Rattle.std.specs.Prelude.{nat_abs, int_lt, is_some, Option, Some, None, slice_set, slice_index_or}
-use Rattle.std.specs.Ordering.{int_eq}
 use Rattle.std.proofs.lemmas.List.{set-set, set-get_or, get_or-set_same}
 use Rattle.instruction_table.specs.declared.row.Row.{Row}
-use Rattle.instruction_table.specs.declared.row.Row.TheVariants.{Call, Out, Lds, Sts, SelfNumber, Intr, Intrd, Preg, Pbulk, Parr, Pdereg, Paaa, Pawait, Pawaiti, Pforce, Pphase, Cawait, Creset, Cbroken, Cwaiting, Cparties, Pawaitt, Cawaitt}
+use Rattle.instruction_table.specs.declared.row.Row.TheVariants.{Call, Intr, Preg, Pbulk, Parr, Pdereg, Paaa, Pawait, Pawaiti, Pforce, Pphase, Cawait, Creset, Cbroken, Cwaiting, Cparties, Pawaitt, Cawaitt}
 use Rattle.instruction_table.specs.declared.register.Reg.{Reg}
 use Rattle.instruction_table.specs.Registers.{value_in}
 use Rattle.tier_tree.specs.declared.registered.Registered.{Registered}
 use Rattle.tier_tree.specs.declared.registered.Registered.TheVariants as registered
 use Rattle.tier_tree.specs.declared.arrived.Arrived.{Arrived}
 use Rattle.tier_tree.specs.declared.arrived.Arrived.TheVariants as arrived
-use Rattle.packed_phaser.specs.Flat.{view_of}
 use Rattle.tier_tree.specs.Forest.{PhaserState, flat_at}
 use Rattle.tier_tree.specs.Registration.{registration, after_registration}
 use Rattle.tier_tree.specs.Arrival.{Arrives, arrival}
 use Rattle.tier_tree.specs.PhaseEnd.{after_phase_end, after_force}
-use Rattle.cyclic_barrier.specs.declared.answer.Entered.{Entered}
-use Rattle.cyclic_barrier.specs.declared.answer.WaitState.{WaitState}
-use Rattle.cyclic_barrier.specs.Barrier.{BarrierState, Entry, enter_timed, reset, expire, end_action}
+use Rattle.cyclic_barrier.specs.Barrier.{BarrierState, reset, expire, end_action}
 use Rattle.loader.specs.Program.{Program}
 use Rattle.thread_state.specs.declared.event.What.TheVariants as what
 use Rattle.thread_state.specs.declared.frame.Frame.{Frame}
 use Rattle.thread_state.specs.declared.frame.Frame.TheVariants as frame
 use Rattle.thread_state.specs.declared.status.Status.{Status}
-use Rattle.thread_state.specs.Thread.{ThreadState, Turn, turn_of_throw, turn_of_interruption, turn_of_answer, turn_of_done, turn_of_wait, turn_of_halt, turn_of_local, turn_of_out, turn_of_call, turn_of_try, turn_of_endtry, turn_of_return, turn_of_advance, turn_of_popped, turn_of_pop, turn_of_intrd, top_of, with_entry, popped, left_routine, is_full, interrupted}
+use Rattle.thread_state.specs.Thread.{ThreadState, Turn, turn_of_throw, turn_of_interruption, turn_of_answer, turn_of_done, turn_of_halt, turn_of_call, turn_of_try, turn_of_endtry, turn_of_return, turn_of_advance, turn_of_popped, top_of, with_entry, popped, left_routine, is_full, interrupted}
 use Rattle.machine_scene.specs.declared.group.Group.{Group}
 use Rattle.machine_scene.specs.declared.group.Group.TheVariants.{Own}
 use Rattle.machine_scene.specs.declared.manner.Manner.{Manner}
@@ -32,17 +28,16 @@ use Rattle.machine_scene.specs.declared.patience.Patience.{Patience}
 use Rattle.machine_scene.specs.declared.patience.Patience.TheVariants as patience
 use Rattle.machine_scene.specs.declared.reach.Reach.{Reach}
 use Rattle.machine_scene.specs.declared.reach.Reach.TheVariants as reach
-use Rattle.machine_scene.specs.Scene.{Scene, Outcome, no_thread, thread_at, barrier_at, routine_at, with_thread, with_phasers, with_barrier, with_cell}
+use Rattle.machine_scene.specs.Scene.{Scene, Outcome, no_thread, thread_at, barrier_at, routine_at, with_thread, with_phasers, with_barrier}
 use Rattle.machine_scene.specs.OwnRows.{outcome_of_own_row}
 use Rattle.machine_scene.specs.CallRows.{outcome_of_routine_end, outcome_of_ret, outcome_of_call_row}
 use Rattle.machine_scene.specs.DataRows.{outcome_of_data_row}
 use Rattle.machine_scene.specs.GetterRows.{outcome_of_getter_row}
-use Rattle.machine_scene.specs.PhaserRows.{is_own_tree, has_routine, turn_of_arrival, turn_of_patience, turn_of_await, unless_own, outcome_of_pending_end, outcome_of_arrived, outcome_of_arrival, outcome_of_registered, outcome_of_registration, outcome_of_bulk, outcome_of_await, outcome_of_phaser_row}
-use Rattle.machine_scene.specs.BarrierRows.{is_run_by, unless_busy, unless_runner, outcome_of_entered, outcome_of_await_at, outcome_of_barrier_row}
-use Rattle.machine_scene.specs.Unwinding.{outcome_of_popped}
-use Rattle.machine_scene.specs.Waits.{outcome_of_awaited, outcome_of_phase_wait, outcome_of_release, outcome_of_barrier_wait, outcome_of_phase_timeout, outcome_of_barrier_timeout}
+use Rattle.machine_scene.specs.PhaserRows.{is_own_tree, has_routine, turn_of_arrival, unless_own, outcome_of_pending_end, outcome_of_arrived, outcome_of_arrival, outcome_of_registered, outcome_of_registration, outcome_of_bulk, outcome_of_await, outcome_of_phaser_row}
+use Rattle.machine_scene.specs.BarrierRows.{is_run_by, unless_busy, unless_runner, outcome_of_await_at, outcome_of_barrier_row}
+use Rattle.machine_scene.specs.Waits.{outcome_of_phase_timeout, outcome_of_barrier_timeout}
 use Rattle.machine_scene.specs.Outcomes.{outcome_in_group, outcome_in, timeout_in}
-use Rattle.machine_scene.specs.Undo.{reach_of_entry, reach_of_ret, reach_of_row, reach_of_wait, reach_in}
+use Rattle.machine_scene.specs.Undo.{reach_of_ret, reach_of_row, reach_of_wait, reach_in}
 use Rattle.machine_scene.proofs.Plain.{either}
 use Rattle.machine_scene.proofs.Turns.{read_same}
 use Rattle.machine_scene.proofs.Undone.{IsBack, GivesBack, BackIf, IsOwn, cells_back, barriers_back, back_same, back_push, back_pop, back_out, back_from, back_alone, back_tree, back_barrier, gate_back, threads_set}
@@ -64,34 +59,11 @@ answered before into value = same before (turn_of_answer into value before) refl
 interruption : (before : ThreadState) → Undoes before (turn_of_interruption before)
 interruption before = same before (turn_of_interruption before) refl refl
 
-waits : (before : ThreadState) (phase : ℤ) → Undoes before (turn_of_wait phase before)
-waits before phase = same before (turn_of_wait phase before) refl refl
-
 arrived_at : (manner : Manner) (phase : ℤ) (before : ThreadState) → Undoes before (turn_of_arrival manner phase before)
-arrived_at manner phase before =
-    either (Undoes before) manner.waits {a = turn_of_wait phase before} {b = turn_of_answer manner.into phase before} (waits before phase)
-    (answered before manner.into phase)
-
-patient : (of : Patience) (phase : ℤ) (before : ThreadState) → Undoes before (turn_of_patience of phase before)
-patient of phase before = grind (arith, waits, interruption, thrown)
-
-awaits : (of : Patience) (into : Reg) (phase view : ℤ) (before : ThreadState) → Undoes before (turn_of_await of into phase view before)
-awaits of into phase view before =
-    let past = turn_of_answer into view before in
-    let wait = turn_of_patience of phase before in
-    either (Undoes before) (int_lt phase (pos 0)) {a = turn_of_answer into phase before} {b = cond (not (int_eq view phase)) past wait}
-    (answered before into phase)
-    (either (Undoes before) (not (int_eq view phase)) {a = past} {b = wait} (answered before into view) (patient of phase before))
+arrived_at manner phase before = grind (arith, answered, same)
 
 halted : (before : ThreadState) → Undoes before (turn_of_halt before)
 halted before = grind (arith, thrown, same)
-
-put_out : (from : Reg) (before : ThreadState) → Undoes before (turn_of_out from before)
-put_out from before =
-    let value = value_in before.registers from in
-    let more : Turn = record { thread = record before { output = before.output ++ value ∷ []; pc = before.pc + 1 }; what = what.Out value } in
-    either (Undoes before) (length before.output == 4096) {a = turn_of_throw (pos 8) before} {b = more} (thrown before (pos 8))
-    (back_out before more.thread value refl refl)
 
 called : (target : ℕ) (before : ThreadState) → Undoes before (turn_of_call target before)
 called target before =
@@ -126,13 +98,9 @@ alone : (t : ℕ) (scene : Scene) (after : ThreadState) → t < length scene.thr
     → GivesBack reach.Nothing t scene (with_thread after t scene)
 alone t scene after there back = back_alone reach.Nothing t scene after (λ first last. refl) there back
 
-local : (row : Row) (t : ℕ) (scene : Scene) → t < length scene.threads
-    → GivesBack reach.Nothing t scene (with_thread (turn_of_local row (thread_at scene t)).thread t scene)
-local row t scene there = alone t scene _ there (same (thread_at scene t) (turn_of_local row (thread_at scene t)) refl refl)
-
 back_own_row : (row : Row) (top : Option Frame) (t : ℕ) (scene : Scene) → t < length scene.threads
     → BackIf (reach_of_row row top) t scene (outcome_of_own_row row t scene)
-back_own_row row top t scene there = grind (arith, alone, halted, local)
+back_own_row row top t scene there = grind (arith, alone, halted)
 
 -- thread t, back at its arrival, takes the answer of it
 back_at_arrival : (reach : Reach) (t : ℕ) (scene mid : Scene) (left : ThreadState) (into : Reg) (value : ℤ) → IsOwn reach t
@@ -175,14 +143,6 @@ back_call_row : (row : Row) (t : ℕ) (program : Program) (scene : Scene) → t 
 back_call_row (Call target) t program scene there = alone t scene _ there (called target (thread_at scene t))
 back_call_row row t program scene there = search (rules, alone, called, back_ret, tried, ended_try, thrown)
 
--- `sts`
-back_store : (from : Reg) (cell t : ℕ) (scene : Scene) → t < length scene.threads
-    → BackIf (reach.Cell cell) t scene (outcome_of_data_row (Sts from cell) t scene)
-back_store from cell t scene there =
-    back_from (reach.Cell cell) t scene (with_cell (value_in (thread_at scene t).registers from) cell scene) (turn_of_done (thread_at scene t)).thread
-    (λ first last. refl) there (set-set scene.cells cell _ _ ∙ set-get_or scene.cells cell (pos 0)) refl refl
-    (same (thread_at scene t) (turn_of_done (thread_at scene t)) refl refl)
-
 -- `intr`
 marked : (thread : ThreadState) → IsBack thread (interrupted thread)
 marked thread = grind (arith, back_same)
@@ -190,20 +150,10 @@ marked thread = grind (arith, back_same)
 marked_fields : (thread : ThreadState) → ((interrupted thread).stack ≡ thread.stack) × ((interrupted thread).output ≡ thread.output)
 marked_fields thread = grind arith
 
-back_interrupt : (other t : ℕ) (scene : Scene) → other < length scene.threads → t < length scene.threads
-    → BackIf (reach.Thread other) t scene (outcome_of_data_row (Intr other) t scene)
-back_interrupt other t scene here there = search (rules, IsBack, back_same, read_same, marked_fields, threads_set, marked)
-
 back_data_row : (row : Row) (top : Option Frame) (t : ℕ) (scene : Scene) → NamesThread row scene → t < length scene.threads
     → BackIf (reach_of_row row top) t scene (outcome_of_data_row row t scene)
-back_data_row (Out value) top t scene named there = alone t scene _ there (put_out value (thread_at scene t))
-back_data_row (Lds into cell) top t scene named there = alone t scene _ there (answered (thread_at scene t) into _)
-back_data_row (Sts from cell) top t scene named there = back_store from cell t scene there
-back_data_row (SelfNumber into) top t scene named there = alone t scene _ there (answered (thread_at scene t) into _)
-back_data_row (Intr other) top t scene named there = back_interrupt other t scene named there
-back_data_row (Intrd into) top t scene named there =
-    alone t scene _ there (same (thread_at scene t) (turn_of_intrd into (thread_at scene t)) refl refl)
-back_data_row _ top t scene named there = tt
+back_data_row _ top t scene named there =
+    search (rules, alone, thrown, back_out, answered, back_from, set-set, set-get_or, same, back_same, read_same, marked_fields, threads_set, marked)
 
 back_getter_row : (row : Row) (top : Option Frame) (t : ℕ) (scene : Scene) → t < length scene.threads
     → BackIf (reach_of_row row top) t scene (outcome_of_getter_row row t scene)
@@ -265,9 +215,7 @@ back_unless_own reach p t scene outcome is_own there back =
 
 back_asked : (of : Patience) (into : Reg) (p : ℕ) (phase : ℤ) (t : ℕ) (scene : Scene) → t < length scene.threads
     → BackIf reach.Nothing t scene (unless_own p t scene (Some (outcome_of_await of into p phase t scene)))
-back_asked of into p phase t scene there =
-    back_unless_own reach.Nothing p t scene (Some (outcome_of_await of into p phase t scene)) (λ first last. refl) there
-    (alone t scene _ there (awaits of into phase (view_of (flat_at scene.phasers p)) (thread_at scene t)))
+back_asked of into p phase t scene there = grind (arith, back_unless_own, alone, answered, interruption, thrown)
 
 back_phaser_row : (row : Row) (top : Option Frame) (t : ℕ) (program : Program) (scene : Scene) → t < length scene.threads
     → BackIf (reach_of_row row top) t scene (outcome_of_phaser_row row t program scene)
@@ -308,16 +256,9 @@ no_gate : (b t : ℕ) (scene : Scene) (after : ThreadState) → t < length scene
     → GivesBack (reach.Barrier b) t scene (with_thread after t scene)
 no_gate b t scene after there back = back_alone (reach.Barrier b) t scene after (λ first last. refl) there back
 
-back_entered : (answer : Entered) (into : Reg) (b t : ℕ) (program : Program) (scene : Scene) (gate : BarrierState) → t < length scene.threads
-    → BackIf (reach.Barrier b) t scene (outcome_of_entered answer into b t program (with_barrier gate b scene))
-back_entered answer into b t program scene gate there = search (rules, at_gate, same, back_push, answered, thrown, interruption)
-
 back_await : (no_wait : Bool) (into : Reg) (b t : ℕ) (program : Program) (scene : Scene) → t < length scene.threads
     → BackIf (reach.Barrier b) t scene (outcome_of_await_at no_wait into b t program scene)
-back_await no_wait into b t program scene there =
-    let all : Entry = enter_timed t (thread_at scene t).interrupted no_wait (barrier_at scene b) in
-    either (BackIf (reach.Barrier b) t scene) ((barrier_at scene b).action && is_full (thread_at scene t))
-    (no_gate b t scene _ there (thrown (thread_at scene t) (pos 6))) (back_entered all.answer into b t program scene all.barrier there)
+back_await no_wait into b t program scene there = search (rules, no_gate, thrown, at_gate, same, back_push, answered, interruption)
 
 back_unless_busy : (reach : Reach) (b t : ℕ) (scene : Scene) (outcome : Option Outcome) → BackIf reach t scene outcome
     → BackIf reach t scene (unless_busy b t scene outcome)
@@ -348,30 +289,6 @@ back_barrier_row _ top t program scene there = tt
 
 -- turns of threads that don't run
 
-back_popped : (top : Option Frame) (code : ℤ) (t : ℕ) (scene : Scene) → t < length scene.threads
-    → GivesBack (reach_of_entry top) t scene (outcome_of_popped top code t scene).scene
-back_popped (Some (frame.Action b registers row)) code t scene there =
-    at_gate b t scene (end_action false (barrier_at scene b)) (turn_of_pop code (thread_at scene t)).thread there
-    (unwound (top_of (thread_at scene t).stack) code (thread_at scene t))
-back_popped _ code t scene there = alone t scene _ there (unwound (top_of (thread_at scene t).stack) code (thread_at scene t))
-
-back_awaited : (looks : Bool) (into : Reg) (p : ℕ) (phase : ℤ) (t : ℕ) (scene : Scene) → t < length scene.threads
-    → BackIf reach.Nothing t scene (outcome_of_awaited looks into p phase t scene)
-back_awaited looks into p phase t scene there = grind (arith, BackIf, alone, answered, interruption)
-
-back_phase_wait : (row : Row) (phase : ℤ) (t : ℕ) (scene : Scene) → t < length scene.threads
-    → BackIf reach.Nothing t scene (outcome_of_phase_wait row phase t scene)
-back_phase_wait (Paaa into p) phase t scene there = back_awaited false into p phase t scene there
-back_phase_wait row phase t scene there = search (rules, back_awaited)
-
-back_release : (wait : Option WaitState) (into : Reg) (index : ℤ) (b t : ℕ) (scene : Scene) → t < length scene.threads
-    → BackIf (reach.Barrier b) t scene (outcome_of_release wait into index b t scene)
-back_release wait into index b t scene there = grind (arith, at_gate, answered, thrown, BackIf, interruption)
-
-back_barrier_wait : (row : Row) (index : ℤ) (t : ℕ) (scene : Scene) → t < length scene.threads
-    → BackIf (reach_of_wait row) t scene (outcome_of_barrier_wait row index t scene)
-back_barrier_wait row index t scene there = grind (arith, back_release)
-
 back_phase_timeout : (row : Row) (t : ℕ) (scene : Scene) → t < length scene.threads
     → BackIf reach.Nothing t scene (outcome_of_phase_timeout row t scene)
 back_phase_timeout (Pawaitt into p number time) t scene there = alone t scene _ there (thrown (thread_at scene t) (pos 5))
@@ -394,7 +311,7 @@ back_in_group group row t program scene named there = search (rules, back_own_ro
 -- the turn of thread t, by its status
 pub back_in : (of : Status) (row : Row) (t : ℕ) (program : Program) (scene : Scene) → NamesThread row scene → t < length scene.threads
     → BackIf (reach_in of row (top_of (thread_at scene t).stack)) t scene (outcome_in of row t program scene)
-back_in of row t program scene named there = grind (arith, back_in_group, back_popped, back_phase_wait, back_barrier_wait)
+back_in of row t program scene named there = grind (arith, back_in_group, at_gate, unwound, alone, answered, interruption)
 
 -- the expiry of its wait
 pub back_timeout : (of : Status) (row : Row) (t : ℕ) (scene : Scene) → t < length scene.threads
