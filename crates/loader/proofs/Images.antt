@@ -39,11 +39,8 @@ pub record IsMade (all : List DeclaredPhaser) (n : ℕ) (phasers : List PhaserSt
   pub ends : (id : ℕ) → (phaser_at phasers id).ends ≡ 0
   pub origin : AreTallied phasers (declared_origin all)
 
-none_at : (id : ℕ) → (phaser_at [] id).ends ≡ 0
-none_at _ = refl
-
 nothing_made : (all : List DeclaredPhaser) → IsMade all 0 []
-nothing_made all = grind (arith, All-nil, none_at, stands_empty)
+nothing_made all = grind (arith, All-nil, stands_empty)
 
 room_and_parent : (full there : Bool) (rest : Option DeclareFault)
     → (if full then Some declare.TooManyPhasers else (if not there then Some declare.NoParent else rest)) ≡ None
@@ -125,9 +122,5 @@ pub parts_of : (image : Image) → IsImage image → first_fault image ≡ None 
 parts_of image fits none = has_parts image fits.rows.0 fits.threads.0 fits.barriers.0 none
 
 -- a program of an image is the one that its parts make
-same_parts : {A B C D E F : Type 0} (make : A → B → C → D → E → F) (a x : A) (b y : B) (c z : C) (d v : D) (e w : E)
-    → a ≡ x → b ≡ y → c ≡ z → d ≡ v → e ≡ w → make a b c d e ≡ make x y z v w
-same_parts make a x b y c z d v e w p q r s t = grind arith
-
 pub is_declared : (image : Image) (program : Program) → IsProgramOf image program → program ≡ declared_by image program.phasers
-is_declared image program is = grind (arith, same_parts)
+is_declared image program is = grind arith

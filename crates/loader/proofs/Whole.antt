@@ -12,13 +12,11 @@ use Rattle.row_code.specs.declared.image.Image.{Image}
 use Rattle.loader.specs.declared.counts.Counts.{Counts}
 use Rattle.loader.specs.declared.load_fault.LoadFault.{LoadFault}
 use Rattle.loader.specs.declared.load_fault.LoadFault.TheVariants as fault
-use Rattle.loader.specs.declared.load_fault.Place.{Place}
-use Rattle.loader.specs.declared.named.Named.{Named}
 use Rattle.loader.specs.Named.{stops}
 use Rattle.tier_tree.specs.Stored.{Stored}
 use Rattle.loader.specs.Declarations.{row_in, routine_row, new_barrier, action_row, AreDeclared}
-use Rattle.loader.specs.Program.{Program, AreNewBarriers, CanStart, IsCode, IsThere, IsNamed, IsNewBarrier, IsProgram, program_of, row_at}
-use Rattle.loader.specs.Fault.{unless, earliest_in, first_fault, target_fault, routine_fault, listed_phaser_fault, action_fault, barrier_fault, thread_fault, named_fault, row_fault, last_fault, counts_in}
+use Rattle.loader.specs.Program.{Program, AreNewBarriers, CanStart, IsCode, IsNamed, IsNewBarrier, IsProgram, program_of, row_at}
+use Rattle.loader.specs.Fault.{unless, earliest_in, first_fault, routine_fault, listed_phaser_fault, action_fault, barrier_fault, thread_fault, row_fault, last_fault, counts_in}
 use Rattle.loader.proofs.Search.{none_left, none_in}
 
 -- a check that found no fault has passed its test
@@ -26,20 +24,14 @@ pub passed : (test : Bool) (f : LoadFault) → unless test f ≡ None → test �
 passed true f e = refl
 passed false f e = absurd (cc)
 
-target_there : (rows : ℕ) (place : Place) (row : ℕ) → target_fault rows place row ≡ None → row < rows
-target_there rows place row e = ltb-true row rows (passed (ltb row rows) (fault.Target place) e)
-
-named_there : (counts : Counts) (n : ℕ) (thing : Named) → named_fault counts n thing ≡ None → IsThere counts thing
-named_there counts n thing e = grind (arith, target_there, ltb-true, passed)
-
 -- each row names what is there
 pub rows_named : (counts : Counts) (rows : List Row) → earliest_in (row_fault counts) 0 rows ≡ None → All (IsNamed counts) rows
-rows_named counts rows e = grind (arith, named_there, none_in)
+rows_named counts rows e = grind (arith, none_in)
 
 -- each thread begins at a row
 pub threads_begin : (rows : ℕ) (threads : List DeclaredThread) → earliest_in (thread_fault rows) 0 threads ≡ None
     → All (λ (thread : DeclaredThread). thread.first_row < rows) threads
-threads_begin rows threads e = grind (arith, target_there, none_in)
+threads_begin rows threads e = grind (arith, none_in)
 
 -- so there is a row
 pub some_row : (rows : ℕ) (threads : List DeclaredThread) → 0 < length threads
@@ -49,7 +41,7 @@ some_row rows threads some begin =
     omega arith
 
 routine_there : (rows n : ℕ) (policy : DeclaredPolicy) → 0 < rows → routine_fault rows n policy ≡ None → row_in policy < rows
-routine_there rows n policy some e = grind (arith, target_there)
+routine_there rows n policy some e = grind arith
 
 -- each phaser has a row for its routine
 pub routines_there : (rows : ℕ) (phasers : List DeclaredPhaser) → 0 < rows
@@ -60,7 +52,7 @@ routines_there rows phasers some e =
     (none_left (routine_fault rows (0 + i) (get_or phasers i d).policy) _ (none_in (listed_phaser_fault rows phasers) 0 phasers e i d lt)).0)
 
 action_there : (rows n : ℕ) (action : Option ℕ) → 0 < rows → action_fault rows n action ≡ None → unwrap_or action 0 < rows
-action_there rows n action some e = grind (arith, target_there)
+action_there rows n action some e = grind arith
 
 -- each barrier has a row for its action
 pub actions_there : (rows : ℕ) (barriers : List DeclaredBarrier) → 0 < rows
