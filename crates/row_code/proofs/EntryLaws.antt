@@ -1,5 +1,5 @@
 -- An entry that is read is spelled by its bytes, and what an entry's bytes say is that entry.
-use Rattle.std.proofs.Common.{◌≡◌, ℕ, zero, suc, ◌+◌, ◌<◌, ℤ, pos, negsuc, FitsSigned, Bool, true, false, not, ◌||◌, cond, ltb, eqb, List, [], ◌∷◌, ◌++◌, length, get_or, bytes_eq, Option, Some, None, IfSome, Result, Ok, Err, refl, sym, ap, subst, ◌∙◌, arith}
+use Rattle.std.proofs.Common.{◌≡◌, ℕ, zero, suc, ◌+◌, ◌<◌, ℤ, pos, FitsSigned, Bool, true, false, not, ◌||◌, cond, ltb, List, length, get_or, bytes_eq, Option, Some, None, IfSome, Result, Ok, Err, refl, sym, ap, subst, ◌∙◌, arith}
 use Rattle.std.specs.Int.{w32}
 use Rattle.std.proofs.lemmas.Int.{ints}
 use Rattle.std.proofs.lemmas.Bool.{eqb-true, ltb-true}
@@ -11,11 +11,9 @@ use Rattle.instruction_table.specs.Row.{is_timed_row}
 use Rattle.row_code.specs.declared.image_fault.ImageFault.{ImageFault}
 use Rattle.row_code.specs.declared.image_fault.ImageFault.TheVariants as fault
 use Rattle.row_code.specs.declared.phasers.DeclaredPolicy.{DeclaredPolicy}
-use Rattle.row_code.specs.declared.phasers.DeclaredPolicy.TheVariants.{Default, Never, Until, Routine}
 use Rattle.row_code.specs.declared.phasers.DeclaredPhaser.{DeclaredPhaser}
 use Rattle.row_code.specs.declared.barriers.DeclaredBarrier.{DeclaredBarrier}
 use Rattle.row_code.specs.declared.threads.DeclaredThread.{DeclaredThread}
-use Rattle.row_code.specs.Number.{u16_bytes, i32_bytes}
 use Rattle.row_code.specs.RowFields.{IsRow}
 use Rattle.row_code.specs.RowBytes.{bytes_of, fields_at}
 use Rattle.row_code.specs.RowOperands.{row_in, row_with, operands_at}
@@ -60,11 +58,7 @@ zero_takes : (at : ℕ) (z y : ℤ) → zero_at at z ≡ Ok y → z ≡ pos 0
 zero_takes at z y e = grind (arith, eqb-true, guard_ok)
 
 parent_takes : (at byte : ℕ) (o : Option ℕ) → parent_at at byte ≡ Ok o → byte ≡ parent_byte o
-parent_takes at byte o e = by_test (eqb byte 255) refl e
-  where
-    by_test : (b : Bool) → eqb byte 255 ≡ b → cond b (Ok None) (cond (ltb byte 64) (Ok (Some byte)) (Err (fault.Field at))) ≡ Ok o → byte ≡ parent_byte o
-    by_test true is e = subst (λ (p : Option ℕ). byte ≡ parent_byte p) (ok_is None o e) (grind (arith, nat_tests, is))
-    by_test false is e = ap parent_byte (guard_ok (ltb byte 64) (fault.Field at) (Some byte) o e).1
+parent_takes at byte o e = grind arith
 
 parent_again : (at : ℕ) (o : Option ℕ) → IfSome o (λ n. n < 64) → parent_at at (parent_byte o) ≡ Ok o
 parent_again at o h = grind (arith, common_steps, nat_tests)
@@ -78,18 +72,10 @@ policy_again at policy h = grind (arith, phase_again, target_again)
 
 policy_takes : (at kind : ℕ) (z : ℤ) (policy : DeclaredPolicy) → kind < 4 → policy_at at kind z ≡ Ok policy → (kind ≡ kind_byte policy) × (z ≡ argument policy)
 unfolding policy_at
-policy_takes at zero z policy lt e =
-    let x = bind_ok (zero_at at z) (λ _. Ok Default) policy e in
-    subst (λ (p : DeclaredPolicy). (0 ≡ kind_byte p) × (z ≡ argument p)) (ok_is Default policy x.2) (refl, zero_takes at z x.0 x.1)
-policy_takes at (suc zero) z policy lt e =
-    let x = bind_ok (zero_at at z) (λ _. Ok Never) policy e in
-    subst (λ (p : DeclaredPolicy). (1 ≡ kind_byte p) × (z ≡ argument p)) (ok_is Never policy x.2) (refl, zero_takes at z x.0 x.1)
-policy_takes at (suc (suc zero)) z policy lt e =
-    let x = bind_ok (phase_at at z) (λ phase. Ok (Until phase)) policy e in
-    subst (λ (p : DeclaredPolicy). (2 ≡ kind_byte p) × (z ≡ argument p)) (ok_is (Until x.0) policy x.2) (refl, phase_takes at z x.0 x.1)
-policy_takes at (suc (suc (suc zero))) z policy lt e =
-    let x = bind_ok (target_at at z) (λ row. Ok (Routine row)) policy e in
-    subst (λ (p : DeclaredPolicy). (3 ≡ kind_byte p) × (z ≡ argument p)) (ok_is (Routine x.0) policy x.2) (refl, sym (target_takes at z x.0 x.1))
+policy_takes at zero z policy lt e = grind (arith, bind_ok, ok_is, zero_takes)
+policy_takes at (suc zero) z policy lt e = grind (arith, bind_ok, ok_is, zero_takes)
+policy_takes at (suc (suc zero)) z policy lt e = grind (arith, bind_ok, ok_is, phase_takes)
+policy_takes at (suc (suc (suc zero))) z policy lt e = grind (arith, bind_ok, ok_is, target_takes)
 policy_takes at (suc (suc (suc (suc n)))) z policy lt e = absurd (omega (arith, lt))
 
 action_again : (at : ℕ) (action : Option ℕ) → IfSome action (λ row. row < 65536) → action_at at (action_flag action) (action_row action) ≡ Ok action
@@ -98,18 +84,9 @@ action_again at action h = grind (arith, target_again)
 
 action_takes : (at flag : ℕ) (z : ℤ) (action : Option ℕ) → action_at at flag z ≡ Ok action → (flag ≡ action_flag action) × (z ≡ action_row action)
 unfolding action_at
-action_takes at zero z action e =
-    let none : Option ℕ = None in
-    let x = bind_ok (zero_at (at + 2) z) (λ _. Ok none) action e in
-    subst (λ (a : Option ℕ). (0 ≡ action_flag a) × (z ≡ action_row a)) (ok_is none action x.2) (refl, zero_takes (at + 2) z x.0 x.1)
-action_takes at (suc zero) z action e =
-    let x = bind_ok (target_at (at + 2) z) (λ row. Ok (Some row)) action e in
-    subst (λ (a : Option ℕ). (1 ≡ action_flag a) × (z ≡ action_row a)) (ok_is (Some x.0) action x.2) (refl, sym (target_takes (at + 2) z x.0 x.1))
-action_takes at (suc (suc n)) z action e =
-    let not0 : eqb (suc (suc n)) 0 ≡ false = grind (arith, nat_tests) in
-    let not1 : eqb (suc (suc n)) 1 ≡ false = grind (arith, nat_tests) in
-    let no = rw (not0, not1) at e in
-    absurd (cc)
+action_takes at zero z action e = grind (arith, bind_ok, ok_is, zero_takes)
+action_takes at (suc zero) z action e = grind (arith, bind_ok, ok_is, target_takes)
+action_takes at (suc (suc n)) z action e = grind (arith, nat_tests)
 
 count_fits : (z : ℤ) → IsCount z → FitsSigned w32 z
 count_fits z h = grind (arith, ints)
@@ -156,28 +133,12 @@ phaser_again at p h =
     let first : i32_at (phaser_bytes p) 4 ≡ p.first_phase = i32_back p.first_phase (count_fits p.first_phase h.first_phase) in
     let last : i32_at (phaser_bytes p) 8 ≡ argument p.policy = i32_back (argument p.policy) (argument_fits p.policy h.policy) in
     let parties : u16_at (phaser_bytes p) 2 ≡ p.parties = u16_back p.parties h.parties in
-    rw (
-      first,
-      last,
-      parties,
-      parent_again at p.parent h.parent,
-      kind_again (at + 1) p.policy,
-      phase_again (at + 4) p.first_phase h.first_phase,
-      policy_again (at + 8) p.policy h.policy,
-    ) refl
+    grind (arith, parent_again, kind_again, phase_again, policy_again)
 
 phaser_spelled : (bytes : List ℕ) (parent : Option ℕ) (first : ℤ) (policy : DeclaredPolicy) → IsBytes bytes → length bytes ≡ 12 →
     get_or bytes 0 0 ≡ parent_byte parent → get_or bytes 1 0 ≡ kind_byte policy → i32_at bytes 4 ≡ first → i32_at bytes 8 ≡ argument policy →
     bytes ≡ phaser_bytes (record { parent = parent; policy = policy; parties = u16_at bytes 2; first_phase = first })
-phaser_spelled bytes parent first policy fits size parent-is kind-is first-is argument-is =
-    let b : ℕ → ℕ = λ i. get_or bytes i 0 in
-    let join : ℕ → ℕ → List ℕ → List ℕ → List ℕ → List ℕ = λ p k u f a. p ∷ k ∷ (u ++ (f ++ a)) in
-    let parties : b 2 ∷ b 3 ∷ [] ≡ u16_bytes (u16_at bytes 2) = sym (u16_cells (b 2) (b 3) (fits 2) (fits 3)) in
-    let phase : b 4 ∷ b 5 ∷ b 6 ∷ b 7 ∷ [] ≡ i32_bytes first =
-    sym (i32_cells (b 4) (b 5) (b 6) (b 7) (fits 4) (fits 5) (fits 6) (fits 7)) ∙ ap i32_bytes first-is in
-    let last : b 8 ∷ b 9 ∷ b 10 ∷ b 11 ∷ [] ≡ i32_bytes (argument policy) =
-    sym (i32_cells (b 8) (b 9) (b 10) (b 11) (fits 8) (fits 9) (fits 10) (fits 11)) ∙ ap i32_bytes argument-is in
-    of_twelve bytes size ∙ (λ i. join (parent-is i) (kind-is i) (parties i) (phase i) (last i))
+phaser_spelled bytes parent first policy fits size parent-is kind-is first-is argument-is = grind (arith, u16_cells, i32_cells, of_twelve)
 
 pub phaser_takes : (at : ℕ) (bytes : List ℕ) (p : DeclaredPhaser) → IsBytes bytes → length bytes ≡ 12 → phaser_at at bytes ≡ Ok p → bytes ≡ phaser_bytes p
 unfolding phaser_at
@@ -198,23 +159,12 @@ phaser_takes at bytes p fits size e =
 
 pub barrier_again : (at : ℕ) (b : DeclaredBarrier) → IsBarrier b → barrier_at at (barrier_bytes b) ≡ Ok b
 unfolding barrier_at
-barrier_again at b h =
-    let parties : u16_at (barrier_bytes b) 0 ≡ b.parties = u16_back b.parties h.parties in
-    let flag : u16_at (barrier_bytes b) 2 ≡ action_flag b.action = u16_back (action_flag b.action) (flag_fits b.action) in
-    let row : i32_at (barrier_bytes b) 4 ≡ action_row b.action = i32_back (action_row b.action) (row_fits b.action h.action) in
-    rw (parties, flag, row, action_again (at + 2) b.action h.action) refl
+barrier_again at b h = grind (arith, u16_back, flag_fits, i32_back, action_again)
 
 barrier_spelled : (bytes : List ℕ) (action : Option ℕ) → IsBytes bytes → length bytes ≡ 8 →
     u16_at bytes 2 ≡ action_flag action → i32_at bytes 4 ≡ action_row action →
     bytes ≡ barrier_bytes (record { parties = u16_at bytes 0; action = action })
-barrier_spelled bytes action fits size flag-is row-is =
-    let b : ℕ → ℕ = λ i. get_or bytes i 0 in
-    let join : List ℕ → List ℕ → List ℕ → List ℕ = λ p f r. p ++ (f ++ r) in
-    let parties : b 0 ∷ b 1 ∷ [] ≡ u16_bytes (u16_at bytes 0) = sym (u16_cells (b 0) (b 1) (fits 0) (fits 1)) in
-    let flag : b 2 ∷ b 3 ∷ [] ≡ u16_bytes (action_flag action) = sym (u16_cells (b 2) (b 3) (fits 2) (fits 3)) ∙ ap u16_bytes flag-is in
-    let row : b 4 ∷ b 5 ∷ b 6 ∷ b 7 ∷ [] ≡ i32_bytes (action_row action) =
-    sym (i32_cells (b 4) (b 5) (b 6) (b 7) (fits 4) (fits 5) (fits 6) (fits 7)) ∙ ap i32_bytes row-is in
-    of_eight bytes size ∙ (λ i. join (parties i) (flag i) (row i))
+barrier_spelled bytes action fits size flag-is row-is = grind (arith, u16_cells, i32_cells, of_eight)
 
 pub barrier_takes : (at : ℕ) (bytes : List ℕ) (p : DeclaredBarrier) → IsBytes bytes → length bytes ≡ 8 → barrier_at at bytes ≡ Ok p → bytes ≡ barrier_bytes p
 unfolding barrier_at
@@ -228,20 +178,11 @@ barrier_takes at bytes p fits size e =
 
 pub thread_again : (at : ℕ) (t : DeclaredThread) → IsThread t → thread_at at (thread_bytes t) ≡ Ok t
 unfolding thread_at
-thread_again at t h =
-    let row : i32_at (thread_bytes t) 0 ≡ pos t.first_row = i32_back (pos t.first_row) (small t.first_row h.first_row) in
-    rw (row, target_again at t.first_row h.first_row) refl
+thread_again at t h = grind arith
 
 pub thread_takes : (at : ℕ) (bytes : List ℕ) (t : DeclaredThread) → IsBytes bytes → length bytes ≡ 4 → thread_at at bytes ≡ Ok t → bytes ≡ thread_bytes t
 unfolding thread_at
-thread_takes at bytes t fits size e =
-    let b : ℕ → ℕ = λ i. get_or bytes i 0 in
-    let made : ℕ → DeclaredThread = λ row. record { first_row = row } in
-    let row = bind_ok (target_at at (i32_at bytes 0)) (λ row. Ok (made row)) t e in
-    let whole : bytes ≡ thread_bytes (made row.0) =
-    of_four bytes size ∙ sym (i32_cells (b 0) (b 1) (b 2) (b 3) (fits 0) (fits 1) (fits 2) (fits 3))
-    ∙ ap i32_bytes (sym (target_takes at (i32_at bytes 0) row.0 row.1)) in
-    subst (λ (q : DeclaredThread). bytes ≡ thread_bytes q) (ok_is (made row.0) t row.2) whole
+thread_takes at bytes t fits size e = grind (arith, bind_ok, of_four, i32_cells, target_takes, ok_is)
 
 pub row_again : (timed : Bool) (n : ℕ) (row : Row) → IsRow row × MayStand timed row → row_at timed n (bytes_of row) ≡ Ok row
 unfolding row_at
