@@ -17,11 +17,6 @@ IsBytes-drop n bytes h i = rw get_or-drop (h (n + i))
 pub IsBytes-take : (n : ℕ) (bytes : List ℕ) → IsBytes bytes → IsBytes (take n bytes)
 IsBytes-take n bytes h i = grind (arith, cases_lt, get_or-take, get_or_past, length-take)
 
-two_fit : (a b : ℕ) → a < 256 → b < 256 → IsBytes (a ∷ b ∷ [])
-two_fit a b fa fb zero = fa
-two_fit a b fa fb (suc zero) = fb
-two_fit a b fa fb (suc (suc i)) = omega arith
-
 four_fit : (a b c d : ℕ) → a < 256 → b < 256 → c < 256 → d < 256 → IsBytes (a ∷ b ∷ c ∷ d ∷ [])
 four_fit a b c d fa fb fc fd zero = fa
 four_fit a b c d fa fb fc fd (suc zero) = fb
@@ -31,7 +26,7 @@ four_fit a b c d fa fb fc fd (suc (suc (suc (suc i)))) = omega arith
 
 -- two bytes are those of their number
 pub u16_cells : (a b : ℕ) → a < 256 → b < 256 → u16_bytes (u16_of (a ∷ b ∷ [])) ≡ a ∷ b ∷ []
-u16_cells a b fa fb = le_bytes_2 (a ∷ b ∷ []) (u16_of (a ∷ b ∷ [])) refl (two_fit a b fa fb) refl
+u16_cells a b fa fb = grind (arith, le_bytes_2, zero)
 
 pub u16_back : (n : ℕ) → n < 65536 → u16_of (u16_bytes n) ≡ n
 u16_back n lt = from_le_bytes-to_le_bytes_2 n lt

@@ -1,5 +1,5 @@
 -- An image that is read is spelled by its file, and what an image's file says is that image.
-use Rattle.std.proofs.Common.{◌≡◌, ℕ, ◌+◌, ◌*◌, ◌<◌, ◌≤◌, Bool, true, false, cond, not, ◌||◌, ◌&&◌, All, List, [], ◌∷◌, ◌++◌, length, get_or, take, drop, Result, Ok, Err, IfOk, refl, sym, ap, subst, ◌∙◌, arith}
+use Rattle.std.proofs.Common.{◌≡◌, ℕ, ◌+◌, ◌*◌, ◌<◌, ◌≤◌, Bool, true, false, cond, not, ◌&&◌, All, List, [], ◌∷◌, ◌++◌, length, get_or, take, drop, Result, Ok, Err, IfOk, refl, sym, ap, subst, ◌∙◌, arith}
 use Rattle.std.specs.List.{flat_map, AllByRecursion}
 use Rattle.std.proofs.lemmas.List.Folds.{list_any_at}
 use Rattle.instruction_table.specs.declared.row.Row.{Row}
@@ -45,10 +45,6 @@ row_format timed = record { len = λ row. refl; takes = row_takes timed; again =
 
 -- ---- the rows and the magic
 
-or_true : (b : Bool) → (b || true) ≡ true
-or_true true = refl
-or_true false = refl
-
 none_timed : (row : Row) → MayStand false row → is_timed_row row ≡ false
 none_timed row may = grind arith
 
@@ -73,10 +69,7 @@ rows_take timed count bytes rows e =
 
 -- and back
 may_stand : (rows : List Row) (k : ℕ) (d : Row) → k < length rows → MayStand (has_timed_row rows) (get_or rows k d)
-may_stand rows k d within = grind (arith, list_any_at, or_true)
-
-version_again : (rows : List Row) → version_at (has_timed_row rows) rows ≡ Ok rows
-version_again rows = grind arith
+may_stand rows k d within = grind (arith, list_any_at)
 
 rows_again : (rows : List Row) → All IsRow rows → rows_at (has_timed_row rows) (length rows) (flat_map bytes_of rows) ≡ Ok rows
 unfolding rows_at
@@ -85,7 +78,7 @@ rows_again rows fits =
     let all : All (λ row. IsRow row × MayStand timed row) rows = λ k d within. (fits k d within, may_stand rows k d within) in
     let read : entries 8 (row_at timed) 0 (length rows) (flat_map bytes_of rows ++ []) ≡ Ok rows =
     entries_again 8 bytes_of (λ row. IsRow row × MayStand timed row) (row_at timed) (row_format timed) 0 rows [] all in
-    grind (arith, append-nil, version_again)
+    grind (arith, append-nil)
 
 -- ---- the head
 

@@ -9,10 +9,6 @@ use Rattle.row_code.specs.Reading.{entries}
 abbrev pub with_front : {E : Type 0} → List E → Result (List E) ImageFault → Result (List E) ImageFault
 with_front front read = read >>= λ es. Ok (front ++ es)
 
-regroup : {E : Type 0} (front : List E) (e : E) (read : Result (List E) ImageFault) →
-    with_front front (read >>= λ es. Ok (e ∷ es)) ≡ with_front (front ++ e ∷ []) read
-regroup front e read = grind (arith, append_assoc)
-
 -- one entry more was read
 pub goes_on : {E : Type 0} (size : ℕ) (read : ℕ → List ℕ → Result E ImageFault) (front : List E) (count i : ℕ) (bytes : List ℕ) (e : E)
     (total : Result (List E) ImageFault) → i < count → read i (take size bytes) ≡ Ok e →
@@ -21,7 +17,7 @@ pub goes_on : {E : Type 0} (size : ℕ) (read : ℕ → List ℕ → Result E Im
 unfolding entries
 goes_on size read front count i bytes e total lt h so_far =
     let k : count - i ≡ suc (count - (i + 1)) = omega arith in
-    grind (arith, regroup)
+    grind (arith, append_assoc)
 
 -- an entry that is none is the first fault
 pub ends : {E : Type 0} (size : ℕ) (read : ℕ → List ℕ → Result E ImageFault) (front : List E) (count i : ℕ) (bytes : List ℕ) (f : ImageFault)

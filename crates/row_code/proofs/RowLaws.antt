@@ -4,22 +4,14 @@ use Rattle.std.specs.List.{AllByRecursion}
 use Rattle.std.specs.Int.{w32, cast_unsigned}
 use Rattle.std.proofs.lemmas.Int.{ints}
 use Rattle.std.proofs.lemmas.Bool.Decides.{nat_tests}
-use Rattle.instruction_table.specs.declared.register.Reg.{Reg}
 use Rattle.instruction_table.specs.declared.row.Row.{Row}
 use Rattle.instruction_table.specs.declared.row.Row.TheVariants.{Halt}
-use Rattle.instruction_table.specs.Register.{number_of}
 use Rattle.instruction_table.specs.Row.{opcode_of}
 use Rattle.row_code.specs.Number.{i32_bytes, i32_of}
 use Rattle.row_code.specs.RowFields.{fields_of, IsRow}
 use Rattle.row_code.specs.declared.operands.Operands.{Operands}
-use Rattle.row_code.specs.RowOperands.{register_at, object_at, operands_at, rows_with, row_with, row_in}
+use Rattle.row_code.specs.RowOperands.{operands_at, rows_with, row_with, row_in}
 use Rattle.row_code.specs.RowBytes.{bytes_of, fields_at}
-
-register_back : (r : Reg) → register_at (number_of r) ≡ r
-register_back r = search rules
-
-object_back : (n : ℕ) → pos n <ℤ pos 65536 → object_at (pos n) ≡ n
-object_back n h = grind (arith, ints, nat_tests)
 
 small_fits : (n : ℕ) → pos n <ℤ pos 65536 → FitsSigned w32 (pos n)
 small_fits n h = record { sfits = omega (arith, ints) }
@@ -31,7 +23,7 @@ imm_fits row h = grind (arith, ints, small_fits)
 -- a row's own fields lead back to it
 likely_back : (row : Row) → IsRow row → row_with (opcode_of row) (operands_at (fields_of row)) ≡ row
 likely_back Halt h = refl
-likely_back row h = grind (arith, ints, register_back, object_back)
+likely_back row h = grind (arith, ints, nat_tests)
 
 unsigned_below : (z : ℤ) → FitsSigned w32 z → cast_unsigned w32 z < 2 ^ 32
 unsigned_below z h = grind (arith, ints)
