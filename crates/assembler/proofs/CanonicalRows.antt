@@ -100,8 +100,7 @@ operands_spelled : (kinds : List OperandKind) (registers : List ℕ) (imm : ℤ)
     SpellOperands kinds (operand_words kinds registers imm) (operands_said kinds registers imm)
 operands_spelled [] registers imm h = tt
 operands_spelled (kind.Register ∷ kinds) [] imm h = absurd h
-operands_spelled (kind.Register ∷ kinds) (register ∷ registers) imm h =
-    ((refl, register_spelled register h.0), operands_spelled kinds registers imm h.1)
+operands_spelled (kind.Register ∷ kinds) (register ∷ registers) imm h = grind (arith, register_spelled, operands_spelled kinds registers imm h.1)
 operands_spelled (kind.Number ∷ kinds) registers imm h =
     ((refl, int_spells imm (omega (arith, ints, h.0.sfits)) (omega (arith, ints, h.0.sfits))), operands_spelled kinds registers imm h.1)
 operands_spelled (_ ∷ kinds) registers imm h = ((refl, (tt, object_spelled imm h.0)), operands_spelled kinds registers imm h.1)

@@ -1,27 +1,19 @@
 -- How many things of a kind there are, and the numbers that names stand for.
-use Rattle.std.proofs.Common.{◌≡◌, ℕ, ◌+◌, ◌<◌, ◌≤◌, Bool, true, false, cond, nat_lt, List, [], ◌∷◌, ◌++◌, Option, Some, refl, sym, subst, append_assoc, arith}
+use Rattle.std.proofs.Common.{◌≡◌, ℕ, ◌+◌, ◌<◌, ◌≤◌, Bool, true, false, cond, nat_lt, List, [], ◌∷◌, ◌++◌, Option, Some, subst, append_assoc, arith}
 use Rattle.std.specs.Prelude.{IfSome, option_map}
-use Rattle.std.proofs.lemmas.Bool.Decides.{nat_tests}
 use Rattle.std.proofs.lemmas.List.{append-nil}
 use Rattle.instruction_table.specs.declared.shape.OperandKind.{OperandKind}
 use Rattle.instruction_table.specs.declared.shape.OperandKind.TheVariants as kind
 use Rattle.line_reader.specs.declared.statement.Statement.{Statement}
 use Rattle.line_reader.specs.declared.statement.Line.{Line}
 use Rattle.line_reader.specs.Symbols.{Name}
-use Rattle.assembler.proofs.Drafts.{count-append, same_kind}
+use Rattle.assembler.proofs.Drafts.{count-append}
 use Rattle.assembler.specs.Statements.{adds, count, gives_to, has_room, is_kind, most, number_named, EachFollows}
 
 -- one thing more of a kind that there is room for
 one_more : (k named : OperandKind) (before : List (Line Name)) → nat_lt (count named before) (most named) ≡ true →
     count k before ≤ most k → count k before + cond (is_kind k named) 1 0 ≤ most k
-one_more k named before room few = by_test (is_kind k named) refl
-  where
-    by_test : (same : Bool) → is_kind k named ≡ same → count k before + cond same 1 0 ≤ most k
-    by_test true is =
-        let e : named ≡ k = sym (same_kind k named is) in
-        let here : nat_lt (count k before) (most k) ≡ true = subst (λ (j : OperandKind). nat_lt (count j before) (most j) ≡ true) e room in
-        grind (arith, nat_tests, here)
-    by_test false is = omega (arith, few)
+one_more k named before room few = grind arith
 
 room_kept : (k : OperandKind) (before : List (Line Name)) (s : Statement Name) → has_room before s ≡ true →
     count k before ≤ most k → count k before + adds k s ≤ most k

@@ -24,20 +24,13 @@ pub record AreDigits (n : ℕ) (ds : List ℕ) : Type 0 where
 pub decimal_digits : (n : ℕ) → n < 10000000000 → AreDigits n (decimal n)
 decimal_digits n small =
     let k = decimal_is_IsNumeral n (omega arith) in
-    record {
-      some = k.0.0;
-      short = length-decimal-le 10 n (omega arith) (omega arith) (omega arith);
-      digits = k.0.1;
-      value = k.1;
-    }
+    grind (arith, length-decimal-le)
 
 -- a test that each digit passes
 all_digits : (p : ℕ → Bool) → ((c : ℕ) → 48 ≤ c → c ≤ 57 → p c ≡ true) → (ds : List ℕ) → AllDigits 10 ds →
     list_all p ds ≡ true
 all_digits p each [] d = refl
-all_digits p each (c ∷ cs) d =
-    let k = digit_from_value c d.0 in
-    and_from (p c) (list_all p cs) (each c (omega arith) (omega arith)) (all_digits p each cs d.1)
+all_digits p each (c ∷ cs) d = grind (arith, digit_from_value, and_from, all_digits p each cs d.1)
 
 digit_plain : (c : ℕ) → 48 ≤ c → c ≤ 57 → is_plain c ≡ true
 digit_plain c low high = grind (arith, nat_tests)

@@ -30,14 +30,11 @@ or_false false = refl
 pub count-append : (k : OperandKind) (lines : List (Line Name)) (line : Line Name) →
     count k (lines ++ (line ∷ [])) ≡ count k lines + adds k line.statement
 count-append k [] line = omega arith
-count-append k (l ∷ lines) line =
-    let rest = count-append k lines line in
-    omega (arith, rest)
+count-append k (l ∷ lines) line = grind (arith, count-append k lines line)
 
 any-append : (test : Line Name → Bool) (lines : List (Line Name)) (line : Line Name) →
     list_any test (lines ++ (line ∷ [])) ≡ (list_any test lines || test line)
-any-append test lines line =
-    list_any-append test lines (line ∷ []) ∙ ap (λ b. list_any test lines || b) (or_false (test line))
+any-append test lines line = grind (arith, list_any-append, or_false)
 
 -- a number that comes behind more things
 moved : (first : Bool) (before : ℕ) (a b : Option ℕ) (c : Option ℕ) →
@@ -57,13 +54,7 @@ pub named-append : (k : OperandKind) (name : Name) (lines : List (Line Name)) (l
     number_named k name (lines ++ (line ∷ []))
     ≡ or_else (number_named k name lines) (cond (gives_to k name line.statement) (Some (count k lines)) None)
 named-append k name [] line = refl
-named-append k name (l ∷ lines) line =
-    ap (λ o. cond (gives_to k name l.statement) (Some 0) (option_map (λ n. adds k l.statement + n) o))
-    (named-append k name lines line)
-    ∙ moved (gives_to k name l.statement) (adds k l.statement) (number_named k name lines)
-    (cond (gives_to k name line.statement) (Some (count k lines)) None)
-    (cond (gives_to k name line.statement) (Some (adds k l.statement + count k lines)) None)
-    (counted_on (gives_to k name line.statement) (adds k l.statement) (count k lines))
+named-append k name (l ∷ lines) line = grind (arith, moved, counted_on, named-append k name lines line)
 
 either_false : (a b : Bool) → (a || b) ≡ false → (a ≡ false) × (b ≡ false)
 either_false true b h = absurd (cc)

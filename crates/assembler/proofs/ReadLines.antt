@@ -165,8 +165,7 @@ read_all text lines e = ap (λ (r : Result (List (Line Name)) AsmFault). r >>= (
 pub looked_up_answered : (text : List ℕ) (lines : List (Line Name)) (answered : Result Image AsmFault) →
     lines_read 1 [] (lines_of text) ≡ Ok lines → AnswersAt (λ i. i) answered (looked_up lines (first_unknown lines)) →
     AnswersAt (λ i. i) answered (assembled text)
-looked_up_answered text lines answered e is =
-    subst (λ (read : Result Image AsmFault). AnswersAt (λ (i : Image). i) answered read) (sym (read_all text lines e)) is
+looked_up_answered text lines answered e is = grind (arith, read_all)
 
 -- what fails goes on failing
 pub fails_then : {A B : Type 0} (kind : AsmFaultKind) (e : AsmFault) (r : Result A AsmFault)
@@ -176,5 +175,4 @@ fails_then kind e r f fails = grind arith
 pub fault_answered : (text : List ℕ) (e : AsmFault) → FailsAt e.kind e (lines_read 1 [] (lines_of text)) →
     FailsAt e.kind e (assembled text)
 unfolding assembled
-fault_answered text e fails =
-    fails_then e.kind e (lines_read 1 [] (lines_of text)) (λ ls. looked_up ls (first_unknown ls)) fails
+fault_answered text e fails = grind arith

@@ -1,5 +1,5 @@
 -- What a statement adds to each list of an image is in its ranges.
-use Rattle.std.proofs.Common.{inl, inr, ℕ, suc, ◌<◌, ◌≤◌, ℤ, pos, FitsSigned, List, [], ◌∷◌, Option, Some, None, codes, sym, subst, arith}
+use Rattle.std.proofs.Common.{ℕ, suc, ◌<◌, ◌≤◌, ℤ, pos, FitsSigned, List, [], ◌∷◌, Option, Some, None, codes, sym, subst, arith, rules}
 use Rattle.std.specs.Prelude.{IfSome, option_map}
 use Rattle.std.specs.Int.{w32}
 use Rattle.std.specs.List.{AllByRecursion}
@@ -80,7 +80,6 @@ record AreInRange (o : Operands) : Type 0 where
   object : o.object < 65536
 
 one_more : (all : List (Line Name)) (operand : Operand Name) (o : Operands) → IsInRange all operand → AreInRange o → AreInRange (with_operand all operand o)
-one_more all operand.Absent o h fit = fit
 one_more all operand o h fit = grind arith
 
 no_operands : (all : List (Line Name)) → AreInRange (operands_of all [])
@@ -114,8 +113,7 @@ action_option : (all : List (Line Name)) → AreFew all → (words : List (List 
 action_option all few words action h = grind (arith, number_fits)
 
 first_fits : (words : List (List ℕ)) (phase : ℤ) → SpellFirstPhase words phase → IsCount phase
-first_fits words phase (inl h) = subst IsCount (sym h.1) (omega (arith, ints), omega (arith, ints))
-first_fits words phase (inr h) = phase_fits h.0 phase h.2
+first_fits words phase given = grind arith
 
 -- what a statement adds to each list is in its ranges
 pub record Fits (all : List (Line Name)) (s : Statement Name) : Type 0 where
@@ -130,15 +128,5 @@ spelled_fits all few words (statement.Barrier b) (parties, action, spelled, name
 spelled_fits all few words (statement.Thread t) (row, spelled, name, first) = grind (arith, number_fits)
 spelled_fits all few words (statement.Cell name) h = record { phasers = tt; barriers = tt; threads = tt; rows = tt }
 spelled_fits all few words (statement.Label name) h = record { phasers = tt; barriers = tt; threads = tt; rows = tt }
-spelled_fits all few words (statement.Row None row) h = record {
-  phasers = tt;
-  barriers = tt;
-  threads = tt;
-  rows = (row_fits all few words row h, tt);
-}
-spelled_fits all few words (statement.Row (Some name) row) (label, rest, spelled, labelled, h) = record {
-  phasers = tt;
-  barriers = tt;
-  threads = tt;
-  rows = (row_fits all few rest row h, tt);
-}
+spelled_fits all few words (statement.Row None row) h = search (rules, row_fits)
+spelled_fits all few words (statement.Row (Some name) row) (label, rest, spelled, labelled, h) = search (rules, row_fits)
