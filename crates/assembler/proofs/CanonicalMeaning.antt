@@ -23,7 +23,7 @@ use Rattle.line_reader.specs.Words.{lines_of}
 use Rattle.line_reader.specs.Symbols.{Name}
 use Rattle.assembler.specs.Statements.{adds, EachFollows}
 use Rattle.line_reader.specs.Listing.{numbered, phaser_words, barrier_words, thread_words, row_words, lines_listed, canonical}
-use Rattle.assembler.specs.Meaning.{referent_or_0, is_known_or_none, is_policy_known, are_known, policy_of, phasers_in, barriers_in, threads_in, rows_in, image_of, SayInOrder, StandsFor}
+use Rattle.assembler.specs.Meaning.{is_known_or_none, is_policy_known, are_known, phasers_in, barriers_in, threads_in, rows_in, image_of, SayInOrder, StandsFor}
 use Rattle.assembler.proofs.CanonicalDirectives.{number_said, policy_said, phaser_said, barrier_said, thread_said, phaser_says, barrier_says, thread_says}
 use Rattle.assembler.proofs.CanonicalRows.{row_said, row_known, row_back, row_says}
 use Rattle.assembler.proofs.NumberedLines.{map_numbered, lines_from, SayEach, SayEach-append, numbered_says, lines_of-texts, say_in_order, lines_from-flat_map, lines_from-list_all, numbered_all, numbered_none, numbered_back}
@@ -64,10 +64,6 @@ all_listed i =
     (map_numbered row_words 0 i.rows)
 
 -- what is made of four lists
-four : {A B : Type 0} (f : A → List B) (a b c d : List A) →
-    flat_map f (a ++ (b ++ (c ++ d))) ≡ flat_map f a ++ (flat_map f b ++ (flat_map f c ++ flat_map f d))
-four f a b c d = grind (arith, flat_map-append)
-
 all_say : (i : Image) → IsImage i → SayEach (all_lines i) (all_said i)
 all_say i h =
     let phasers = numbered_says IsPhaser 64 phaser_words phaser_said phaser_says 0 i.phasers (omega (arith, h.phasers.0))
@@ -147,26 +143,19 @@ all_known lines i = search (rules, numbered_all, phaser_said, and_from, parent_k
 
 -- ---- the image that they make
 
-number_back : (lines : List (Line Name)) (k : OperandKind) (n : Option ℕ) →
-    option_map (referent_or_0 lines k) (option_map number_said n) ≡ n
-number_back lines k n = grind arith
-
-policy_back : (lines : List (Line Name)) (p : DeclaredPolicy) → policy_of lines (policy_said p) ≡ p
-policy_back lines p = grind arith
-
 phaser_back : (lines : List (Line Name)) (n : ℕ) (p : DeclaredPhaser) → phasers_in lines (phaser_said n p) ≡ p ∷ []
-phaser_back lines n p = grind (arith, number_back, policy_back)
+phaser_back lines n p = grind arith
 
 barrier_back : (lines : List (Line Name)) (n : ℕ) (b : DeclaredBarrier) →
     barriers_in lines (barrier_said n b) ≡ b ∷ []
-barrier_back lines n b = λ k. record { parties = b.parties; action = number_back lines kind.Target b.action k } ∷ []
+barrier_back lines n b = grind arith
 
 -- what the statements make, list by list
 in_four : {B : Type 0} (f : Statement Name → List B) (i : Image) (a b c d : List B) →
     flat_map f (phasers_said i) ≡ a → flat_map f (barriers_said i) ≡ b → flat_map f (threads_said i) ≡ c →
     flat_map f (rows_said i) ≡ d →
     flat_map (λ line. f line.statement) (lines_from 1 (all_said i)) ≡ a ++ (b ++ (c ++ d))
-in_four f i a b c d ea eb ec ed = grind (arith, lines_from-flat_map, four)
+in_four f i a b c d ea eb ec ed = grind (arith, lines_from-flat_map, flat_map-append)
 
 image_back : (lines : List (Line Name)) (i : Image) → lines ≡ lines_from 1 (all_said i) → i ≡ image_of lines
 image_back lines i is =

@@ -27,9 +27,6 @@ is_label_again : (name : List ℕ) → is_label (name ++ codes ":") ≡ true
 is_label_again (byte ∷ next ∷ bytes) = is_label_again (next ∷ bytes)
 is_label_again name = grind arith
 
-before_last_again : (name : List ℕ) → before_last (name ++ codes ":") ≡ name
-before_last_again name = grind (arith, take_at, length-append)
-
 label_spelled : (word : List ℕ) → is_label word ≡ true → word ≡ before_last word ++ codes ":"
 label_spelled (byte ∷ next ∷ bytes) e =
     let one : suc (suc (length bytes)) - 1 ≡ suc (suc (length bytes) - 1) = omega arith in
@@ -114,7 +111,7 @@ label_again : (before : List (Line Name)) (name : Name) (words : List (List ℕ)
     is_new before (Some name) ≡ true → labelled_behind before name words ≡ Ok s →
     statement_behind before (name ++ codes ":") words ≡ Ok s
 unfolding statement_behind
-label_again before name words s named new e = grind (arith, is_label_again, before_last_again, name_again)
+label_again before name words s named new e = grind (arith, is_label_again, take_at, length-append, name_again)
 
 row_behind_again : (before : List (Line Name)) (label : Option Name) (word : List ℕ) (words : List (List ℕ)) (row : SymbolicRow Name) →
     SpellRow (word ∷ words) row → has_room before (statement.Row label row) ≡ true →
@@ -184,13 +181,10 @@ words_take : (before : List (Line Name)) (words : List (List ℕ)) (o : Option (
 unfolding words_behind
 words_take before words o e = grind (arith, ok_is, bound, statement_takes)
 
-no_words : (s : Statement Name) → Spell [] s → ⊥
-no_words _ s = grind arith
-
 words_again : (before : List (Line Name)) (words : List (List ℕ)) (o : Option (Statement Name)) →
     WordsSay before words o → words_behind before words ≡ Ok o
 unfolding words_behind
-words_again before words o s = grind (arith, no_words, statement_again)
+words_again before words o s = grind (arith, statement_again)
 
 said_by : (before : List (Line Name)) (text : List ℕ) (o : Option (Statement Name)) → IsLine text →
     WordsSay before (words_of text) o → LineSays before text o
