@@ -45,14 +45,10 @@ here p byte bytes h = ap (λ b. cond (not b) (1 + position_or_len p bytes) 0) h
 
 -- ---- what a piece without a byte of a kind moves on
 
-further : (b c : Bool) (m n : ℕ) → (b && c) ≡ true → (c ≡ true → m ≡ n) → cond b (1 + m) 0 ≡ 1 + n
-further true c m n h next = ap (λ k. 1 + k) (next h)
-further false c m n h next = absurd (cc)
-
 beyond : (p : ℕ → Bool) (piece rest : List ℕ) → list_all (λ b. not (p b)) piece ≡ true →
     position_or_len p (piece ++ rest) ≡ length piece + position_or_len p rest
 beyond p [] rest h = omega arith
-beyond p (byte ∷ bytes) rest h = grind (arith, further, beyond p bytes rest)
+beyond p (byte ∷ bytes) rest h = grind (arith, beyond p bytes rest)
 
 before_beyond : (p : ℕ → Bool) (piece rest : List ℕ) → list_all (λ b. not (p b)) piece ≡ true →
     before_first p (piece ++ rest) ≡ piece ++ before_first p rest
