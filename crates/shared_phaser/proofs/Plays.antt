@@ -54,9 +54,7 @@ allow_one o slots id me f then live goes s kept len at small =
 -- the history with a call more is legal, and has the caller's calls
 pub made_legal : (v : View) (n : ℕ) (log : List Entry) (c : Call) (a : Answer) → IsLegal v.known.opening log → record_of n ≡ at_end v.known.opening log
     → Answers (record_of n) (effect_at v c n) a → IsLegal v.known.opening (log ++ entry v.known.number c a ∷ [])
-made_legal v n log c a legal now answers =
-    let o = v.known.opening in
-    legal_push o.policy (opened o) log (entry v.known.number c a) legal (subst (λ f. Answers f (effect o.policy c f) a) now answers)
+made_legal v n log c a legal now answers = grind (arith, legal_push)
 
 pub made_owns : (k : Known) (log : List Entry) (c : Call) (a : Answer) → Owns log k → Owns (log ++ entry k.number c a ∷ []) (making k log c a)
 made_owns k log c a owns = grind (arith, calls_by-own, calls_by-other)
