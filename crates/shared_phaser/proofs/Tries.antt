@@ -1,7 +1,7 @@
 -- What the tries of a call come to.
-use Rattle.std.proofs.Common.{◌≡◌, ◌≢◌, ◌⊎◌, ℕ, ℤ, ◌+◌, ◌≤◌, ◌==◌, if◌then◌else◌, Bool, true, false, List, refl, sym, ap, ◌∙◌, subst, inl, inr, ⊎_elim, arith, append_assoc, eq-zero-or-pos}
+use Rattle.std.proofs.Common.{◌≡◌, ◌≢◌, ◌⊎◌, ℕ, ◌+◌, ◌≤◌, ◌==◌, if◌then◌else◌, Bool, true, false, List, refl, sym, ap, ◌∙◌, subst, inl, inr, ⊎_elim, arith, append_assoc, eq-zero-or-pos}
 use Rattle.atomic_table.specs.Table.{Me, Step}
-use Rattle.packed_phaser.specs.Flat.{Flat, Joins, JoinsLate, MustWait, Overfull, Counts, Turns, ComesLate, IsUnregistered, settled, force}
+use Rattle.packed_phaser.specs.Flat.{Flat}
 use Rattle.packed_phaser.specs.Word.{IsWord, record_of}
 use Rattle.packed_phaser.specs.declared.policy.Policy.{Policy}
 use Rattle.shared_phaser.specs.declared.history.Call.{Call}
@@ -10,7 +10,7 @@ use Rattle.shared_phaser.specs.declared.history.Answer.TheVariants.{Saw, Replied
 use Rattle.shared_phaser.specs.declared.history.Entry.{Entry}
 use Rattle.shared_phaser.specs.declared.history.Known.{Known}
 use Rattle.shared_phaser.specs.declared.history.View.{View}
-use Rattle.shared_phaser.specs.History.{Effect, Shows, Tells, Makes, Waits, effect, registering, arriving, Answers, at_end, after_all, changes, opened}
+use Rattle.shared_phaser.specs.History.{Effect, Shows, Tells, Makes, Waits, effect, Answers, at_end, after_all, changes, opened}
 use Rattle.shared_phaser.specs.Known.{making, seeing, MakesCall, SeesMore}
 use Rattle.shared_phaser.specs.Outcome.{IsPrompt, Suits}
 use Rattle.shared_phaser.specs.Rule.{Finds, loaded, exchanged, effect_at, Loads, Exchanges}
@@ -18,13 +18,8 @@ use Rattle.shared_phaser.proofs.Stories.{after_all-append, changes-append, uncha
 use Rattle.shared_phaser.proofs.Plays.{made_legal, made_owns}
 
 -- a call that changes the phaser finds it not terminated
-opens_fields : (p : Policy) (c : Call) (ph : ℕ) (b : Bool) (pa ar : ℕ) (t : Bool) (g : Flat) (a : Answer)
-    → effect p c (record { phase = ph; ended = b; parties = pa; arrived = ar; turned = t }) ≡ Makes g a → b ≡ false
-opens_fields p c ph false pa ar t g a is = refl
-opens_fields p c ph true pa ar t g a is = grind arith
-
 pub opens : (p : Policy) (c : Call) (f g : Flat) (a : Answer) → effect p c f ≡ Makes g a → f.ended ≡ false
-opens p c f g a is = opens_fields p c f.phase f.ended f.parties f.arrived f.turned g a is
+opens p c f g a is = grind arith
 
 -- and leaves it not turned
 same_flat : (f g : Flat) (x a : Answer) → Makes f x ≡ Makes g a → f.turned ≡ false → g.turned ≡ false
@@ -34,33 +29,12 @@ joins_unturned : (z : Bool) (f g : Flat) (x a : Answer) → (if z then Tells x e
 joins_unturned true f g x a is un = absurd (cc is)
 joins_unturned false f g x a is un = same_flat f g x a is un
 
-registers_unturned : (k : ℕ) (b z o t : Bool) (f f' g : Flat) (view phase : ℤ) (a : Answer)
-    → registering k (if b then JoinsLate view else (if z then Joins f phase else (if o then Overfull else (if t then MustWait else Joins f' phase)))) ≡ Makes g a
-    → f.turned ≡ false → f'.turned ≡ false → g.turned ≡ false
-registers_unturned k true z o t f f' g view phase a is un un' = absurd (cc is)
-registers_unturned k false _ o t f f' g view phase a is un un' = grind (arith, joins_unturned)
-
-settles_unturned : (p : Policy) (phase : ℕ) (b : Bool) (f f' g : Flat) (a : Answer)
-    → arriving p phase (if b then Turns f' else Counts f) ≡ Makes g a → f.turned ≡ false → g.turned ≡ false
-settles_unturned p phase true f f' g a is un = same_flat _ g _ a is refl
-settles_unturned p phase false f f' g a is un = same_flat f g _ a is un
-
-arrives_unturned : (p : Policy) (phase : ℕ) (b n l : Bool) (f f' g : Flat) (view : ℤ) (a : Answer)
-    → arriving p phase (if b then ComesLate view else (if n then IsUnregistered else (if l then settled f' else settled f))) ≡ Makes g a
-    → f.turned ≡ false → f'.turned ≡ false → g.turned ≡ false
-arrives_unturned p phase true n l f f' g view a is un un' = absurd (cc is)
-arrives_unturned p phase false _ l f f' g view a is un un' = grind (arith, settles_unturned)
-
-forces_unturned : (b : Bool) (f g : Flat) (x y a : Answer) → (if b then Tells x else Makes (force f) y) ≡ Makes g a → g.turned ≡ false
-forces_unturned true f g x y a is = absurd (cc is)
-forces_unturned false f g x y a is = same_flat (force f) g y a is refl
-
 awaits_nothing : (b e : Bool) (g : Flat) (x y a : Answer) → (if b then Tells x else (if e then Waits else Tells y)) ≡ Makes g a → ⊥
 awaits_nothing true e g x y a is = cc is
 awaits_nothing false e g x y a is = grind arith
 
 pub unturned_after : (p : Policy) (c : Call) (f g : Flat) (a : Answer) → effect p c f ≡ Makes g a → f.turned ≡ false → g.turned ≡ false
-unturned_after p c f g a is un = grind (arith, registers_unturned, arrives_unturned, forces_unturned, awaits_nothing)
+unturned_after p c f g a is un = grind (arith, awaits_nothing)
 
 -- a call on the history that was found
 pub made : (v : View) (n : ℕ) (log : List Entry) (c : Call) (a : Answer) → Finds v n log → Answers (record_of n) (effect_at v c n) a
