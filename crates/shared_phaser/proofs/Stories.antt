@@ -1,5 +1,5 @@
 -- Histories and their beginnings.
-use Rattle.std.proofs.Common.{◌≡◌, ◌≢◌, ℕ, zero, suc, ◌+◌, ◌<◌, List, [], ◌∷◌, ◌++◌, length, refl, sym, ap, ◌∙◌, arith, append_assoc, append-nil, eq-eqb, rules}
+use Rattle.std.proofs.Common.{◌≡◌, ◌≢◌, ℕ, zero, suc, ◌+◌, ◌<◌, List, [], ◌∷◌, ◌++◌, length, refl, sym, ap, ◌∙◌, arith, append_assoc, append-nil, rules}
 use Rattle.std.proofs.lemmas.List.Elements.{filter-append}
 use mathlib.Core.List.{IsPrefix}
 use mathlib.Core.Option.{some, some-ne-none}
@@ -63,8 +63,5 @@ unchanged p f (x ∷ xs) h =
     unchanged p (after f (effect p x.call f)) xs rest ∙ after_unchanged f (effect p x.call f) here
 
 -- a call more of this caller, and of another one
-pub calls_by-own : (n : ℕ) (log : List Entry) (c : Call) (a : Answer) → calls_by n (log ++ entry n c a ∷ []) ≡ calls_by n log ++ entry n c a ∷ []
-calls_by-own n log c a = grind (arith, filter-append, eq-eqb)
-
 pub calls_by-other : (n m : ℕ) (log : List Entry) (c : Call) (a : Answer) → n ≢ m → calls_by n (log ++ entry m c a ∷ []) ≡ calls_by n log
 calls_by-other n m log c a ne = search (rules, filter-append)
