@@ -2,11 +2,10 @@
 -- threads are listed.
 use Rattle.std.proofs.Common.{◌≡◌, ℕ, ◌+◌, ◌<◌, Bool, true, false, not, cond, ◌||◌, ◌&&◌, ◌==◌, refl, ◌∙◌, ap, List, length, Option, Some, None, is_some, length-set, arith, rules}
 use Rattle.std.proofs.lemmas.List.{length-map}
-use Rattle.cyclic_barrier.specs.declared.answer.Entered.TheVariants as entered
 use Rattle.cyclic_barrier.specs.declared.answer.WaitState.{WaitState}
 use Rattle.cyclic_barrier.specs.declared.answer.WaitState.TheVariants as state
 use Rattle.cyclic_barrier.specs.Waits.{wait_at, released, release}
-use Rattle.cyclic_barrier.specs.Barrier.{BarrierState, IsBarrier, Entry, number_waiting, has_wait, is_wait, runner_after, trip, break, add_wait, arrive, enter_beside, enter_timed, end_action, leave, interrupt, reset}
+use Rattle.cyclic_barrier.specs.Barrier.{BarrierState, IsBarrier, Entry, number_waiting, has_wait, is_wait, runner_after, arrive, enter_timed, end_action, leave, interrupt, reset}
 use Rattle.cyclic_barrier.specs.WhoWaits.{TellsWhoWaits}
 use Rattle.cyclic_barrier.proofs.WaitsLemmas.{wait_at-release, wait_at-set, or_false}
 
@@ -48,10 +47,7 @@ has_wait-enter thread interrupted no_wait b u there =
     (either P (number_waiting b + 1 == b.parties) (either P b.action (or_false _) (has_wait-release state.Tripped b b.broken u ∙ or_false _))
     (either P no_wait (has_wait-release state.Broken b true u ∙ or_false _)
     (ap is_some (wait_at-set b.waits thread u (Some state.Waiting) there) ∙ added (thread == u) (wait_at b.waits u))))) in
-    elim b.runner as (λ r. P (enter_beside r thread interrupted no_wait b)) [
-      | None ↦ arrived
-      | Some runner ↦ elim (runner == thread) as (λ x. has_wait u b ≡ (has_wait u b || (is_wait (cond x entered.Own entered.Busy) && (thread == u)))) [ true ↦ or_false _ | false ↦ or_false _ ]
-    ]
+    grind (arith, or_false)
 
 record RunsAfter (thread : ℕ) (earlier : Option ℕ) (e : Entry) : Type 0 where
   pub runner : e.barrier.runner ≡ runner_after thread e.answer earlier
@@ -92,10 +88,7 @@ length-enter thread interrupted no_wait b =
     (either P interrupted (length-release state.Broken b.waits)
     (either P (number_waiting b + 1 == b.parties) (either P b.action refl (length-release state.Tripped b.waits))
     (either P no_wait (length-release state.Broken b.waits) (length-set b.waits thread (Some state.Waiting))))) in
-    elim b.runner as (λ r. P (enter_beside r thread interrupted no_wait b)) [
-      | None ↦ arrived
-      | Some runner ↦ refl
-    ]
+    grind arith
 
 pub length-end_action : (returned : Bool) (b : BarrierState) → length (end_action returned b).waits ≡ length b.waits
 length-end_action returned b =

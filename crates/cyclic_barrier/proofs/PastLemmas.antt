@@ -4,7 +4,6 @@ use Rattle.std.proofs.lemmas.Bool.{cases_eq, eq-eqb, ne_eqb, le-leb}
 use Rattle.std.proofs.lemmas.List.{length-map}
 use Rattle.std.proofs.lemmas.List.Elements.{All-cons, All-filter}
 use Rattle.std.proofs.lemmas.List.Sums.{sum_by-cons, sum_by-set}
-use Rattle.cyclic_barrier.specs.declared.answer.Entered.TheVariants as entered
 use Rattle.cyclic_barrier.specs.declared.answer.WaitState.{WaitState}
 use Rattle.cyclic_barrier.specs.declared.answer.WaitState.TheVariants as state
 use Rattle.cyclic_barrier.specs.Waits.{wait_at, is_waiting, released, release}

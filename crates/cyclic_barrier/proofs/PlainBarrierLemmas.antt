@@ -34,10 +34,7 @@ pub state_of-end :
     option_map (state_of_wait (ends ++ end ∷ [])) (wait_of thread waits) ≡ option_map (ended_by end) (option_map (state_of_wait ends) (wait_of thread waits))
 state_of-end [] ends end thread begun = refl
 state_of-end (wait ∷ waits) ends end thread begun =
-    elim (wait.thread == thread) as (λ here. option_map (state_of_wait (ends ++ end ∷ [])) (cond here (Some wait) (wait_of thread waits)) ≡ option_map (ended_by end) (option_map (state_of_wait ends) (cond here (Some wait) (wait_of thread waits)))) [
-      | true ↦ ap (λ s. Some s) (state_after-append ends end wait.generation (All-head (HasBegun ends) wait waits begun))
-      | false ↦ state_of-end waits ends end thread (All-tail (HasBegun ends) wait waits begun)
-    ]
+    grind (arith, state_after-append, All-head, All-tail, state_of-end waits ends end thread (All-tail (HasBegun ends) wait waits begun))
 
 -- nobody waits any more once the generation has ended
 pub none_waiting :
@@ -45,9 +42,8 @@ pub none_waiting :
     count_by (is_unreleased (ends ++ end ∷ [])) waits ≡ 0
 none_waiting [] ends end begun = refl
 none_waiting (wait ∷ waits) ends end begun =
-    let here : wait.generation ≤ length ends = All-head (HasBegun ends) wait waits begun in
-    let past : is_unreleased (ends ++ end ∷ []) wait ≡ false = lt-leb _ _ (rw length-append (omega arith)) in
-    sum_by-cons _ wait waits ∙ rw past (zero-add _ ∙ none_waiting waits ends end (All-tail (HasBegun ends) wait waits begun))
+    grind (arith, All-head, lt-leb, length-append, sum_by-cons, zero-add, All-tail, none_waiting waits ends end (All-tail (HasBegun ends) wait waits
+    begun))
 
 -- what has begun has begun for good
 pub begun_still :
@@ -87,15 +83,7 @@ pub wait_of-others :
     (waits : List Wait) (gone thread : ℕ) →
     wait_of thread (others gone waits) ≡ cond (gone == thread) None (wait_of thread waits)
 wait_of-others [] gone thread = none_either (gone == thread)
-wait_of-others (wait ∷ waits) gone thread =
-    let rest = wait_of-others waits gone thread in
-    elim (cases_eq wait.thread gone) as (λ _. wait_of thread (others gone (wait ∷ waits)) ≡ cond (gone == thread) None (wait_of thread (wait ∷ waits))) [
-      | inl e ↦ rw (eq-eqb _ _ e, e) (rest ∙ twice (gone == thread) None _ (wait_of thread waits))
-      | inr n ↦ rw (ne_eqb _ _ n, rest) (elim (cases_eq gone thread) as (λ _. cond (wait.thread == thread) (Some wait) (cond (gone == thread) None (wait_of thread waits)) ≡ cond (gone == thread) None (cond (wait.thread == thread) (Some wait) (wait_of thread waits))) [
-        | inl g ↦ rw (eq-eqb _ _ g, ne_eqb wait.thread thread (λ h. n (h ∙ sym g))) refl
-        | inr m ↦ rw (ne_eqb _ _ m) refl
-      ])
-    ]
+wait_of-others (wait ∷ waits) gone thread = grind (arith, cases_eq, eq-eqb, twice, ne_eqb, wait_of-others waits gone thread)
 
 -- a thread without a wait leaves nothing
 others_all : (waits : List Wait) (gone : ℕ) → wait_of gone waits ≡ None → others gone waits ≡ waits
@@ -128,9 +116,4 @@ waiting-others (wait ∷ waits) ends gone one released =
 pub one_each-others :
     (waits : List Wait) (gone : ℕ) → OneWaitEach waits → OneWaitEach (others gone waits)
 one_each-others [] gone one = one
-one_each-others (wait ∷ waits) gone one =
-    let rest = one_each-others waits gone one.1 in
-    elim (wait.thread == gone) as (λ here. OneWaitEach (cond (not here) (wait ∷ others gone waits) (others gone waits))) [
-      | true ↦ rest
-      | false ↦ (wait_of-others waits gone wait.thread ∙ rw one.0 (sym (none_either (gone == wait.thread))), rest)
-    ]
+one_each-others (wait ∷ waits) gone one = grind (arith, wait_of-others, none_either, one_each-others waits gone one.1)
