@@ -1,6 +1,6 @@
 -- What the calls change, for the crates above: who has a wait, who runs the action, and how many
 -- threads are listed.
-use Rattle.std.proofs.Common.{◌≡◌, ℕ, ◌+◌, ◌<◌, Bool, true, false, not, cond, ◌||◌, ◌&&◌, ◌==◌, refl, ◌∙◌, ap, List, length, Option, Some, None, is_some, length-set, arith, rules}
+use Rattle.std.proofs.Common.{◌≡◌, ℕ, ◌+◌, ◌<◌, Bool, true, false, not, cond, ◌||◌, ◌&&◌, ◌==◌, refl, ◌∙◌, ap, length, Option, Some, None, is_some, length-set, arith, rules}
 use Rattle.std.proofs.lemmas.List.{length-map}
 use Rattle.cyclic_barrier.specs.declared.answer.WaitState.{WaitState}
 use Rattle.cyclic_barrier.specs.declared.answer.WaitState.TheVariants as state
@@ -28,12 +28,6 @@ added true (Some w) = refl
 added false None = refl
 added false (Some w) = refl
 
-taken : (here : Bool) (wait : Option WaitState) → is_some (cond here None wait) ≡ (is_some wait && not here)
-taken true None = refl
-taken true (Some w) = refl
-taken false None = refl
-taken false (Some w) = refl
-
 -- who has a wait after an entry: those of before, and the thread where the answer says so
 pub has_wait-enter :
     (thread : ℕ) (interrupted no_wait : Bool) (b : BarrierState) (u : ℕ) → thread < length b.waits →
@@ -60,7 +54,7 @@ runner-enter thread interrupted no_wait b = grind arith
 
 pub has_wait-leave :
     (thread : ℕ) (b : BarrierState) (u : ℕ) → thread < length b.waits → has_wait u (leave thread b) ≡ (has_wait u b && not (thread == u))
-has_wait-leave thread b u there = ap is_some (wait_at-set b.waits thread u None there) ∙ taken (thread == u) (wait_at b.waits u)
+has_wait-leave thread b u there = grind (arith, wait_at-set)
 
 pub has_wait-interrupt :
     (thread : ℕ) (b : BarrierState) (u : ℕ) → thread < length b.waits → has_wait u (interrupt thread b) ≡ (has_wait u b && not (thread == u))
@@ -74,25 +68,14 @@ has_wait-end_action returned b u =
 pub has_wait-reset : (b : BarrierState) (u : ℕ) → has_wait u (reset b) ≡ has_wait u b
 has_wait-reset b u = has_wait-release state.Broken b false u
 
-length-release : (s : WaitState) (waits : List (Option WaitState)) → length (release s waits) ≡ length waits
-length-release s waits = length-map waits (released s)
-
 -- as many threads as before are listed
 pub length-enter :
     (thread : ℕ) (interrupted no_wait : Bool) (b : BarrierState) →
     length (enter_timed thread interrupted no_wait b).barrier.waits ≡ length b.waits
-length-enter thread interrupted no_wait b =
-    let P : Entry → Type 0 = λ e. length e.barrier.waits ≡ length b.waits in
-    let arrived : P (arrive thread interrupted no_wait b) =
-    either P b.broken refl
-    (either P interrupted (length-release state.Broken b.waits)
-    (either P (number_waiting b + 1 == b.parties) (either P b.action refl (length-release state.Tripped b.waits))
-    (either P no_wait (length-release state.Broken b.waits) (length-set b.waits thread (Some state.Waiting))))) in
-    grind arith
+length-enter thread interrupted no_wait b = grind (arith, length-set, length-map)
 
 pub length-end_action : (returned : Bool) (b : BarrierState) → length (end_action returned b).waits ≡ length b.waits
-length-end_action returned b =
-    either (λ (after : BarrierState). length after.waits ≡ length b.waits) returned (length-release state.Tripped b.waits) (length-release state.Broken b.waits)
+length-end_action returned b = grind (arith, length-map)
 
 pub tells_who_waits : (b : BarrierState) → IsBarrier b → TellsWhoWaits b
 tells_who_waits b sound = grind (arith, has_wait-enter, runner-enter, has_wait-end_action, has_wait-leave, has_wait-interrupt, has_wait-reset)

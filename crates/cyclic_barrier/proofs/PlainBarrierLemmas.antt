@@ -70,10 +70,6 @@ waiting_now (x ∷ ends) = waiting_now ends
 abbrev pub others : ℕ → List Wait → List Wait
 others thread waits = filter (λ wait. not (wait.thread == thread)) waits
 
-twice : {A : Type 0} (b : Bool) (x y z : A) → cond b x z ≡ cond b x (cond b y z)
-twice true x y z = refl
-twice false x y z = refl
-
 none_either : (b : Bool) → None ≡ cond {A = Option Wait} b None None
 none_either true = refl
 none_either false = refl
@@ -83,7 +79,7 @@ pub wait_of-others :
     (waits : List Wait) (gone thread : ℕ) →
     wait_of thread (others gone waits) ≡ cond (gone == thread) None (wait_of thread waits)
 wait_of-others [] gone thread = none_either (gone == thread)
-wait_of-others (wait ∷ waits) gone thread = grind (arith, cases_eq, eq-eqb, twice, ne_eqb, wait_of-others waits gone thread)
+wait_of-others (wait ∷ waits) gone thread = grind (arith, cases_eq, eq-eqb, ne_eqb, wait_of-others waits gone thread)
 
 -- a thread without a wait leaves nothing
 others_all : (waits : List Wait) (gone : ℕ) → wait_of gone waits ≡ None → others gone waits ≡ waits
