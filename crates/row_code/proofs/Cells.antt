@@ -1,6 +1,6 @@
 -- Numbers in bytes, and lists of so many bytes.
 use Rattle.std.proofs.Common.{◌≡◌, ℕ, zero, suc, ◌+◌, ◌<◌, ◌≤◌, List, [], ◌∷◌, length, All, get_or, take, drop, refl, arith}
-use Rattle.std.proofs.lemmas.Nat.{le_bytes_2, from_le_bytes-to_le_bytes_2}
+use Rattle.std.proofs.lemmas.Nat.{from_le_bytes-to_le_bytes_2}
 use Rattle.std.proofs.lemmas.List.{get_or-drop, get_or-take, get_or_past, length-take}
 use Rattle.std.proofs.lemmas.Bool.{cases_lt}
 use Rattle.row_code.specs.Number.{u16_bytes, u16_of, i32_bytes, i32_of}
@@ -25,9 +25,6 @@ four_fit a b c d fa fb fc fd (suc (suc (suc zero))) = fd
 four_fit a b c d fa fb fc fd (suc (suc (suc (suc i)))) = omega arith
 
 -- two bytes are those of their number
-pub u16_cells : (a b : ℕ) → a < 256 → b < 256 → u16_bytes (u16_of (a ∷ b ∷ [])) ≡ a ∷ b ∷ []
-u16_cells a b fa fb = grind (arith, le_bytes_2, zero)
-
 pub u16_back : (n : ℕ) → n < 65536 → u16_of (u16_bytes n) ≡ n
 u16_back n lt = from_le_bytes-to_le_bytes_2 n lt
 

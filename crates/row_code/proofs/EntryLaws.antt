@@ -22,7 +22,7 @@ use Rattle.row_code.specs.Threads.{IsThread, thread_bytes}
 use Rattle.row_code.specs.Answers.{◌>>=◌}
 use Rattle.row_code.specs.Reading.{u16_at, i32_at, policy_at, phaser_at, action_at, barrier_at, thread_at, row_at, row_or}
 use Rattle.row_code.proofs.RowLaws.{i32_back, row_in_its_bytes}
-use Rattle.row_code.proofs.Cells.{IsBytes, u16_cells, u16_back, i32_cells, of_four, of_eight, of_twelve}
+use Rattle.row_code.proofs.Cells.{IsBytes, u16_back, i32_cells, of_four, of_eight, of_twelve}
 
 -- the value of a step that did not fail
 pub bind_ok : {A B : Type 0} (r : Result A ImageFault) (f : A → Result B ImageFault) (y : B) → (r >>= f) ≡ Ok y → (x : A) × (r ≡ Ok x) × (f x ≡ Ok y)
@@ -109,7 +109,7 @@ phaser_again at p h =
 
 pub phaser_takes : (at : ℕ) (bytes : List ℕ) (p : DeclaredPhaser) → IsBytes bytes → length bytes ≡ 12 → phaser_at at bytes ≡ Ok p → bytes ≡ phaser_bytes p
 unfolding phaser_at
-phaser_takes at bytes p fits size e = grind (arith, bind_ok, guard_ok, ltb-true, policy_takes, ok_is, u16_cells, i32_cells, of_twelve)
+phaser_takes at bytes p fits size e = grind (arith, bind_ok, guard_ok, ltb-true, policy_takes, ok_is, i32_cells, of_twelve)
 
 pub barrier_again : (at : ℕ) (b : DeclaredBarrier) → IsBarrier b → barrier_at at (barrier_bytes b) ≡ Ok b
 unfolding barrier_at
@@ -117,7 +117,7 @@ barrier_again at b h = grind (arith, u16_back, i32_back, action_again)
 
 pub barrier_takes : (at : ℕ) (bytes : List ℕ) (p : DeclaredBarrier) → IsBytes bytes → length bytes ≡ 8 → barrier_at at bytes ≡ Ok p → bytes ≡ barrier_bytes p
 unfolding barrier_at
-barrier_takes at bytes p fits size e = grind (arith, bind_ok, action_takes, ok_is, u16_cells, i32_cells, of_eight)
+barrier_takes at bytes p fits size e = grind (arith, bind_ok, action_takes, ok_is, i32_cells, of_eight)
 
 pub thread_again : (at : ℕ) (t : DeclaredThread) → IsThread t → thread_at at (thread_bytes t) ≡ Ok t
 unfolding thread_at
