@@ -1,12 +1,11 @@
 -- One more phaser is declared.
-use Rattle.std.proofs.Common.{◌≡◌, ℕ, ◌+◌, ◌<◌, eqb, Bool, true, false, cond, ◌&&◌, List, [], length, get_or, refl, sym, ap, subst, ◌∙◌, arith}
+use Rattle.std.proofs.Common.{◌≡◌, ℕ, ◌+◌, ◌<◌, eqb, Bool, true, false, cond, List, length, get_or, refl, sym, ap, ◌∙◌, arith}
 use Rattle.std.proofs.lemmas.Bool.{eqb-true}
 use Rattle.std.proofs.lemmas.List.Sums.{fold_more}
-use Rattle.tier_tree.specs.Forest.{PhaserState, flat_at, root_at}
+use Rattle.tier_tree.specs.Forest.{PhaserState}
 use Rattle.tier_tree.specs.Answer.{KeepsEnds}
 use Rattle.tier_tree.specs.Declaration.{AreAllFresh, is_root}
-use Rattle.packed_phaser.specs.Flat.{unarrived_of}
-use Rattle.tier_tree.specs.Origin.{AreTallied, Carries, declared_at, children, has_joined, is_awaited}
+use Rattle.tier_tree.specs.Origin.{AreTallied, Carries, declared_at}
 use Rattle.tier_tree.specs.Stored.{Stored, phasers_of}
 use Rattle.row_code.specs.declared.phasers.DeclaredPhaser.{DeclaredPhaser}
 use Rattle.loader.specs.Declarations.{parent_of, with_phaser, no_phaser, declared_origin, AreDeclared}

@@ -1,5 +1,5 @@
 -- What is true of an image without a fault: its phasers make a forest, and its other parts a program.
-use Rattle.std.proofs.Common.{◌≡◌, ℕ, zero, suc, ◌+◌, ◌<◌, ◌≤◌, Bool, true, false, not, if◌then◌else◌, List, [], ◌∷◌, ◌++◌, length, get_or, map, take, Option, Some, None, refl, sym, ap, subst, ◌∙◌, arith, pos, nat_abs}
+use Rattle.std.proofs.Common.{◌≡◌, ℕ, zero, suc, ◌+◌, ◌<◌, ◌≤◌, Bool, true, false, not, if◌then◌else◌, List, [], ◌∷◌, ◌++◌, length, get_or, take, Option, Some, None, refl, sym, ap, subst, ◌∙◌, arith, pos, nat_abs}
 use Rattle.std.specs.Prelude.{nat_le, nat_lt}
 use Rattle.std.specs.Option.{option_map}
 use Rattle.std.specs.List.{list_any}
@@ -13,7 +13,7 @@ use Rattle.tier_tree.specs.declared.fault.DeclareFault.{DeclareFault}
 use Rattle.tier_tree.specs.declared.fault.DeclareFault.TheVariants as declare
 use Rattle.tier_tree.specs.Forest.{PhaserState, phaser_at}
 use Rattle.tier_tree.specs.Sound.{IsForest, IsForestOf}
-use Rattle.tier_tree.specs.Declaration.{IsFresh, AreAllFresh, IsFreshAbove, has_parent, is_count, is_first_phase, is_root, line_above, fault_of, joins_above, declared, after_declaration}
+use Rattle.tier_tree.specs.Declaration.{AreAllFresh, IsFreshAbove, has_parent, is_count, is_first_phase, is_root, line_above, fault_of, joins_above, declared, after_declaration}
 use Rattle.tier_tree.specs.Origin.{AreTallied, declared_at}
 use Rattle.tier_tree.specs.Registration.{is_overfull}
 use Rattle.tier_tree.proofs.Added.{stands_declared}
@@ -24,7 +24,7 @@ use Rattle.row_code.specs.declared.phasers.DeclaredPhaser.{DeclaredPhaser}
 use Rattle.row_code.specs.declared.image.Image.{Image}
 use Rattle.row_code.specs.Image.{IsImage}
 use Rattle.loader.specs.declared.load_fault.LoadFault.TheVariants as fault
-use Rattle.loader.specs.Declarations.{parent_of, policy_of, declare_fault, with_phaser, forest_of, no_phaser, declared_origin, routine_row, new_barrier, action_row}
+use Rattle.loader.specs.Declarations.{parent_of, policy_of, declare_fault, with_phaser, forest_of, no_phaser, declared_origin}
 use Rattle.loader.specs.Program.{Program, IsProgramOf}
 use Rattle.loader.specs.Fault.{unless, earliest_in, first_fault, routine_fault, listed_phaser_fault}
 use Rattle.loader.proofs.Search.{none_left, none_in}

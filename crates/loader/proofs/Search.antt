@@ -1,5 +1,5 @@
 -- The first fault of a list, as a loop finds it.
-use Rattle.std.proofs.Common.{◌≡◌, ℕ, zero, suc, ◌+◌, ◌<◌, List, [], ◌∷◌, length, get_or, drop, Option, Some, None, refl, sym, ap, ◌∙◌, arith}
+use Rattle.std.proofs.Common.{◌≡◌, ℕ, zero, suc, ◌+◌, ◌<◌, List, [], ◌∷◌, length, get_or, drop, Option, None, ap, ◌∙◌, arith}
 use Rattle.std.specs.Option.{option_or}
 use Rattle.std.proofs.lemmas.List.{at_drop_more}
 use Rattle.loader.specs.declared.load_fault.LoadFault.{LoadFault}
@@ -12,9 +12,7 @@ pub goes_on : {E : Type 0} (check : ℕ → E → Option LoadFault) (xs : List E
 goes_on check xs i d lt none so_far =
     let here : earliest_in check i (drop i xs) ≡ option_or (check i (get_or xs i d)) (earliest_in check (i + 1) (drop (i + 1) xs)) =
     at_drop_more (earliest_in check i) xs i d lt in
-    let rest : option_or (check i (get_or xs i d)) (earliest_in check (i + 1) (drop (i + 1) xs)) ≡ earliest_in check (i + 1) (drop (i + 1) xs) =
-    ap (λ o. option_or o (earliest_in check (i + 1) (drop (i + 1) xs))) none in
-    sym (here ∙ rest) ∙ so_far
+    grind arith
 
 pub none_left : (a b : Option LoadFault) → option_or a b ≡ None → (a ≡ None) × (b ≡ None)
 none_left a b e = grind arith

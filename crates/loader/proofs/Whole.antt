@@ -1,11 +1,10 @@
 -- Where an image has no fault, the program that it declares has what is true of each.
-use Rattle.std.proofs.Common.{◌≡◌, ℕ, ◌+◌, ◌-◌, ◌<◌, ◌≤◌, ltb, Bool, true, false, List, length, get_or, map, All, Option, Some, None, unwrap_or, refl, sym, ap, subst, ◌∙◌, arith}
+use Rattle.std.proofs.Common.{◌≡◌, ℕ, ◌+◌, ◌-◌, ◌<◌, ◌≤◌, ltb, Bool, true, false, List, length, get_or, map, All, Option, None, unwrap_or, refl, sym, ap, subst, ◌∙◌, arith}
 use Rattle.std.proofs.lemmas.Bool.{ltb-true}
 use Rattle.std.proofs.lemmas.List.{length-map}
 use Rattle.std.proofs.lemmas.List.Elements.{All-map}
 use Rattle.instruction_table.specs.declared.row.Row.{Row}
 use Rattle.row_code.specs.declared.phasers.DeclaredPolicy.{DeclaredPolicy}
-use Rattle.row_code.specs.declared.phasers.DeclaredPolicy.TheVariants as declared
 use Rattle.row_code.specs.declared.phasers.DeclaredPhaser.{DeclaredPhaser}
 use Rattle.row_code.specs.declared.barriers.DeclaredBarrier.{DeclaredBarrier}
 use Rattle.row_code.specs.declared.threads.DeclaredThread.{DeclaredThread}
@@ -14,12 +13,10 @@ use Rattle.loader.specs.declared.counts.Counts.{Counts}
 use Rattle.loader.specs.declared.load_fault.LoadFault.{LoadFault}
 use Rattle.loader.specs.declared.load_fault.LoadFault.TheVariants as fault
 use Rattle.loader.specs.declared.load_fault.Place.{Place}
-use Rattle.loader.specs.declared.load_fault.Place.TheVariants as place
 use Rattle.loader.specs.declared.named.Named.{Named}
-use Rattle.loader.specs.declared.named.Named.TheVariants as named
-use Rattle.loader.specs.Named.{named_by, stops}
+use Rattle.loader.specs.Named.{stops}
 use Rattle.tier_tree.specs.Stored.{Stored}
-use Rattle.loader.specs.Declarations.{row_in, routine_row, new_barrier, action_row, declared_origin, AreDeclared}
+use Rattle.loader.specs.Declarations.{row_in, routine_row, new_barrier, action_row, AreDeclared}
 use Rattle.loader.specs.Program.{Program, AreNewBarriers, CanStart, IsCode, IsThere, IsNamed, IsNewBarrier, IsProgram, program_of, row_at}
 use Rattle.loader.specs.Fault.{unless, earliest_in, first_fault, target_fault, routine_fault, listed_phaser_fault, action_fault, barrier_fault, thread_fault, named_fault, row_fault, last_fault, counts_in}
 use Rattle.loader.proofs.Search.{none_left, none_in}
@@ -37,14 +34,12 @@ named_there counts n thing e = grind (arith, target_there, ltb-true, passed)
 
 -- each row names what is there
 pub rows_named : (counts : Counts) (rows : List Row) → earliest_in (row_fault counts) 0 rows ≡ None → All (IsNamed counts) rows
-rows_named counts rows e = λ i d lt.
-    named_there counts (0 + i) (named_by (get_or rows i d)) (none_in (row_fault counts) 0 rows e i d lt)
+rows_named counts rows e = grind (arith, named_there, none_in)
 
 -- each thread begins at a row
 pub threads_begin : (rows : ℕ) (threads : List DeclaredThread) → earliest_in (thread_fault rows) 0 threads ≡ None
     → All (λ (thread : DeclaredThread). thread.first_row < rows) threads
-threads_begin rows threads e = λ i d lt.
-    target_there rows (place.Thread (0 + i)) (get_or threads i d).first_row (none_in (thread_fault rows) 0 threads e i d lt)
+threads_begin rows threads e = grind (arith, target_there, none_in)
 
 -- so there is a row
 pub some_row : (rows : ℕ) (threads : List DeclaredThread) → 0 < length threads
