@@ -1,5 +1,5 @@
 -- The canonical text of an image stands for it.
-use Rattle.std.proofs.Common.{◌≡◌, ℕ, true, List, [], ◌∷◌, ◌++◌, Option, option_map, refl, sym, ap, subst, ◌∙◌, arith, append-nil, rules}
+use Rattle.std.proofs.Common.{◌≡◌, ℕ, true, List, [], ◌∷◌, ◌++◌, Option, option_map, refl, ap, ◌∙◌, arith, append-nil, rules}
 use Rattle.std.specs.List.{flat_map, list_all}
 use Rattle.std.proofs.lemmas.Bool.{and_from}
 use Rattle.std.proofs.lemmas.Grind.{flat_map-append}
@@ -22,8 +22,8 @@ use Rattle.line_reader.specs.declared.statement.Statement.{Statement}
 use Rattle.line_reader.specs.Words.{lines_of}
 use Rattle.line_reader.specs.Symbols.{Name}
 use Rattle.assembler.specs.Statements.{adds, EachFollows}
-use Rattle.line_reader.specs.Listing.{line_text, numbered, phaser_words, barrier_words, thread_words, row_words, lines_listed, canonical}
-use Rattle.assembler.specs.Meaning.{referent_or_0, is_known_or_none, is_policy_known, are_known, policy_of, phasers_in, barriers_in, threads_in, rows_in, image_of, SayInOrder, StandsFor}
+use Rattle.line_reader.specs.Listing.{numbered, phaser_words, barrier_words, thread_words, row_words, lines_listed, canonical}
+use Rattle.assembler.specs.Meaning.{is_known_or_none, is_policy_known, are_known, phasers_in, barriers_in, threads_in, rows_in, image_of, SayInOrder, StandsFor}
 use Rattle.assembler.proofs.CanonicalDirectives.{number_said, policy_said, phaser_said, barrier_said, thread_said, phaser_says, barrier_says, thread_says}
 use Rattle.assembler.proofs.CanonicalRows.{row_said, row_known, row_back, row_says}
 use Rattle.assembler.proofs.NumberedLines.{map_numbered, lines_from, SayEach, SayEach-append, numbered_says, lines_of-texts, say_in_order, lines_from-flat_map, lines_from-list_all, numbered_all, numbered_none, numbered_back}
@@ -64,10 +64,6 @@ all_listed i =
     (map_numbered row_words 0 i.rows)
 
 -- what is made of four lists
-four : {A B : Type 0} (f : A → List B) (a b c d : List A) →
-    flat_map f (a ++ (b ++ (c ++ d))) ≡ flat_map f a ++ (flat_map f b ++ (flat_map f c ++ flat_map f d))
-four f a b c d = grind (arith, flat_map-append)
-
 all_say : (i : Image) → IsImage i → SayEach (all_lines i) (all_said i)
 all_say i h =
     let phasers = numbered_says IsPhaser 64 phaser_words phaser_said phaser_says 0 i.phasers (omega (arith, h.phasers.0))
@@ -83,10 +79,7 @@ all_say i h =
 say_all : (i : Image) → IsImage i → SayInOrder 1 (lines_of (canonical i)) (lines_from 1 (all_said i))
 say_all i h =
     let says = all_say i h in
-    subst (λ texts. SayInOrder 1 texts (lines_from 1 (all_said i)))
-    (sym (ap (λ (lines : List (List (List ℕ))). lines_of (flat_map line_text lines)) (all_listed i)
-    ∙ lines_of-texts (all_lines i) (all_said i) says))
-    (say_in_order 1 (all_lines i) (all_said i) says)
+    grind (arith, all_listed, lines_of-texts, say_in_order)
 
 -- ---- their order
 
@@ -123,9 +116,7 @@ threads_follow i h m n =
     (behind_phasers i 0 kind.Target (λ e. omega arith) (λ k p. refl)) in
     let still : IsFree 0 kind.Target 0 (before ++ lines_from n (threads_said i)) =
     free_behind 0 116 kind.Target thread_said (λ e. omega arith) (λ k t. refl) (λ k t. refl) (λ k t. refl) 0 i.threads 0 n before no_row in
-    EachFollows-append before n (threads_said i) (rows_said i)
-    (directives_follow 116 kind.Thread thread_said thread_directive i.threads 0 n before (omega (arith, h.threads.0)) no_thread)
-    (λ l. rows_follow i.rows 0 l (before ++ lines_from n (threads_said i)) (omega (arith, still.counted, h.rows.0)))
+    grind (arith, EachFollows-append, directives_follow, thread_directive, rows_follow)
 
 all_follow : (i : Image) → IsImage i → EachFollows [] (lines_from 1 (all_said i))
 all_follow i h =
@@ -152,26 +143,19 @@ all_known lines i = search (rules, numbered_all, phaser_said, and_from, parent_k
 
 -- ---- the image that they make
 
-number_back : (lines : List (Line Name)) (k : OperandKind) (n : Option ℕ) →
-    option_map (referent_or_0 lines k) (option_map number_said n) ≡ n
-number_back lines k n = grind arith
-
-policy_back : (lines : List (Line Name)) (p : DeclaredPolicy) → policy_of lines (policy_said p) ≡ p
-policy_back lines p = grind arith
-
 phaser_back : (lines : List (Line Name)) (n : ℕ) (p : DeclaredPhaser) → phasers_in lines (phaser_said n p) ≡ p ∷ []
-phaser_back lines n p = grind (arith, number_back, policy_back)
+phaser_back lines n p = grind arith
 
 barrier_back : (lines : List (Line Name)) (n : ℕ) (b : DeclaredBarrier) →
     barriers_in lines (barrier_said n b) ≡ b ∷ []
-barrier_back lines n b = λ k. record { parties = b.parties; action = number_back lines kind.Target b.action k } ∷ []
+barrier_back lines n b = grind arith
 
 -- what the statements make, list by list
 in_four : {B : Type 0} (f : Statement Name → List B) (i : Image) (a b c d : List B) →
     flat_map f (phasers_said i) ≡ a → flat_map f (barriers_said i) ≡ b → flat_map f (threads_said i) ≡ c →
     flat_map f (rows_said i) ≡ d →
     flat_map (λ line. f line.statement) (lines_from 1 (all_said i)) ≡ a ++ (b ++ (c ++ d))
-in_four f i a b c d ea eb ec ed = grind (arith, lines_from-flat_map, four)
+in_four f i a b c d ea eb ec ed = grind (arith, lines_from-flat_map, flat_map-append)
 
 image_back : (lines : List (Line Name)) (i : Image) → lines ≡ lines_from 1 (all_said i) → i ≡ image_of lines
 image_back lines i is =
@@ -199,12 +183,7 @@ image_back lines i is =
     (numbered_none (rows_in lines) barrier_said (λ n b. refl) 0 i.barriers)
     (numbered_none (rows_in lines) thread_said (λ n t. refl) 0 i.threads)
     (numbered_back (rows_in lines) row_numbered (λ n row. ap (λ x. x ∷ []) (row_back lines row)) 0 i.rows) in
-    sym ((λ k. record {
-      phasers = flat_map (λ line. phasers_in lines line.statement) (is k);
-      barriers = flat_map (λ line. barriers_in lines line.statement) (is k);
-      threads = flat_map (λ line. threads_in lines line.statement) (is k);
-      rows = flat_map (λ line. rows_in lines line.statement) (is k);
-    }) ∙ (λ k. record { phasers = p k; barriers = b k; threads = t k; rows = r k }))
+    grind arith
 
 -- ---- together
 

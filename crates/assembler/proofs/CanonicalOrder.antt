@@ -1,5 +1,5 @@
 -- Each line of a canonical text may stand behind the lines before it.
-use Rattle.std.proofs.Common.{◌≡◌, ℕ, ◌+◌, ◌<◌, ◌≤◌, false, not, ◌||◌, nat_lt, List, [], ◌∷◌, ◌++◌, length, drop, get_or, bytes_eq, Some, refl, sym, ap, subst, ◌∙◌, arith, append_assoc, append-nil, lt-ltb, decimal}
+use Rattle.std.proofs.Common.{◌≡◌, ℕ, ◌+◌, ◌<◌, ◌≤◌, false, not, ◌||◌, nat_lt, List, [], ◌∷◌, ◌++◌, length, bytes_eq, Some, refl, sym, ap, subst, ◌∙◌, arith, append_assoc, append-nil, lt-ltb, decimal}
 use Rattle.std.proofs.lemmas.Fmt.{decimal_injective}
 use Rattle.std.proofs.lemmas.List.Folds.{list_any-append}
 use Rattle.std.proofs.lemmas.Slice.Eq.{bytes_eq-Decides}
@@ -34,16 +34,12 @@ EachFollows-append before n (said ∷ a) b h k =
 
 -- ---- names
 
-not_same : (a b : List ℕ) → (a ≡ b → ⊥) → bytes_eq a b ≡ false
-not_same a b differ = grind (arith, bytes_eq-Decides)
-
 other_number : (letter m n : ℕ) → m < 64 → n < 64 → (m ≡ n → ⊥) →
     bytes_eq (letter ∷ decimal m) (letter ∷ decimal n) ≡ false
-other_number letter m n p q differ =
-    not_same (letter ∷ decimal m) (letter ∷ decimal n) (λ e. differ (decimal_injective m n (omega arith) (omega arith) (ap (drop 1) e)))
+other_number letter m n p q differ = grind (arith, bytes_eq-Decides, decimal_injective)
 
 other_letter : (a b m n : ℕ) → (a ≡ b → ⊥) → bytes_eq (a ∷ decimal m) (b ∷ decimal n) ≡ false
-other_letter a b m n differ = not_same (a ∷ decimal m) (b ∷ decimal n) (λ e. differ (ap (λ l. get_or l 0 0) e))
+other_letter a b m n differ = grind (arith, bytes_eq-Decides)
 
 -- ---- directives
 

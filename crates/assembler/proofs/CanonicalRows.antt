@@ -1,5 +1,5 @@
 -- The lines of rows as words, and what they say.
-use Rattle.std.proofs.Common.{◌≡◌, ℕ, ◌+◌, ◌<◌, ◌≤◌, ℤ, pos, negsuc, ◌≤ℤ◌, ◌<ℤ◌, FitsSigned, w32, Bool, true, ◌&&◌, nat_lt, List, [], ◌∷◌, length, Some, None, refl, ap, arith, rules, decimal, ltb-true}
+use Rattle.std.proofs.Common.{◌≡◌, ℕ, ◌<◌, ◌≤◌, ℤ, pos, negsuc, ◌≤ℤ◌, ◌<ℤ◌, FitsSigned, w32, Bool, true, ◌&&◌, nat_lt, List, [], ◌∷◌, length, Some, None, refl, ap, arith, rules, decimal, ltb-true}
 use Rattle.std.specs.Fmt.{signed_decimal}
 use Rattle.std.specs.List.{list_all}
 use Rattle.std.proofs.lemmas.Bool.{and_parts}
@@ -63,10 +63,6 @@ register_word : (register : ℕ) → number_of (register_at register) ≡ regist
 register_word register e =
     marked_word 114 register (decimal register) refl (decimal_digits register (omega (arith, below_eight (register_at register), e)))
 
-register_spelled : (register : ℕ) → number_of (register_at register) ≡ register →
-    114 ∷ decimal register ≡ 114 ∷ (48 + number_of (register_at register)) ∷ []
-register_spelled register e = grind (arith, decimal_digit, below_eight)
-
 number_is_word : (imm : ℤ) → FitsSigned w32 imm → IsWord (signed_decimal imm)
 number_is_word imm h = int_word imm (omega (arith, ints, h.sfits)) (omega (arith, ints, h.sfits))
 
@@ -100,8 +96,7 @@ operands_spelled : (kinds : List OperandKind) (registers : List ℕ) (imm : ℤ)
     SpellOperands kinds (operand_words kinds registers imm) (operands_said kinds registers imm)
 operands_spelled [] registers imm h = tt
 operands_spelled (kind.Register ∷ kinds) [] imm h = absurd h
-operands_spelled (kind.Register ∷ kinds) (register ∷ registers) imm h =
-    ((refl, register_spelled register h.0), operands_spelled kinds registers imm h.1)
+operands_spelled (kind.Register ∷ kinds) (register ∷ registers) imm h = grind (arith, decimal_digit, below_eight, operands_spelled kinds registers imm h.1)
 operands_spelled (kind.Number ∷ kinds) registers imm h =
     ((refl, int_spells imm (omega (arith, ints, h.0.sfits)) (omega (arith, ints, h.0.sfits))), operands_spelled kinds registers imm h.1)
 operands_spelled (_ ∷ kinds) registers imm h = ((refl, (tt, object_spelled imm h.0)), operands_spelled kinds registers imm h.1)

@@ -1,31 +1,19 @@
 -- How many things of a kind there are, and the numbers that names stand for.
-use Rattle.std.proofs.Common.{◌≡◌, ℕ, ◌+◌, ◌<◌, ◌≤◌, Bool, true, false, cond, nat_lt, List, [], ◌∷◌, ◌++◌, Option, Some, refl, sym, subst, append_assoc, arith}
+use Rattle.std.proofs.Common.{◌≡◌, ℕ, ◌+◌, ◌<◌, ◌≤◌, Bool, true, false, cond, List, [], ◌∷◌, ◌++◌, Option, Some, subst, append_assoc, arith}
 use Rattle.std.specs.Prelude.{IfSome, option_map}
-use Rattle.std.proofs.lemmas.Bool.Decides.{nat_tests}
 use Rattle.std.proofs.lemmas.List.{append-nil}
 use Rattle.instruction_table.specs.declared.shape.OperandKind.{OperandKind}
 use Rattle.instruction_table.specs.declared.shape.OperandKind.TheVariants as kind
 use Rattle.line_reader.specs.declared.statement.Statement.{Statement}
 use Rattle.line_reader.specs.declared.statement.Line.{Line}
 use Rattle.line_reader.specs.Symbols.{Name}
-use Rattle.assembler.proofs.Drafts.{count-append, same_kind}
-use Rattle.assembler.specs.Statements.{adds, count, gives_to, has_room, is_kind, most, number_named, EachFollows}
+use Rattle.assembler.proofs.Drafts.{count-append}
+use Rattle.assembler.specs.Statements.{adds, count, gives_to, has_room, most, number_named, EachFollows}
 
 -- one thing more of a kind that there is room for
-one_more : (k named : OperandKind) (before : List (Line Name)) → nat_lt (count named before) (most named) ≡ true →
-    count k before ≤ most k → count k before + cond (is_kind k named) 1 0 ≤ most k
-one_more k named before room few = by_test (is_kind k named) refl
-  where
-    by_test : (same : Bool) → is_kind k named ≡ same → count k before + cond same 1 0 ≤ most k
-    by_test true is =
-        let e : named ≡ k = sym (same_kind k named is) in
-        let here : nat_lt (count k before) (most k) ≡ true = subst (λ (j : OperandKind). nat_lt (count j before) (most j) ≡ true) e room in
-        grind (arith, nat_tests, here)
-    by_test false is = omega (arith, few)
-
 room_kept : (k : OperandKind) (before : List (Line Name)) (s : Statement Name) → has_room before s ≡ true →
     count k before ≤ most k → count k before + adds k s ≤ most k
-room_kept k before s room few = grind (arith, one_more)
+room_kept k before s room few = grind arith
 
 few_behind : (k : OperandKind) (before lines : List (Line Name)) → count k before ≤ most k → EachFollows before lines →
     count k (before ++ lines) ≤ most k
@@ -58,15 +46,12 @@ number_within k name (line ∷ lines) = by_test (gives_to k name line.statement)
     by_test false h = later (count k lines) (adds k line.statement) (number_named k name lines) h
 
 -- a phaser's number is below their count
-below : (n more : ℕ) (found : Option ℕ) → IfSome found (λ m. m < n) → IfSome (option_map (λ m. more + m) found) (λ m. m < more + n)
-below n more found h = grind arith
-
 abbrev IsBelow : Name → List (Line Name) → Type 0
 IsBelow name lines = IfSome (number_named kind.Phaser name lines) (λ n. n < count kind.Phaser lines)
 
 next_below : (name : Name) (number : ℕ) (s : Statement Name) (lines : List (Line Name)) → IsBelow name lines →
     IsBelow name (record { number = number; statement = s } ∷ lines)
-next_below name number s lines h = grind (arith, below)
+next_below name number s lines h = grind arith
 
 pub phaser_below : (name : Name) (lines : List (Line Name)) → IfSome (number_named kind.Phaser name lines) (λ n. n < count kind.Phaser lines)
 phaser_below name [] = tt

@@ -1,6 +1,5 @@
 -- Numbers as they are printed, read as words, names and numbers.
-use Rattle.std.proofs.Common.{◌≡◌, ℕ, suc, ◌<◌, ◌≤◌, ℤ, pos, negsuc, ◌≤ℤ◌, Bool, true, false, not, ◌&&◌, ◌==◌, List, [], ◌∷◌, length, refl, arith, decimal, rules}
-use Rattle.std.specs.Char.{is_ascii_digit}
+use Rattle.std.proofs.Common.{◌≡◌, ℕ, suc, ◌<◌, ◌≤◌, ℤ, pos, negsuc, ◌≤ℤ◌, Bool, true, List, [], ◌∷◌, length, refl, arith, decimal}
 use Rattle.std.specs.Fmt.{signed_decimal}
 use Rattle.std.specs.List.{list_all}
 use Rattle.std.specs.Str.Parse.{AllDigits, digits_value}
@@ -10,7 +9,6 @@ use Rattle.std.proofs.lemmas.Fmt.{decimal_is_IsNumeral, length-decimal-le}
 use Rattle.std.proofs.lemmas.Int.{ints}
 use Rattle.std.proofs.lemmas.Str.Parse.{digit_from_value}
 use Rattle.line_reader.specs.Names.{begins_name, goes_on_name, is_name}
-use Rattle.line_reader.specs.Numbers.{is_negative, digits_in}
 use Rattle.line_reader.specs.Spelling.{SpellsNumber, least_int, greatest_int}
 use Rattle.assembler.proofs.JoinedWords.{is_plain, IsWord}
 
@@ -24,64 +22,36 @@ pub record AreDigits (n : ℕ) (ds : List ℕ) : Type 0 where
 pub decimal_digits : (n : ℕ) → n < 10000000000 → AreDigits n (decimal n)
 decimal_digits n small =
     let k = decimal_is_IsNumeral n (omega arith) in
-    record {
-      some = k.0.0;
-      short = length-decimal-le 10 n (omega arith) (omega arith) (omega arith);
-      digits = k.0.1;
-      value = k.1;
-    }
+    grind (arith, length-decimal-le)
 
 -- a test that each digit passes
 all_digits : (p : ℕ → Bool) → ((c : ℕ) → 48 ≤ c → c ≤ 57 → p c ≡ true) → (ds : List ℕ) → AllDigits 10 ds →
     list_all p ds ≡ true
 all_digits p each [] d = refl
-all_digits p each (c ∷ cs) d =
-    let k = digit_from_value c d.0 in
-    and_from (p c) (list_all p cs) (each c (omega arith) (omega arith)) (all_digits p each cs d.1)
-
-digit_plain : (c : ℕ) → 48 ≤ c → c ≤ 57 → is_plain c ≡ true
-digit_plain c low high = grind (arith, nat_tests)
-
-digit_in_name : (c : ℕ) → 48 ≤ c → c ≤ 57 → goes_on_name c ≡ true
-digit_in_name c low high = grind (arith, nat_tests)
-
-digit_is : (c : ℕ) → 48 ≤ c → c ≤ 57 → is_ascii_digit c ≡ true
-digit_is c low high = grind (arith, nat_tests)
+all_digits p each (c ∷ cs) d = grind (arith, digit_from_value, and_from, all_digits p each cs d.1)
 
 -- ---- words and names
 
 pub digits_word : (n : ℕ) (ds : List ℕ) → AreDigits n ds → IsWord ds
-digits_word n ds h = record { some = h.some; short = omega (arith, h.short); plain = all_digits is_plain digit_plain ds h.digits }
+digits_word n ds h = grind (arith, all_digits, nat_tests)
 
 -- with a plain byte before them
 pub marked_word : (mark n : ℕ) (ds : List ℕ) → is_plain mark ≡ true → AreDigits n ds → IsWord (mark ∷ ds)
-marked_word mark n ds plain h = grind (arith, and_from, is_plain, all_digits, digit_plain)
+marked_word mark n ds plain h = grind (arith, and_from, is_plain, all_digits)
 
 pub marked_name : (letter n : ℕ) (ds : List ℕ) → begins_name letter ≡ true → goes_on_name letter ≡ true →
     AreDigits n ds → is_name (letter ∷ ds) ≡ true
-marked_name letter n ds begins goes_on h = grind (arith, and_from, all_digits, digit_in_name, nat_tests)
+marked_name letter n ds begins goes_on h = grind (arith, and_from, all_digits, nat_tests)
 
 -- ---- numbers
 
-digits_in-digits : (ds : List ℕ) → AllDigits 10 ds → digits_in ds ≡ ds
-digits_in-digits ds d = grind (arith, digit_from_value)
-
-not_negative : (ds : List ℕ) → AllDigits 10 ds → is_negative ds ≡ false
-not_negative ds d = grind (arith, digit_from_value)
-
-not_none : (ds : List ℕ) → 0 < length ds → not (length ds == 0) ≡ true
-not_none ds some = grind (arith, nat_tests)
-
-are_number : (n : ℕ) (ds : List ℕ) → AreDigits n ds → (not (length ds == 0) && list_all is_ascii_digit ds) ≡ true
-are_number n ds h = and_from _ _ (not_none ds h.some) (all_digits is_ascii_digit digit_is ds h.digits)
-
 pub digits_spell : (low high : ℤ) (n : ℕ) (ds : List ℕ) → AreDigits n ds → low ≤ℤ pos n → pos n ≤ℤ high →
     SpellsNumber low high ds (pos n)
-digits_spell low high n ds h least greatest = search (rules, digits_in-digits, are_number, not_negative)
+digits_spell low high n ds h least greatest = grind (arith, and_from, all_digits, nat_tests)
 
 minus_spell : (low high : ℤ) (n : ℕ) (ds : List ℕ) → AreDigits (suc n) ds → low ≤ℤ negsuc n → negsuc n ≤ℤ high →
     SpellsNumber low high (45 ∷ ds) (negsuc n)
-minus_spell low high n ds h least greatest = grind (arith, are_number)
+minus_spell low high n ds h least greatest = grind (arith, and_from, all_digits, nat_tests)
 
 -- a count of parties, a phase or the number of a row or an object
 pub decimal_spells : (high n : ℕ) → n ≤ high → n < 10000000000 → SpellsNumber (pos 0) (pos high) (decimal n) (pos n)

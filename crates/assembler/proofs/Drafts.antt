@@ -1,5 +1,5 @@
 -- What is kept beside the lines, with one line more.
-use Rattle.std.proofs.Common.{◌≡◌, ◌∙◌, ℕ, ◌+◌, Bool, true, false, cond, ◌||◌, List, [], ◌∷◌, ◌++◌, Option, Some, None, option_map, is_some, bytes_eq, refl, sym, ap, arith, rules}
+use Rattle.std.proofs.Common.{◌≡◌, ◌∙◌, ℕ, ◌+◌, Bool, true, false, cond, ◌||◌, List, [], ◌∷◌, ◌++◌, Option, Some, None, is_some, bytes_eq, refl, sym, ap, arith, rules}
 use Rattle.std.specs.List.{flat_map, list_any}
 use Rattle.std.proofs.lemmas.Grind.{flat_map-append}
 use Rattle.std.proofs.lemmas.List.{append-nil}
@@ -23,47 +23,21 @@ abbrev or_else : Option ℕ → Option ℕ → Option ℕ
 or_else (Some n) other = Some n
 or_else None other = other
 
-or_false : (b : Bool) → (b || false) ≡ b
-or_false true = refl
-or_false false = refl
-
 pub count-append : (k : OperandKind) (lines : List (Line Name)) (line : Line Name) →
     count k (lines ++ (line ∷ [])) ≡ count k lines + adds k line.statement
 count-append k [] line = omega arith
-count-append k (l ∷ lines) line =
-    let rest = count-append k lines line in
-    omega (arith, rest)
+count-append k (l ∷ lines) line = grind (arith, count-append k lines line)
 
 any-append : (test : Line Name → Bool) (lines : List (Line Name)) (line : Line Name) →
     list_any test (lines ++ (line ∷ [])) ≡ (list_any test lines || test line)
-any-append test lines line =
-    list_any-append test lines (line ∷ []) ∙ ap (λ b. list_any test lines || b) (or_false (test line))
-
--- a number that comes behind more things
-moved : (first : Bool) (before : ℕ) (a b : Option ℕ) (c : Option ℕ) →
-    option_map (λ n. before + n) b ≡ c →
-    cond first (Some 0) (option_map (λ n. before + n) (or_else a b))
-    ≡ or_else (cond first (Some 0) (option_map (λ n. before + n) a)) c
-moved true before a b c is = refl
-moved false before a b c is = grind arith
-
-counted_on : (here : Bool) (before n : ℕ) →
-    option_map (λ n. before + n) (cond here (Some n) None) ≡ cond here (Some (before + n)) None
-counted_on true before n = refl
-counted_on false before n = refl
+any-append test lines line = grind (arith, list_any-append)
 
 -- the name of one more line
 pub named-append : (k : OperandKind) (name : Name) (lines : List (Line Name)) (line : Line Name) →
     number_named k name (lines ++ (line ∷ []))
     ≡ or_else (number_named k name lines) (cond (gives_to k name line.statement) (Some (count k lines)) None)
 named-append k name [] line = refl
-named-append k name (l ∷ lines) line =
-    ap (λ o. cond (gives_to k name l.statement) (Some 0) (option_map (λ n. adds k l.statement + n) o))
-    (named-append k name lines line)
-    ∙ moved (gives_to k name l.statement) (adds k l.statement) (number_named k name lines)
-    (cond (gives_to k name line.statement) (Some (count k lines)) None)
-    (cond (gives_to k name line.statement) (Some (adds k l.statement + count k lines)) None)
-    (counted_on (gives_to k name line.statement) (adds k l.statement) (count k lines))
+named-append k name (l ∷ lines) line = grind (arith, named-append k name lines line)
 
 either_false : (a b : Bool) → (a || b) ≡ false → (a ≡ false) × (b ≡ false)
 either_false true b h = absurd (cc)
@@ -92,14 +66,9 @@ pub same_kind : (a b : OperandKind) → is_kind a b ≡ true → a ≡ b
 same_kind a b h = grind arith
 
 -- whether a name is given, with one name more
-given_there : (b : Bool) (place : Place) (o : Option Place) →
-    is_some (cond b (Some place) o) ≡ (is_some o || b)
-given_there true place o = sym (or_true (is_some o))
-given_there false place o = sym (or_false (is_some o))
-
 given_with : (given : Option Name) (place : Place) (names : Borrowed → Option Place) (q : Borrowed) →
     is_some (named_with given place names q) ≡ (is_some (names q) || is_named q.now given)
-given_with given place names q = grind (arith, or_false, given_there)
+given_with given place names q = grind arith
 
 module _ (k : OperandKind) (lines : List (Line Name)) (names : Borrowed → Option Place) (counts : Counts)
     (code : Bool) (order : List (Symbol Name)) (kept : IsKept lines names order counts code) (named : OperandKind) (q : Borrowed) where
@@ -140,19 +109,13 @@ module _ (k : OperandKind) (lines : List (Line Name)) (names : Borrowed → Opti
       by_name (bytes_eq name q.now)
       (λ same. ap (λ n. is_given n lines) (sym (is_bytes name q.now same)) ∙ not_true (is_given name lines) new)
 
-differ : (a b : Name) → bytes_eq a b ≡ false → bytes_eq b a ≡ false
-differ a b h = search (rules, is_bytes)
-
 -- a name names the same where another name stands behind the lines
 named_before : (k : OperandKind) (name : Name) (lines : List (Line Name)) (line : Line Name) →
     gives name line.statement ≡ false → number_named k name (lines ++ (line ∷ [])) ≡ number_named k name lines
 named_before k name lines line other = grind (arith, named-append, not_given_to, none_else)
 
-one_kind : (k : OperandKind) → is_kind k k ≡ true
-one_kind k = grind arith
-
 gives_it : (s : Statement Name) (name : Name) → name_in s ≡ Some name → gives_to (kind_named s) name s ≡ true
-gives_it s name is = rw (one_kind (kind_named s), is) ((bytes_eq-Decides name name).1 refl)
+gives_it s name is = grind (arith, bytes_eq-Decides)
 
 -- where a name is new behind some lines, it is so behind those but the first
 new_behind : (first : Line Name) (lines : List (Line Name)) (last : Option Name) → is_new (first ∷ lines) last ≡ true →
@@ -162,7 +125,7 @@ new_behind first lines last new = grind (arith, either_false, not_true)
 -- and isn't the first one's
 other_name : (first : Line Name) (lines : List (Line Name)) (last : Option Name) → is_new (first ∷ lines) last ≡ true →
     (name : Name) → name_in first.statement ≡ Some name → is_named name last ≡ false
-other_name first lines last new name is = grind (arith, either_false, not_true, differ)
+other_name first lines last new name is = search (rules, either_false, not_true, is_bytes)
 
 -- a symbol, where the number of its name is this
 symbol_as : (k : OperandKind) (all : List (Line Name)) (number : Option ℕ) (name : Option Name) →

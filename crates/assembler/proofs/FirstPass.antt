@@ -16,8 +16,7 @@ pub one_left : (texts : List (List ℕ)) (k : ℕ) (line : List ℕ) (more : Lis
     drop k texts ≡ line ∷ more → k < length texts
 one_left texts k line more left =
     let long = ap length left in
-    let rest = length-drop k texts in
-    omega (arith, long, rest)
+    grind (arith, length-drop)
 
 -- the line behind those that were read, and then the others
 pub next_line : (texts : List (List ℕ)) (k : ℕ) (middle : List (Line Name)) (line : List ℕ) (more : List (List ℕ)) →

@@ -43,8 +43,7 @@ counted : {A : Type 0} (k : OperandKind) (added : Statement Name → List A) →
     ((s : Statement Name) → length (added s) ≡ adds k s) → (lines : List (Line Name)) →
     length (flat_map (λ line. added line.statement) lines) ≡ count k lines
 counted k added one [] = refl
-counted k added one (line ∷ lines) =
-    omega (arith, length-append (added line.statement) (flat_map (λ line. added line.statement) lines), one line.statement, counted k added one lines)
+counted k added one (line ∷ lines) = grind (arith, length-append, counted k added one lines)
 
 phaser_counted : (all : List (Line Name)) (s : Statement Name) → length (phasers_in all s) ≡ adds kind.Phaser s
 phaser_counted all s = grind arith

@@ -1,12 +1,11 @@
 -- Lines of plain words with a space between each two.
-use Rattle.std.proofs.Common.{get_or, ◌≡◌, ℕ, ◌+◌, ◌*◌, ◌<◌, ◌≤◌, Bool, true, false, cond, not, ◌&&◌, nat_lt, ◌==◌, List, [], ◌∷◌, ◌++◌, length, take, refl, ap, ◌∙◌, arith, append_assoc, append-nil, length-append, one-add}
+use Rattle.std.proofs.Common.{◌≡◌, ℕ, ◌+◌, ◌*◌, ◌<◌, ◌≤◌, Bool, true, cond, not, ◌&&◌, nat_lt, ◌==◌, List, [], ◌∷◌, ◌++◌, length, take, refl, ap, ◌∙◌, arith, append_assoc, append-nil, length-append, one-add}
 use Rattle.std.specs.List.{slice_split, filter, list_all, position_or_len, before_first}
 use Rattle.std.proofs.lemmas.Bool.{and_from, and_parts}
-use Rattle.std.proofs.lemmas.Bool.Decides.{nat_tests}
 use Rattle.std.proofs.lemmas.List.Folds.{list_all-append}
 use Rattle.std.proofs.lemmas.List.Splits.{slice_split_none, slice_split_at}
 use Rattle.std.proofs.lemmas.List.Sums.{AllPass-from_list_all}
-use Rattle.line_reader.specs.Words.{is_line_end, is_allowed, is_blank, begins_comment, words_of}
+use Rattle.line_reader.specs.Words.{is_line_end, is_allowed, is_blank, words_of}
 use Rattle.line_reader.specs.Spelling.{IsLine}
 use Rattle.line_reader.specs.Listing.{spaced}
 
@@ -30,18 +29,6 @@ AreWords-append (word ∷ words) b h k = (h.0, AreWords-append words b h.1 k)
 
 -- ---- bytes of words and of lines
 
-plain_not_blank : (byte : ℕ) → is_plain byte ≡ true → is_blank byte ≡ false
-plain_not_blank byte e = grind (arith, nat_tests)
-
-plain_no_comment : (byte : ℕ) → is_plain byte ≡ true → not (begins_comment byte) ≡ true
-plain_no_comment byte e = grind (arith, nat_tests)
-
-plain_allowed : (byte : ℕ) → is_plain byte ≡ true → is_allowed byte ≡ true
-plain_allowed byte e = grind (arith, nat_tests)
-
-allowed_no_end : (byte : ℕ) → is_allowed byte ≡ true → is_line_end byte ≡ false
-allowed_no_end byte e = grind (arith, nat_tests)
-
 -- a test that each plain byte passes
 all_plain : (q : ℕ → Bool) → ((byte : ℕ) → is_plain byte ≡ true → q byte ≡ true) → (bytes : List ℕ) →
     list_all is_plain bytes ≡ true → list_all q bytes ≡ true
@@ -53,12 +40,8 @@ all_plain q weaker (byte ∷ bytes) e =
 -- and the space too
 all_line : (q : ℕ → Bool) → ((byte : ℕ) → is_plain byte ≡ true → q byte ≡ true) → q 32 ≡ true →
     (word : List ℕ) (words : List (List ℕ)) → IsWord word → AreWords words → list_all q (word ++ spaced words) ≡ true
-all_line q weaker space word [] h hs =
-    ap (list_all q) (append-nil word) ∙ all_plain q weaker word h.plain
-all_line q weaker space word (next ∷ words) h hs =
-    list_all-append q word (32 ∷ (next ++ spaced words))
-    ∙ and_from (list_all q word) (q 32 && list_all q (next ++ spaced words)) (all_plain q weaker word h.plain)
-    (and_from (q 32) (list_all q (next ++ spaced words)) space (all_line q weaker space next words hs.0 hs.1))
+all_line q weaker space word [] h hs = grind (arith, append-nil, all_plain)
+all_line q weaker space word (next ∷ words) h hs = grind (arith, list_all-append, and_from, all_plain, all_line q weaker space next words hs.0 hs.1)
 
 -- ---- the words of a line
 
@@ -73,28 +56,17 @@ before_none p (byte ∷ bytes) e =
 
 split_line : (word : List ℕ) (words : List (List ℕ)) → IsWord word → AreWords words →
     slice_split is_blank (word ++ spaced words) ≡ word ∷ words
-split_line word [] h hs =
-    ap (slice_split is_blank) (append-nil word)
-    ∙ slice_split_none is_blank word (λ k d l. plain_not_blank (get_or word k d) (AllPass-from_list_all is_plain word h.plain k d l))
-split_line word (next ∷ words) h hs =
-    slice_split_at is_blank word 32 (next ++ spaced words)
-    (λ k d l. plain_not_blank (get_or word k d) (AllPass-from_list_all is_plain word h.plain k d l)) refl
-    ∙ ap (λ pieces. word ∷ pieces) (split_line next words hs.0 hs.1)
-
-not_empty : (word : List ℕ) → 0 < length word → not (length word == 0) ≡ true
-not_empty word some = grind (arith, nat_tests)
+split_line word [] h hs = grind (arith, append-nil, slice_split_none, AllPass-from_list_all)
+split_line word (next ∷ words) h hs = grind (arith, slice_split_at, AllPass-from_list_all, split_line next words hs.0 hs.1)
 
 keeps_words : (words : List (List ℕ)) → AreWords words → filter (λ piece. not (length piece == 0)) words ≡ words
 keeps_words [] h = refl
-keeps_words (word ∷ words) h =
-    ap (λ b. cond b (word ∷ filter (λ piece. not (length piece == 0)) words) (filter (λ piece. not (length piece == 0)) words))
-    (not_empty word h.0.some)
-    ∙ ap (λ rest. word ∷ rest) (keeps_words words h.1)
+keeps_words (word ∷ words) h = grind (arith, keeps_words words h.1)
 
 -- the words of a line are those that it was joined from
 pub words_of-line : (word : List ℕ) (words : List (List ℕ)) → IsWord word → AreWords words →
     words_of (word ++ spaced words) ≡ word ∷ words
-words_of-line word words h hs = grind (arith, before_none, all_line, plain_no_comment, split_line, keeps_words)
+words_of-line word words h hs = grind (arith, before_none, all_line, split_line, keeps_words)
 
 -- ---- a line of few words is one
 
@@ -104,10 +76,7 @@ length-spaced (word ∷ words) h = omega (arith, length-append word (spaced word
 
 pub is_line : (word : List ℕ) (words : List (List ℕ)) → IsWord word → AreWords words → length words ≤ 8 →
     IsLine (word ++ spaced words)
-is_line word words h hs few = record {
-  allowed = all_line is_allowed plain_allowed refl word words h hs;
-  short = omega (arith, length-append word (spaced words), length-spaced words hs, h.short, few);
-}
+is_line word words h hs few = grind (arith, all_line, length-append, length-spaced)
 
 -- ---- lines with their ends
 
@@ -117,6 +86,4 @@ ended line = line ++ (10 ∷ [])
 -- what is before an end is a line, and what is behind it is as it was
 pub lines_of-ended : (line rest : List ℕ) → list_all is_allowed line ≡ true →
     slice_split is_line_end (ended line ++ rest) ≡ line ∷ slice_split is_line_end rest
-lines_of-ended line rest e =
-    ap (slice_split is_line_end) (append_assoc line (10 ∷ []) rest)
-    ∙ slice_split_at is_line_end line 10 rest (λ k d l. allowed_no_end (get_or line k d) (AllPass-from_list_all is_allowed line e k d l)) refl
+lines_of-ended line rest e = grind (arith, append_assoc, slice_split_at, AllPass-from_list_all)

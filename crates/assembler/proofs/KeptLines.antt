@@ -1,6 +1,5 @@
 -- What a line is kept as: a row where there is room for one, and a directive, which is no code.
-use Rattle.std.proofs.Common.{◌≡◌, ℕ, Bool, true, false, cond, List, Option, None, Result, Ok, Err, refl, sym, arith}
-use Rattle.row_code.specs.Answers.{◌>>=◌}
+use Rattle.std.proofs.Common.{◌≡◌, ℕ, Bool, true, false, List, Option, None, Result, Ok, Err, refl, sym, arith}
 use Rattle.line_reader.specs.declared.asm_fault.AsmFaultKind.{AsmFaultKind}
 use Rattle.line_reader.specs.declared.asm_fault.AsmFaultKind.TheVariants as fault
 use Rattle.line_reader.specs.declared.statement.Line.{Line}
@@ -30,19 +29,10 @@ row_refused before label word words row true read room is = absurd (cc)
 abbrev Said : Type 0
 Said = Result (Statement Name) AsmFaultKind
 
-made : {A : Type 0} (read : Result A AsmFaultKind) (make : A → Statement Name) → ((x : A) → is_code (make x) ≡ false) →
-    (s : Statement Name) → Ok s ≡ (read >>= (λ x. Ok (make x))) → is_code s ≡ false
-made read make none s e = grind arith
-
-one_of : (b : Bool) (x y : Said) (s : Statement Name) → Ok s ≡ cond b x y → (Ok s ≡ x → is_code s ≡ false) →
-    (Ok s ≡ y → is_code s ≡ false) → is_code s ≡ false
-one_of true x y s e first second = first e
-one_of false x y s e first second = second e
-
 pub directive_no_code : (word : List ℕ) (words : List (List ℕ)) (s : Statement Name) → Ok s ≡ directive_at word words →
     is_code s ≡ false
 unfolding directive_at
-directive_no_code word words s e = grind (arith, one_of, made)
+directive_no_code word words s e = grind arith
 
 pub directive_follows : (before : List (Line Name)) (word : List ℕ) (words : List (List ℕ)) (s : Statement Name) →
     is_directive word ≡ true → Ok s ≡ directive_behind before word words → Follows before s

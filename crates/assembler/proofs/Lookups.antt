@@ -1,5 +1,5 @@
 -- Look-ups one behind the other: what they give where all of them find something.
-use Rattle.std.proofs.Common.{◌≡◌, Bool, true, false, ◌&&◌, List, [], ◌∷◌, ◌++◌, Option, Some, None, cond, Result, Ok, Err, refl, subst, arith}
+use Rattle.std.proofs.Common.{◌≡◌, Bool, true, false, ◌&&◌, List, [], ◌∷◌, ◌++◌, Option, Some, None, cond, Result, Ok, refl, arith}
 use Rattle.std.specs.Prelude.{IfOk, is_some}
 use Rattle.std.specs.List.{cons_option}
 
@@ -34,6 +34,4 @@ none_behind false second false x y e = refl
 pub found_behind : {A E : Type 0} (before after : List A) (known : Bool) (x : A) (found : Option A) (told : Result Bool E) →
     found ≡ cond known (Some x) None → IfOk told (λ some. some ≡ is_some found) →
     IfOk told (λ some. after ≡ before ++ cons_option found []) → told ≡ Ok true → after ≡ before ++ x ∷ []
-found_behind before after known x found (Err e) is some pushed was = absurd (cc)
-found_behind before after true x found (Ok b) is some pushed was = subst (λ (f : Option _). after ≡ before ++ cons_option f []) is pushed
-found_behind before after false x found (Ok b) is some pushed was = grind arith
+found_behind before after known x found told is some pushed was = grind arith

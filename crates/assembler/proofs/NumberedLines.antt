@@ -1,5 +1,5 @@
 -- Lists of numbered texts and statements, and statements as lines.
-use Rattle.std.proofs.Common.{◌≡◌, inr, ℕ, ◌+◌, ◌<◌, ◌≤◌, Bool, true, ◌&&◌, List, [], ◌∷◌, ◌++◌, length, map, refl, ap, ◌∙◌, arith}
+use Rattle.std.proofs.Common.{◌≡◌, ℕ, ◌+◌, ◌<◌, ◌≤◌, Bool, true, ◌&&◌, List, [], ◌∷◌, ◌++◌, length, map, refl, ap, ◌∙◌, arith}
 use Rattle.std.specs.List.{flat_map, list_all, AllByRecursion}
 use Rattle.std.proofs.lemmas.Bool.{and_from}
 use Rattle.line_reader.specs.declared.statement.Line.{Line}
@@ -14,8 +14,7 @@ use Rattle.assembler.proofs.JoinedWords.{lines_of-ended}
 
 without_empty_end : (pieces : List (List ℕ)) → without_empty_last (pieces ++ ([] ∷ [])) ≡ pieces
 without_empty_end ([] ∷ next ∷ pieces) = ap (λ rest. [] ∷ rest) (without_empty_end (next ∷ pieces))
-without_empty_end ((byte ∷ bytes) ∷ next ∷ pieces) =
-    ap (λ rest. (byte ∷ bytes) ∷ rest) (without_empty_end (next ∷ pieces))
+without_empty_end ((byte ∷ bytes) ∷ next ∷ pieces) = grind (arith, without_empty_end (next ∷ pieces))
 without_empty_end pieces = grind arith
 
 -- statements as lines, from n on
@@ -47,15 +46,12 @@ pub numbered_says : {A : Type 0} (Fits : A → Type 0) (top : ℕ) (line : ℕ �
     (n : ℕ) (xs : List A) → n + length xs ≤ top → AllByRecursion Fits xs →
     SayEach (numbered line n xs) (numbered said n xs)
 numbered_says Fits top line said each n [] room h = tt
-numbered_says Fits top line said each n (x ∷ xs) room h =
-    (each n x (omega arith) h.0, numbered_says Fits top line said each (n + 1) xs (omega arith) h.1)
+numbered_says Fits top line said each n (x ∷ xs) room h = grind (arith, numbered_says Fits top line said each (n + 1) xs (omega arith) h.1)
 
 -- the pieces of the lines with their ends: nothing stands behind the last end
 pieces_of-texts : (lines : List (List (List ℕ))) (all : List (Statement Name)) → SayEach lines all →
     slice_split is_line_end (flat_map line_text lines) ≡ map joined lines ++ ([] ∷ [])
-pieces_of-texts (words ∷ lines) (said ∷ others) h =
-    lines_of-ended (joined words) (flat_map line_text lines) h.0.0.allowed
-    ∙ ap (λ rest. joined words ∷ rest) (pieces_of-texts lines others h.1)
+pieces_of-texts (words ∷ lines) (said ∷ others) h = grind (arith, lines_of-ended, pieces_of-texts lines others h.1)
 pieces_of-texts lines all h = grind (arith, lines_of-ended)
 
 -- the lines of the texts with their ends
@@ -65,8 +61,7 @@ lines_of-texts lines all h = ap without_empty_last (pieces_of-texts lines all h)
 
 pub say_in_order : (n : ℕ) (lines : List (List (List ℕ))) (all : List (Statement Name)) → SayEach lines all →
     SayInOrder n (map joined lines) (lines_from n all)
-say_in_order n (words ∷ lines) (said ∷ others) h =
-    inr (said, lines_from (n + 1) others, refl, h.0, say_in_order (n + 1) lines others h.1)
+say_in_order n (words ∷ lines) (said ∷ others) h = grind (arith, say_in_order (n + 1) lines others h.1)
 say_in_order n lines all h = grind arith
 
 -- ---- statements

@@ -10,7 +10,7 @@ use Rattle.line_reader.specs.declared.statement.Statement.{Statement}
 use Rattle.line_reader.specs.Words.{lines_of}
 use Rattle.line_reader.specs.Symbols.{Name}
 use Rattle.assembler.specs.Statements.{EachFollows}
-use Rattle.assembler.specs.Meaning.{are_known, image_of, SayInOrder, StandsFor}
+use Rattle.assembler.specs.Meaning.{are_known, SayInOrder, StandsFor}
 use Rattle.row_code.specs.Answers.{◌>>=◌}
 use Rattle.assembler.specs.Reading.{line_behind}
 use Rattle.assembler.specs.Answers.{AnswersAt, FailsAt}
@@ -88,16 +88,12 @@ all_pass test (x ∷ xs) e =
     let each = both_true (test x) (list_all test xs) e in
     rw each.0 (all_pass test xs each.1)
 
-looked_up_ok : (lines : List (Line Name)) (o : Option (Line Name)) (i : Image) → looked_up lines o ≡ Ok i →
-    (o ≡ None) × (i ≡ image_of lines)
-looked_up_ok lines o i e = grind (arith, ok_is)
-
 -- ---- a text and its image
 
 -- an image that a text is read as is what the text stands for
 pub assembled-stands_for : (text : List ℕ) (i : Image) → assembled text ≡ Ok i → StandsFor text i
 unfolding assembled
-assembled-stands_for text i e = grind (arith, bound, looked_up_ok, lines_take, none_fails)
+assembled-stands_for text i e = grind (arith, bound, lines_take, none_fails)
 
 -- the image that a text stands for is what it is read as
 pub stands_for-assembled : (text : List ℕ) (i : Image) → StandsFor text i → assembled text ≡ Ok i
@@ -165,8 +161,7 @@ read_all text lines e = ap (λ (r : Result (List (Line Name)) AsmFault). r >>= (
 pub looked_up_answered : (text : List ℕ) (lines : List (Line Name)) (answered : Result Image AsmFault) →
     lines_read 1 [] (lines_of text) ≡ Ok lines → AnswersAt (λ i. i) answered (looked_up lines (first_unknown lines)) →
     AnswersAt (λ i. i) answered (assembled text)
-looked_up_answered text lines answered e is =
-    subst (λ (read : Result Image AsmFault). AnswersAt (λ (i : Image). i) answered read) (sym (read_all text lines e)) is
+looked_up_answered text lines answered e is = grind (arith, read_all)
 
 -- what fails goes on failing
 pub fails_then : {A B : Type 0} (kind : AsmFaultKind) (e : AsmFault) (r : Result A AsmFault)
@@ -176,5 +171,4 @@ fails_then kind e r f fails = grind arith
 pub fault_answered : (text : List ℕ) (e : AsmFault) → FailsAt e.kind e (lines_read 1 [] (lines_of text)) →
     FailsAt e.kind e (assembled text)
 unfolding assembled
-fault_answered text e fails =
-    fails_then e.kind e (lines_read 1 [] (lines_of text)) (λ ls. looked_up ls (first_unknown ls)) fails
+fault_answered text e fails = grind arith

@@ -13,7 +13,6 @@ use Rattle.line_reader.specs.Words.{words_of}
 use Rattle.line_reader.specs.Names.{is_name}
 use Rattle.line_reader.specs.Symbols.{Name}
 use Rattle.line_reader.specs.Spelling.{SpellRow, SpellsLabel, Spell, IsLine, Says, SaysNothing}
-use Rattle.row_code.specs.Answers.{◌>>=◌}
 use Rattle.assembler.specs.Statements.{is_new, has_room, Follows}
 use Rattle.line_reader.specs.Reading.{line_words, name_at, is_directive, directive_at, is_label, before_last}
 use Rattle.assembler.specs.Reading.{directive_behind, row_behind, labelled_behind, statement_behind, words_behind, line_behind}
@@ -27,10 +26,6 @@ use Rattle.line_reader.proofs.SpelledDirectives.{phaser_again, barrier_again, th
 is_label_again : (name : List ℕ) → is_label (name ++ codes ":") ≡ true
 is_label_again (byte ∷ next ∷ bytes) = is_label_again (next ∷ bytes)
 is_label_again name = grind arith
-
-before_last_again : (name : List ℕ) → before_last (name ++ codes ":") ≡ name
-before_last_again name =
-    take_at name (codes ":") (length (name ++ codes ":") - 1) (omega (arith, length-append name (codes ":")))
 
 label_spelled : (word : List ℕ) → is_label word ≡ true → word ≡ before_last word ++ codes ":"
 label_spelled (byte ∷ next ∷ bytes) e =
@@ -69,8 +64,7 @@ row_plain : (word : List ℕ) (words : List (List ℕ)) (row : SymbolicRow Name)
 row_plain word words row s =
     let first : word ≡ s.1 = cc (s.4) in
     let plain : is_plain word ≡ true = row_word_plain word s.0 (subst (λ (w : List ℕ). entry_named table w ≡ Some s.0) (sym first) s.5) in
-    let both = both_true _ _ plain in
-    (not_true _ both.0, not_true _ both.1)
+    grind (arith, both_true, not_true)
 
 -- ---- a line of one word or more
 
@@ -117,8 +111,7 @@ label_again : (before : List (Line Name)) (name : Name) (words : List (List ℕ)
     is_new before (Some name) ≡ true → labelled_behind before name words ≡ Ok s →
     statement_behind before (name ++ codes ":") words ≡ Ok s
 unfolding statement_behind
-label_again before name words s named new e =
-    rw (is_label_again name, before_last_again name, name_again name named, new) e
+label_again before name words s named new e = grind (arith, is_label_again, take_at, length-append, name_again)
 
 row_behind_again : (before : List (Line Name)) (label : Option Name) (word : List ℕ) (words : List (List ℕ)) (row : SymbolicRow Name) →
     SpellRow (word ∷ words) row → has_room before (statement.Row label row) ≡ true →
@@ -188,18 +181,10 @@ words_take : (before : List (Line Name)) (words : List (List ℕ)) (o : Option (
 unfolding words_behind
 words_take before words o e = grind (arith, ok_is, bound, statement_takes)
 
-no_words : (s : Statement Name) → Spell [] s → ⊥
-no_words (statement.Barrier b) s = absurd (cc (s.2))
-no_words (statement.Thread t) s = absurd (cc (s.1))
-no_words (statement.Cell name) s = absurd (cc (s.0))
-no_words (statement.Label name) s = absurd (cc (s.1))
-no_words (statement.Row (Some name) row) s = absurd (cc (s.2))
-no_words _ s = absurd (cc (s.4))
-
 words_again : (before : List (Line Name)) (words : List (List ℕ)) (o : Option (Statement Name)) →
     WordsSay before words o → words_behind before words ≡ Ok o
 unfolding words_behind
-words_again before words o s = grind (arith, no_words, statement_again)
+words_again before words o s = grind (arith, statement_again)
 
 said_by : (before : List (Line Name)) (text : List ℕ) (o : Option (Statement Name)) → IsLine text →
     WordsSay before (words_of text) o → LineSays before text o
@@ -221,8 +206,7 @@ line_words_again text is = grind (arith, le-ltb)
 line_behind_again : (before : List (Line Name)) (text : List ℕ) (o : Option (Statement Name)) → IsLine text →
     WordsSay before (words_of text) o → line_behind before text ≡ Ok o
 unfolding line_behind
-line_behind_again before text o is s =
-    ap (λ words. words >>= words_behind before) (line_words_again text is) ∙ words_again before (words_of text) o s
+line_behind_again before text o is s = grind (arith, line_words_again, words_again)
 
 pub line_again : (before : List (Line Name)) (text : List ℕ) (o : Option (Statement Name)) → LineSays before text o →
     line_behind before text ≡ Ok o

@@ -1,6 +1,6 @@
 -- What a statement adds to each list of an image is in its ranges.
-use Rattle.std.proofs.Common.{inl, inr, ℕ, suc, ◌<◌, ◌≤◌, ℤ, pos, FitsSigned, List, [], ◌∷◌, Option, Some, None, codes, sym, subst, arith}
-use Rattle.std.specs.Prelude.{IfSome, option_map}
+use Rattle.std.proofs.Common.{ℕ, suc, ◌<◌, ◌≤◌, ℤ, pos, FitsSigned, List, [], ◌∷◌, Option, Some, None, sym, subst, arith, rules}
+use Rattle.std.specs.Prelude.{IfSome}
 use Rattle.std.specs.Int.{w32}
 use Rattle.std.specs.List.{AllByRecursion}
 use Rattle.std.proofs.lemmas.Int.{ints}
@@ -8,7 +8,7 @@ use Rattle.instruction_table.specs.declared.shape.OperandKind.{OperandKind}
 use Rattle.instruction_table.specs.declared.shape.OperandKind.TheVariants as kind
 use Rattle.row_code.specs.declared.operands.Operands.{Operands}
 use Rattle.row_code.specs.RowFields.{IsRow}
-use Rattle.row_code.specs.Phasers.{IsCount, IsPolicy, IsPhaser}
+use Rattle.row_code.specs.Phasers.{IsPolicy, IsPhaser}
 use Rattle.row_code.specs.Barriers.{IsBarrier}
 use Rattle.row_code.specs.Threads.{IsThread}
 use Rattle.row_code.proofs.RowLaws.{row_with_fits}
@@ -22,7 +22,7 @@ use Rattle.line_reader.specs.declared.statement.Statement.{Statement}
 use Rattle.line_reader.specs.declared.statement.Statement.TheVariants as statement
 use Rattle.line_reader.specs.declared.statement.Line.{Line}
 use Rattle.line_reader.specs.Symbols.{Name}
-use Rattle.line_reader.specs.Spelling.{Spell, SpellFirstPhase, SpellOperands, SpellPolicy, SpellReference, SpellRow, SpellsNumber, SpellsOperand, SpellsReference, greatest_int, greatest_number, least_int, operand_in}
+use Rattle.line_reader.specs.Spelling.{Spell, SpellOperands, SpellPolicy, SpellRow, SpellsNumber, SpellsReference, greatest_int, greatest_number, least_int, operand_in}
 use Rattle.assembler.specs.Statements.{count, most, number_named}
 use Rattle.assembler.specs.Meaning.{barriers_in, referent_or_0, number_or_0, operands_of, phasers_in, policy_of, row_of, rows_in, threads_in, with_operand}
 use Rattle.assembler.proofs.Counts.{AreFew, number_within, phaser_below}
@@ -55,9 +55,6 @@ parent_fits all few word (Numbered n) h = omega (arith, spelled_below 63 n h.0 h
 int_fits : (word : List ℕ) (value : ℤ) → SpellsNumber least_int greatest_int word value → FitsSigned w32 value
 int_fits word value h = grind (arith, ints)
 
-phase_fits : (word : List ℕ) (value : ℤ) → SpellsNumber (pos 0) greatest_int word value → IsCount value
-phase_fits word value h = (h.least, omega (arith, ints, h.greatest))
-
 -- ---- operands
 
 abbrev IsInRange : List (Line Name) → Operand Name → Type 0
@@ -66,21 +63,16 @@ IsInRange all (operand.Register reg) = Unit {0}
 IsInRange all (operand.Number value) = FitsSigned w32 value
 IsInRange all (operand.Object k reference) = referent_or_0 all k reference < 65536
 
-operand_fits : (all : List (Line Name)) → AreFew all → (k : OperandKind) (word : List ℕ) (o : Operand Name) →
-    SpellsOperand k word o → IsInRange all o
-operand_fits all few k word o h = grind (arith, int_fits, number_fits)
-
 each_fits : (all : List (Line Name)) → AreFew all → (kinds : List OperandKind) (words : List (List ℕ)) (operands : List (Operand Name)) →
     SpellOperands kinds words operands → (place : ℕ) → IsInRange all (operand_in operands place)
 each_fits all few (k ∷ kinds) (word ∷ words) (o ∷ operands) h (suc place) = each_fits all few kinds words operands h.1 place
-each_fits all few kinds words operands h place = grind (arith, operand_fits)
+each_fits all few kinds words operands h place = grind (arith, number_fits)
 
 record AreInRange (o : Operands) : Type 0 where
   number : FitsSigned w32 o.number
   object : o.object < 65536
 
 one_more : (all : List (Line Name)) (operand : Operand Name) (o : Operands) → IsInRange all operand → AreInRange o → AreInRange (with_operand all operand o)
-one_more all operand.Absent o h fit = fit
 one_more all operand o h fit = grind arith
 
 no_operands : (all : List (Line Name)) → AreInRange (operands_of all [])
@@ -103,19 +95,7 @@ row_fits all few words row (entry, word, rest, operands, spelled, named, is, spe
 -- ---- statements
 
 routine_fits : (all : List (Line Name)) → AreFew all → (words : List (List ℕ)) (p : SymbolicPolicy Name) → SpellPolicy words p → IsPolicy (policy_of all p)
-routine_fits all few words p h = grind (arith, phase_fits, number_fits)
-
-parent_option : (all : List (Line Name)) → AreFew all → (words : List (List ℕ)) (parent : Option (Reference Name)) → SpellReference (codes "parent") 63 words parent →
-    IfSome (option_map (referent_or_0 all kind.Phaser) parent) (λ n. n < 64)
-parent_option all few words parent h = grind (arith, parent_fits)
-
-action_option : (all : List (Line Name)) → AreFew all → (words : List (List ℕ)) (action : Option (Reference Name)) → SpellReference (codes "action") greatest_number words action →
-    IfSome (option_map (referent_or_0 all kind.Target) action) (λ n. n < 65536)
-action_option all few words action h = grind (arith, number_fits)
-
-first_fits : (words : List (List ℕ)) (phase : ℤ) → SpellFirstPhase words phase → IsCount phase
-first_fits words phase (inl h) = subst IsCount (sym h.1) (omega (arith, ints), omega (arith, ints))
-first_fits words phase (inr h) = phase_fits h.0 phase h.2
+routine_fits all few words p h = grind (arith, number_fits)
 
 -- what a statement adds to each list is in its ranges
 pub record Fits (all : List (Line Name)) (s : Statement Name) : Type 0 where
@@ -125,20 +105,10 @@ pub record Fits (all : List (Line Name)) (s : Statement Name) : Type 0 where
   pub rows : AllByRecursion IsRow (rows_in all s)
 
 pub spelled_fits : (all : List (Line Name)) → AreFew all → (words : List (List ℕ)) (s : Statement Name) → Spell words s → Fits all s
-spelled_fits all few words (statement.Phaser p) (parties, parent, phase, policy, spelled, name, count, has_parent, begins, has_policy) = grind (arith, parent_option, routine_fits, spelled_below, first_fits)
-spelled_fits all few words (statement.Barrier b) (parties, action, spelled, name, count, has_action) = grind (arith, spelled_below, action_option)
+spelled_fits all few words (statement.Phaser p) (parties, parent, phase, policy, spelled, name, count, has_parent, begins, has_policy) = grind (arith, parent_fits, routine_fits, spelled_below)
+spelled_fits all few words (statement.Barrier b) (parties, action, spelled, name, count, has_action) = grind (arith, spelled_below, number_fits)
 spelled_fits all few words (statement.Thread t) (row, spelled, name, first) = grind (arith, number_fits)
 spelled_fits all few words (statement.Cell name) h = record { phasers = tt; barriers = tt; threads = tt; rows = tt }
 spelled_fits all few words (statement.Label name) h = record { phasers = tt; barriers = tt; threads = tt; rows = tt }
-spelled_fits all few words (statement.Row None row) h = record {
-  phasers = tt;
-  barriers = tt;
-  threads = tt;
-  rows = (row_fits all few words row h, tt);
-}
-spelled_fits all few words (statement.Row (Some name) row) (label, rest, spelled, labelled, h) = record {
-  phasers = tt;
-  barriers = tt;
-  threads = tt;
-  rows = (row_fits all few rest row h, tt);
-}
+spelled_fits all few words (statement.Row None row) h = search (rules, row_fits)
+spelled_fits all few words (statement.Row (Some name) row) (label, rest, spelled, labelled, h) = search (rules, row_fits)

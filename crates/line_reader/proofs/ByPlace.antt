@@ -59,8 +59,7 @@ by_place opcode (j ∷ []) (v ∷ []) short same = one opcode (operand_at j v)
 by_place opcode (j ∷ k ∷ []) (v ∷ w ∷ []) short same = two opcode (operand_at j v) (operand_at k w)
 by_place opcode (j ∷ k ∷ l ∷ []) (v ∷ w ∷ x ∷ []) short same = grind arith
 by_place opcode (j ∷ k ∷ l ∷ m ∷ []) (v ∷ w ∷ x ∷ y ∷ []) short same = grind arith
-by_place opcode (j ∷ k ∷ l ∷ m ∷ n ∷ kinds) words short same = absurd (omega (arith, short))
-by_place opcode _ _ short same = absurd (omega (arith, same))
+by_place opcode _ words short same = grind arith
 
 -- ---- the same of names that are borrowed
 

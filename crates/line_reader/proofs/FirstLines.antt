@@ -45,16 +45,10 @@ here p byte bytes h = ap (λ b. cond (not b) (1 + position_or_len p bytes) 0) h
 
 -- ---- what a piece without a byte of a kind moves on
 
-further : (b c : Bool) (m n : ℕ) → (b && c) ≡ true → (c ≡ true → m ≡ n) → cond b (1 + m) 0 ≡ 1 + n
-further true c m n h next = ap (λ k. 1 + k) (next h)
-further false c m n h next = absurd (cc)
-
 beyond : (p : ℕ → Bool) (piece rest : List ℕ) → list_all (λ b. not (p b)) piece ≡ true →
     position_or_len p (piece ++ rest) ≡ length piece + position_or_len p rest
 beyond p [] rest h = omega arith
-beyond p (byte ∷ bytes) rest h =
-    further (not (p byte)) (list_all (λ b. not (p b)) bytes) _ _ h (beyond p bytes rest)
-    ∙ (let n = position_or_len p rest in omega arith)
+beyond p (byte ∷ bytes) rest h = grind (arith, beyond p bytes rest)
 
 before_beyond : (p : ℕ → Bool) (piece rest : List ℕ) → list_all (λ b. not (p b)) piece ≡ true →
     before_first p (piece ++ rest) ≡ piece ++ before_first p rest
@@ -69,8 +63,7 @@ after_beyond p piece rest h = grind (arith, beyond, drop-append-add)
 
 all_are : (p q : ℕ → Bool) → ((byte : ℕ) → p byte ≡ true → q byte ≡ true) → (piece : List ℕ) →
     list_all p piece ≡ true → list_all q piece ≡ true
-all_are p q each piece h =
-    list_all-from_AllPass q piece (λ k d there. each (get_or piece k d) (AllPass-from_list_all p piece h k d there))
+all_are p q each piece h = grind (arith, list_all-from_AllPass, AllPass-from_list_all)
 
 pub moved : (text rest piece tail : List ℕ) → IsLeft text rest → piece ++ tail ≡ rest → list_all is_calm piece ≡ true → IsLeft text tail
 moved text rest piece tail left whole calm = grind (arith, beyond, length-append, after_beyond, before_beyond, list_all-append, all_are, both_true)
@@ -131,8 +124,7 @@ pub piece_at : (text : List ℕ) (n : ℕ) → n ≡ position_or_len is_end text
     IsPiece text (take n text) (take (length text - n) (drop n text))
 piece_at text n is =
     let at : Parted text n = subst (Parted text) (sym is) (parted text) in
-    subst (IsPiece text (take n text)) (sym (to_end text n))
-    (record { whole = take-append-drop n text; letters = at.0; next = at.1 })
+    grind (arith, to_end, take-append-drop)
 
 -- behind the piece, and behind a blank that follows it
 pub left_behind : (text rest piece tail : List ℕ) → IsLeft text rest → IsPiece rest piece tail → IsLeft text tail
@@ -191,8 +183,7 @@ end_at text a =
     (λ there. end_of text ∙ a)
 
 pub first_long : (text : List ℕ) → length (first_line text) ≡ position_or_len is_line_end text
-first_long text =
-    length-take-le (position_or_len is_line_end text) text (prefix_len-le-length (λ b. not (is_line_end b)) text)
+first_long text = grind (arith, length-take-le, prefix_len-le-length)
 
 -- ---- the first line among all
 

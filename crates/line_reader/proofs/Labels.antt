@@ -1,5 +1,5 @@
 -- A label ends in a colon.
-use Rattle.std.proofs.Common.{◌≡◌, ◌∙◌, ℕ, suc, ◌-◌, List, ◌∷◌, length, false, refl, ◌==◌, ◌&&◌, not, arith}
+use Rattle.std.proofs.Common.{◌≡◌, ℕ, suc, ◌-◌, List, ◌∷◌, length, false, ◌==◌, ◌&&◌, not, arith}
 use Rattle.std.proofs.lemmas.Bool.Decides.{nat_tests}
 use Rattle.std.specs.Prelude.{slice_index}
 use Rattle.line_reader.specs.Reading.{is_label}
@@ -13,7 +13,5 @@ some : (n : ℕ) → (suc n == 0) ≡ false
 some n = grind (arith, nat_tests)
 
 pub label_by_last : (word : List ℕ) → is_label word ≡ (not (length word == 0) && (slice_index word (length word - 1) == 58))
-label_by_last (byte ∷ next ∷ bytes) =
-    label_by_last (next ∷ bytes)
-    ∙ rw (some (length bytes), some (suc (length bytes)), shorter (length bytes)) refl
+label_by_last (byte ∷ next ∷ bytes) = grind (arith, some, shorter, label_by_last (next ∷ bytes))
 label_by_last word = grind (arith, some, shorter)

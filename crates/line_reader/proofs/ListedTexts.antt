@@ -19,9 +19,7 @@ numbered-drop words xs i d there = ap (λ ys. flat_map line_text (numbered words
 
 pub spaced-append : (a b : List (List ℕ)) → spaced (a ++ b) ≡ spaced a ++ spaced b
 spaced-append [] b = refl
-spaced-append (word ∷ words) b =
-    ap (λ rest. 32 ∷ (word ++ rest)) (spaced-append words b)
-    ∙ ap (λ rest. 32 ∷ rest) (sym (append_assoc word (spaced words) (spaced b)))
+spaced-append (word ∷ words) b = grind (arith, append_assoc, spaced-append words b)
 
 -- a first phase that isn't 0 has its option
 pub phase_there : (phase : ℤ) → phase ≢ pos 0 → phase_words phase ≡ codes "phase" ∷ signed_decimal phase ∷ []

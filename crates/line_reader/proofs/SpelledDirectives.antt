@@ -26,17 +26,12 @@ Front spell words x = (front : List (List ℕ)) × (words ≡ front ++ x.1) × s
 argument_takes : {A : Type 0} (read : List ℕ → Result A AsmFaultKind) (words : List (List ℕ)) (x : A × List (List ℕ)) →
     argument_at read words ≡ Ok x → (word : List ℕ) × (words ≡ word ∷ x.1) × (read word ≡ Ok x.0)
 argument_takes read [] x e = absurd (cc)
-argument_takes {A} read (word ∷ rest) x e =
-    let a = bind_ok (read word) _ x e in
-    let is : (a.0, rest) ≡ x = ok_is _ _ a.2 in
-    let first : a.0 ≡ x.0 = ap (λ (p : A × List (List ℕ)). p.0) is in
-    (word, ap (λ (p : A × List (List ℕ)). word ∷ p.1) is, a.1 ∙ ap (λ (y : A). Ok y) first)
+argument_takes {A} read (word ∷ rest) x e = grind (arith, bind_ok, ok_is)
 
 -- what was read is this, of these words in front
 front_is : {A : Type 0} (spell : List (List ℕ) → A → Type 0) (words front : List (List ℕ)) (x y : A × List (List ℕ)) →
     done x ≡ done y → words ≡ front ++ x.1 → spell front x.0 → Front spell words y
-front_is {A} spell words front x y e whole spelled =
-    subst (λ (p : A × List (List ℕ)). Front spell words p) (ok_is x y e) (front, whole, spelled)
+front_is {A} spell words front x y e whole spelled = grind arith
 
 -- an option with its argument
 option_takes : {A B : Type 0} (spell : List (List ℕ) → B → Type 0) (option : List ℕ) (read : List ℕ → Result A AsmFaultKind)
@@ -100,8 +95,7 @@ first_phase_again words rest phase (inr s) none =
 pub phase_no_parent : (words rest : List (List ℕ)) (phase : ℤ) → SpellFirstPhase words phase →
     parent_at rest ≡ Ok (None, rest) → parent_at (words ++ rest) ≡ Ok (None, words ++ rest)
 unfolding reference_option_at
-phase_no_parent words rest phase (inl s) none = grind arith
-phase_no_parent words rest phase (inr s) none = grind arith
+phase_no_parent words rest phase given none = grind arith
 
 until_spelled : (word : List ℕ) (phase : ℤ) → number_at (pos 0) greatest_int word ≡ Ok phase →
     SpellPolicy (codes "until" ∷ word ∷ []) (policy.Until phase)
@@ -135,8 +129,7 @@ policy_takes (word ∷ rest) x e =
 pub policy_again : (words : List (List ℕ)) (q : SymbolicPolicy Name) → SpellPolicy words q → policy_at words ≡ Ok (q, [])
 unfolding policy_at
 policy_again words (policy.Until phase) s = rw (s.1, number_again (pos 0) greatest_int s.0 phase s.2) refl
-policy_again words (policy.Routine row) s = rw (s.1, reference_again greatest_number s.0 row s.2) refl
-policy_again words _ s = rw s refl
+policy_again words _ s = grind (arith, reference_again)
 
 -- where a policy is spelled, no first phase and no parent are
 pub policy_no_phase : (words : List (List ℕ)) (q : SymbolicPolicy Name) → SpellPolicy words q →
@@ -255,8 +248,7 @@ barrier_takes _ b e = absurd (cc)
 barrier_behind : (b : SymbolicBarrier Name) (parties : List ℕ) (action : List (List ℕ)) → is_name b.name ≡ true →
     SpellsParties parties b.parties → SpellReference (codes "action") greatest_number action b.action → barrier_at (b.name ∷ parties ∷ action) ≡ Ok b
 unfolding barrier_at
-barrier_behind b parties action named counted s =
-    rw (name_again b.name named, count_again 65535 parties b.parties counted, action_again action b.action s) refl
+barrier_behind b parties action named counted s = grind (arith, name_again, count_again, action_again)
 
 pub barrier_again : (word : List ℕ) (words : List (List ℕ)) (b : SymbolicBarrier Name) →
     Spell (word ∷ words) (statement.Barrier b) → (word ≡ codes ".barrier") × (barrier_at words ≡ Ok b)

@@ -13,9 +13,8 @@ use Rattle.line_reader.specs.declared.symbolic_row.Operand.{Operand}
 use Rattle.line_reader.specs.declared.symbolic_row.Operand.TheVariants as operand
 use Rattle.line_reader.specs.declared.symbolic_row.SymbolicRow.{SymbolicRow}
 use Rattle.line_reader.specs.Symbols.{Name}
-use Rattle.line_reader.specs.Spelling.{least_int, greatest_int, greatest_number, register_word, IsObject, SpellsOperand, SpellOperands, SpellRow}
-use Rattle.row_code.specs.Answers.{◌>>=◌}
-use Rattle.line_reader.specs.Reading.{registers, found_or, number_at, reference_at, register_at, operand_at, row_at}
+use Rattle.line_reader.specs.Spelling.{least_int, greatest_int, register_word, SpellsOperand, SpellOperands, SpellRow}
+use Rattle.line_reader.specs.Reading.{found_or, number_at, register_at, operand_at, row_at}
 use Rattle.line_reader.proofs.ByPlace.{operands_at, rowed, by_place}
 use Rattle.line_reader.proofs.Steps.{bind_ok, bound, ok_is, check_ok, by_test, is_bytes}
 use Rattle.line_reader.proofs.SpelledNumbers.{number_takes, number_again, reference_takes, reference_again}
@@ -39,8 +38,7 @@ found_takes fault o x e = grind arith
 
 pub register_takes : (word : List ℕ) (reg : Reg) → register_at word ≡ Ok reg → word ≡ register_word reg
 unfolding register_at
-register_takes word reg e =
-    is_bytes word (register_word reg) (find_passes (λ r. bytes_eq word (register_word r)) registers reg (found_takes fault.BadRegister _ reg e))
+register_takes word reg e = grind (arith, is_bytes, find_passes, found_takes)
 
 register_word_again : (reg : Reg) → register_at (register_word reg) ≡ Ok reg
 unfolding register_at
@@ -48,10 +46,6 @@ register_word_again reg = grind arith
 
 pub register_again : (word : List ℕ) (reg : Reg) → word ≡ register_word reg → register_at word ≡ Ok reg
 register_again word reg e = subst (λ (w : List ℕ). register_at w ≡ Ok reg) (sym e) (register_word_again reg)
-
-object_takes : (k : OperandKind) (word : List ℕ) (o : Operand Name) → IsObject k →
-    (reference_at greatest_number word >>= (λ r. Ok (operand.Object k r))) ≡ Ok o → SpellsOperand k word o
-object_takes k word o is e = grind (arith, bind_ok, ok_is, reference_takes)
 
 pub operand_takes : (k : OperandKind) (word : List ℕ) (o : Operand Name) → operand_at k word ≡ Ok o →
     SpellsOperand k word o
@@ -61,11 +55,7 @@ operand_takes kind.Number word o e =
     let a = bind_ok (number_at least_int greatest_int word) _ o e in
     subst (λ (p : Operand Name). SpellsOperand kind.Number word p) (ok_is _ _ a.2)
     (refl, number_takes least_int greatest_int word a.0 a.1)
-operand_takes kind.Target word o e = object_takes kind.Target word o tt e
-operand_takes kind.Phaser word o e = object_takes kind.Phaser word o tt e
-operand_takes kind.Barrier word o e = object_takes kind.Barrier word o tt e
-operand_takes kind.Thread word o e = object_takes kind.Thread word o tt e
-operand_takes kind.Cell word o e = object_takes kind.Cell word o tt e
+operand_takes k word o e = grind (arith, bind_ok, ok_is, reference_takes)
 
 pub operand_again : (k : OperandKind) (word : List ℕ) (o : Operand Name) → SpellsOperand k word o →
     operand_at k word ≡ Ok o
@@ -91,8 +81,7 @@ operands_take kinds words os len e = grind (arith, ok_is, bind_ok, operands_at, 
 pub operands_again : (kinds : List OperandKind) (words : List (List ℕ)) (os : List (Operand Name)) →
     SpellOperands kinds words os → operands_at kinds words ≡ Ok os
 unfolding operands_at
-operands_again (k ∷ kinds) (word ∷ words) (o ∷ os) s =
-    rw (operand_again k word o s.0, operands_again kinds words os s.1) refl
+operands_again (k ∷ kinds) (word ∷ words) (o ∷ os) s = grind (arith, operand_again, operands_again kinds words os s.1)
 operands_again kinds words os s = grind (arith, operand_again)
 
 length_spelled : (kinds : List OperandKind) (words : List (List ℕ)) (os : List (Operand Name)) →

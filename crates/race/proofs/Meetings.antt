@@ -1,5 +1,5 @@
 -- What callers made when they met, and what the closed word tells of it.
-use Rattle.std.proofs.Common.{◌≡◌, ◌∙◌, ◌⊎◌, inl, inr, ◌+◌, ◌-◌, ◌<◌, ◌≤◌, ℕ, zero, suc, ℤ, false, List, [], ◌∷◌, ◌++◌, All, Ok, Err, Result, length, get_or, arith, refl, sym, ap, subst, append_assoc, append-nil, length-append}
+use Rattle.std.proofs.Common.{◌≡◌, ◌∙◌, ◌⊎◌, inl, inr, ◌+◌, ◌-◌, ◌<◌, ◌≤◌, ℕ, zero, suc, ℤ, false, List, [], ◌∷◌, ◌++◌, All, Ok, Err, Result, length, get_or, arith, sym, ap, subst, append_assoc, append-nil, length-append}
 use Rattle.std.specs.Prelude.{IfOk, IfErr, flat_map, map}
 use Rattle.std.specs.List.{range_with_len}
 use Rattle.std.proofs.lemmas.List.{get_or-map, get_or_default, length-map, map-append}
@@ -15,49 +15,31 @@ use Rattle.shared_phaser.specs.declared.history.Kept.{Kept}
 use Rattle.shared_phaser.specs.declared.history.Setup.{Setup}
 use Rattle.shared_phaser.specs.declared.history.Known.{Known}
 use Rattle.shared_phaser.specs.History.{IsLegal, at_end, calls_by}
-use Rattle.shared_phaser.specs.Known.{ArrivesAndAwaits, Caller, EndsAs, IsApart, IsWhole, JoinsCaller, MakesCall, entry, phaser_of}
+use Rattle.shared_phaser.specs.Known.{ArrivesAndAwaits, Caller, EndsAs, IsApart, IsWhole, JoinsCaller, MakesCall, phaser_of}
 use Rattle.race.specs.Race.{AreMeetings, HasMet, IsFinal, IsMeeting, number_of, opening_of}
 
 -- one number more
 counting_on : (from many : ℕ) → range_with_len from (many + 1) ≡ range_with_len from many ++ (from + many) ∷ []
-counting_on from zero =
-    let same : from ≡ from + 0 = omega arith in
-    ap (λ n. n ∷ []) same
-counting_on from (suc many) =
-    let on : suc many + 1 ≡ suc (many + 1) = omega arith in
-    let next : (from + 1) + many ≡ from + suc many = omega arith in
-    ap (range_with_len from) on ∙ ap (λ ns. from ∷ ns) (counting_on (from + 1) many) ∙ ap (λ n. from ∷ range_with_len (from + 1) many ++ n ∷ []) next
+counting_on from zero = grind arith
+counting_on from (suc many) = grind (arith, counting_on (from + 1) many)
 
 -- one caller more, with the next number
 pub numbered : (callers after : List Caller) (caller : Caller) (many : ℕ) → after ≡ callers ++ caller ∷ []
     → map number_of callers ≡ range_with_len 1 many → caller.known.number ≡ many + 1
     → map number_of after ≡ range_with_len 1 (many + 1)
-numbered callers after caller many is before last =
-    let next : 1 + many ≡ many + 1 = omega arith in
-    ap (map number_of) is ∙ map-append number_of callers (caller ∷ [])
-    ∙ ap (λ ns. ns ++ caller.known.number ∷ []) before
-    ∙ ap (λ n. range_with_len 1 many ++ n ∷ []) last
-    ∙ ap (λ n. range_with_len 1 many ++ n ∷ []) (sym next)
-    ∙ sym (counting_on 1 many)
+numbered callers after caller many is before last = grind (arith, map-append, counting_on)
 
 -- an element goes over from the one list to the other
 pub moved_on : {H : Type 0} (number : H → ℕ) (hs after : List H) (h : H) (n : ℕ) (left rest total : List ℕ)
     → after ≡ hs ++ h ∷ [] → number h ≡ n → left ≡ n ∷ rest → map number hs ++ left ≡ total → map number after ++ rest ≡ total
-moved_on number hs after h n left rest total more is first before =
-    ap (λ js. map number js ++ rest) more
-    ∙ ap (λ ns. ns ++ rest) (map-append number hs (h ∷ []))
-    ∙ append_assoc (map number hs) (number h ∷ []) rest
-    ∙ ap (λ m. map number hs ++ (m ∷ rest)) is
-    ∙ ap (λ ns. map number hs ++ ns) (sym first)
-    ∙ before
+moved_on number hs after h n left rest total more is first before = grind (arith, map-append, append_assoc)
 
 -- a caller that stands for nobody else is joined
 abbrev pub kept_of : Known → Kept
 kept_of k = record { number = k.number; calls = k.calls }
 
 pub joined_more : (k other l : Known) → JoinsCaller k other l → other.joined ≡ [] → l.joined ≡ k.joined ++ kept_of other ∷ []
-joined_more k other l joins none =
-    ap (λ (k : Known). k.joined) joins.is ∙ ap (λ (rest : List Kept). k.joined ++ (kept_of other ∷ rest)) none
+joined_more k other l joins none = grind arith
 
 pub met_in : (n rounds many : ℕ) (other : Known) → other.number ≡ n → rounds ≡ many → AreMeetings n rounds other.calls
     → AreMeetings other.number many other.calls
@@ -74,44 +56,11 @@ pub record MeetsOnce (before after : Known) : Type 0 where
 
 by_one_call : (k l : Known) (reply : Reply) → ((phase : ℤ) → reply ≡ Counted phase → ⊥)
     → MakesCall k (Arrive false) (Replied reply) l → MeetsOnce k l
-by_one_call k l (Counted phase) other made = absurd (other phase refl)
-by_one_call k l (Dead view) other made = record {
-  number = ap (λ (k : Known). k.number) made.is;
-  joined = ap (λ (k : Known). k.joined) made.is;
-  meeting = entry k.number (Arrive false) (Replied (Dead view)) ∷ [];
-  meets = inr (Dead view, (tt, refl));
-  calls = ap (λ (k : Known). k.calls) made.is;
-}
-by_one_call k l NotThere other made = record {
-  number = ap (λ (k : Known). k.number) made.is;
-  joined = ap (λ (k : Known). k.joined) made.is;
-  meeting = entry k.number (Arrive false) (Replied NotThere) ∷ [];
-  meets = inr (NotThere, (tt, refl));
-  calls = ap (λ (k : Known). k.calls) made.is;
-}
-by_one_call k l reply other made = record {
-  number = ap (λ (k : Known). k.number) made.is;
-  joined = ap (λ (k : Known). k.joined) made.is;
-  meeting = entry k.number (Arrive false) (Replied reply) ∷ [];
-  meets = inr (reply, (tt, refl));
-  calls = ap (λ (k : Known). k.calls) made.is;
-}
+by_one_call k l reply other made = grind arith
 
 by_two_calls : (k m l : Known) (phase view : ℤ) → MakesCall k (Arrive false) (Replied (Counted phase)) m
     → MakesCall m (Await phase) (Passed view) l → MeetsOnce k l
-by_two_calls k m l phase view arrived passed =
-    let number : m.number ≡ k.number = ap (λ (k : Known). k.number) arrived.is in
-    let first = entry k.number (Arrive false) (Replied (Counted phase)) in
-    record {
-      number = ap (λ (k : Known). k.number) passed.is ∙ number;
-      joined = ap (λ (k : Known). k.joined) passed.is ∙ ap (λ (k : Known). k.joined) arrived.is;
-      meeting = first ∷ entry k.number (Await phase) (Passed view) ∷ [];
-      meets = inl (phase, (view, refl));
-      calls = ap (λ (k : Known). k.calls) passed.is
-          ∙ ap (λ n. m.calls ++ entry n (Await phase) (Passed view) ∷ []) number
-          ∙ ap (λ cs. cs ++ entry k.number (Await phase) (Passed view) ∷ []) (ap (λ (k : Known). k.calls) arrived.is)
-          ∙ append_assoc k.calls (first ∷ []) (entry k.number (Await phase) (Passed view) ∷ []);
-    }
+by_two_calls k m l phase view arrived passed = grind (arith, append_assoc)
 
 pub met_once : {E : Type 0} (result : Result ℤ E) (k l : Known) → IfOk result (λ view. ArrivesAndAwaits k view l)
     → IfErr result (λ _. MakesCall k (Arrive false) (Replied NotThere) l) → MeetsOnce k l

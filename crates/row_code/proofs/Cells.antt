@@ -1,37 +1,21 @@
 -- Numbers in bytes, and lists of so many bytes.
-use Rattle.std.proofs.Common.{◌≡◌, ℕ, zero, suc, ◌+◌, ◌<◌, ◌≤◌, ◌^◌, List, [], ◌∷◌, length, All, get_or, take, drop, refl, ap, ◌∙◌, arith}
-use Rattle.std.specs.Int.{w32, to_le_bytes, from_le_bytes}
-use Rattle.std.proofs.lemmas.Int.{of_z-to_z}
-use Rattle.std.proofs.lemmas.Nat.{le_bytes_2, le_bytes_4, from_le_bytes-to_le_bytes_2}
+use Rattle.std.proofs.Common.{◌≡◌, ℕ, zero, suc, ◌+◌, ◌<◌, ◌≤◌, List, [], ◌∷◌, length, All, get_or, take, drop, refl, arith}
+use Rattle.std.proofs.lemmas.Nat.{from_le_bytes-to_le_bytes_2}
 use Rattle.std.proofs.lemmas.List.{get_or-drop, get_or-take, get_or_past, length-take}
 use Rattle.std.proofs.lemmas.Bool.{cases_lt}
-use Rattle.std.proofs.Common.{inl, inr}
 use Rattle.row_code.specs.Number.{u16_bytes, u16_of, i32_bytes, i32_of}
 
 abbrev pub IsBytes : List ℕ → Type 0
 IsBytes bytes = (i : ℕ) → get_or bytes i 0 < 256
 
 pub IsBytes-from_All : (bytes : List ℕ) → All (λ byte. byte < 256) bytes → IsBytes bytes
-IsBytes-from_All bytes each i =
-    elim (cases_lt i (length bytes)) [
-      | inl lt ↦ each i 0 lt
-      | inr le ↦ rw (get_or_past bytes i 0 le) (omega arith)
-    ]
+IsBytes-from_All bytes each i = grind (arith, cases_lt, get_or_past)
 
 pub IsBytes-drop : (n : ℕ) (bytes : List ℕ) → IsBytes bytes → IsBytes (drop n bytes)
 IsBytes-drop n bytes h i = rw get_or-drop (h (n + i))
 
 pub IsBytes-take : (n : ℕ) (bytes : List ℕ) → IsBytes bytes → IsBytes (take n bytes)
-IsBytes-take n bytes h i =
-    elim (cases_lt i n) [
-      | inl lt ↦ rw (get_or-take n bytes i 0 lt) (h i)
-      | inr le ↦ rw (get_or_past (take n bytes) i 0 (omega (arith, length-take n bytes))) (omega arith)
-    ]
-
-two_fit : (a b : ℕ) → a < 256 → b < 256 → IsBytes (a ∷ b ∷ [])
-two_fit a b fa fb zero = fa
-two_fit a b fa fb (suc zero) = fb
-two_fit a b fa fb (suc (suc i)) = omega arith
+IsBytes-take n bytes h i = grind (arith, cases_lt, get_or-take, get_or_past, length-take)
 
 four_fit : (a b c d : ℕ) → a < 256 → b < 256 → c < 256 → d < 256 → IsBytes (a ∷ b ∷ c ∷ d ∷ [])
 four_fit a b c d fa fb fc fd zero = fa
@@ -41,18 +25,12 @@ four_fit a b c d fa fb fc fd (suc (suc (suc zero))) = fd
 four_fit a b c d fa fb fc fd (suc (suc (suc (suc i)))) = omega arith
 
 -- two bytes are those of their number
-pub u16_cells : (a b : ℕ) → a < 256 → b < 256 → u16_bytes (u16_of (a ∷ b ∷ [])) ≡ a ∷ b ∷ []
-u16_cells a b fa fb = le_bytes_2 (a ∷ b ∷ []) (u16_of (a ∷ b ∷ [])) refl (two_fit a b fa fb) refl
-
 pub u16_back : (n : ℕ) → n < 65536 → u16_of (u16_bytes n) ≡ n
 u16_back n lt = from_le_bytes-to_le_bytes_2 n lt
 
 -- four bytes are those of their `int`
 pub i32_cells : (a b c d : ℕ) → a < 256 → b < 256 → c < 256 → d < 256 → i32_bytes (i32_of (a ∷ b ∷ c ∷ d ∷ [])) ≡ a ∷ b ∷ c ∷ d ∷ []
-i32_cells a b c d fa fb fc fd =
-    let n = from_le_bytes w32 (a ∷ b ∷ c ∷ d ∷ []) in
-    let below : n < 2 ^ 32 = omega arith in
-    ap (to_le_bytes w32) (of_z-to_z w32 n below) ∙ le_bytes_4 (a ∷ b ∷ c ∷ d ∷ []) n refl (four_fit a b c d fa fb fc fd) refl
+i32_cells a b c d fa fb fc fd = grind arith
 
 -- four bytes, one by one
 pub of_four : (bytes : List ℕ) → length bytes ≡ 4 →

@@ -1,31 +1,28 @@
 -- An entry that is read is spelled by its bytes, and what an entry's bytes say is that entry.
-use Rattle.std.proofs.Common.{◌≡◌, ℕ, zero, suc, ◌+◌, ◌<◌, ℤ, pos, negsuc, FitsSigned, Bool, true, false, not, ◌||◌, cond, ltb, eqb, List, [], ◌∷◌, ◌++◌, length, get_or, bytes_eq, Option, Some, None, IfSome, Result, Ok, Err, refl, sym, ap, subst, ◌∙◌, arith}
+use Rattle.std.proofs.Common.{◌≡◌, ℕ, zero, suc, ◌<◌, ℤ, pos, FitsSigned, Bool, true, false, not, ◌||◌, cond, List, length, get_or, bytes_eq, Option, Some, None, IfSome, Result, Ok, Err, refl, sym, ap, subst, ◌∙◌, arith}
 use Rattle.std.specs.Int.{w32}
 use Rattle.std.proofs.lemmas.Int.{ints}
-use Rattle.std.proofs.lemmas.Bool.{eqb-true, ltb-true}
+use Rattle.std.proofs.lemmas.Bool.{ltb-true}
 use Rattle.std.proofs.lemmas.Slice.Eq.{bytes_eq-Decides}
 use Rattle.std.proofs.lemmas.Bool.Decides.{nat_tests}
-use Rattle.std.proofs.lemmas.Grind.{common_steps}
 use Rattle.instruction_table.specs.declared.row.Row.{Row}
 use Rattle.instruction_table.specs.Row.{is_timed_row}
 use Rattle.row_code.specs.declared.image_fault.ImageFault.{ImageFault}
 use Rattle.row_code.specs.declared.image_fault.ImageFault.TheVariants as fault
 use Rattle.row_code.specs.declared.phasers.DeclaredPolicy.{DeclaredPolicy}
-use Rattle.row_code.specs.declared.phasers.DeclaredPolicy.TheVariants.{Default, Never, Until, Routine}
 use Rattle.row_code.specs.declared.phasers.DeclaredPhaser.{DeclaredPhaser}
 use Rattle.row_code.specs.declared.barriers.DeclaredBarrier.{DeclaredBarrier}
 use Rattle.row_code.specs.declared.threads.DeclaredThread.{DeclaredThread}
-use Rattle.row_code.specs.Number.{u16_bytes, i32_bytes}
 use Rattle.row_code.specs.RowFields.{IsRow}
 use Rattle.row_code.specs.RowBytes.{bytes_of, fields_at}
 use Rattle.row_code.specs.RowOperands.{row_in, row_with, operands_at}
-use Rattle.row_code.specs.Phasers.{IsCount, IsPolicy, IsPhaser, parent_byte, kind_byte, argument, phaser_bytes}
+use Rattle.row_code.specs.Phasers.{IsCount, IsPolicy, IsPhaser, kind_byte, argument, phaser_bytes}
 use Rattle.row_code.specs.Barriers.{IsBarrier, action_flag, action_row, barrier_bytes}
 use Rattle.row_code.specs.Threads.{IsThread, thread_bytes}
 use Rattle.row_code.specs.Answers.{◌>>=◌}
-use Rattle.row_code.specs.Reading.{u16_at, i32_at, target_at, phase_at, zero_at, parent_at, kind_at, policy_at, phaser_at, action_at, barrier_at, thread_at, row_at, row_or}
+use Rattle.row_code.specs.Reading.{u16_at, i32_at, policy_at, phaser_at, action_at, barrier_at, thread_at, row_at, row_or}
 use Rattle.row_code.proofs.RowLaws.{i32_back, row_in_its_bytes}
-use Rattle.row_code.proofs.Cells.{IsBytes, u16_cells, u16_back, i32_cells, of_four, of_eight, of_twelve}
+use Rattle.row_code.proofs.Cells.{IsBytes, u16_back, i32_cells, of_four, of_eight, of_twelve}
 
 -- the value of a step that did not fail
 pub bind_ok : {A B : Type 0} (r : Result A ImageFault) (f : A → Result B ImageFault) (y : B) → (r >>= f) ≡ Ok y → (x : A) × (r ≡ Ok x) × (f x ≡ Ok y)
@@ -44,72 +41,27 @@ guard_ok false d x y e = absurd (cc)
 
 -- ---- fields
 
-target_takes : (at : ℕ) (z : ℤ) (n : ℕ) → target_at at z ≡ Ok n → pos n ≡ z
-target_takes at z n e = grind (arith, guard_ok)
-
-target_again : (at n : ℕ) → n < 65536 → target_at at (pos n) ≡ Ok n
-target_again at n lt = grind (arith, common_steps, nat_tests)
-
-phase_takes : (at : ℕ) (z y : ℤ) → phase_at at z ≡ Ok y → z ≡ y
-phase_takes at z y e = grind arith
-
-phase_again : (at : ℕ) (z : ℤ) → IsCount z → phase_at at z ≡ Ok z
-phase_again at z h = grind (arith, ints)
-
-zero_takes : (at : ℕ) (z y : ℤ) → zero_at at z ≡ Ok y → z ≡ pos 0
-zero_takes at z y e = grind (arith, eqb-true, guard_ok)
-
-parent_takes : (at byte : ℕ) (o : Option ℕ) → parent_at at byte ≡ Ok o → byte ≡ parent_byte o
-parent_takes at byte o e = by_test (eqb byte 255) refl e
-  where
-    by_test : (b : Bool) → eqb byte 255 ≡ b → cond b (Ok None) (cond (ltb byte 64) (Ok (Some byte)) (Err (fault.Field at))) ≡ Ok o → byte ≡ parent_byte o
-    by_test true is e = subst (λ (p : Option ℕ). byte ≡ parent_byte p) (ok_is None o e) (grind (arith, nat_tests, is))
-    by_test false is e = ap parent_byte (guard_ok (ltb byte 64) (fault.Field at) (Some byte) o e).1
-
-parent_again : (at : ℕ) (o : Option ℕ) → IfSome o (λ n. n < 64) → parent_at at (parent_byte o) ≡ Ok o
-parent_again at o h = grind (arith, common_steps, nat_tests)
-
-kind_again : (at : ℕ) (policy : DeclaredPolicy) → kind_at at (kind_byte policy) ≡ Ok (kind_byte policy)
-kind_again at policy = grind arith
-
 policy_again : (at : ℕ) (policy : DeclaredPolicy) → IsPolicy policy → policy_at at (kind_byte policy) (argument policy) ≡ Ok policy
 unfolding policy_at
-policy_again at policy h = grind (arith, phase_again, target_again)
+policy_again at policy h = grind arith
 
 policy_takes : (at kind : ℕ) (z : ℤ) (policy : DeclaredPolicy) → kind < 4 → policy_at at kind z ≡ Ok policy → (kind ≡ kind_byte policy) × (z ≡ argument policy)
 unfolding policy_at
-policy_takes at zero z policy lt e =
-    let x = bind_ok (zero_at at z) (λ _. Ok Default) policy e in
-    subst (λ (p : DeclaredPolicy). (0 ≡ kind_byte p) × (z ≡ argument p)) (ok_is Default policy x.2) (refl, zero_takes at z x.0 x.1)
-policy_takes at (suc zero) z policy lt e =
-    let x = bind_ok (zero_at at z) (λ _. Ok Never) policy e in
-    subst (λ (p : DeclaredPolicy). (1 ≡ kind_byte p) × (z ≡ argument p)) (ok_is Never policy x.2) (refl, zero_takes at z x.0 x.1)
-policy_takes at (suc (suc zero)) z policy lt e =
-    let x = bind_ok (phase_at at z) (λ phase. Ok (Until phase)) policy e in
-    subst (λ (p : DeclaredPolicy). (2 ≡ kind_byte p) × (z ≡ argument p)) (ok_is (Until x.0) policy x.2) (refl, phase_takes at z x.0 x.1)
-policy_takes at (suc (suc (suc zero))) z policy lt e =
-    let x = bind_ok (target_at at z) (λ row. Ok (Routine row)) policy e in
-    subst (λ (p : DeclaredPolicy). (3 ≡ kind_byte p) × (z ≡ argument p)) (ok_is (Routine x.0) policy x.2) (refl, sym (target_takes at z x.0 x.1))
+policy_takes at zero z policy lt e = grind (arith, bind_ok, ok_is)
+policy_takes at (suc zero) z policy lt e = grind (arith, bind_ok, ok_is)
+policy_takes at (suc (suc zero)) z policy lt e = grind (arith, bind_ok, ok_is)
+policy_takes at (suc (suc (suc zero))) z policy lt e = grind (arith, bind_ok, ok_is)
 policy_takes at (suc (suc (suc (suc n)))) z policy lt e = absurd (omega (arith, lt))
 
 action_again : (at : ℕ) (action : Option ℕ) → IfSome action (λ row. row < 65536) → action_at at (action_flag action) (action_row action) ≡ Ok action
 unfolding action_at
-action_again at action h = grind (arith, target_again)
+action_again at action h = grind arith
 
 action_takes : (at flag : ℕ) (z : ℤ) (action : Option ℕ) → action_at at flag z ≡ Ok action → (flag ≡ action_flag action) × (z ≡ action_row action)
 unfolding action_at
-action_takes at zero z action e =
-    let none : Option ℕ = None in
-    let x = bind_ok (zero_at (at + 2) z) (λ _. Ok none) action e in
-    subst (λ (a : Option ℕ). (0 ≡ action_flag a) × (z ≡ action_row a)) (ok_is none action x.2) (refl, zero_takes (at + 2) z x.0 x.1)
-action_takes at (suc zero) z action e =
-    let x = bind_ok (target_at (at + 2) z) (λ row. Ok (Some row)) action e in
-    subst (λ (a : Option ℕ). (1 ≡ action_flag a) × (z ≡ action_row a)) (ok_is (Some x.0) action x.2) (refl, sym (target_takes (at + 2) z x.0 x.1))
-action_takes at (suc (suc n)) z action e =
-    let not0 : eqb (suc (suc n)) 0 ≡ false = grind (arith, nat_tests) in
-    let not1 : eqb (suc (suc n)) 1 ≡ false = grind (arith, nat_tests) in
-    let no = rw (not0, not1) at e in
-    absurd (cc)
+action_takes at zero z action e = grind (arith, bind_ok, ok_is)
+action_takes at (suc zero) z action e = grind (arith, bind_ok, ok_is)
+action_takes at (suc (suc n)) z action e = grind (arith, nat_tests)
 
 count_fits : (z : ℤ) → IsCount z → FitsSigned w32 z
 count_fits z h = grind (arith, ints)
@@ -119,9 +71,6 @@ small n h = record { sfits = omega (arith, h) }
 
 argument_fits : (policy : DeclaredPolicy) → IsPolicy policy → FitsSigned w32 (argument policy)
 argument_fits policy h = grind (arith, small, count_fits)
-
-flag_fits : (action : Option ℕ) → action_flag action < 65536
-flag_fits action = grind arith
 
 row_fits : (action : Option ℕ) → IfSome action (λ row. row < 65536) → FitsSigned w32 (action_row action)
 row_fits action h = grind (arith, small)
@@ -156,92 +105,27 @@ phaser_again at p h =
     let first : i32_at (phaser_bytes p) 4 ≡ p.first_phase = i32_back p.first_phase (count_fits p.first_phase h.first_phase) in
     let last : i32_at (phaser_bytes p) 8 ≡ argument p.policy = i32_back (argument p.policy) (argument_fits p.policy h.policy) in
     let parties : u16_at (phaser_bytes p) 2 ≡ p.parties = u16_back p.parties h.parties in
-    rw (
-      first,
-      last,
-      parties,
-      parent_again at p.parent h.parent,
-      kind_again (at + 1) p.policy,
-      phase_again (at + 4) p.first_phase h.first_phase,
-      policy_again (at + 8) p.policy h.policy,
-    ) refl
-
-phaser_spelled : (bytes : List ℕ) (parent : Option ℕ) (first : ℤ) (policy : DeclaredPolicy) → IsBytes bytes → length bytes ≡ 12 →
-    get_or bytes 0 0 ≡ parent_byte parent → get_or bytes 1 0 ≡ kind_byte policy → i32_at bytes 4 ≡ first → i32_at bytes 8 ≡ argument policy →
-    bytes ≡ phaser_bytes (record { parent = parent; policy = policy; parties = u16_at bytes 2; first_phase = first })
-phaser_spelled bytes parent first policy fits size parent-is kind-is first-is argument-is =
-    let b : ℕ → ℕ = λ i. get_or bytes i 0 in
-    let join : ℕ → ℕ → List ℕ → List ℕ → List ℕ → List ℕ = λ p k u f a. p ∷ k ∷ (u ++ (f ++ a)) in
-    let parties : b 2 ∷ b 3 ∷ [] ≡ u16_bytes (u16_at bytes 2) = sym (u16_cells (b 2) (b 3) (fits 2) (fits 3)) in
-    let phase : b 4 ∷ b 5 ∷ b 6 ∷ b 7 ∷ [] ≡ i32_bytes first =
-    sym (i32_cells (b 4) (b 5) (b 6) (b 7) (fits 4) (fits 5) (fits 6) (fits 7)) ∙ ap i32_bytes first-is in
-    let last : b 8 ∷ b 9 ∷ b 10 ∷ b 11 ∷ [] ≡ i32_bytes (argument policy) =
-    sym (i32_cells (b 8) (b 9) (b 10) (b 11) (fits 8) (fits 9) (fits 10) (fits 11)) ∙ ap i32_bytes argument-is in
-    of_twelve bytes size ∙ (λ i. join (parent-is i) (kind-is i) (parties i) (phase i) (last i))
+    grind (arith, policy_again)
 
 pub phaser_takes : (at : ℕ) (bytes : List ℕ) (p : DeclaredPhaser) → IsBytes bytes → length bytes ≡ 12 → phaser_at at bytes ≡ Ok p → bytes ≡ phaser_bytes p
 unfolding phaser_at
-phaser_takes at bytes p fits size e =
-    let b : ℕ → ℕ = λ i. get_or bytes i 0 in
-    let made : Option ℕ → ℤ → DeclaredPolicy → DeclaredPhaser = λ parent first policy. record { parent = parent; policy = policy; parties = u16_at bytes 2; first_phase = first } in
-    let parent = bind_ok (parent_at at (b 0)) (λ parent. kind_at (at + 1) (b 1) >>= λ kind. phase_at (at + 4) (i32_at bytes 4) >>= λ first. policy_at (at + 8) kind (i32_at bytes 8) >>= λ policy. Ok (made parent first policy)) p e in
-    let kind = bind_ok (kind_at (at + 1) (b 1)) (λ kind. phase_at (at + 4) (i32_at bytes 4) >>= λ first. policy_at (at + 8) kind (i32_at bytes 8) >>= λ policy. Ok (made parent.0 first policy)) p parent.2 in
-    let first = bind_ok (phase_at (at + 4) (i32_at bytes 4)) (λ first. policy_at (at + 8) kind.0 (i32_at bytes 8) >>= λ policy. Ok (made parent.0 first policy)) p kind.2 in
-    let policy = bind_ok (policy_at (at + 8) kind.0 (i32_at bytes 8)) (λ policy. Ok (made parent.0 first.0 policy)) p first.2 in
-    let kind-is = guard_ok (ltb (b 1) 4) (fault.Field (at + 1)) (b 1) kind.0 kind.1 in
-    let below : kind.0 < 4 = subst (λ (n : ℕ). n < 4) kind-is.1 (ltb-true (b 1) 4 kind-is.0) in
-    let policy-is = policy_takes (at + 8) kind.0 (i32_at bytes 8) policy.0 below policy.1 in
-    let whole : bytes ≡ phaser_bytes (made parent.0 first.0 policy.0) =
-    phaser_spelled bytes parent.0 first.0 policy.0 fits size (parent_takes at (b 0) parent.0 parent.1) (kind-is.1 ∙ policy-is.0)
-    (phase_takes (at + 4) (i32_at bytes 4) first.0 first.1) policy-is.1 in
-    subst (λ (q : DeclaredPhaser). bytes ≡ phaser_bytes q) (ok_is (made parent.0 first.0 policy.0) p policy.2) whole
+phaser_takes at bytes p fits size e = grind (arith, bind_ok, guard_ok, ltb-true, policy_takes, ok_is, i32_cells, of_twelve)
 
 pub barrier_again : (at : ℕ) (b : DeclaredBarrier) → IsBarrier b → barrier_at at (barrier_bytes b) ≡ Ok b
 unfolding barrier_at
-barrier_again at b h =
-    let parties : u16_at (barrier_bytes b) 0 ≡ b.parties = u16_back b.parties h.parties in
-    let flag : u16_at (barrier_bytes b) 2 ≡ action_flag b.action = u16_back (action_flag b.action) (flag_fits b.action) in
-    let row : i32_at (barrier_bytes b) 4 ≡ action_row b.action = i32_back (action_row b.action) (row_fits b.action h.action) in
-    rw (parties, flag, row, action_again (at + 2) b.action h.action) refl
-
-barrier_spelled : (bytes : List ℕ) (action : Option ℕ) → IsBytes bytes → length bytes ≡ 8 →
-    u16_at bytes 2 ≡ action_flag action → i32_at bytes 4 ≡ action_row action →
-    bytes ≡ barrier_bytes (record { parties = u16_at bytes 0; action = action })
-barrier_spelled bytes action fits size flag-is row-is =
-    let b : ℕ → ℕ = λ i. get_or bytes i 0 in
-    let join : List ℕ → List ℕ → List ℕ → List ℕ = λ p f r. p ++ (f ++ r) in
-    let parties : b 0 ∷ b 1 ∷ [] ≡ u16_bytes (u16_at bytes 0) = sym (u16_cells (b 0) (b 1) (fits 0) (fits 1)) in
-    let flag : b 2 ∷ b 3 ∷ [] ≡ u16_bytes (action_flag action) = sym (u16_cells (b 2) (b 3) (fits 2) (fits 3)) ∙ ap u16_bytes flag-is in
-    let row : b 4 ∷ b 5 ∷ b 6 ∷ b 7 ∷ [] ≡ i32_bytes (action_row action) =
-    sym (i32_cells (b 4) (b 5) (b 6) (b 7) (fits 4) (fits 5) (fits 6) (fits 7)) ∙ ap i32_bytes row-is in
-    of_eight bytes size ∙ (λ i. join (parties i) (flag i) (row i))
+barrier_again at b h = grind (arith, u16_back, i32_back, action_again)
 
 pub barrier_takes : (at : ℕ) (bytes : List ℕ) (p : DeclaredBarrier) → IsBytes bytes → length bytes ≡ 8 → barrier_at at bytes ≡ Ok p → bytes ≡ barrier_bytes p
 unfolding barrier_at
-barrier_takes at bytes p fits size e =
-    let b : ℕ → ℕ = λ i. get_or bytes i 0 in
-    let made : Option ℕ → DeclaredBarrier = λ action. record { parties = u16_at bytes 0; action = action } in
-    let action = bind_ok (action_at (at + 2) (u16_at bytes 2) (i32_at bytes 4)) (λ action. Ok (made action)) p e in
-    let action-is = action_takes (at + 2) (u16_at bytes 2) (i32_at bytes 4) action.0 action.1 in
-    let whole : bytes ≡ barrier_bytes (made action.0) = barrier_spelled bytes action.0 fits size action-is.0 action-is.1 in
-    subst (λ (q : DeclaredBarrier). bytes ≡ barrier_bytes q) (ok_is (made action.0) p action.2) whole
+barrier_takes at bytes p fits size e = grind (arith, bind_ok, action_takes, ok_is, i32_cells, of_eight)
 
 pub thread_again : (at : ℕ) (t : DeclaredThread) → IsThread t → thread_at at (thread_bytes t) ≡ Ok t
 unfolding thread_at
-thread_again at t h =
-    let row : i32_at (thread_bytes t) 0 ≡ pos t.first_row = i32_back (pos t.first_row) (small t.first_row h.first_row) in
-    rw (row, target_again at t.first_row h.first_row) refl
+thread_again at t h = grind arith
 
 pub thread_takes : (at : ℕ) (bytes : List ℕ) (t : DeclaredThread) → IsBytes bytes → length bytes ≡ 4 → thread_at at bytes ≡ Ok t → bytes ≡ thread_bytes t
 unfolding thread_at
-thread_takes at bytes t fits size e =
-    let b : ℕ → ℕ = λ i. get_or bytes i 0 in
-    let made : ℕ → DeclaredThread = λ row. record { first_row = row } in
-    let row = bind_ok (target_at at (i32_at bytes 0)) (λ row. Ok (made row)) t e in
-    let whole : bytes ≡ thread_bytes (made row.0) =
-    of_four bytes size ∙ sym (i32_cells (b 0) (b 1) (b 2) (b 3) (fits 0) (fits 1) (fits 2) (fits 3))
-    ∙ ap i32_bytes (sym (target_takes at (i32_at bytes 0) row.0 row.1)) in
-    subst (λ (q : DeclaredThread). bytes ≡ thread_bytes q) (ok_is (made row.0) t row.2) whole
+thread_takes at bytes t fits size e = grind (arith, bind_ok, of_four, i32_cells, ok_is)
 
 pub row_again : (timed : Bool) (n : ℕ) (row : Row) → IsRow row × MayStand timed row → row_at timed n (bytes_of row) ≡ Ok row
 unfolding row_at

@@ -1,27 +1,24 @@
 -- An image that is read is spelled by its file, and what an image's file says is that image.
-use Rattle.std.proofs.Common.{◌≡◌, ℕ, ◌+◌, ◌*◌, ◌<◌, ◌≤◌, Bool, true, false, cond, not, ◌||◌, ◌&&◌, All, ltb, List, [], ◌∷◌, ◌++◌, length, get_or, take, drop, bytes_eq, Result, Ok, Err, IfOk, refl, sym, ap, subst, ◌∙◌, arith}
+use Rattle.std.proofs.Common.{◌≡◌, ℕ, ◌+◌, ◌*◌, ◌<◌, ◌≤◌, Bool, true, false, cond, not, ◌&&◌, All, List, [], ◌∷◌, ◌++◌, length, get_or, take, drop, Result, Ok, Err, IfOk, refl, sym, ap, subst, ◌∙◌, arith}
 use Rattle.std.specs.List.{flat_map, AllByRecursion}
 use Rattle.std.proofs.lemmas.List.Folds.{list_any_at}
 use Rattle.instruction_table.specs.declared.row.Row.{Row}
 use Rattle.instruction_table.specs.Row.{is_timed_row}
-use Rattle.std.proofs.lemmas.Bool.{ltb-false, le-ltb}
-use Rattle.std.proofs.lemmas.Slice.Eq.{bytes_eq-Decides}
 use Rattle.std.proofs.lemmas.List.{append-nil, drop_at, drop_all, drop-drop, take-append-drop, length-drop, length-append}
 use Rattle.row_code.specs.declared.image.Counts.{Counts}
 use Rattle.row_code.specs.declared.image.Image.{Image}
 use Rattle.row_code.specs.declared.image_fault.ImageFault.{ImageFault}
 use Rattle.row_code.specs.declared.image_fault.ImageFault.TheVariants as fault
-use Rattle.row_code.specs.Number.{u16_bytes}
 use Rattle.row_code.specs.RowFields.{IsRow}
 use Rattle.row_code.specs.RowBytes.{bytes_of}
 use Rattle.row_code.specs.Phasers.{IsPhaser, phaser_bytes}
 use Rattle.row_code.specs.Barriers.{IsBarrier, barrier_bytes}
 use Rattle.row_code.specs.Threads.{IsThread, thread_bytes}
 use Rattle.row_code.specs.Rows.{has_timed_row}
-use Rattle.row_code.specs.Answers.{◌>>=◌, Answers}
+use Rattle.row_code.specs.Answers.{Answers}
 use Rattle.row_code.specs.Image.{IsImage, magic, counts_of, count_bytes, image_bytes}
 use Rattle.row_code.specs.Reading.{is_memory, is_magic, says_timed, row_at, version_at, rows_at, phaser_entry, barrier_entry, thread_entry, entries, counts_in, is_too_many, counts_at, barriers_start, threads_start, rows_start, file_end, lists_at, image_of}
-use Rattle.row_code.proofs.Cells.{IsBytes, IsBytes-drop, u16_cells, u16_back, front_four, front_twelve}
+use Rattle.row_code.proofs.Cells.{IsBytes, IsBytes-drop, u16_back}
 use Rattle.row_code.proofs.EntryLaws.{bind_ok, ok_is, phaser_again, phaser_takes, barrier_again, barrier_takes, thread_again, thread_takes, MayStand, row_again, row_takes, row_may_stand}
 use Rattle.row_code.proofs.ListLaws.{IsFormat, entries_take, entries_have, entries_again, length-entries}
 
@@ -35,41 +32,21 @@ not_false true e = refl
 not_false false e = absurd (cc)
 
 phaser_format : (start : ℕ) → IsFormat 12 phaser_bytes IsPhaser (phaser_entry start)
-phaser_format start = record {
-  len = λ p. refl;
-  takes = λ k bytes p. phaser_takes (start + 12 * k) bytes p;
-  again = λ k p. phaser_again (start + 12 * k) p;
-}
+phaser_format start = grind (arith, phaser_takes, phaser_again)
 
 barrier_format : (start : ℕ) → IsFormat 8 barrier_bytes IsBarrier (barrier_entry start)
-barrier_format start = record {
-  len = λ b. refl;
-  takes = λ k bytes b. barrier_takes (start + 8 * k) bytes b;
-  again = λ k b. barrier_again (start + 8 * k) b;
-}
+barrier_format start = grind (arith, barrier_takes, barrier_again)
 
 thread_format : (start : ℕ) → IsFormat 4 thread_bytes IsThread (thread_entry start)
-thread_format start = record {
-  len = λ t. refl;
-  takes = λ k bytes t. thread_takes (start + 4 * k) bytes t;
-  again = λ k t. thread_again (start + 4 * k) t;
-}
+thread_format start = grind (arith, thread_takes, thread_again)
 
 row_format : (timed : Bool) → IsFormat 8 bytes_of (λ row. IsRow row × MayStand timed row) (row_at timed)
 row_format timed = record { len = λ row. refl; takes = row_takes timed; again = row_again timed }
 
 -- ---- the rows and the magic
 
-or_true : (b : Bool) → (b || true) ≡ true
-or_true true = refl
-or_true false = refl
-
 none_timed : (row : Row) → MayStand false row → is_timed_row row ≡ false
-none_timed row may = by_test (is_timed_row row) may
-  where
-    by_test : (b : Bool) → not b ≡ true → b ≡ false
-    by_test true e = absurd (cc)
-    by_test false e = refl
+none_timed row may = grind arith
 
 none_in : (rs : List Row) → AllByRecursion (MayStand false) rs → has_timed_row rs ≡ false
 none_in [] all = refl
@@ -92,18 +69,7 @@ rows_take timed count bytes rows e =
 
 -- and back
 may_stand : (rows : List Row) (k : ℕ) (d : Row) → k < length rows → MayStand (has_timed_row rows) (get_or rows k d)
-may_stand rows k d within = by_test (is_timed_row (get_or rows k d)) refl
-  where
-    by_test : (b : Bool) → is_timed_row (get_or rows k d) ≡ b → (has_timed_row rows || not (is_timed_row (get_or rows k d))) ≡ true
-    by_test true is = ap (λ b. b || not (is_timed_row (get_or rows k d))) (list_any_at is_timed_row rows k d within is)
-    by_test false is = ap (λ b. has_timed_row rows || not b) is ∙ or_true (has_timed_row rows)
-
-version_again : (rows : List Row) → version_at (has_timed_row rows) rows ≡ Ok rows
-version_again rows = by_test (has_timed_row rows)
-  where
-    by_test : (b : Bool) → cond (b && not b) (Err fault.Version) (Ok rows) ≡ Ok rows
-    by_test true = refl
-    by_test false = refl
+may_stand rows k d within = grind (arith, list_any_at)
 
 rows_again : (rows : List Row) → All IsRow rows → rows_at (has_timed_row rows) (length rows) (flat_map bytes_of rows) ≡ Ok rows
 unfolding rows_at
@@ -112,8 +78,7 @@ rows_again rows fits =
     let all : All (λ row. IsRow row × MayStand timed row) rows = λ k d within. (fits k d within, may_stand rows k d within) in
     let read : entries 8 (row_at timed) 0 (length rows) (flat_map bytes_of rows ++ []) ≡ Ok rows =
     entries_again 8 bytes_of (λ row. IsRow row × MayStand timed row) (row_at timed) (row_format timed) 0 rows [] all in
-    ap (λ (bytes : List ℕ). entries 8 (row_at timed) 0 (length rows) bytes >>= version_at timed) (sym (append-nil (flat_map bytes_of rows)))
-    ∙ ap (λ (r : Result (List Row) ImageFault). r >>= version_at timed) read ∙ version_again rows
+    grind (arith, append-nil)
 
 -- ---- the head
 
@@ -125,45 +90,15 @@ pub record IsHead (bytes : List ℕ) (c : Counts) : Type 0 where
 
 -- the first four bytes are the magic that says what they say
 magic_said : (bytes : List ℕ) → is_magic (take 4 bytes) ≡ true → take 4 bytes ≡ magic (says_timed bytes)
-magic_said bytes e = by_test (says_timed bytes) refl
-  where
-    left : (a b : Bool) → (a || b) ≡ true → b ≡ false → a ≡ true
-    left true b e off = refl
-    left false b e off = absurd (cc)
-
-    by_test : (b : Bool) → says_timed bytes ≡ b → take 4 bytes ≡ magic (says_timed bytes)
-    by_test true is = (bytes_eq-Decides (take 4 bytes) (magic true)).0 is ∙ ap magic (sym is)
-    by_test false is =
-        (bytes_eq-Decides (take 4 bytes) (magic false)).0 (left (bytes_eq (take 4 bytes) (magic false)) (says_timed bytes) e is) ∙ ap magic (sym is)
+magic_said bytes e = grind arith
 
 head_takes : (bytes : List ℕ) (c : Counts) → counts_at bytes ≡ Ok c → IsHead bytes c
 unfolding counts_at
-head_takes bytes c e =
-    let n = counts_in bytes in
-    let a = passed (ltb (length bytes) 12) fault.Short _ c e in
-    let b = passed (not (is_magic (take 4 bytes))) fault.Magic _ c a.1 in
-    let d = passed (is_too_many n) fault.Count _ c b.1 in
-    let f = passed (ltb (length bytes) (file_end n)) fault.Short _ c d.1 in
-    let g = passed (ltb (file_end n) (length bytes)) fault.Extra (Ok n) c f.1 in
-    let is : n ≡ c = ok_is n c g.1 in
-    record {
-      long = ltb-false _ _ a.0;
-      magic_is = magic_said bytes (not_false _ b.0);
-      counts = is;
-      size = subst (λ (m : Counts). length bytes ≡ file_end m) is (omega (arith, ltb-false _ _ f.0, ltb-false _ _ g.0));
-    }
+head_takes bytes c e = grind arith
 
 -- the first twelve bytes are the magic and the counts
 head_spelled : (bytes : List ℕ) (c : Counts) → IsBytes bytes → IsHead bytes c → take 12 bytes ≡ magic (says_timed bytes) ++ count_bytes c
-head_spelled bytes c fits h =
-    let b : ℕ → ℕ = λ i. get_or bytes i 0 in
-    let join : List ℕ → List ℕ → List ℕ → List ℕ → List ℕ → List ℕ = λ m p q t r. m ++ (p ++ (q ++ (t ++ r))) in
-    let first : b 0 ∷ b 1 ∷ b 2 ∷ b 3 ∷ [] ≡ magic (says_timed bytes) = sym (front_four bytes (omega (arith, h.long))) ∙ h.magic_is in
-    let phasers : b 4 ∷ b 5 ∷ [] ≡ u16_bytes c.phasers = sym (u16_cells (b 4) (b 5) (fits 4) (fits 5)) ∙ ap (λ (n : Counts). u16_bytes n.phasers) h.counts in
-    let barriers : b 6 ∷ b 7 ∷ [] ≡ u16_bytes c.barriers = sym (u16_cells (b 6) (b 7) (fits 6) (fits 7)) ∙ ap (λ (n : Counts). u16_bytes n.barriers) h.counts in
-    let threads : b 8 ∷ b 9 ∷ [] ≡ u16_bytes c.threads = sym (u16_cells (b 8) (b 9) (fits 8) (fits 9)) ∙ ap (λ (n : Counts). u16_bytes n.threads) h.counts in
-    let rows : b 10 ∷ b 11 ∷ [] ≡ u16_bytes c.rows = sym (u16_cells (b 10) (b 11) (fits 10) (fits 11)) ∙ ap (λ (n : Counts). u16_bytes n.rows) h.counts in
-    front_twelve bytes h.long ∙ (λ i. join (first i) (phasers i) (barriers i) (threads i) (rows i))
+head_spelled bytes c fits h = grind arith
 
 -- a list, the list behind it, and what is behind both
 list_takes : {E : Type 0} (size : ℕ) (spell : E → List ℕ) (Fits : E → Type 0) (read : ℕ → List ℕ → Result E ImageFault) → IsFormat size spell Fits read →
@@ -208,14 +143,7 @@ image_takes bytes i fits e =
 head_again : (bytes : List ℕ) (c : Counts) → 12 ≤ length bytes → is_magic (take 4 bytes) ≡ true → counts_in bytes ≡ c →
     is_too_many c ≡ false → length bytes ≡ file_end c → counts_at bytes ≡ Ok c
 unfolding counts_at
-head_again bytes c long begins counts few size =
-    let n = counts_in bytes in
-    let ends : file_end n ≡ file_end c = ap file_end counts in
-    let not_short : ltb (length bytes) 12 ≡ false = le-ltb _ _ long in
-    let few_counted : is_too_many n ≡ false = ap is_too_many counts ∙ few in
-    let enough : ltb (length bytes) (file_end n) ≡ false = le-ltb _ _ (omega (arith, size, ends)) in
-    let no_more : ltb (file_end n) (length bytes) ≡ false = le-ltb _ _ (omega (arith, size, ends)) in
-    rw (not_short, begins, few_counted, enough, no_more) (ap (λ (m : Counts). Ok m) counts)
+head_again bytes c long begins counts few size = grind arith
 
 parts_again : (bytes : List ℕ) (i : Image) (c : Counts) → counts_at bytes ≡ Ok c →
     entries 12 (phaser_entry 12) 0 c.phasers (drop 12 bytes) ≡ Ok i.phasers →
@@ -226,11 +154,7 @@ unfolding image_of lists_at
 parts_again bytes i c e0 e1 e2 e3 e4 = rw (e0, e1, e2, e3, e4) refl
 
 few_enough : (c : Counts) → c.phasers ≤ 64 → c.barriers ≤ 64 → c.threads ≤ 64 → is_too_many c ≡ false
-few_enough c p b t =
-    let np : ltb 64 c.phasers ≡ false = le-ltb _ _ p in
-    let nb : ltb 64 c.barriers ≡ false = le-ltb _ _ b in
-    let nt : ltb 64 c.threads ≡ false = le-ltb _ _ t in
-    rw (np, nb, nt) refl
+few_enough c p b t = grind arith
 
 -- what is behind a list
 behind : {E : Type 0} (size : ℕ) (spell : E → List ℕ) → ((e : E) → length (spell e) ≡ size) → (start : ℕ) (bytes : List ℕ) (es : List E) (rest : List ℕ) →
@@ -258,28 +182,8 @@ length-head true c = refl
 length-head false c = refl
 
 head_back : (timed : Bool) (c : Counts) (rest : List ℕ) → AreSmall c → IsHeadOf timed c ((magic timed ++ count_bytes c) ++ rest) rest
-head_back true c rest small = record {
-  begins = refl;
-  said = refl;
-  counts = (λ k. record {
-    phasers = u16_back c.phasers small.phasers k;
-    barriers = u16_back c.barriers small.barriers k;
-    threads = u16_back c.threads small.threads k;
-    rows = u16_back c.rows small.rows k;
-  });
-  lists = refl;
-}
-head_back false c rest small = record {
-  begins = refl;
-  said = refl;
-  counts = (λ k. record {
-    phasers = u16_back c.phasers small.phasers k;
-    barriers = u16_back c.barriers small.barriers k;
-    threads = u16_back c.threads small.threads k;
-    rows = u16_back c.rows small.rows k;
-  });
-  lists = refl;
-}
+head_back true c rest small = grind (arith, u16_back)
+head_back false c rest small = grind (arith, u16_back)
 
 pub image_again : (i : Image) → IsImage i → image_of (image_bytes i) ≡ Ok i
 image_again i h =
@@ -333,5 +237,4 @@ is_found bytes r fits within given = grind (arith, image_takes)
 -- what was answered of an image's bytes is that image
 pub is_only : (bytes : List ℕ) (r : Result Image ImageFault) → Answers is_memory (λ read. read) r (image_of bytes) →
     (i : Image) → IsImage i → bytes ≡ image_bytes i → Answers is_memory (λ read. read) r (Ok i)
-is_only bytes r given i fits spelled =
-    subst (Answers is_memory (λ read. read) r) (ap image_of spelled ∙ image_again i fits) given
+is_only bytes r given i fits spelled = grind (arith, image_again)

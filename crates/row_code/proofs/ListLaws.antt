@@ -19,10 +19,7 @@ pub entries_take : {E : Type 0} (size : ℕ) (spell : E → List ℕ) (Fits : E 
     (k n : ℕ) (bytes : List ℕ) (es : List E) → IsBytes bytes → size * n ≤ length bytes → entries size read k n bytes ≡ Ok es →
     (bytes ≡ flat_map spell es ++ drop (size * n) bytes) × (length es ≡ n)
 unfolding entries
-entries_take {E} size spell Fits read format k zero bytes es fits long e =
-    let nil : List E = [] in
-    let none : 0 ≡ size * 0 = omega arith in
-    subst (λ (all : List E). (bytes ≡ flat_map spell all ++ drop (size * 0) bytes) × (length all ≡ 0)) (ok_is nil es e) (ap (λ (m : ℕ). drop m bytes) none, refl)
+entries_take {E} size spell Fits read format k zero bytes es fits long e = grind (arith, ok_is)
 entries_take {E} size spell Fits read format k (suc n) bytes es fits long e =
     let a = bind_ok (read k (take size bytes)) (λ first. entries size read (k + 1) n (drop size bytes) >>= λ others. Ok (first ∷ others)) es e in
     let b = bind_ok (entries size read (k + 1) n (drop size bytes)) (λ others. Ok (a.0 ∷ others)) es a.2 in
@@ -55,10 +52,7 @@ again_by : {E : Type 0} (size : ℕ) (spell : E → List ℕ) (Fits : E → Type
 unfolding entries
 again_by size spell Fits read format k [] rest fits = refl
 again_by size spell Fits read format k (e ∷ es) rest fits =
-    let grouped : flat_map spell (e ∷ es) ++ rest ≡ spell e ++ (flat_map spell es ++ rest) = append_assoc (spell e) (flat_map spell es) rest in
-    let front : take size (flat_map spell (e ∷ es) ++ rest) ≡ spell e = ap (take size) grouped ∙ take_at (spell e) (flat_map spell es ++ rest) size (format.len e) in
-    let back : drop size (flat_map spell (e ∷ es) ++ rest) ≡ flat_map spell es ++ rest = ap (drop size) grouped ∙ drop_at (spell e) (flat_map spell es ++ rest) size (format.len e) in
-    rw (front, back, format.again k e fits.0, again_by size spell Fits read format (k + 1) es rest fits.1) refl
+    grind (arith, append_assoc, take_at, drop_at, again_by size spell Fits read format (k + 1) es rest fits.1)
 
 pub entries_again : {E : Type 0} (size : ℕ) (spell : E → List ℕ) (Fits : E → Type 0) (read : ℕ → List ℕ → Result E ImageFault) → IsFormat size spell Fits read →
     (k : ℕ) (es : List E) (rest : List ℕ) → All Fits es → entries size read k (length es) (flat_map spell es ++ rest) ≡ Ok es

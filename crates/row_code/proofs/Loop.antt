@@ -1,18 +1,13 @@
 -- Reading entries one after the other, as a loop does.
-use Rattle.std.proofs.Common.{◌≡◌, Bool, true, false, ℕ, suc, ◌-◌, ◌+◌, ◌*◌, ◌≤◌, ◌<◌, List, [], ◌∷◌, ◌++◌, take, drop, Result, Ok, Err, refl, sym, ap, ◌∙◌, append_assoc, arith}
+use Rattle.std.proofs.Common.{◌≡◌, Bool, ℕ, suc, ◌-◌, ◌+◌, ◌*◌, ◌≤◌, ◌<◌, List, [], ◌∷◌, ◌++◌, take, drop, Result, Ok, Err, append_assoc, arith}
 use Rattle.std.proofs.lemmas.List.{append-nil}
 use Rattle.row_code.specs.declared.image_fault.ImageFault.{ImageFault}
-use Rattle.row_code.specs.Answers.{◌>>=◌, FailsUnless, FailsAs}
+use Rattle.row_code.specs.Answers.{◌>>=◌, FailsAs}
 use Rattle.row_code.specs.Reading.{entries}
 
 -- what was read before, and what is still read
 abbrev pub with_front : {E : Type 0} → List E → Result (List E) ImageFault → Result (List E) ImageFault
 with_front front read = read >>= λ es. Ok (front ++ es)
-
-regroup : {E : Type 0} (front : List E) (e : E) (read : Result (List E) ImageFault) →
-    with_front front (read >>= λ es. Ok (e ∷ es)) ≡ with_front (front ++ e ∷ []) read
-regroup front e (Ok es) = ap (λ (all : List _). Ok all) (sym (append_assoc front (e ∷ []) es))
-regroup front e (Err f) = refl
 
 -- one entry more was read
 pub goes_on : {E : Type 0} (size : ℕ) (read : ℕ → List ℕ → Result E ImageFault) (front : List E) (count i : ℕ) (bytes : List ℕ) (e : E)
@@ -22,50 +17,30 @@ pub goes_on : {E : Type 0} (size : ℕ) (read : ℕ → List ℕ → Result E Im
 unfolding entries
 goes_on size read front count i bytes e total lt h so_far =
     let k : count - i ≡ suc (count - (i + 1)) = omega arith in
-    let one : with_front front (entries size read i (count - i) bytes) ≡ with_front (front ++ e ∷ []) (entries size read (i + 1) (count - (i + 1)) (drop size bytes)) =
-    rw (k, h) (regroup front e (entries size read (i + 1) (count - (i + 1)) (drop size bytes))) in
-    sym one ∙ so_far
+    grind (arith, append_assoc)
 
 -- an entry that is none is the first fault
 pub ends : {E : Type 0} (size : ℕ) (read : ℕ → List ℕ → Result E ImageFault) (front : List E) (count i : ℕ) (bytes : List ℕ) (f : ImageFault)
     (total : Result (List E) ImageFault) → i < count → read i (take size bytes) ≡ Err f →
     with_front front (entries size read i (count - i) bytes) ≡ total → total ≡ Err f
 unfolding entries
-ends size read front count i bytes f total lt h so_far =
-    let k : count - i ≡ suc (count - (i + 1)) = omega arith in
-    let one : with_front front (entries size read i (count - i) bytes) ≡ Err f = rw (k, h) refl in
-    sym so_far ∙ one
+ends size read front count i bytes f total lt h so_far = grind arith
 
 -- no entry is left
 pub is_done : {E : Type 0} (size : ℕ) (read : ℕ → List ℕ → Result E ImageFault) (front : List E) (count i : ℕ) (bytes : List ℕ)
     (total : Result (List E) ImageFault) → count ≤ i → with_front front (entries size read i (count - i) bytes) ≡ total → total ≡ Ok front
 unfolding entries
-is_done size read front count i bytes total le so_far =
-    let k : count - i ≡ 0 = omega arith in
-    let one : with_front front (entries size read i (count - i) bytes) ≡ Ok front = rw k (ap (λ (all : List _). Ok all) (append-nil front)) in
-    sym so_far ∙ one
+is_done size read front count i bytes total le so_far = grind (arith, append-nil)
 
 -- the bytes behind an entry suffice for the others
 pub fewer_left : (size count i long behind : ℕ) → i < count → behind + size ≡ long → size * (count - i) ≤ long → size * (count - (i + 1)) ≤ behind
-fewer_left size count i long behind lt split fits =
-    let k : count - i ≡ suc (count - (i + 1)) = omega arith in
-    let more : size * suc (count - (i + 1)) ≡ size + size * (count - (i + 1)) = omega arith in
-    let so : size * suc (count - (i + 1)) ≤ long = rw k at fits in
-    omega (arith, more, so, split)
+fewer_left size count i long behind lt split fits = grind arith
 
 -- what is read fails as the fault that was found
 pub fails : {Y E : Type 0} (is_memory : E → Bool) (f : E) (read : Result Y E) → read ≡ Err f → FailsAs is_memory f read
-fails is_memory f read e = by_test (is_memory f)
-  where
-    by_test : (b : Bool) → FailsUnless b f read
-    by_test true = tt
-    by_test false = e
+fails is_memory f read e = grind arith
 
 -- the whole fails as its part does
 pub fails_through : {Y Z E : Type 0} (is_memory : E → Bool) (f : E) (part : Result Y E) (whole : Result Z E) →
     (part ≡ Err f → whole ≡ Err f) → FailsAs is_memory f part → FailsAs is_memory f whole
-fails_through is_memory f part whole through e = by_test (is_memory f) e
-  where
-    by_test : (b : Bool) → FailsUnless b f part → FailsUnless b f whole
-    by_test true e = tt
-    by_test false e = through e
+fails_through is_memory f part whole through e = grind arith

@@ -1,27 +1,17 @@
 -- What a row's bytes lead back to.
-use Rattle.std.proofs.Common.{◌≡◌, ℕ, zero, suc, ◌<◌, ◌^◌, ℤ, pos, negsuc, ◌<ℤ◌, FitsSigned, true, false, cond, List, [], ◌∷◌, get_or, bytes_eq, Some, None, refl, ap, sym, subst, ◌∙◌, arith, rules}
+use Rattle.std.proofs.Common.{◌≡◌, ℕ, zero, suc, ◌<◌, ◌^◌, ℤ, pos, ◌<ℤ◌, FitsSigned, true, false, cond, List, [], ◌∷◌, get_or, bytes_eq, Some, None, refl, sym, subst, arith, rules}
 use Rattle.std.specs.List.{AllByRecursion}
-use Rattle.std.specs.Int.{w32, cast_unsigned, cast_signed}
-use Rattle.std.proofs.lemmas.Int.{ints, to_z-of_z}
-use Rattle.std.proofs.lemmas.Nat.{from_le_bytes-to_le_bytes_4}
+use Rattle.std.specs.Int.{w32, cast_unsigned}
+use Rattle.std.proofs.lemmas.Int.{ints}
 use Rattle.std.proofs.lemmas.Bool.Decides.{nat_tests}
-use Rattle.instruction_table.specs.declared.register.Reg.{Reg}
-use Rattle.instruction_table.specs.declared.register.Reg.TheVariants.{R0, R1, R2, R3, R4, R5, R6, R7}
 use Rattle.instruction_table.specs.declared.row.Row.{Row}
-use Rattle.instruction_table.specs.declared.row.Row.TheVariants.{Halt, Ldi, Mov, Add, Sub, Jmp, Beq, Bne, Blt, Call, Ret, Try, Endtry, Throw, Out, Lds, Sts, SelfNumber, Intr, Intrd, Preg, Pbulk, Parr, Pdereg, Paaa, Pawait, Pawaiti, Pforce, Pphase, Pparties, Parrived, Punarr, Pterm, Pparent, Proot, Cawait, Creset, Cbroken, Cwaiting, Cparties, Pawaitt, Cawaitt}
-use Rattle.instruction_table.specs.Register.{number_of}
+use Rattle.instruction_table.specs.declared.row.Row.TheVariants.{Halt}
 use Rattle.instruction_table.specs.Row.{opcode_of}
 use Rattle.row_code.specs.Number.{i32_bytes, i32_of}
-use Rattle.row_code.specs.RowFields.{filled, fields_of, IsRow}
+use Rattle.row_code.specs.RowFields.{fields_of, IsRow}
 use Rattle.row_code.specs.declared.operands.Operands.{Operands}
-use Rattle.row_code.specs.RowOperands.{register_at, object_at, operands_at, rows_with, row_with, row_in}
+use Rattle.row_code.specs.RowOperands.{operands_at, rows_with, row_with, row_in}
 use Rattle.row_code.specs.RowBytes.{bytes_of, fields_at}
-
-register_back : (r : Reg) → register_at (number_of r) ≡ r
-register_back r = search rules
-
-object_back : (n : ℕ) → pos n <ℤ pos 65536 → object_at (pos n) ≡ n
-object_back n h = grind (arith, ints, nat_tests)
 
 small_fits : (n : ℕ) → pos n <ℤ pos 65536 → FitsSigned w32 (pos n)
 small_fits n h = record { sfits = omega (arith, ints) }
@@ -33,22 +23,18 @@ imm_fits row h = grind (arith, ints, small_fits)
 -- a row's own fields lead back to it
 likely_back : (row : Row) → IsRow row → row_with (opcode_of row) (operands_at (fields_of row)) ≡ row
 likely_back Halt h = refl
-likely_back row h = grind (arith, ints, register_back, object_back)
+likely_back row h = grind (arith, ints, nat_tests)
 
 unsigned_below : (z : ℤ) → FitsSigned w32 z → cast_unsigned w32 z < 2 ^ 32
 unsigned_below z h = grind (arith, ints)
 
 -- an `int` is read as it was written
 pub i32_back : (z : ℤ) → FitsSigned w32 z → i32_of (i32_bytes z) ≡ z
-i32_back z h =
-    ap (cast_signed w32) (from_le_bytes-to_le_bytes_4 (cast_unsigned w32 z) (unsigned_below z h)) ∙ to_z-of_z w32 z h
+i32_back z h = grind arith
 
 -- the row that a row's bytes are taken for is that row
 pub row_back : (row : Row) → IsRow row → row_with (opcode_of row) (operands_at (fields_at (bytes_of row))) ≡ row
-row_back row h =
-    let f = fields_of row in
-    ap (λ imm. row_with (opcode_of row) (operands_at (filled f.a f.b f.c imm))) (i32_back f.imm (imm_fits row h))
-    ∙ likely_back row h
+row_back row h = grind (arith, i32_back, likely_back)
 
 same_bytes : (bytes : List ℕ) → bytes_eq bytes bytes ≡ true
 same_bytes bytes = search rules
@@ -56,15 +42,11 @@ same_bytes bytes = search rules
 -- what is taken for a row is one where its bytes are those, and none where they are others
 pub when_spelled : (row taken : Row) (bytes : List ℕ) → row ≡ taken → bytes_eq (bytes_of row) bytes ≡ true →
     Some row ≡ cond (bytes_eq (bytes_of taken) bytes) (Some taken) None
-when_spelled row taken bytes e same =
-    subst (λ (r : Row). Some row ≡ cond (bytes_eq (bytes_of r) bytes) (Some r) None) e
-    (ap (λ b. cond b (Some row) None) (sym same))
+when_spelled row taken bytes e same = grind arith
 
 pub when_not : (row taken : Row) (bytes : List ℕ) → row ≡ taken → bytes_eq (bytes_of row) bytes ≡ false →
     None ≡ cond (bytes_eq (bytes_of taken) bytes) (Some taken) None
-when_not row taken bytes e other =
-    subst (λ (r : Row). None ≡ cond (bytes_eq (bytes_of r) bytes) (Some r) None) e
-    (ap (λ b. cond b (Some row) None) (sym other))
+when_not row taken bytes e other = grind arith
 
 pub row_in_bytes_of : (row : Row) → IsRow row → row_in (bytes_of row) ≡ Some row
 row_in_bytes_of row fits =

@@ -23,8 +23,7 @@ at_end_of : {A : Type 0} (l : List A) (a b : A) (j : ℕ) → get_elem? (l ++ a 
 at_end_of [] a b zero e = inr (refl, some-injective a b e)
 at_end_of [] a b (suc j) e = absurd (some-ne-none b (sym e))
 at_end_of (x ∷ xs) a b zero e = inl e
-at_end_of (x ∷ xs) a b (suc j) e =
-    ⊎_elim (λ h. inl h) (λ (h : (j ≡ length xs) × (a ≡ b)). let n = h.0 in inr (omega arith, h.1)) (at_end_of xs a b j e)
+at_end_of (x ∷ xs) a b (suc j) e = grind (arith, at_end_of xs a b j e)
 
 module _ {A : Type 0} where
   none_of : (P : A → Type 0) → All P []

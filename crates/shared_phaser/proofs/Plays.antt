@@ -1,5 +1,5 @@
 -- Each load and each exchange keeps the rule, and tells what it says.
-use Rattle.std.proofs.Common.{◌≡◌, ℕ, ◌==◌, Bool, true, false, List, [], ◌∷◌, ◌++◌, set, refl, sym, ap, ◌∙◌, subst, eqb-true, arith}
+use Rattle.std.proofs.Common.{◌≡◌, ℕ, ◌==◌, Bool, true, false, List, [], ◌∷◌, ◌++◌, set, refl, sym, ap, ◌∙◌, subst, eqb-true, arith, eq-eqb}
 use Rattle.std.specs.Prelude.{slice_index, slice_set}
 use mathlib.Core.Option.{none, some}
 use lib.ListN.{get_elem?}
@@ -16,8 +16,9 @@ use Rattle.shared_phaser.specs.declared.history.View.{View}
 use Rattle.shared_phaser.specs.History.{Effect, Shows, Tells, Makes, Waits, effect, Answers, after, opened, IsLegal, at_end}
 use Rattle.shared_phaser.specs.Known.{Owns, entry, making, seeing}
 use Rattle.shared_phaser.specs.Rule.{knowing, Knows, Keeps, IsKept, Finds, loaded, won, exchanged, effect_at, Loads, Exchanges, Watches}
-use Rattle.shared_phaser.proofs.Stories.{prefix_self, prefix_nil, prefix_more, after_all-push, legal_push, calls_by-own, calls_by-other}
+use Rattle.shared_phaser.proofs.Stories.{prefix_self, prefix_nil, prefix_more, after_all-push, legal_push, calls_by-other}
 use Rattle.shared_phaser.proofs.Steps.{step_keeps}
+use Rattle.std.proofs.lemmas.List.Elements.{filter-append}
 
 -- the caller goes on with a view that keeps the rule
 pub record Goes (o : Setup) (id : ℕ) (views : List View) (f : ℕ → ℕ) (word : ℕ) (tell : View → Type 0) : Type 0 where
@@ -54,12 +55,10 @@ allow_one o slots id me f then live goes s kept len at small =
 -- the history with a call more is legal, and has the caller's calls
 pub made_legal : (v : View) (n : ℕ) (log : List Entry) (c : Call) (a : Answer) → IsLegal v.known.opening log → record_of n ≡ at_end v.known.opening log
     → Answers (record_of n) (effect_at v c n) a → IsLegal v.known.opening (log ++ entry v.known.number c a ∷ [])
-made_legal v n log c a legal now answers =
-    let o = v.known.opening in
-    legal_push o.policy (opened o) log (entry v.known.number c a) legal (subst (λ f. Answers f (effect o.policy c f) a) now answers)
+made_legal v n log c a legal now answers = grind (arith, legal_push)
 
 pub made_owns : (k : Known) (log : List Entry) (c : Call) (a : Answer) → Owns log k → Owns (log ++ entry k.number c a ∷ []) (making k log c a)
-made_owns k log c a owns = grind (arith, calls_by-own, calls_by-other)
+made_owns k log c a owns = grind (arith, filter-append, eq-eqb, calls_by-other)
 
 module _ (word : ℕ) (views : List View) (log : List Entry) (id : ℕ) (v : View)
     (rule : Keeps v.known.opening word views log) (at : get_elem? views id ≡ some v) (live : v.live ≡ true) where

@@ -1,5 +1,5 @@
 -- Histories and their beginnings.
-use Rattle.std.proofs.Common.{◌≡◌, ◌≢◌, ℕ, zero, suc, ◌+◌, ◌<◌, ◌==◌, Bool, cond, List, [], ◌∷◌, ◌++◌, length, refl, sym, ap, ◌∙◌, arith, append_assoc, append-nil, eq-eqb, ne_eqb, rules}
+use Rattle.std.proofs.Common.{◌≡◌, ◌≢◌, ℕ, zero, suc, ◌+◌, ◌<◌, List, [], ◌∷◌, ◌++◌, length, refl, sym, ap, ◌∙◌, arith, append_assoc, append-nil, rules}
 use Rattle.std.proofs.lemmas.List.Elements.{filter-append}
 use mathlib.Core.List.{IsPrefix}
 use mathlib.Core.Option.{some, some-ne-none}
@@ -9,7 +9,7 @@ use Rattle.packed_phaser.specs.declared.policy.Policy.{Policy}
 use Rattle.shared_phaser.specs.declared.history.Call.{Call}
 use Rattle.shared_phaser.specs.declared.history.Answer.{Answer}
 use Rattle.shared_phaser.specs.declared.history.Entry.{Entry}
-use Rattle.shared_phaser.specs.History.{Effect, Shows, Tells, Makes, Waits, effect, Answers, after, change, IsLegalFrom, after_all, changes, calls_by}
+use Rattle.shared_phaser.specs.History.{Effect, effect, Answers, after, change, IsLegalFrom, after_all, changes, calls_by}
 use Rattle.shared_phaser.specs.Known.{entry}
 
 module _ {A : Type 0} where
@@ -63,10 +63,5 @@ unchanged p f (x ∷ xs) h =
     unchanged p (after f (effect p x.call f)) xs rest ∙ after_unchanged f (effect p x.call f) here
 
 -- a call more of this caller, and of another one
-pub calls_by-own : (n : ℕ) (log : List Entry) (c : Call) (a : Answer) → calls_by n (log ++ entry n c a ∷ []) ≡ calls_by n log ++ entry n c a ∷ []
-calls_by-own n log c a =
-    filter-append (λ (e : Entry). e.by == n) log (entry n c a ∷ [])
-    ∙ ap (λ (b : Bool). calls_by n log ++ cond b (entry n c a ∷ []) []) (eq-eqb n n refl)
-
 pub calls_by-other : (n m : ℕ) (log : List Entry) (c : Call) (a : Answer) → n ≢ m → calls_by n (log ++ entry m c a ∷ []) ≡ calls_by n log
 calls_by-other n m log c a ne = search (rules, filter-append)

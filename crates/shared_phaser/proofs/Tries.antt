@@ -1,17 +1,16 @@
 -- What the tries of a call come to.
-use Rattle.std.proofs.Common.{◌≡◌, ◌≢◌, ◌⊎◌, ℕ, ℤ, pos, ◌+◌, ◌-◌, ◌≤◌, ◌==◌, nat_lt, if◌then◌else◌, Bool, true, false, List, ◌++◌, refl, sym, ap, ◌∙◌, subst, inl, inr, ⊎_elim, arith, append_assoc, eq-zero-or-pos, int_eq}
+use Rattle.std.proofs.Common.{◌≡◌, ◌≢◌, ◌⊎◌, ℕ, ◌+◌, ◌≤◌, ◌==◌, if◌then◌else◌, Bool, true, false, List, refl, sym, ap, ◌∙◌, subst, inl, inr, ⊎_elim, arith, append_assoc, eq-zero-or-pos}
 use Rattle.atomic_table.specs.Table.{Me, Step}
-use Rattle.packed_phaser.specs.Flat.{Flat, Joins, JoinsLate, MustWait, Overfull, Counts, Turns, ComesLate, IsUnregistered, settled, force, view_of}
+use Rattle.packed_phaser.specs.Flat.{Flat}
 use Rattle.packed_phaser.specs.Word.{IsWord, record_of}
 use Rattle.packed_phaser.specs.declared.policy.Policy.{Policy}
 use Rattle.shared_phaser.specs.declared.history.Call.{Call}
-use Rattle.shared_phaser.specs.declared.history.Call.TheVariants.{Look, Register, Arrive, Force, Await}
 use Rattle.shared_phaser.specs.declared.history.Answer.{Answer}
 use Rattle.shared_phaser.specs.declared.history.Answer.TheVariants.{Saw, Replied, Passed}
 use Rattle.shared_phaser.specs.declared.history.Entry.{Entry}
 use Rattle.shared_phaser.specs.declared.history.Known.{Known}
 use Rattle.shared_phaser.specs.declared.history.View.{View}
-use Rattle.shared_phaser.specs.History.{Effect, Shows, Tells, Makes, Waits, effect, registering, arriving, Answers, at_end, after_all, changes, opened}
+use Rattle.shared_phaser.specs.History.{Effect, Shows, Tells, Makes, Waits, effect, Answers, at_end, after_all, changes, opened}
 use Rattle.shared_phaser.specs.Known.{making, seeing, MakesCall, SeesMore}
 use Rattle.shared_phaser.specs.Outcome.{IsPrompt, Suits}
 use Rattle.shared_phaser.specs.Rule.{Finds, loaded, exchanged, effect_at, Loads, Exchanges}
@@ -19,13 +18,8 @@ use Rattle.shared_phaser.proofs.Stories.{after_all-append, changes-append, uncha
 use Rattle.shared_phaser.proofs.Plays.{made_legal, made_owns}
 
 -- a call that changes the phaser finds it not terminated
-opens_fields : (p : Policy) (c : Call) (ph : ℕ) (b : Bool) (pa ar : ℕ) (t : Bool) (g : Flat) (a : Answer)
-    → effect p c (record { phase = ph; ended = b; parties = pa; arrived = ar; turned = t }) ≡ Makes g a → b ≡ false
-opens_fields p c ph false pa ar t g a is = refl
-opens_fields p c ph true pa ar t g a is = grind arith
-
 pub opens : (p : Policy) (c : Call) (f g : Flat) (a : Answer) → effect p c f ≡ Makes g a → f.ended ≡ false
-opens p c f g a is = opens_fields p c f.phase f.ended f.parties f.arrived f.turned g a is
+opens p c f g a is = grind arith
 
 -- and leaves it not turned
 same_flat : (f g : Flat) (x a : Answer) → Makes f x ≡ Makes g a → f.turned ≡ false → g.turned ≡ false
@@ -35,33 +29,12 @@ joins_unturned : (z : Bool) (f g : Flat) (x a : Answer) → (if z then Tells x e
 joins_unturned true f g x a is un = absurd (cc is)
 joins_unturned false f g x a is un = same_flat f g x a is un
 
-registers_unturned : (k : ℕ) (b z o t : Bool) (f f' g : Flat) (view phase : ℤ) (a : Answer)
-    → registering k (if b then JoinsLate view else (if z then Joins f phase else (if o then Overfull else (if t then MustWait else Joins f' phase)))) ≡ Makes g a
-    → f.turned ≡ false → f'.turned ≡ false → g.turned ≡ false
-registers_unturned k true z o t f f' g view phase a is un un' = absurd (cc is)
-registers_unturned k false _ o t f f' g view phase a is un un' = grind (arith, joins_unturned)
-
-settles_unturned : (p : Policy) (phase : ℕ) (b : Bool) (f f' g : Flat) (a : Answer)
-    → arriving p phase (if b then Turns f' else Counts f) ≡ Makes g a → f.turned ≡ false → g.turned ≡ false
-settles_unturned p phase true f f' g a is un = same_flat _ g _ a is refl
-settles_unturned p phase false f f' g a is un = same_flat f g _ a is un
-
-arrives_unturned : (p : Policy) (phase : ℕ) (b n l : Bool) (f f' g : Flat) (view : ℤ) (a : Answer)
-    → arriving p phase (if b then ComesLate view else (if n then IsUnregistered else (if l then settled f' else settled f))) ≡ Makes g a
-    → f.turned ≡ false → f'.turned ≡ false → g.turned ≡ false
-arrives_unturned p phase true n l f f' g view a is un un' = absurd (cc is)
-arrives_unturned p phase false _ l f f' g view a is un un' = grind (arith, settles_unturned)
-
-forces_unturned : (b : Bool) (f g : Flat) (x y a : Answer) → (if b then Tells x else Makes (force f) y) ≡ Makes g a → g.turned ≡ false
-forces_unturned true f g x y a is = absurd (cc is)
-forces_unturned false f g x y a is = same_flat (force f) g y a is refl
-
 awaits_nothing : (b e : Bool) (g : Flat) (x y a : Answer) → (if b then Tells x else (if e then Waits else Tells y)) ≡ Makes g a → ⊥
 awaits_nothing true e g x y a is = cc is
 awaits_nothing false e g x y a is = grind arith
 
 pub unturned_after : (p : Policy) (c : Call) (f g : Flat) (a : Answer) → effect p c f ≡ Makes g a → f.turned ≡ false → g.turned ≡ false
-unturned_after p c f g a is un = grind (arith, registers_unturned, arrives_unturned, forces_unturned, awaits_nothing)
+unturned_after p c f g a is un = grind (arith, awaits_nothing)
 
 -- a call on the history that was found
 pub made : (v : View) (n : ℕ) (log : List Entry) (c : Call) (a : Answer) → Finds v n log → Answers (record_of n) (effect_at v c n) a
@@ -81,9 +54,7 @@ seen v n log least finds grown = grind arith
 -- what the call makes of the word found, as the code asked
 pub effect_here : (v : View) (c d : Call) (p : Policy) (n word : ℕ) (e : Effect) → v.known.opening.policy ≡ p → c ≡ d → word ≡ n
     → e ≡ effect p d (record_of word) → effect_at v c n ≡ e
-effect_here v c d p n word e policy call same is =
-    ap (λ (q : Policy). effect q c (record_of n)) policy
-    ∙ (ap (λ (z : Call). effect p z (record_of n)) call ∙ (ap (λ (m : ℕ). effect p d (record_of m)) (sym same) ∙ sym is))
+effect_here v c d p n word e policy call same is = grind arith
 
 loaded_opening : (e : Effect) (k : Known) (log : List Entry) (c : Call) (n : ℕ) → (loaded e k log c n).opening ≡ k.opening
 loaded_opening e k log c n = grind arith
@@ -122,31 +93,10 @@ module _ (c : Call) (s : Step (Unit {0})) (v w : Me (Unit {0}) View) (n : ℕ) (
 
 -- what follows what was seen
 pub then_makes : (k l m : Known) (least : ℕ) (c : Call) (a : Answer) → SeesMore k least l → MakesCall l c a m → MakesCall k c a m
-then_makes k l m least c a sees =
-    subst (λ (z : Known). MakesCall z c a m → MakesCall k c a m) (sym sees.is) (λ makes. record {
-      between = sees.between ++ makes.between;
-      is = makes.is ∙ ap (λ (xs : List Entry). making k xs c a) (append_assoc k.seen sees.between makes.between);
-      legal = makes.legal;
-      owns = makes.owns;
-    })
+then_makes k l m least c a sees = grind (arith, append_assoc)
 
 pub then_sees : (k l m : Known) (least more : ℕ) → SeesMore k least l → SeesMore l more m → SeesMore k (least + more) m
-then_sees k l m least more sees =
-    subst (λ (z : Known). SeesMore z more m → SeesMore k (least + more) m) (sym sees.is) (λ further.
-    let p = k.opening.policy in
-    let here = at_end k.opening k.seen in
-    let both = changes-append p here sees.between further.between in
-    let at : at_end k.opening (k.seen ++ sees.between) ≡ after_all p here sees.between = after_all-append p (opened k.opening) k.seen sees.between in
-    let rest : more ≤ changes p (after_all p here sees.between) further.between =
-    subst (λ (f : Flat). more ≤ changes p f further.between) at further.grown in
-    let first : least ≤ changes p here sees.between = sees.grown in
-    record {
-      between = sees.between ++ further.between;
-      is = further.is ∙ ap (seeing k) (append_assoc k.seen sees.between further.between);
-      legal = further.legal;
-      owns = further.owns;
-      grown = omega arith;
-    })
+then_sees k l m least more sees = grind (arith, changes-append, after_all-append, append_assoc)
 
 -- a word is the only one of a phaser that isn't terminated
 abbrev pub OneWord : Type 0
@@ -185,8 +135,7 @@ abbrev pub RacesSoFar : Known → ℕ → ℕ → Known → Type 0
 RacesSoFar k n word l = ((n ≡ 0) × (l ≡ k)) ⊎ (SeesMore k n l × (record_of word ≡ at_end l.opening l.seen))
 
 pub race_more : (k l m : Known) (n word word' : ℕ) → RacesSoFar k n word l → SeesMore l 1 m → record_of word' ≡ at_end m.opening m.seen → RacesSoFar k (n + 1) word' m
-race_more k l m n word word' (inl h) sees is = inr (subst (λ (z : Known × ℕ). SeesMore z.0 (z.1 + 1) m) (λ i. (h.1 i, sym h.0 i)) sees, is)
-race_more k l m n word word' (inr h) sees is = inr (then_sees k l m n 1 h.0 sees, is)
+race_more k l m n word word' given sees is = grind (arith, then_sees)
 
 -- the tries of a call that is tried until it has an answer
 abbrev pub LaterThan : Known → Known → Type 0

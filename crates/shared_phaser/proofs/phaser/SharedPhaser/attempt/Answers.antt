@@ -1,4 +1,4 @@
-use Rattle.std.proofs.Common.{◌≡◌, ◌≢◌, ℕ, rules, ap, sym, subst, ◌∙◌, eq-eqb, ne_eqb}
+use Rattle.std.proofs.Common.{◌≡◌, ◌≢◌, ℕ, rules, ap, sym, subst, ◌∙◌, eq-eqb, ne_eqb, arith}
 use Rattle.packed_phaser.specs.Word.{IsWord, record_of}
 use Rattle.packed_phaser.specs.declared.policy.Policy.{Policy}
 use Rattle.shared_phaser.specs.declared.history.Call.{Call}
@@ -14,8 +14,7 @@ use Rattle.shared_phaser.proofs.phaser.SharedPhaser.attempt.Goals as goal
 -- the caller's phaser has the policy that the code reads
 policy_here : (was : Caller) (known : Known) (self : Identity) (opening : Setup) (policy : Policy)
     → known ≡ was.known → was.known.opening ≡ self.opening → opening ≡ self.opening → opening.policy ≡ policy → known.opening.policy ≡ policy
-policy_here was known self opening policy same fits is has =
-    ap (λ (k : Known). k.opening.policy) same ∙ (ap (λ (o : Setup). o.policy) (fits ∙ sym is) ∙ has)
+policy_here was known self opening policy same fits is has = grind arith
 
 -- what a try told, in the words of the call
 in_words : (k k' l : Known) (c d : Call) (P : Known → Call → Known → Type 0) → k ≡ k' → c ≡ d → P k c l → P k' d l
