@@ -34,11 +34,7 @@ space_end line end is there space = grind (arith, position_or_len_is, digit-no_s
 
 digits_word : (line : List ℕ) (end : ℕ) → end ≡ position_or_len is_no_digit line → end ≤ length line
     → list_all is_ascii_digit (take end line) ≡ true
-digits_word line end is within =
-    list_all-from_AllPass is_ascii_digit (take end line) (λ k d there.
-    let before : k < end = omega (arith, there, length-take end line) in
-    let digit = not-false _ (fails_before_first is_no_digit line k d (omega (arith, before, is))) in
-    ap is_ascii_digit (get_or-take end line k d before) ∙ digit)
+digits_word line end is within = grind (arith, list_all-from_AllPass, length-take, not-false, fails_before_first, get_or-take)
 
 -- what a line names whose digits end in a space
 pub named_behind : (line : List ℕ) (end : ℕ) → end ≡ position_or_len is_no_digit line → 0 < end → end ≤ 13 → end < length line

@@ -30,8 +30,7 @@ wants-in : {E : Type 0} (check : ℕ → E → Option LoadFault) → ((n : ℕ) 
     → (n : ℕ) (entries : List E) → wants (earliest_in check n entries) ≡ false
 unfolding wants
 wants-in check each n [] = refl
-wants-in check each n (entry ∷ entries) =
-    wants-or (check n entry) (earliest_in check (n + 1) entries) (each n entry) (wants-in check each (n + 1) entries)
+wants-in check each n (entry ∷ entries) = grind (arith, wants-or, wants-in check each (n + 1) entries)
 
 -- why a phaser can't be declared
 why_by : (n : ℕ) (many orphan parties phase deep full : Bool) → wants (option_map (λ why. fault.Declare n why)
@@ -47,8 +46,7 @@ wants-routine rows n policy = grind (arith, wants-unless)
 
 wants-phaser : (rows : ℕ) (phasers : List DeclaredPhaser) (n : ℕ) (phaser : DeclaredPhaser)
     → wants (listed_phaser_fault rows phasers n phaser) ≡ false
-wants-phaser rows phasers n phaser =
-    wants-or (routine_fault rows n phaser.policy) _ (wants-routine rows n phaser.policy) (why_by n _ _ _ _ _ _)
+wants-phaser rows phasers n phaser = grind (arith, wants-or, wants-routine, why_by)
 
 wants-action : (rows n : ℕ) (action : Option ℕ) → wants (action_fault rows n action) ≡ false
 unfolding wants

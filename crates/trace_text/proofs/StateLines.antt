@@ -76,10 +76,7 @@ interrupted-part false = literal 7 (codes " 0 regs") refl (omega arith)
 texts-few : {A : Type 0} (text : A → List ℕ) → ((x : A) → length (text x) ≤ 66) → (xs : List A)
     → length (flat_map text xs) ≤ 66 * length xs
 texts-few text each [] = omega arith
-texts-few text each (x ∷ xs) =
-    let first = each x in
-    let others = texts-few text each xs in
-    omega (arith, length-append (text x) (flat_map text xs), first, others)
+texts-few text each (x ∷ xs) = grind (arith, length-append, texts-few text each xs)
 
 registers-few : (values : List ℤ) → length (registers_text values all_registers) ≤ 528
 registers-few values =
