@@ -82,14 +82,10 @@ name-named : (expiry : Bool) (thread : ℕ) → thread ≤ 63
 name-named true thread few = digits_named true thread few
 name-named false thread few = digits_named false thread few
 
-letter-is : (expiry : Bool) (text : List ℕ) → letter_text expiry ++ text ≡ 32 ∷ cond expiry 120 116 ∷ text
-letter-is true text = refl
-letter-is false text = refl
-
 -- a line by its two first words
 words-is : (step : ℕ) (choice : Choice) (rest : List ℕ)
     → choice_text step choice ++ rest ≡ decimal step ++ 32 ∷ (name_text choice ++ 32 ∷ rest)
-words-is step choice rest = grind (arith, append_assoc, letter-is)
+words-is step choice rest = grind (arith, append_assoc)
 
 step_word : (step : ℕ) → step < 10 ^ 13 → is_step (decimal step) ≡ true
 step_word step few =

@@ -108,20 +108,13 @@ Plays-refused first last xs ys old new p =
     refused_by first last xs ys old new (execution first xs).refusal refl p
 
 -- a choice that is no choice of a missing thread and has a step left
-accepted_by : (missing used_up : Bool)
-    → ((if missing then Some NoSuchThread else (if used_up then Some StepLimit else None)) ≡ Some NoSuchThread → ⊥)
-    → ((if missing then Some NoSuchThread else (if used_up then Some StepLimit else None)) ≡ Some StepLimit → ⊥)
-    → (if missing then Some NoSuchThread else (if used_up then Some StepLimit else None)) ≡ None
-accepted_by true used_up there left = absurd (there refl)
-accepted_by false _ there left = grind arith
-
 pub refusal_of-accepted : (event : Event) (world : World) (choice : Choice)
     → (let ok : Result Event StepFault = Ok event in
     (ok ≡ Err NoSuchThread) ↔ (refusal_of world choice ≡ Some NoSuchThread))
     → (let ok : Result Event StepFault = Ok event in
     (ok ≡ Err StepLimit) ↔ (refusal_of world choice ≡ Some StepLimit))
     → refusal_of world choice ≡ None
-refusal_of-accepted event world choice there left = grind (arith, accepted_by)
+refusal_of-accepted event world choice there left = grind arith
 
 -- each choice is counted
 pub played-choices : (outcome : Option Outcome) (world : World) → (played_by outcome world).world.choices ≡ world.choices + 1
@@ -256,15 +249,11 @@ more_idle_lines : (n before : ℕ) (choice : Choice) (pc : ℕ)
 more_idle_lines zero before choice pc = grind (arith, append-nil)
 more_idle_lines (suc n) before choice pc = grind (arith, append_assoc, more_idle_lines n (before + 1) choice pc)
 
-idle_lines-more : (n before : ℕ) (choice : Choice) (pc : ℕ)
-    → idle_lines (n + 1) before choice pc ≡ idle_lines n before choice pc ++ event_text (before + n + 1) choice pc idle_event
-idle_lines-more n before choice pc = grind (arith, more_idle_lines)
-
 pub idle_lines-next : (n before : ℕ) (choice : Choice) (pc : ℕ) (line : NumberedLine) (old now new : Option (List ℕ))
     → line.step ≡ before + (n + 1) → IsBehindNumber line.behind choice pc idle_event
     → Appends old now (idle_lines n before choice pc) → Appends now new (text_of line)
     → Appends old new (idle_lines (n + 1) before choice pc)
-idle_lines-next n before choice pc line old now new is behind lines next = grind (arith, idle_lines-more, Appends-trans)
+idle_lines-next n before choice pc line old now new is behind lines next = grind (arith, more_idle_lines, Appends-trans)
 
 -- the lines of idle choices in a row
 lines_of-idle : (n : ℕ) (world : World) (choice : Choice) → choice.thread < length world.scene.threads
@@ -274,15 +263,6 @@ lines_of-idle zero world choice there idle few = refl
 lines_of-idle (suc n) world choice there idle few =
     grind (arith, idle_accepted, idle_choice, lines_of-idle n (idled world).world choice there idle (omega (arith, few)))
 
--- by whether the choice is ready
-idle_lines_by : (ready : Bool) (world : World) (choice : Choice) (most n : ℕ)
-    → is_choice_ready world.program choice world.scene ≡ ready
-    → n ≡ (if ready then 0 else min most (1000000000000 - world.choices))
-    → choice.thread < length world.scene.threads → world.choices ≤ 1000000000000
-    → lines_of world (replicate n choice) ≡ idle_lines n world.choices choice (thread_at world.scene choice.thread).pc
-idle_lines_by true world choice most n is times there few = grind arith
-idle_lines_by false world choice most n is times there few = grind (arith, lines_of-idle)
-
 -- a choice is played as long as it is idle
 pub Plays-idle : (world after : World) (choice : Choice) (most n before pc : ℕ) (old new : Option (List ℕ))
     → n ≡ idle_times world choice most
@@ -291,7 +271,7 @@ pub Plays-idle : (world after : World) (choice : Choice) (most n before pc : ℕ
     → pc ≡ (thread_at world.scene choice.thread).pc
     → Appends old new (idle_lines n before choice pc)
     → Plays world after (replicate n choice) true old new
-Plays-idle world after choice most n before pc old new times played there few before_is pc_is lines = grind (arith, idle_lines_by)
+Plays-idle world after choice most n before pc old new times played there few before_is pc_is lines = grind (arith, lines_of-idle)
 
 -- one such choice, and its line as it is kept
 one_time : (ready : Bool) (left n : ℕ) → n ≡ (if ready then 0 else min 1 left) → (n ≡ 0 → ⊥) → n ≡ 1

@@ -1,6 +1,6 @@
 -- Runs that a reader adds to a list, and what is played with them.
 use Rattle.std.proofs.Common.{◌≡◌, ◌≢◌, ◌∙◌, ◌++◌, ◌⊎◌, ◌≤◌, ℕ, Bool, false, inl, inr, List, [], Ok, Err, None, Result, ap, sym, subst, refl, append-nil, append_assoc, Option, Some, length, arith, rules}
-use Rattle.std.specs.Prelude.{IfOk, IfErr, OnOk, replicate}
+use Rattle.std.specs.Prelude.{IfOk, IfErr, OnOk}
 use Rattle.std.proofs.lemmas.Grind.{flat_map-append}
 use Rattle.std.specs.Io.KnownBytes.{Appends, Consumes, IsAtEnd}
 use Rattle.schedule_reader.specs.declared.fault.ScheduleFault.{ScheduleFault}
@@ -18,15 +18,11 @@ use Rattle.trace_text.specs.RunText.{HasFault, HasNoEarlierFault, faulty_after}
 use Rattle.trace_text.specs.Trace.{AppendsPartOf, Plays, lines_of}
 use Rattle.trace_text.proofs.Plays.{Part-longer}
 
--- the choices of runs and of more runs
-choices_of-append : (xs ys : List Run) → choices_of (xs ++ ys) ≡ choices_of xs ++ choices_of ys
-choices_of-append xs ys = flat_map-append (λ (run : Run). replicate run.times run.choice) xs ys
-
 -- what a call added to an empty list stands between the shorter stream's runs and what was missing
 added_first : (told : Result (Unit {0}) ScheduleFault) (shorter longer : Schedule) (before after : List Run) → before ≡ []
     → (adds : Adds told shorter longer before after)
     → choices_of longer.runs ≡ (choices_of shorter.runs ++ choices_of after) ++ choices_of adds.missing
-added_first told shorter longer before after empty adds = grind (arith, append_assoc, choices_of-append)
+added_first told shorter longer before after empty adds = grind (arith, append_assoc, flat_map-append)
 
 -- nothing is missing where memory wasn't wanting
 all_added : (told : Result (Unit {0}) ScheduleFault) (shorter longer : Schedule) (before after : List Run) → before ≡ []

@@ -10,7 +10,6 @@ use Rattle.thread_machine.specs.declared.fault.StepFault.{StepFault}
 use Rattle.thread_machine.specs.Standing.{standing_of}
 use Rattle.thread_machine.specs.World.{World}
 use Rattle.thread_machine.specs.declared.choice.Choice.{Choice}
-use Rattle.thread_machine.specs.Execution.{execution}
 use Rattle.trace_text.specs.NumberedLine.{NumberedLine}
 use Rattle.trace_text.specs.declared.run.RunFault.{RunFault}
 use Rattle.trace_text.specs.declared.run.RunFault.TheVariants as fault
@@ -18,7 +17,7 @@ use Rattle.trace_text.specs.Outcome.{EndsFrom, Stops, StopsFrom}
 use Rattle.trace_text.specs.declared.play.PlayFault.{PlayFault}
 use Rattle.trace_text.specs.declared.play.PlayFault.TheVariants as play
 use Rattle.trace_text.specs.Playing.{HasPlayedAll, played_fault}
-use Rattle.trace_text.specs.RunText.{AreTraced, IsEndOf}
+use Rattle.trace_text.specs.RunText.{AreTraced}
 use Rattle.trace_text.specs.Start.{Begins}
 use Rattle.row_code.specs.declared.image.Image.{Image}
 use Rattle.trace_text.specs.State.{state_text}
@@ -70,15 +69,11 @@ pub tells_end : {E : Type 0} (result : Result RunEnd E) (last : World) (all : Bo
     → IfOk result (TellsEnd last all)
 tells_end result last all refused is told = grind arith
 
-end_of : (first last : World) (choices : List Choice) (all : Bool) (end : RunEnd) (old new : Option (List ℕ))
-    → Plays first last choices all old new → TellsEnd last all end → IsEndOf (execution first choices) end
-end_of first last choices all end old new plays given = grind arith
-
 -- the lines, and then the state that they leave
 traced_by : (end : RunEnd) (first last : World) (choices : List Choice) (all : Bool) (old between new : Option (List ℕ))
     → Plays first last choices all old between → TellsEnd last all end → Appends between new (state_text last)
     → AreTraced first choices end old new
-traced_by end first last choices all old between new plays tells appends = grind (arith, end_of, Appends-trans)
+traced_by end first last choices all old between new plays tells appends = grind (arith, Appends-trans)
 
 pub are_traced : {E : Type 0} (result : Result RunEnd E) (first last : World) (choices : List Choice) (all : Bool)
     (old between new : Option (List ℕ)) → Plays first last choices all old between
